@@ -1,0 +1,21 @@
+use Rattle.std.proofs.Common.{◌+◌, ◌*◌}
+use Rattle.serde_json.specs.Data.{depth}
+use Rattle.serde_json.specs.View.{view}
+use Rattle.lalrpop_formats.specs.ReadTrees.{tree_at}
+use Rattle.lalrpop_formats.proofs.Lists.{IsAt}
+use Rattle.lalrpop_formats.proofs.tree.+trees.Given as goal
+
+abbrev pub decreases-node_of : goal.decreases-node_of
+decreases-node_of l = 3 * depth (view l.value.now)
+
+abbrev pub decreases-tree_of : goal.decreases-tree_of
+decreases-tree_of l = 3 * depth (view l.value.now) + 1
+
+abbrev pub decreases-trees_of : goal.decreases-trees_of
+decreases-trees_of l = 3 * depth (view l.value.now)
+
+abbrev pub invariant-trees_of-loop-index : goal.invariant-trees_of-loop-index
+invariant-trees_of-loop-index l = IsAt (λ _. tree_at) l.value-items l.trees l.index
+
+abbrev pub decreases-tree_in : goal.decreases-tree_in
+decreases-tree_in l = 3 * depth (view l.value.now) + 2

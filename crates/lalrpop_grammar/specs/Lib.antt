@@ -1,0 +1,10 @@
+pub mod Admitting
+pub mod Closing
+pub mod Enabled
+pub mod Items
+pub mod Leaves
+pub mod Trees
+pub mod Views
+pub mod WalkViews
+pub mod Walks
+pub mod Written

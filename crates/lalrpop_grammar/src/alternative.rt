@@ -1,0 +1,87 @@
+//! Alternatives of a rule.
+
+ghost use Rattle.std.specs.Prelude.{◌≡◌, IfOk};
+
+use crate::attribute::{Attribute, clone_attributes};
+use crate::condition::Condition;
+use crate::origin::Origin;
+use lalrpop_symbols::{Atom, List, Span, Symbol, clone_symbols};
+use std::alloc::{AllocError, Global};
+
+/// What an alternative does when it is reduced.
+#[derive(Debug, PartialEq, Eq, Drop)]
+pub enum ActionKind {
+    /// `=> code`.
+    User(Atom),
+    /// `=>? code`, which may fail.
+    Fallible(Atom),
+    /// The place of the next token.
+    Lookahead,
+    /// The place of the last token.
+    Lookbehind,
+}
+
+/// One alternative of a rule.
+#[derive(Debug, PartialEq, Eq, Drop)]
+pub struct Alternative {
+    /// Where it is written.
+    pub span: Span,
+    /// Its symbols, in order.
+    pub expr: List<Symbol>,
+    /// When it is there, in a macro.
+    pub condition: Option<Condition>,
+    /// What it does; without one the chosen symbols' values are its value.
+    pub action: Option<ActionKind>,
+    /// Its attributes, in order.
+    pub attributes: List<Attribute>,
+    /// The written choice that it stands for.
+    pub origin: Origin,
+}
+
+impl ActionKind {
+    /// A copy that equals it.
+    pub fn try_clone(&self) -> Result<ActionKind, AllocError>
+        ensures { IfOk result (λ copy. copy ≡ self.now) }
+    {
+        match self {
+            ActionKind::User(code) => Ok(ActionKind::User(code.try_clone()?)),
+            ActionKind::Fallible(code) => Ok(ActionKind::Fallible(code.try_clone()?)),
+            ActionKind::Lookahead => Ok(ActionKind::Lookahead),
+            ActionKind::Lookbehind => Ok(ActionKind::Lookbehind),
+        }
+    }
+}
+
+impl Alternative {
+    /// A copy that equals it.
+    pub fn try_clone(&self, alloc: Global) -> Result<Alternative, AllocError>
+        ensures { IfOk result (λ copy. copy ≡ self.now) }
+    {
+        Ok(Alternative {
+            span: self.span,
+            expr: clone_symbols(alloc, self.expr.as_slice())?,
+            condition: clone_condition(&self.condition)?,
+            action: clone_action(&self.action)?,
+            attributes: clone_attributes(alloc, self.attributes.as_slice())?,
+            origin: self.origin.try_clone(alloc)?,
+        })
+    }
+}
+
+fn clone_condition(condition: &Option<Condition>) -> Result<Option<Condition>, AllocError>
+    ensures { IfOk result (λ copy. copy ≡ condition.now) }
+{
+    match condition {
+        None => Ok(None),
+        Some(condition) => Ok(Some(condition.try_clone()?)),
+    }
+}
+
+fn clone_action(action: &Option<ActionKind>) -> Result<Option<ActionKind>, AllocError>
+    ensures { IfOk result (λ copy. copy ≡ action.now) }
+{
+    match action {
+        None => Ok(None),
+        Some(action) => Ok(Some(action.try_clone()?)),
+    }
+}

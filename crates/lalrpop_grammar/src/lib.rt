@@ -1,0 +1,41 @@
+//! The written grammar, its trees and tokens, and the streams that the program reads and writes.
+//!
+//! Values are plain data to a contract: an `Atom` is seen as its bytes, a `List` as the list of its elements, a
+//! `Boxed` as what is in the box. So `≡` on a symbol, a tree or a grammar means what it says.
+#![tactic(auto)]
+
+mod alternative;
+mod attribute;
+mod condition;
+mod extern_token;
+mod grammar;
+mod intern_token;
+mod leaves;
+mod match_token;
+mod nonterminal;
+mod origin;
+mod token;
+mod tree;
+mod type_ref;
+mod walk;
+
+pub use alternative::{ActionKind, Alternative};
+pub use attribute::{Attribute, AttributeArg};
+pub use condition::{Condition, ConditionOp};
+pub use extern_token::{AssociatedType, Conversion, EnumToken, ExternToken};
+pub use grammar::{Grammar, GrammarItem};
+pub use intern_token::{InternToken, MatchEntry};
+pub use lalrpop_streams::{
+    MAX_BYTES, MAX_CALLS, Sink, Source, Unread, Watched, read_all, write_all,
+};
+pub use lalrpop_symbols::{
+    Atom, Boxed, ExprSymbol, List, MacroSymbol, MatchSymbol, Name, NonterminalString, RepeatOp,
+    RepeatSymbol, Span, Symbol, SymbolKind, TerminalLiteral, TerminalString,
+};
+pub use leaves::{Leaf, Leaves};
+pub use match_token::{MatchContents, MatchItem, MatchMapping, MatchToken};
+pub use nonterminal::{NonterminalData, Visibility};
+pub use origin::Origin;
+pub use token::ScanToken;
+pub use tree::WrittenTree;
+pub use type_ref::TypeRef;

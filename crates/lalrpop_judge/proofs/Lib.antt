@@ -1,0 +1,5 @@
+pub mod Choosing
+pub mod Naming
+pub mod Seeing
+pub mod Taking
+pub mod Walking

@@ -1,0 +1,4 @@
+pub mod Admitted
+pub mod Closed
+pub mod Ends
+pub mod Table

@@ -1,0 +1,44 @@
+//! Why there is no answer.
+
+ghost use Rattle.std.specs.Prelude.{◌≡◌};
+ghost use Rattle.lalrpop_judge.specs.declared.error.JudgeError.TheVariants.{Memory};
+
+use std::alloc::{AllocError, AllocFailed};
+use std::error::Error;
+use std::fmt;
+
+/// Why the judge has no answer.
+#[derive(Clone, Copy, Debug, PartialEq, Eq)]
+pub enum JudgeError {
+    /// The pattern of a condition can't be read.
+    Condition,
+    /// Memory ran out.
+    Memory,
+}
+
+impl fmt::Display for JudgeError {
+    fn fmt<W: fmt::Write>(&self, f: &mut fmt::Formatter<W>) -> fmt::Result {
+        match self {
+            JudgeError::Condition => write!(f, "condition limit"),
+            JudgeError::Memory => write!(f, "out of memory"),
+        }
+    }
+}
+
+impl Error for JudgeError {}
+
+impl From<AllocError> for JudgeError {
+    ghost from_gives = { λ _ e. e ≡ Memory };
+
+    fn from(_error: AllocError) -> JudgeError {
+        JudgeError::Memory
+    }
+}
+
+impl<T: Drop> From<AllocFailed<T>> for JudgeError {
+    ghost from_gives = { λ _ e. e ≡ Memory };
+
+    fn from(_error: AllocFailed<T>) -> JudgeError {
+        JudgeError::Memory
+    }
+}

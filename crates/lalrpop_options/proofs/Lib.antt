@@ -1,0 +1,6 @@
+mod NumberLemmas
+mod FoundLemmas
+mod RuleLemmas
+mod GivenLemmas
+mod CompleteLemmas
+mod ProgramLemmas

@@ -1,0 +1,15 @@
+//! The words of the program: what they ask for, and with which options.
+#![tactic(auto)]
+
+mod command;
+mod dashes;
+mod fault;
+mod found;
+mod settings;
+mod task;
+mod words;
+
+pub use fault::OptionsError;
+pub use settings::Options;
+pub use task::Task;
+pub use words::options;

@@ -1,0 +1,5 @@
+pub mod Json
+pub mod Judging
+pub mod Questions
+pub mod Replies
+pub mod Runs

@@ -1,0 +1,123 @@
+//! What `judge` has to say.
+
+ghost use Rattle.std.specs.Prelude.{IfOk};
+ghost use Rattle.lalrpop_formats.specs.ReadTrees.{tree_at};
+ghost use Rattle.lalrpop_formats.specs.Grammars.{grammar_at};
+ghost use Rattle.lalrpop_run.specs.Judging.{IsGrammarReply, IsJudgement, IsReply, IsTreeReply, IsVerdict};
+ghost use Rattle.serde_json.specs.View.{view};
+
+use crate::json::{value_of, value_of_text};
+use crate::reply::Reply;
+use lalrpop_formats::{ReadError, read_grammar, read_tree};
+use lalrpop_grammar::{Atom, Grammar, WrittenTree};
+use lalrpop_judge::{JudgeError, judge};
+use serde_json::Value;
+use std::alloc::{AllocError, Global};
+
+/// The rule to start from and the features, as the judge takes them.
+#[derive(Drop)]
+pub(crate) struct Question {
+    pub(crate) start: Atom,
+    pub(crate) features: Vec<Atom>,
+}
+
+/// Whether the grammar admits the tree over its own leaves.
+fn verdict(
+    alloc: Global,
+    question: &Question,
+    grammar: &Grammar,
+    tree: &WrittenTree,
+) -> Result<bool, AllocError>
+    ensures { IfOk result (IsVerdict question.now.features.items question.now.start grammar.now tree.now) }
+{
+    let tokens = tree.tokens(alloc)?;
+    let features = question.features.as_slice();
+    match judge(
+        alloc,
+        grammar,
+        features,
+        &question.start,
+        tree,
+        tokens.as_slice(),
+    ) {
+        Ok(yes) => Ok(yes),
+        Err(JudgeError::Memory) => Err(AllocError),
+        Err(JudgeError::Condition) => unreachable!(),
+    }
+}
+
+/// The reply to the tree's value.
+fn tree_reply(
+    alloc: Global,
+    question: &Question,
+    grammar: &Grammar,
+    value: &Value,
+) -> Result<Reply, AllocError>
+    ensures { IfOk result (IsTreeReply question.now.features.items question.now.start grammar.now
+        (tree_at (view value.now))) }
+{
+    match read_tree(alloc, value) {
+        Ok(tree) => {
+            let yes = verdict(alloc, question, grammar, &tree)?;
+            Ok(Reply::Judged(yes))
+        }
+        Err(ReadError::Shape(fault)) => Ok(Reply::TreeFault(fault)),
+        Err(ReadError::Memory) => Err(AllocError),
+    }
+}
+
+/// The reply to the tree's text.
+pub(crate) fn judgement(
+    alloc: Global,
+    question: &Question,
+    grammar: &Grammar,
+    tree: &str,
+) -> Result<Reply, AllocError>
+    ensures { IfOk result (IsJudgement question.now.features.items question.now.start grammar.now tree.now) }
+{
+    match value_of_text(alloc, tree)? {
+        Some(value) => {
+            let reply = tree_reply(alloc, question, grammar, &value)?;
+            Ok(reply)
+        }
+        None => Ok(Reply::NotJson),
+    }
+}
+
+/// The reply to the grammar's value.
+fn grammar_reply(
+    alloc: Global,
+    question: &Question,
+    tree: &str,
+    value: &Value,
+) -> Result<Reply, AllocError>
+    ensures { IfOk result (IsGrammarReply question.now.features.items question.now.start tree.now
+        (grammar_at (view value.now))) }
+{
+    match read_grammar(alloc, value) {
+        Ok(grammar) => {
+            let reply = judgement(alloc, question, &grammar, tree)?;
+            Ok(reply)
+        }
+        Err(ReadError::Shape(fault)) => Ok(Reply::GrammarFault(fault)),
+        Err(ReadError::Memory) => Err(AllocError),
+    }
+}
+
+/// The reply to the grammar's bytes.
+pub(crate) fn reply_to(
+    alloc: Global,
+    question: &Question,
+    tree: &str,
+    bytes: &[u8],
+) -> Result<Reply, AllocError>
+    ensures { IfOk result (IsReply question.now.features.items question.now.start tree.now bytes.now) }
+{
+    match value_of(alloc, bytes)? {
+        Some(value) => {
+            let reply = grammar_reply(alloc, question, tree, &value)?;
+            Ok(reply)
+        }
+        None => Ok(Reply::NotJson),
+    }
+}

@@ -1,0 +1,66 @@
+//! Names of rules and of named symbols.
+
+ghost use Rattle.std.specs.Prelude.{◌≡◌, IfOk, length, true, false};
+
+use crate::atom::Atom;
+use std::alloc::AllocError;
+
+/// The name of a rule, of a macro's parameter, or of a nonterminal.
+#[derive(Debug, PartialEq, Eq, PartialOrd, Ord, Hash, Drop)]
+pub struct NonterminalString(pub Atom);
+
+/// The name that a symbol is given for the user's action, as in `<mut x:Expr>`.
+#[derive(Debug, PartialEq, Eq, PartialOrd, Ord, Hash, Drop)]
+pub struct Name {
+    /// Whether `mut` stands before it.
+    pub mutable: bool,
+    /// The name itself.
+    pub name: Atom,
+}
+
+impl NonterminalString {
+    /// How many bytes the name has.
+    pub fn len(&self) -> usize
+        ensures { result ≡ length self.now.0 }
+    {
+        self.0.as_str().len()
+    }
+
+    /// A copy that equals it.
+    pub fn try_clone(&self) -> Result<NonterminalString, AllocError>
+        ensures { IfOk result (λ copy. copy ≡ self.now) }
+    {
+        Ok(NonterminalString(self.0.try_clone()?))
+    }
+}
+
+impl Name {
+    /// A name with its `mut`, or without.
+    pub fn new(mutable: bool, name: Atom) -> Name
+        ensures mutable_as_given { result.mutable ≡ mutable }
+        ensures name_as_given { result.name ≡ name }
+    {
+        Name { mutable, name }
+    }
+
+    /// A name without `mut`.
+    pub fn immut(name: Atom) -> Name
+        ensures not_mutable { result.mutable ≡ false }
+        ensures name_as_given { result.name ≡ name }
+    {
+        Name {
+            mutable: false,
+            name,
+        }
+    }
+
+    /// A copy that equals it.
+    pub fn try_clone(&self) -> Result<Name, AllocError>
+        ensures { IfOk result (λ copy. copy ≡ self.now) }
+    {
+        Ok(Name {
+            mutable: self.mutable,
+            name: self.name.try_clone()?,
+        })
+    }
+}

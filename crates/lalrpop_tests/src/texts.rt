@@ -1,0 +1,147 @@
+//! Texts of symbols and terminals.
+
+use lalrpop_symbols::{
+    Atom, Boxed, ExprSymbol, List, MacroSymbol, Name, NonterminalString, RepeatOp, RepeatSymbol,
+    Span, Symbol, SymbolKind, TerminalLiteral, TerminalString,
+};
+use std::alloc::{AllocError, Global};
+use std::test::Fail;
+
+fn plain(kind: SymbolKind) -> Symbol {
+    Symbol::new(Span(0, 0), kind)
+}
+
+fn named(alloc: Global, name: &str) -> Result<Symbol, AllocError> {
+    Ok(plain(SymbolKind::AmbiguousId(Atom::new(alloc, name)?)))
+}
+
+fn quoted(alloc: Global, text: &str) -> Result<TerminalString, AllocError> {
+    Ok(TerminalString::quoted(Atom::new(alloc, text)?))
+}
+
+fn two(alloc: Global, first: Symbol, second: Symbol) -> Result<List<Symbol>, AllocError> {
+    let mut symbols = List::new(alloc);
+    symbols.push(first)?;
+    symbols.push(second)?;
+    Ok(symbols)
+}
+
+#[test]
+fn literal_with_escapes(rt: HostRuntime) -> Result<(), Fail> {
+    let alloc = rt.alloc();
+    let text = "a\\b\"c\n\r\t\u{0}\u{b}\u{1f} \u{7f}é\u{3000}😀'";
+    let quoted = TerminalLiteral::Quoted(Atom::new(alloc, text)?);
+    let printed = quoted.canonical_form(alloc)?;
+    assert_eq!(rt;
+        printed.as_str(),
+        "\"a\\\\b\\\"c\\n\\r\\t\\u{0}\\u{b}\\u{1f} \u{7f}é\u{3000}😀'\""
+    );
+    assert_eq!(rt; quoted.display_len(), printed.len());
+    let regex = TerminalLiteral::Regex(Atom::new(alloc, "[\"\\d]+")?);
+    let printed = regex.canonical_form(alloc)?;
+    assert_eq!(rt; printed.as_str(), "r#\"[\\\"\\\\d]+\"#");
+    assert_eq!(rt; regex.display_len(), 13);
+    Ok(())
+}
+
+#[test]
+fn each_terminal(rt: HostRuntime) -> Result<(), Fail> {
+    let alloc = rt.alloc();
+    let mut out = String::from_str(alloc, "< ")?;
+    quoted(alloc, "a")?.write_text(alloc, &mut out)?;
+    out.push_str(" ")?;
+    TerminalString::regex(Atom::new(alloc, "b+")?).write_text(alloc, &mut out)?;
+    out.push_str(" ")?;
+    TerminalString::Bare(Atom::new(alloc, "NUM")?).write_text(alloc, &mut out)?;
+    out.push_str(" ")?;
+    TerminalString::Error.write_text(alloc, &mut out)?;
+    out.push_str(" ")?;
+    TerminalLiteral::Quoted(Atom::new(alloc, "")?).write_text(alloc, &mut out)?;
+    assert_eq!(rt; out.as_str(), "< \"a\" r#\"b+\"# NUM ! \"\"");
+    assert_eq!(rt; quoted(alloc, "a")?.display_len(), 3);
+    assert_eq!(rt;
+        TerminalString::Bare(Atom::new(alloc, "NUM")?).display_len(),
+        3
+    );
+    assert_eq!(rt; TerminalString::Error.display_len(), 1);
+    assert_eq!(rt; TerminalString::Error.canonical_form(alloc)?.as_str(), "!");
+    Ok(())
+}
+
+#[test]
+fn each_leaf_symbol(rt: HostRuntime) -> Result<(), Fail> {
+    let alloc = rt.alloc();
+    assert_eq!(rt;
+        named(alloc, "Expr")?.canonical_form(alloc)?.as_str(),
+        "Expr"
+    );
+    let terminal = plain(SymbolKind::Terminal(quoted(alloc, "+")?));
+    assert_eq!(rt; terminal.canonical_form(alloc)?.as_str(), "\"+\"");
+    let rule = NonterminalString(Atom::new(alloc, "Num")?);
+    let rule = plain(SymbolKind::Nonterminal(rule));
+    assert_eq!(rt; rule.canonical_form(alloc)?.as_str(), "Num");
+    assert_eq!(rt;
+        plain(SymbolKind::Lookahead).canonical_form(alloc)?.as_str(),
+        "@L"
+    );
+    assert_eq!(rt;
+        plain(SymbolKind::Lookbehind)
+            .canonical_form(alloc)?
+            .as_str(),
+        "@R"
+    );
+    assert_eq!(rt;
+        plain(SymbolKind::Error).canonical_form(alloc)?.as_str(),
+        "!"
+    );
+    Ok(())
+}
+
+#[test]
+fn each_kind_of_call(rt: HostRuntime) -> Result<(), Fail> {
+    let alloc = rt.alloc();
+    let group = ExprSymbol {
+        symbols: two(alloc, named(alloc, "a")?, named(alloc, "b")?)?,
+    };
+    assert_eq!(rt; group.canonical_form(alloc)?.as_str(), "(a b)");
+    let empty = ExprSymbol {
+        symbols: List::new(alloc),
+    };
+    assert_eq!(rt; empty.canonical_form(alloc)?.as_str(), "()");
+    let call = MacroSymbol {
+        name: NonterminalString(Atom::new(alloc, "M")?),
+        args: two(alloc, plain(SymbolKind::Expr(group)), named(alloc, "c")?)?,
+    };
+    assert_eq!(rt; call.canonical_form(alloc)?.as_str(), "M<(a b), c>");
+    let repeat = RepeatSymbol {
+        op: RepeatOp::Plus,
+        symbol: plain(SymbolKind::Macro(call)),
+    };
+    assert_eq!(rt; repeat.canonical_form(alloc)?.as_str(), "M<(a b), c>+");
+    Ok(())
+}
+
+fn repeated(alloc: Global, op: RepeatOp, symbol: Symbol) -> Result<Symbol, AllocError> {
+    let repeat = Boxed::new(alloc, RepeatSymbol { op, symbol })?;
+    Ok(plain(SymbolKind::Repeat(repeat)))
+}
+
+#[test]
+fn repeats_choices_and_names(rt: HostRuntime) -> Result<(), Fail> {
+    let alloc = rt.alloc();
+    let star = repeated(alloc, RepeatOp::Star, named(alloc, "a")?)?;
+    assert_eq!(rt; star.canonical_form(alloc)?.as_str(), "a*");
+    let question = repeated(alloc, RepeatOp::Question, star)?;
+    assert_eq!(rt; question.canonical_form(alloc)?.as_str(), "a*?");
+    let chosen = plain(SymbolKind::Choose(Boxed::new(alloc, question)?));
+    assert_eq!(rt; chosen.canonical_form(alloc)?.as_str(), "<a*?>");
+    let name = Name::immut(Atom::new(alloc, "x")?);
+    let labelled = plain(SymbolKind::Name(name, Boxed::new(alloc, chosen)?));
+    assert_eq!(rt; labelled.canonical_form(alloc)?.as_str(), "<x:<a*?>>");
+    let name = Name::new(true, Atom::new(alloc, "y")?);
+    let labelled = plain(SymbolKind::Name(name, Boxed::new(alloc, labelled)?));
+    let mut out = String::from_str(alloc, "A = ")?;
+    labelled.write_text(alloc, &mut out)?;
+    assert_eq!(rt; out.as_str(), "A = <mut y:<x:<a*?>>>");
+    Ok(())
+}
