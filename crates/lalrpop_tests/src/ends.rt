@@ -1,170 +1,156 @@
 //! Ends that fail, and the bounds on them.
 
-use crate::grammars::{LISTS, ONE_STEP};
+use crate::grammars::Sample;
 use crate::program::judge;
 use crate::streams::{Blanks, Pieces, Room};
-use lalrpop_grammar::{Sink, Source, Watched};
-use lalrpop_run::{Options, options, run};
+use lalrpop_grammar::Watched;
+use lalrpop_run::{options, run};
 use std::alloc::Global;
-use std::io::{Read, Write};
+use std::io::Read;
+use std::process::Abort;
 use std::test::Fail;
 
 /// What a run over this reader and this writer answers.
-fn status<R: Read + Drop>(
-    alloc: Global,
-    options: &Options<'_>,
-    reader: R,
-    writer: &mut Room,
-) -> u8 {
+fn status_of<R: Read + Drop>(alloc: Global, reader: R, out: &mut Room) -> Result<u8, Fail> {
+    let words = judge("S", Sample::OneStep.text());
+    let options = options(alloc, words.as_slice())?;
     let mut grammar = Watched::new(reader);
     let mut text = Watched::new(b"".as_slice());
-    let mut out = Watched::new(writer);
-    run(alloc, options, &mut grammar, &mut text, &mut out)
+    let mut writer = Watched::new(out);
+    Ok(run(alloc, &options, &mut grammar, &mut text, &mut writer))
 }
 
-fn room(alloc: Global, room: usize) -> Room {
-    Room {
-        taken: Vec::new(alloc),
-        room,
-        interruptions: 0,
-    }
+/// That a run over this reader and a writer with this room ends so.
+fn ends<R: Read + Drop>(
+    rt: &impl Abort,
+    reader: R,
+    mut out: Room,
+    text: &[u8],
+    status: u8,
+) -> Result<(), Fail> {
+    let alloc = *out.taken.allocator();
+    let found = status_of(alloc, reader, &mut out)?;
+    assert_eq!(rt; found, status);
+    assert_eq!(rt; out.taken.as_slice(), text);
+    Ok(())
+}
+
+fn lists() -> &'static [u8] {
+    Sample::Lists.text().as_bytes()
 }
 
 #[test]
 fn single_bytes_change_nothing(rt: HostRuntime) -> Result<(), Fail> {
-    let words = judge("S", ONE_STEP);
-    let options = options(rt.alloc(), words.as_slice())?;
-    let mut out = room(rt.alloc(), usize::MAX);
-    assert_eq!(rt;
-        status(
-            rt.alloc(),
-            &options,
-            Pieces::bytes(LISTS.as_bytes()),
-            &mut out
-        ),
-        0
-    );
-    assert_eq!(rt; out.taken.as_slice(), b"yes\n".as_slice());
-    Ok(())
+    let out = Room::new(rt.alloc(), usize::MAX, 0);
+    ends(&rt, Pieces::bytes(lists()), out, b"yes\n", 0)
 }
 
 #[test]
 fn a_failing_read_is_a_read_fault(rt: HostRuntime) -> Result<(), Fail> {
-    let words = judge("S", ONE_STEP);
-    let options = options(rt.alloc(), words.as_slice())?;
-    let all = LISTS.len() as u64;
-    for calls in 0..all + 1 {
-        let mut out = room(rt.alloc(), usize::MAX);
-        let reader = Pieces::failing(LISTS.as_bytes(), calls);
-        assert_eq!(rt;
-            status(rt.alloc(), &options, reader, &mut out),
+    for calls in 0..=lists().len() {
+        let out = Room::new(rt.alloc(), usize::MAX, 0);
+        ends(
+            &rt,
+            Pieces::failing(lists(), calls as u64),
+            out,
+            b"read fault\n",
             6,
-            "at {calls}"
-        );
-        assert_eq!(rt;
-            out.taken.as_slice(),
-            b"read fault\n".as_slice(),
-            "at {calls}"
-        );
+        )?;
     }
     Ok(())
 }
 
 #[test]
 fn a_failing_write_leaves_a_front(rt: HostRuntime) -> Result<(), Fail> {
-    let words = judge("S", ONE_STEP);
-    let options = options(rt.alloc(), words.as_slice())?;
-    for taken in 0..4 {
-        let mut out = room(rt.alloc(), taken);
-        assert_eq!(rt;
-            status(rt.alloc(), &options, LISTS.as_bytes(), &mut out),
-            6,
-            "at {taken}"
-        );
-        assert_eq!(rt; out.taken.as_slice(), &b"yes\n"[..taken], "at {taken}");
-    }
-    Ok(())
-}
-
-#[test]
-fn a_failing_write_of_a_read_fault_leaves_a_front(rt: HostRuntime) -> Result<(), Fail> {
-    let words = judge("S", ONE_STEP);
-    let options = options(rt.alloc(), words.as_slice())?;
-    let mut out = room(rt.alloc(), 4);
-    let reader = Pieces::failing(LISTS.as_bytes(), 0);
-    assert_eq!(rt; status(rt.alloc(), &options, reader, &mut out), 6);
-    assert_eq!(rt; out.taken.as_slice(), b"read".as_slice());
-    Ok(())
-}
-
-#[test]
-fn as_many_bytes_as_are_read(rt: HostRuntime) -> Result<(), Fail> {
-    let words = judge("S", ONE_STEP);
-    let options = options(rt.alloc(), words.as_slice())?;
-    for (count, text, end) in [
-        (16_777_216, b"not JSON\n".as_slice(), 4),
-        (16_777_217, b"read fault\n".as_slice(), 6),
+    for (taken, front) in [
+        (0, b"".as_slice()),
+        (1, b"y".as_slice()),
+        (2, b"ye".as_slice()),
+        (3, b"yes".as_slice()),
     ] {
-        let mut out = room(rt.alloc(), usize::MAX);
-        assert_eq!(rt; status(rt.alloc(), &options, Blanks(count), &mut out), end);
-        assert_eq!(rt; out.taken.as_slice(), text);
+        ends(&rt, lists(), Room::new(rt.alloc(), taken, 0), front, 6)?;
     }
     Ok(())
 }
 
 #[test]
-fn as_many_interrupted_reads_as_are_borne(rt: HostRuntime) -> Result<(), Fail> {
-    let words = judge("S", ONE_STEP);
-    let options = options(rt.alloc(), words.as_slice())?;
-    for (count, text, end) in [
-        // One call gives the bytes, and one finds the end.
-        (33_554_429, b"yes\n".as_slice(), 0),
-        (33_554_430, b"read fault\n".as_slice(), 6),
-        (u64::MAX, b"read fault\n".as_slice(), 6),
-    ] {
-        let mut out = room(rt.alloc(), usize::MAX);
-        let reader = Pieces::interrupted(LISTS.as_bytes(), count);
-        assert_eq!(rt;
-            status(rt.alloc(), &options, reader, &mut out),
-            end,
-            "at {count}"
-        );
-        assert_eq!(rt; out.taken.as_slice(), text, "at {count}");
-    }
-    Ok(())
+fn a_failing_write_of_a_read_fault(rt: HostRuntime) -> Result<(), Fail> {
+    ends(
+        &rt,
+        Pieces::failing(lists(), 0),
+        Room::new(rt.alloc(), 4, 0),
+        b"read",
+        6,
+    )
 }
 
 #[test]
-fn as_many_interrupted_writes_as_are_borne(rt: HostRuntime) -> Result<(), Fail> {
-    let words = judge("S", ONE_STEP);
-    let options = options(rt.alloc(), words.as_slice())?;
-    for (count, text, end) in [
-        (33_554_431, b"yes\n".as_slice(), 0),
-        (33_554_432, b"".as_slice(), 6),
-        (u64::MAX, b"".as_slice(), 6),
-    ] {
-        let mut out = room(rt.alloc(), usize::MAX);
-        out.interruptions = count;
-        assert_eq!(rt;
-            status(rt.alloc(), &options, LISTS.as_bytes(), &mut out),
-            end,
-            "at {count}"
-        );
-        assert_eq!(rt; out.taken.as_slice(), text, "at {count}");
-    }
-    Ok(())
+fn all_bytes_that_are_read(rt: HostRuntime) -> Result<(), Fail> {
+    let out = Room::new(rt.alloc(), usize::MAX, 0);
+    ends(&rt, Blanks(16_777_216), out, b"not JSON\n", 4)
 }
 
 #[test]
-fn a_failure_is_remembered(rt: HostRuntime) -> Result<(), Fail> {
-    let mut reader = Watched::new(Pieces::failing(b"ab", 1));
-    let mut byte = [0u8];
-    assert_eq!(rt; Source::read(&mut reader, &mut byte)?, 1);
-    assert_eq!(rt; Source::failed(&reader), false);
-    assert_eq!(rt; Source::read(&mut reader, &mut byte).is_err(), true);
-    assert_eq!(rt; Source::failed(&reader), true);
-    let mut writer = Watched::new(room(rt.alloc(), 0));
-    assert_eq!(rt; Sink::write(&mut writer, b"a").is_err(), true);
-    assert_eq!(rt; Sink::failed(&writer), true);
-    Ok(())
+fn one_byte_more(rt: HostRuntime) -> Result<(), Fail> {
+    let out = Room::new(rt.alloc(), usize::MAX, 0);
+    ends(&rt, Blanks(16_777_217), out, b"read fault\n", 6)
+}
+
+// One call gives the bytes, and one finds the end.
+#[test]
+fn all_interrupted_reads_that_are_borne(rt: HostRuntime) -> Result<(), Fail> {
+    let out = Room::new(rt.alloc(), usize::MAX, 0);
+    ends(
+        &rt,
+        Pieces::interrupted(lists(), 33_554_429),
+        out,
+        b"yes\n",
+        0,
+    )
+}
+
+#[test]
+fn one_interrupted_read_more(rt: HostRuntime) -> Result<(), Fail> {
+    let out = Room::new(rt.alloc(), usize::MAX, 0);
+    ends(
+        &rt,
+        Pieces::interrupted(lists(), 33_554_430),
+        out,
+        b"read fault\n",
+        6,
+    )
+}
+
+#[test]
+fn a_reader_that_is_always_interrupted(rt: HostRuntime) -> Result<(), Fail> {
+    let out = Room::new(rt.alloc(), usize::MAX, 0);
+    ends(
+        &rt,
+        Pieces::interrupted(lists(), u64::MAX),
+        out,
+        b"read fault\n",
+        6,
+    )
+}
+
+#[test]
+fn all_interrupted_writes_that_are_borne(rt: HostRuntime) -> Result<(), Fail> {
+    ends(
+        &rt,
+        lists(),
+        Room::new(rt.alloc(), usize::MAX, 33_554_431),
+        b"yes\n",
+        0,
+    )
+}
+
+#[test]
+fn a_writer_that_is_always_interrupted(rt: HostRuntime) -> Result<(), Fail> {
+    ends(
+        &rt,
+        lists(),
+        Room::new(rt.alloc(), usize::MAX, u64::MAX),
+        b"",
+        6,
+    )
 }

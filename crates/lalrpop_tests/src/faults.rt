@@ -1,6 +1,6 @@
 //! The fault of each value that isn't read: what of a good value is replaced, by what, and the fault.
 
-use crate::grammars::{COMPACT, COMPACT_TREE};
+use crate::grammars::Sample;
 use lalrpop_formats::{ReadError, fault_text, read_grammar, read_tree};
 use serde_json::Value;
 use std::alloc::{AllocError, Global};
@@ -439,7 +439,7 @@ fn tree_fault(alloc: Global, text: &str) -> Result<String, Fail> {
 #[test]
 fn tells_faults_of_grammars(rt: HostRuntime) -> Result<(), Fail> {
     for (old, new, fault) in GRAMMAR_FAULTS.iter() {
-        let text = replaced(rt.alloc(), COMPACT, old, new)?;
+        let text = replaced(rt.alloc(), Sample::Compact.text(), old, new)?;
         let found = grammar_fault(rt.alloc(), text.as_str())?;
         assert_eq!(rt; found.as_str(), *fault, "with {new}");
     }
@@ -449,7 +449,7 @@ fn tells_faults_of_grammars(rt: HostRuntime) -> Result<(), Fail> {
 #[test]
 fn tells_more_faults_of_grammars(rt: HostRuntime) -> Result<(), Fail> {
     for (old, new, fault) in MORE_GRAMMAR_FAULTS.iter() {
-        let text = replaced(rt.alloc(), COMPACT, old, new)?;
+        let text = replaced(rt.alloc(), Sample::Compact.text(), old, new)?;
         let found = grammar_fault(rt.alloc(), text.as_str())?;
         assert_eq!(rt; found.as_str(), *fault, "with {new}");
     }
@@ -459,7 +459,7 @@ fn tells_more_faults_of_grammars(rt: HostRuntime) -> Result<(), Fail> {
 #[test]
 fn tells_faults_of_rules(rt: HostRuntime) -> Result<(), Fail> {
     for (old, new, fault) in RULE_FAULTS.iter() {
-        let text = replaced(rt.alloc(), COMPACT, old, new)?;
+        let text = replaced(rt.alloc(), Sample::Compact.text(), old, new)?;
         let found = grammar_fault(rt.alloc(), text.as_str())?;
         assert_eq!(rt; found.as_str(), *fault, "with {new}");
     }
@@ -469,7 +469,7 @@ fn tells_faults_of_rules(rt: HostRuntime) -> Result<(), Fail> {
 #[test]
 fn tells_more_faults_of_rules(rt: HostRuntime) -> Result<(), Fail> {
     for (old, new, fault) in MORE_RULE_FAULTS.iter() {
-        let text = replaced(rt.alloc(), COMPACT, old, new)?;
+        let text = replaced(rt.alloc(), Sample::Compact.text(), old, new)?;
         let found = grammar_fault(rt.alloc(), text.as_str())?;
         assert_eq!(rt; found.as_str(), *fault, "with {new}");
     }
@@ -479,7 +479,7 @@ fn tells_more_faults_of_rules(rt: HostRuntime) -> Result<(), Fail> {
 #[test]
 fn tells_faults_of_alternatives(rt: HostRuntime) -> Result<(), Fail> {
     for (old, new, fault) in ALTERNATIVE_FAULTS.iter() {
-        let text = replaced(rt.alloc(), COMPACT, old, new)?;
+        let text = replaced(rt.alloc(), Sample::Compact.text(), old, new)?;
         let found = grammar_fault(rt.alloc(), text.as_str())?;
         assert_eq!(rt; found.as_str(), *fault, "with {new}");
     }
@@ -489,7 +489,7 @@ fn tells_faults_of_alternatives(rt: HostRuntime) -> Result<(), Fail> {
 #[test]
 fn tells_faults_of_symbols(rt: HostRuntime) -> Result<(), Fail> {
     for (old, new, fault) in SYMBOL_FAULTS.iter() {
-        let text = replaced(rt.alloc(), COMPACT, old, new)?;
+        let text = replaced(rt.alloc(), Sample::Compact.text(), old, new)?;
         let found = grammar_fault(rt.alloc(), text.as_str())?;
         assert_eq!(rt; found.as_str(), *fault, "with {new}");
     }
@@ -499,7 +499,7 @@ fn tells_faults_of_symbols(rt: HostRuntime) -> Result<(), Fail> {
 #[test]
 fn tells_faults_of_trees(rt: HostRuntime) -> Result<(), Fail> {
     for (old, new, fault) in TREE_FAULTS.iter() {
-        let text = replaced(rt.alloc(), COMPACT_TREE, old, new)?;
+        let text = replaced(rt.alloc(), Sample::CompactTree.text(), old, new)?;
         let found = tree_fault(rt.alloc(), text.as_str())?;
         assert_eq!(rt; found.as_str(), *fault, "with {new}");
     }

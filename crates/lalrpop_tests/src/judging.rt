@@ -1,86 +1,249 @@
 //! What `judge` answers, run by run.
 
-use crate::grammars::{
-    COMPACT, EMPTY_NODE, KEY_ADDED, LISTS, NOTHING, ONE_STEP, OTHER_TEXT, TURNED_SPAN, TWICE,
-    TWO_STEPS, WRONG_LITERAL,
-};
+use crate::grammars::Sample;
 use crate::program::{judge, run_over};
+use std::alloc::Global;
+use std::process::Abort;
 use std::test::Fail;
 
-#[test]
-fn judges_trees_of_plain_rules(rt: HostRuntime) -> Result<(), Fail> {
-    for (grammar, start, tree, text, status) in [
-        (LISTS, "S", ONE_STEP, "yes\n", 0),
-        (LISTS, "S", WRONG_LITERAL, "no\n", 1),
-        (LISTS, "S", TWO_STEPS, "yes\n", 0),
-        (LISTS, "S", OTHER_TEXT, "yes\n", 0),
-        (NOTHING, "S", EMPTY_NODE, "yes\n", 0),
-        (NOTHING, "T", EMPTY_NODE, "no\n", 1),
-        (TWICE, "S", EMPTY_NODE, "no\n", 1),
-    ] {
-        let found = run_over(
-            rt.alloc(),
-            judge(start, tree).as_slice(),
-            grammar.as_bytes(),
-        )?;
-        assert_eq!(rt; found.text.as_str(), text, "{start} {tree}");
-        assert_eq!(rt; found.status, status);
-    }
+/// That the run answers this.
+fn says(
+    rt: &impl Abort,
+    alloc: Global,
+    words: &[&str],
+    grammar: &[u8],
+    text: &str,
+    status: u8,
+) -> Result<(), Fail> {
+    let found = run_over(alloc, words, grammar)?;
+    assert_eq!(rt; found.text.as_str(), text);
+    assert_eq!(rt; found.status, status);
     Ok(())
 }
 
-#[test]
-fn tells_the_first_fault(rt: HostRuntime) -> Result<(), Fail> {
-    for (grammar, tree, text) in [
-        (
-            "{}",
-            ONE_STEP,
-            "grammar value: missing key \"attributes\" at \"\"\n",
-        ),
-        (
-            TURNED_SPAN,
-            ONE_STEP,
-            "grammar value: bad number at \"/span\"\n",
-        ),
-        (
-            KEY_ADDED,
-            ONE_STEP,
-            "grammar value: unknown key \"x\" at \"\"\n",
-        ),
-        ("[", ONE_STEP, "not JSON\n"),
-        (LISTS, "{}", "tree value: wrong shape at \"\"\n"),
-        (LISTS, "[", "not JSON\n"),
-        (
-            "{}",
-            "[",
-            "grammar value: missing key \"attributes\" at \"\"\n",
-        ),
-        (
-            COMPACT,
-            "{\"args\":[]}",
-            "tree value: missing key \"children\" at \"\"\n",
-        ),
-    ] {
-        let found = run_over(rt.alloc(), judge("S", tree).as_slice(), grammar.as_bytes())?;
-        assert_eq!(rt; found.text.as_str(), text, "{tree}");
-        assert_eq!(rt; found.status, 4);
-    }
-    Ok(())
+/// That `judge` answers this to the grammar, the start and the tree.
+fn judges(
+    rt: &impl Abort,
+    alloc: Global,
+    grammar: Sample,
+    start: &str,
+    tree: Sample,
+    text: &str,
+    status: u8,
+) -> Result<(), Fail> {
+    let words = judge(start, tree.text());
+    says(
+        rt,
+        alloc,
+        words.as_slice(),
+        grammar.text().as_bytes(),
+        text,
+        status,
+    )
 }
 
 #[test]
-fn bytes_that_are_no_text_are_not_json(rt: HostRuntime) -> Result<(), Fail> {
-    let found = run_over(rt.alloc(), judge("S", ONE_STEP).as_slice(), &[0xff])?;
-    assert_eq!(rt; found.text.as_str(), "not JSON\n");
-    assert_eq!(rt; found.status, 4);
-    Ok(())
+fn a_tree_of_one_step(rt: HostRuntime) -> Result<(), Fail> {
+    judges(
+        &rt,
+        rt.alloc(),
+        Sample::Lists,
+        "S",
+        Sample::OneStep,
+        "yes\n",
+        0,
+    )
 }
 
 #[test]
-fn without_a_tree_nothing_is_read(rt: HostRuntime) -> Result<(), Fail> {
+fn another_literal(rt: HostRuntime) -> Result<(), Fail> {
+    judges(
+        &rt,
+        rt.alloc(),
+        Sample::Lists,
+        "S",
+        Sample::WrongLiteral,
+        "no\n",
+        1,
+    )
+}
+
+#[test]
+fn a_tree_of_two_steps(rt: HostRuntime) -> Result<(), Fail> {
+    judges(
+        &rt,
+        rt.alloc(),
+        Sample::Lists,
+        "S",
+        Sample::TwoSteps,
+        "yes\n",
+        0,
+    )
+}
+
+#[test]
+fn a_leaf_with_another_text(rt: HostRuntime) -> Result<(), Fail> {
+    judges(
+        &rt,
+        rt.alloc(),
+        Sample::Lists,
+        "S",
+        Sample::OtherText,
+        "yes\n",
+        0,
+    )
+}
+
+#[test]
+fn the_empty_alternative(rt: HostRuntime) -> Result<(), Fail> {
+    judges(
+        &rt,
+        rt.alloc(),
+        Sample::Nothing,
+        "S",
+        Sample::EmptyNode,
+        "yes\n",
+        0,
+    )
+}
+
+#[test]
+fn a_start_that_is_not_there(rt: HostRuntime) -> Result<(), Fail> {
+    judges(
+        &rt,
+        rt.alloc(),
+        Sample::Nothing,
+        "T",
+        Sample::EmptyNode,
+        "no\n",
+        1,
+    )
+}
+
+#[test]
+fn two_rules_of_one_name(rt: HostRuntime) -> Result<(), Fail> {
+    judges(
+        &rt,
+        rt.alloc(),
+        Sample::Twice,
+        "S",
+        Sample::EmptyNode,
+        "no\n",
+        1,
+    )
+}
+
+#[test]
+fn a_missing_key(rt: HostRuntime) -> Result<(), Fail> {
+    let text = "grammar value: missing key \"attributes\" at \"\"\n";
+    judges(
+        &rt,
+        rt.alloc(),
+        Sample::EmptyObject,
+        "S",
+        Sample::OneStep,
+        text,
+        4,
+    )
+}
+
+#[test]
+fn a_span_that_ends_before_it_begins(rt: HostRuntime) -> Result<(), Fail> {
+    let text = "grammar value: bad number at \"/span\"\n";
+    judges(
+        &rt,
+        rt.alloc(),
+        Sample::TurnedSpan,
+        "S",
+        Sample::OneStep,
+        text,
+        4,
+    )
+}
+
+#[test]
+fn an_unknown_key(rt: HostRuntime) -> Result<(), Fail> {
+    let text = "grammar value: unknown key \"x\" at \"\"\n";
+    judges(
+        &rt,
+        rt.alloc(),
+        Sample::KeyAdded,
+        "S",
+        Sample::OneStep,
+        text,
+        4,
+    )
+}
+
+#[test]
+fn a_grammar_that_is_no_json(rt: HostRuntime) -> Result<(), Fail> {
+    judges(
+        &rt,
+        rt.alloc(),
+        Sample::Bracket,
+        "S",
+        Sample::OneStep,
+        "not JSON\n",
+        4,
+    )
+}
+
+#[test]
+fn a_tree_that_is_no_json(rt: HostRuntime) -> Result<(), Fail> {
+    judges(
+        &rt,
+        rt.alloc(),
+        Sample::Lists,
+        "S",
+        Sample::Bracket,
+        "not JSON\n",
+        4,
+    )
+}
+
+#[test]
+fn a_tree_without_a_form(rt: HostRuntime) -> Result<(), Fail> {
+    let text = "tree value: wrong shape at \"\"\n";
+    judges(
+        &rt,
+        rt.alloc(),
+        Sample::Lists,
+        "S",
+        Sample::EmptyObject,
+        text,
+        4,
+    )
+}
+
+#[test]
+fn the_grammar_is_told_before_the_tree(rt: HostRuntime) -> Result<(), Fail> {
+    let text = "grammar value: missing key \"attributes\" at \"\"\n";
+    judges(
+        &rt,
+        rt.alloc(),
+        Sample::EmptyObject,
+        "S",
+        Sample::Bracket,
+        text,
+        4,
+    )
+}
+
+#[test]
+fn bytes_that_are_no_text(rt: HostRuntime) -> Result<(), Fail> {
+    let words = judge("S", Sample::OneStep.text());
+    says(&rt, rt.alloc(), words.as_slice(), &[0xff], "not JSON\n", 4)
+}
+
+#[test]
+fn no_tree(rt: HostRuntime) -> Result<(), Fail> {
     let words = ["lalrpop_run", "judge", "--start", "S"];
-    let found = run_over(rt.alloc(), words.as_slice(), b"[")?;
-    assert_eq!(rt; found.text.as_str(), "judge needs --tree\n");
-    assert_eq!(rt; found.status, 4);
-    Ok(())
+    says(
+        &rt,
+        rt.alloc(),
+        words.as_slice(),
+        b"[",
+        "judge needs --tree\n",
+        4,
+    )
 }

@@ -1,5 +1,6 @@
 //! Readers and writers that misbehave.
 
+use std::alloc::Global;
 use std::io::{self, Error, ErrorKind, Read, Write};
 
 /// A reader of some bytes, a piece at a time, that may be interrupted or fail at one call.
@@ -81,8 +82,19 @@ impl Read for Blanks {
 #[derive(Drop)]
 pub(crate) struct Room {
     pub(crate) taken: Vec<u8>,
-    pub(crate) room: usize,
-    pub(crate) interruptions: u64,
+    room: usize,
+    interruptions: u64,
+}
+
+impl Room {
+    /// A writer with this room, after so many interrupted calls.
+    pub(crate) fn new(alloc: Global, room: usize, interruptions: u64) -> Room {
+        Room {
+            taken: Vec::new(alloc),
+            room,
+            interruptions,
+        }
+    }
 }
 
 impl Write for Room {

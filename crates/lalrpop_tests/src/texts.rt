@@ -1,8 +1,8 @@
 //! Texts of symbols and terminals.
 
 use lalrpop_symbols::{
-    Atom, Boxed, ExprSymbol, List, MacroSymbol, Name, NonterminalString, RepeatOp, RepeatSymbol,
-    Span, Symbol, SymbolKind, TerminalLiteral, TerminalString,
+    Atom, ExprSymbol, List, MacroSymbol, NonterminalString, RepeatOp, RepeatSymbol, Span, Symbol,
+    SymbolKind, TerminalLiteral, TerminalString,
 };
 use std::alloc::{AllocError, Global};
 use std::test::Fail;
@@ -118,30 +118,5 @@ fn each_kind_of_call(rt: HostRuntime) -> Result<(), Fail> {
         symbol: plain(SymbolKind::Macro(call)),
     };
     assert_eq!(rt; repeat.canonical_form(alloc)?.as_str(), "M<(a b), c>+");
-    Ok(())
-}
-
-fn repeated(alloc: Global, op: RepeatOp, symbol: Symbol) -> Result<Symbol, AllocError> {
-    let repeat = Boxed::new(alloc, RepeatSymbol { op, symbol })?;
-    Ok(plain(SymbolKind::Repeat(repeat)))
-}
-
-#[test]
-fn repeats_choices_and_names(rt: HostRuntime) -> Result<(), Fail> {
-    let alloc = rt.alloc();
-    let star = repeated(alloc, RepeatOp::Star, named(alloc, "a")?)?;
-    assert_eq!(rt; star.canonical_form(alloc)?.as_str(), "a*");
-    let question = repeated(alloc, RepeatOp::Question, star)?;
-    assert_eq!(rt; question.canonical_form(alloc)?.as_str(), "a*?");
-    let chosen = plain(SymbolKind::Choose(Boxed::new(alloc, question)?));
-    assert_eq!(rt; chosen.canonical_form(alloc)?.as_str(), "<a*?>");
-    let name = Name::immut(Atom::new(alloc, "x")?);
-    let labelled = plain(SymbolKind::Name(name, Boxed::new(alloc, chosen)?));
-    assert_eq!(rt; labelled.canonical_form(alloc)?.as_str(), "<x:<a*?>>");
-    let name = Name::new(true, Atom::new(alloc, "y")?);
-    let labelled = plain(SymbolKind::Name(name, Boxed::new(alloc, labelled)?));
-    let mut out = String::from_str(alloc, "A = ")?;
-    labelled.write_text(alloc, &mut out)?;
-    assert_eq!(rt; out.as_str(), "A = <mut y:<x:<a*?>>>");
     Ok(())
 }
