@@ -9,24 +9,25 @@ use Rattle.lalrpop_grammar.specs.declared.alternative.ActionKind.TheVariants as 
 use Rattle.lalrpop_grammar.specs.declared.alternative.Alternative.{Alternative}
 use Rattle.lalrpop_grammar.specs.declared.attribute.Attribute.{Attribute}
 use Rattle.lalrpop_grammar.specs.declared.condition.Condition.{Condition}
-use Rattle.lalrpop_formats.specs.declared.fault.Fault.{Fault}
-use Rattle.lalrpop_formats.specs.declared.form.Form.{Form}
-use Rattle.lalrpop_formats.specs.declared.form.Form.TheVariants as form
-use Rattle.lalrpop_formats.specs.declared.key.Key.{Key}
-use Rattle.lalrpop_formats.specs.declared.key.Key.TheVariants as key
-use Rattle.lalrpop_formats.specs.declared.fault.Step.TheVariants as step
+use Rattle.lalrpop_values.specs.declared.fault.Fault.{Fault}
+use Rattle.lalrpop_values.specs.declared.form.Form.{Form}
+use Rattle.lalrpop_values.specs.declared.form.Form.TheVariants as form
+use Rattle.lalrpop_values.specs.declared.key.Key.{Key}
+use Rattle.lalrpop_values.specs.declared.key.Key.TheVariants as key
+use Rattle.lalrpop_values.specs.declared.fault.Step.TheVariants as step
 use Rattle.lalrpop_formats.specs.Alternatives.{action_at, action_by, action_rows, alternative_at, alternatives_at, as_some, nothing_at, place_at, user_at, written_at}
-use Rattle.lalrpop_formats.specs.Forms.{told_by}
-use Rattle.lalrpop_formats.specs.Key.{text_of}
-use Rattle.lalrpop_formats.specs.Objects.{field_at, keys_at}
-use Rattle.lalrpop_formats.specs.Readable.{EachFrom, IsSpan, IsReadableAction, absent, user, IsReadableAlternative, IsReadableSymbol}
-use Rattle.lalrpop_formats.specs.Scalars.{empty_list_at, span_at, text_at}
-use Rattle.lalrpop_formats.specs.Spelling.{action_json, alternative_json, list_json, span_json, symbol_json}
+use Rattle.lalrpop_values.specs.Forms.{told_by}
+use Rattle.lalrpop_values.specs.Key.{text_of}
+use Rattle.lalrpop_values.specs.Objects.{field_at, keys_at}
+use Rattle.lalrpop_formats.specs.Readable.{IsReadableAction, absent, user, IsReadableAlternative, IsReadableSymbol}
+use Rattle.lalrpop_values.specs.Scalars.{empty_list_at, span_at, text_at}
+use Rattle.lalrpop_formats.specs.Spelling.{action_json, alternative_json, symbol_json}
 use Rattle.lalrpop_formats.specs.Symbols.{symbol_at, symbols_at}
-use Rattle.lalrpop_formats.proofs.ListLaws.{list_takes, list_again}
-use Rattle.lalrpop_formats.proofs.ScalarLaws.{empty_list_takes, empty_list_again, span_takes, span_again, text_takes}
-use Rattle.lalrpop_formats.proofs.Steps.{bind_ok, part_ok, guard_ok, keys_ok, Fields, filled}
+use Rattle.lalrpop_values.proofs.ListLaws.{list_takes, list_again}
+use Rattle.lalrpop_values.proofs.ScalarLaws.{empty_list_takes, empty_list_again, span_takes, span_again, text_takes}
+use Rattle.lalrpop_values.proofs.Steps.{bind_ok, part_ok, guard_ok, keys_ok, Fields, filled}
 use Rattle.lalrpop_formats.proofs.SymbolLaws.{symbol_takes, symbol_again}
+use Rattle.lalrpop_values.specs.Spelled.{EachFrom, IsSpan, list_json, span_json}
 
 -- ---- lists of symbols
 

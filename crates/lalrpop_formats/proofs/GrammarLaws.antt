@@ -5,26 +5,27 @@ use Rattle.lalrpop_symbols.specs.declared.span.Span.{Span}
 use Rattle.lalrpop_grammar.specs.declared.attribute.Attribute.{Attribute}
 use Rattle.lalrpop_grammar.specs.declared.grammar.Grammar.{Grammar}
 use Rattle.lalrpop_grammar.specs.declared.grammar.GrammarItem.{GrammarItem}
-use Rattle.lalrpop_formats.specs.declared.key.Key.{Key}
-use Rattle.lalrpop_formats.specs.declared.key.Key.TheVariants as key
-use Rattle.lalrpop_formats.specs.declared.fault.Fault.{Fault}
-use Rattle.lalrpop_formats.specs.declared.fault.ReadError.{ReadError}
-use Rattle.lalrpop_formats.specs.declared.fault.Step.TheVariants as step
-use Rattle.lalrpop_formats.specs.Gives.{Gives}
+use Rattle.lalrpop_values.specs.declared.key.Key.{Key}
+use Rattle.lalrpop_values.specs.declared.key.Key.TheVariants as key
+use Rattle.lalrpop_values.specs.declared.fault.Fault.{Fault}
+use Rattle.lalrpop_values.specs.declared.fault.ReadError.{ReadError}
+use Rattle.lalrpop_values.specs.declared.fault.Step.TheVariants as step
+use Rattle.lalrpop_values.specs.Gives.{Gives}
 use Rattle.lalrpop_formats.specs.Laws.{Spells}
 use Rattle.lalrpop_formats.specs.Grammars.{grammar_at, grammar_keys, prefixed}
-use Rattle.lalrpop_formats.specs.Key.{text_of}
-use Rattle.lalrpop_formats.specs.Objects.{field_at, keys_at}
+use Rattle.lalrpop_values.specs.Key.{text_of}
+use Rattle.lalrpop_values.specs.Objects.{field_at, keys_at}
 use Rattle.lalrpop_formats.specs.Prefix.{IsFreePrefix, longest_of, prefix_past}
-use Rattle.lalrpop_formats.specs.Readable.{EachFrom, IsReadable, IsReadableItem, IsSpan}
+use Rattle.lalrpop_formats.specs.Readable.{IsReadable, IsReadableItem}
 use Rattle.lalrpop_formats.specs.Rules.{items_at}
-use Rattle.lalrpop_formats.specs.Scalars.{empty_list_at, span_at, text_at}
-use Rattle.lalrpop_formats.specs.Spelling.{item_json, list_json, span_json, spelling}
+use Rattle.lalrpop_values.specs.Scalars.{empty_list_at, span_at, text_at}
+use Rattle.lalrpop_formats.specs.Spelling.{item_json, spelling}
 use Rattle.lalrpop_formats.specs.Texts.{texts_of}
 use Rattle.lalrpop_formats.proofs.RuleLaws.{items_take, items_again}
 use Rattle.lalrpop_formats.proofs.Runs.{free_prefix, only_prefix}
-use Rattle.lalrpop_formats.proofs.ScalarLaws.{empty_list_takes, empty_list_again, span_takes, span_again, text_takes, text_again}
-use Rattle.lalrpop_formats.proofs.Steps.{bind_ok, part_ok, keys_ok, Fields, filled}
+use Rattle.lalrpop_values.proofs.ScalarLaws.{empty_list_takes, empty_list_again, span_takes, span_again, text_takes, text_again}
+use Rattle.lalrpop_values.proofs.Steps.{bind_ok, part_ok, keys_ok, Fields, filled}
+use Rattle.lalrpop_values.specs.Spelled.{EachFrom, IsSpan, list_json, span_json}
 
 -- ---- what is read
 

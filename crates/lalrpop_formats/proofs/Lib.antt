@@ -1,14 +1,8 @@
 pub mod AlternativeLaws
 pub mod GrammarLaws
-pub mod ListLaws
-pub mod Lists
-pub mod MemberNames
 pub mod Nesting
-pub mod Pairs
 pub mod PrintingLemmas
 pub mod RuleLaws
 pub mod Runs
-pub mod ScalarLaws
-pub mod Steps
 pub mod SymbolLaws
 pub mod TreeLaws

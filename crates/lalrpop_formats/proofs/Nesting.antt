@@ -7,13 +7,13 @@ use Rattle.serde_json.specs.Find.{get, get_member, as_array}
 use Rattle.serde_json.specs.View.{view, items_view}
 use Rattle.serde_json.specs.declared.value.Value.{Value}
 use Rattle.lalrpop_grammar.specs.declared.tree.WrittenTree.{WrittenTree}
-use Rattle.lalrpop_formats.specs.declared.fault.Fault.{Fault}
-use Rattle.lalrpop_formats.specs.declared.fault.FaultKind.TheVariants.{WrongShape}
-use Rattle.lalrpop_formats.specs.declared.key.Key.{Key}
-use Rattle.lalrpop_formats.specs.Gives.{here, required}
-use Rattle.lalrpop_formats.specs.Key.{text_of}
-use Rattle.lalrpop_formats.specs.Lists.{list_from}
-use Rattle.lalrpop_formats.specs.Objects.{member_at}
+use Rattle.lalrpop_values.specs.declared.fault.Fault.{Fault}
+use Rattle.lalrpop_values.specs.declared.fault.FaultKind.TheVariants.{WrongShape}
+use Rattle.lalrpop_values.specs.declared.key.Key.{Key}
+use Rattle.lalrpop_values.specs.Gives.{here, required}
+use Rattle.lalrpop_values.specs.Key.{text_of}
+use Rattle.lalrpop_values.specs.Lists.{list_from}
+use Rattle.lalrpop_values.specs.Objects.{member_at}
 use Rattle.lalrpop_formats.specs.ReadTrees.{nested_at, nested_in, nested_of, tree_at, tree_with, trees_at, trees_from}
 
 by_order : (o : Ordering) (d e : Data) (found : Option Data) (n : ℕ) → (found ≡ Some e → depth e ≤ n) → match_ordering o found (Some d) found ≡ Some e → depth e ≤ max (depth d) n

@@ -13,26 +13,27 @@ use Rattle.lalrpop_grammar.specs.declared.nonterminal.NonterminalData.{Nontermin
 use Rattle.lalrpop_grammar.specs.declared.nonterminal.Visibility.{Visibility}
 use Rattle.lalrpop_grammar.specs.declared.nonterminal.Visibility.TheVariants as visible
 use Rattle.lalrpop_grammar.specs.declared.type_ref.TypeRef as types
-use Rattle.lalrpop_formats.specs.declared.form.Form.{Form}
-use Rattle.lalrpop_formats.specs.declared.form.Form.TheVariants as form
-use Rattle.lalrpop_formats.specs.declared.key.Key.{Key}
-use Rattle.lalrpop_formats.specs.declared.key.Key.TheVariants as key
-use Rattle.lalrpop_formats.specs.declared.fault.Step.TheVariants as step
-use Rattle.lalrpop_formats.specs.declared.word.Word.TheVariants as word
+use Rattle.lalrpop_values.specs.declared.form.Form.{Form}
+use Rattle.lalrpop_values.specs.declared.form.Form.TheVariants as form
+use Rattle.lalrpop_values.specs.declared.key.Key.{Key}
+use Rattle.lalrpop_values.specs.declared.key.Key.TheVariants as key
+use Rattle.lalrpop_values.specs.declared.fault.Step.TheVariants as step
+use Rattle.lalrpop_values.specs.declared.word.Word.TheVariants as word
 use Rattle.lalrpop_formats.specs.Alternatives.{alternatives_at, as_some}
-use Rattle.lalrpop_formats.specs.Forms.{form_at, told_by}
-use Rattle.lalrpop_formats.specs.Gives.{required}
-use Rattle.lalrpop_formats.specs.Key.{text_of}
-use Rattle.lalrpop_formats.specs.Objects.{field_at, keys_at}
-use Rattle.lalrpop_formats.specs.Readable.{EachFrom, IsSpan, IsReadableAlternative, IsReadableItem, rule, IsReadableRule, IsReadableType, absent, unit}
+use Rattle.lalrpop_values.specs.Forms.{form_at, told_by}
+use Rattle.lalrpop_values.specs.Gives.{required}
+use Rattle.lalrpop_values.specs.Key.{text_of}
+use Rattle.lalrpop_values.specs.Objects.{field_at, keys_at}
+use Rattle.lalrpop_formats.specs.Readable.{IsReadableAlternative, IsReadableItem, rule, IsReadableRule, IsReadableType, absent, unit}
 use Rattle.lalrpop_formats.specs.Rules.{as_item, item_at, item_by, item_form, items_at, name_in, rule_at, rule_keys, tuple_at, type_at, type_by, type_rows, visibility_at, visibility_of}
-use Rattle.lalrpop_formats.specs.Scalars.{empty, empty_list_at, is_name, is_word, name_at, span_at, word_at}
-use Rattle.lalrpop_formats.specs.Spelling.{alternative_json, item_json, list_json, rule_json, span_json, type_json, visibility_json, word_json}
-use Rattle.lalrpop_formats.specs.Word.{word_text}
+use Rattle.lalrpop_values.specs.Scalars.{empty, empty_list_at, is_name, is_word, name_at, span_at, word_at}
+use Rattle.lalrpop_formats.specs.Spelling.{alternative_json, item_json, rule_json, type_json, visibility_json}
+use Rattle.lalrpop_values.specs.Word.{word_text}
 use Rattle.lalrpop_formats.proofs.AlternativeLaws.{alternatives_take, alternatives_again}
-use Rattle.lalrpop_formats.proofs.ListLaws.{list_takes, list_again}
-use Rattle.lalrpop_formats.proofs.ScalarLaws.{empty_takes, empty_list_takes, empty_list_again, name_takes, name_again, span_takes, span_again, word_takes}
-use Rattle.lalrpop_formats.proofs.Steps.{bind_ok, part_ok, ok_same, keys_ok, Fields, filled}
+use Rattle.lalrpop_values.proofs.ListLaws.{list_takes, list_again}
+use Rattle.lalrpop_values.proofs.ScalarLaws.{empty_takes, empty_list_takes, empty_list_again, name_takes, name_again, span_takes, span_again, word_takes}
+use Rattle.lalrpop_values.proofs.Steps.{bind_ok, part_ok, ok_same, keys_ok, Fields, filled}
+use Rattle.lalrpop_values.specs.Spelled.{EachFrom, IsSpan, list_json, span_json, word_json}
 
 -- ---- types
 

@@ -7,22 +7,23 @@ use Rattle.lalrpop_symbols.specs.declared.symbol.SymbolKind.TheVariants as kinds
 use Rattle.lalrpop_symbols.specs.declared.terminal.TerminalLiteral.{TerminalLiteral}
 use Rattle.lalrpop_symbols.specs.declared.terminal.TerminalLiteral.TheVariants as literals
 use Rattle.lalrpop_symbols.specs.declared.terminal.TerminalString.TheVariants as terminals
-use Rattle.lalrpop_formats.specs.declared.form.Form.{Form}
-use Rattle.lalrpop_formats.specs.declared.form.Form.TheVariants as form
-use Rattle.lalrpop_formats.specs.declared.key.Key.{Key}
-use Rattle.lalrpop_formats.specs.declared.key.Key.TheVariants as key
-use Rattle.lalrpop_formats.specs.declared.fault.Step.TheVariants as step
-use Rattle.lalrpop_formats.specs.declared.word.Word.TheVariants as word
-use Rattle.lalrpop_formats.specs.Forms.{form_at, told_by}
-use Rattle.lalrpop_formats.specs.Key.{text_of}
-use Rattle.lalrpop_formats.specs.Objects.{field_at, keys_at}
-use Rattle.lalrpop_formats.specs.Readable.{IsSpan, IsReadableSymbol, id, terminal}
-use Rattle.lalrpop_formats.specs.Scalars.{is_name, name_at, span_at, text_at, word_at}
-use Rattle.lalrpop_formats.specs.Spelling.{literal_json, span_json, symbol_json, word_json}
+use Rattle.lalrpop_values.specs.declared.form.Form.{Form}
+use Rattle.lalrpop_values.specs.declared.form.Form.TheVariants as form
+use Rattle.lalrpop_values.specs.declared.key.Key.{Key}
+use Rattle.lalrpop_values.specs.declared.key.Key.TheVariants as key
+use Rattle.lalrpop_values.specs.declared.fault.Step.TheVariants as step
+use Rattle.lalrpop_values.specs.declared.word.Word.TheVariants as word
+use Rattle.lalrpop_values.specs.Forms.{form_at, told_by}
+use Rattle.lalrpop_values.specs.Key.{text_of}
+use Rattle.lalrpop_values.specs.Objects.{field_at, keys_at}
+use Rattle.lalrpop_formats.specs.Readable.{IsReadableSymbol, id, terminal}
+use Rattle.lalrpop_values.specs.Scalars.{is_name, name_at, span_at, text_at, word_at}
+use Rattle.lalrpop_formats.specs.Spelling.{literal_json, symbol_json}
 use Rattle.lalrpop_formats.specs.Symbols.{id_at, literal_at, literal_by, literal_rows, quoted_at, symbol_at, symbol_by, symbol_rows, symbol_words, terminal_at}
-use Rattle.lalrpop_formats.specs.Word.{word_text}
-use Rattle.lalrpop_formats.proofs.ScalarLaws.{span_takes, span_again, text_takes, text_again, name_takes, name_again, word_takes}
-use Rattle.lalrpop_formats.proofs.Steps.{bind_ok, part_ok, keys_ok, Fields, filled}
+use Rattle.lalrpop_values.specs.Word.{word_text}
+use Rattle.lalrpop_values.proofs.ScalarLaws.{span_takes, span_again, text_takes, text_again, name_takes, name_again, word_takes}
+use Rattle.lalrpop_values.proofs.Steps.{bind_ok, part_ok, keys_ok, Fields, filled}
+use Rattle.lalrpop_values.specs.Spelled.{IsSpan, span_json, word_json}
 
 -- ---- literals
 

@@ -14,30 +14,30 @@ use Rattle.lalrpop_symbols.specs.declared.terminal.TerminalString.TheVariants as
 use Rattle.lalrpop_grammar.specs.declared.tree.WrittenTree.{WrittenTree, fold-roll-WrittenTree}
 use Rattle.lalrpop_grammar.specs.declared.tree.WrittenTree.TheOpen as layer
 use Rattle.lalrpop_grammar.specs.declared.tree.WrittenTree.TheVariants as tree
-use Rattle.lalrpop_formats.specs.declared.fault.Fault.{Fault}
-use Rattle.lalrpop_formats.specs.declared.fault.ReadError.{ReadError}
-use Rattle.lalrpop_formats.specs.declared.fault.Step.TheVariants as step
-use Rattle.lalrpop_formats.specs.Gives.{Gives}
+use Rattle.lalrpop_values.specs.declared.fault.Fault.{Fault}
+use Rattle.lalrpop_values.specs.declared.fault.ReadError.{ReadError}
+use Rattle.lalrpop_values.specs.declared.fault.Step.TheVariants as step
+use Rattle.lalrpop_values.specs.Gives.{Gives}
 use Rattle.lalrpop_formats.specs.Laws.{SpellsTree}
-use Rattle.lalrpop_formats.specs.declared.form.Form.{Form}
-use Rattle.lalrpop_formats.specs.declared.form.Form.TheVariants as form
-use Rattle.lalrpop_formats.specs.declared.key.Key.{Key}
-use Rattle.lalrpop_formats.specs.declared.key.Key.TheVariants as key
-use Rattle.lalrpop_formats.specs.Forms.{told_by}
-use Rattle.lalrpop_formats.specs.Key.{text_of}
-use Rattle.lalrpop_formats.specs.Lists.{with_first}
-use Rattle.lalrpop_formats.specs.Objects.{field_at, keys_at, member_at}
+use Rattle.lalrpop_values.specs.declared.form.Form.{Form}
+use Rattle.lalrpop_values.specs.declared.form.Form.TheVariants as form
+use Rattle.lalrpop_values.specs.declared.key.Key.{Key}
+use Rattle.lalrpop_values.specs.declared.key.Key.TheVariants as key
+use Rattle.lalrpop_values.specs.Forms.{told_by}
+use Rattle.lalrpop_values.specs.Key.{text_of}
+use Rattle.lalrpop_values.specs.Lists.{with_first}
+use Rattle.lalrpop_values.specs.Objects.{field_at, keys_at, member_at}
 use Rattle.lalrpop_formats.specs.ReadTrees.{Nested, as_literal, leaf_at, leaf_literal_at, leaf_literal_by, leaf_rows, nested_at, nested_in, nested_of, node_at, tree_at, tree_by, tree_rows, tree_with, trees_at, trees_from}
-use Rattle.lalrpop_formats.specs.Readable.{IsSpan}
 use Rattle.lalrpop_formats.specs.ReadableTrees.{IsReadableTree, node, leaf, AreReadableTrees, none, more}
-use Rattle.lalrpop_formats.specs.Scalars.{empty_list_at, is_name, name_at, number_at, span_at, text_at}
+use Rattle.lalrpop_values.specs.Scalars.{empty_list_at, is_name, name_at, number_at, span_at, text_at}
 use Rattle.lalrpop_formats.specs.SpelledTrees.{terminal_json, tree_spelling, tree_step}
-use Rattle.lalrpop_formats.specs.Spelling.{list_json, literal_json, number_json, object_of, span_json, symbol_json}
+use Rattle.lalrpop_formats.specs.Spelling.{literal_json, symbol_json}
 use Rattle.lalrpop_formats.specs.Symbols.{quoted_at}
 use Rattle.lalrpop_formats.proofs.Nesting.{nested_member}
-use Rattle.lalrpop_formats.proofs.ScalarLaws.{empty_list_takes, empty_list_again, name_takes, name_again, number_takes, number_again, span_takes, span_again, text_takes}
-use Rattle.lalrpop_formats.proofs.Steps.{bind_ok, part_ok, required_ok, ok_same, keys_ok, Fields, filled}
+use Rattle.lalrpop_values.proofs.ScalarLaws.{empty_list_takes, empty_list_again, name_takes, name_again, number_takes, number_again, span_takes, span_again, text_takes}
+use Rattle.lalrpop_values.proofs.Steps.{bind_ok, part_ok, required_ok, ok_same, keys_ok, Fields, filled}
 use Rattle.lalrpop_formats.proofs.SymbolLaws.{IsQuoted, quoted_takes, quoted_again}
+use Rattle.lalrpop_values.specs.Spelled.{IsSpan, list_json, number_json, object_of, span_json}
 
 abbrev Spelled : Data → WrittenTree → Type 0
 Spelled = SpellsTree

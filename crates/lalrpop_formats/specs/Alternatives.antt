@@ -7,17 +7,17 @@ use Rattle.lalrpop_grammar.specs.declared.alternative.ActionKind.TheVariants as 
 use Rattle.lalrpop_grammar.specs.declared.alternative.Alternative.{Alternative}
 use Rattle.lalrpop_grammar.specs.declared.origin.Origin.{Origin}
 use Rattle.lalrpop_grammar.specs.declared.origin.Origin.TheVariants as origins
-use Rattle.lalrpop_formats.specs.declared.fault.Fault.{Fault}
-use Rattle.lalrpop_formats.specs.declared.fault.FaultKind.TheVariants as fault
-use Rattle.lalrpop_formats.specs.declared.form.Form.{Form}
-use Rattle.lalrpop_formats.specs.declared.form.Form.TheVariants as form
-use Rattle.lalrpop_formats.specs.declared.key.Key.{Key}
-use Rattle.lalrpop_formats.specs.declared.key.Key.TheVariants as key
-use Rattle.lalrpop_formats.specs.Forms.{told_by}
-use Rattle.lalrpop_formats.specs.Gives.{◌>>=◌, here}
-use Rattle.lalrpop_formats.specs.Lists.{list_at}
-use Rattle.lalrpop_formats.specs.Objects.{field_at, keys_at}
-use Rattle.lalrpop_formats.specs.Scalars.{empty_list_at, span_at, text_at}
+use Rattle.lalrpop_values.specs.declared.fault.Fault.{Fault}
+use Rattle.lalrpop_values.specs.declared.fault.FaultKind.TheVariants as fault
+use Rattle.lalrpop_values.specs.declared.form.Form.{Form}
+use Rattle.lalrpop_values.specs.declared.form.Form.TheVariants as form
+use Rattle.lalrpop_values.specs.declared.key.Key.{Key}
+use Rattle.lalrpop_values.specs.declared.key.Key.TheVariants as key
+use Rattle.lalrpop_values.specs.Forms.{told_by}
+use Rattle.lalrpop_values.specs.Gives.{◌>>=◌, here}
+use Rattle.lalrpop_values.specs.Lists.{list_at}
+use Rattle.lalrpop_values.specs.Objects.{field_at, keys_at}
+use Rattle.lalrpop_values.specs.Scalars.{empty_list_at, span_at, text_at}
 use Rattle.lalrpop_formats.specs.Symbols.{symbols_at}
 
 -- ---- actions

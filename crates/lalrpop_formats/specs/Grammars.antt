@@ -2,14 +2,14 @@
 use Rattle.std.specs.Prelude.{ℕ, List, [], ◌∷◌, Result, Ok, Err}
 use Rattle.serde_json.specs.Data.{Data}
 use Rattle.lalrpop_grammar.specs.declared.grammar.Grammar.{Grammar}
-use Rattle.lalrpop_formats.specs.declared.fault.Fault.{Fault}
-use Rattle.lalrpop_formats.specs.declared.key.Key.{Key}
-use Rattle.lalrpop_formats.specs.declared.key.Key.TheVariants as key
-use Rattle.lalrpop_formats.specs.Gives.{◌>>=◌}
-use Rattle.lalrpop_formats.specs.Objects.{field_at, keys_at}
+use Rattle.lalrpop_values.specs.declared.fault.Fault.{Fault}
+use Rattle.lalrpop_values.specs.declared.key.Key.{Key}
+use Rattle.lalrpop_values.specs.declared.key.Key.TheVariants as key
+use Rattle.lalrpop_values.specs.Gives.{◌>>=◌}
+use Rattle.lalrpop_values.specs.Objects.{field_at, keys_at}
 use Rattle.lalrpop_formats.specs.Prefix.{longest_of, prefix_past}
 use Rattle.lalrpop_formats.specs.Rules.{items_at}
-use Rattle.lalrpop_formats.specs.Scalars.{empty_list_at, span_at, text_at}
+use Rattle.lalrpop_values.specs.Scalars.{empty_list_at, span_at, text_at}
 use Rattle.lalrpop_formats.specs.Texts.{texts_of}
 
 abbrev pub grammar_keys : List Key

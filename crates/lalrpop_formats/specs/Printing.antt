@@ -1,6 +1,6 @@
 -- How a written tree is printed.
 use Rattle.std.specs.Prelude.{ℕ, List, [], ◌∷◌, ◌++◌, map, codes, decimal}
-use Rattle.lalrpop_formats.specs.JsonText.{json_text}
+use Rattle.lalrpop_values.specs.JsonText.{json_text}
 use Rattle.lalrpop_symbols.specs.Symbols.{Text}
 use Rattle.lalrpop_symbols.specs.Texts.{symbol_text, joined}
 use Rattle.lalrpop_grammar.specs.Trees.{Tree, Trees, node, list, absent, present, together, leaf, look, no_tree, tree_and}

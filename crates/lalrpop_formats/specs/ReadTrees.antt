@@ -8,19 +8,19 @@ use Rattle.lalrpop_symbols.specs.declared.terminal.TerminalString.{TerminalStrin
 use Rattle.lalrpop_symbols.specs.declared.terminal.TerminalString.TheVariants as terminals
 use Rattle.lalrpop_grammar.specs.declared.tree.WrittenTree.{WrittenTree}
 use Rattle.lalrpop_grammar.specs.declared.tree.WrittenTree.TheVariants as tree
-use Rattle.lalrpop_formats.specs.declared.fault.Fault.{Fault}
-use Rattle.lalrpop_formats.specs.declared.fault.FaultKind.TheVariants as fault
-use Rattle.lalrpop_formats.specs.declared.fault.Step.TheVariants as step
-use Rattle.lalrpop_formats.specs.declared.form.Form.{Form}
-use Rattle.lalrpop_formats.specs.declared.form.Form.TheVariants as form
-use Rattle.lalrpop_formats.specs.declared.key.Key.{Key}
-use Rattle.lalrpop_formats.specs.declared.key.Key.TheVariants as key
-use Rattle.lalrpop_formats.specs.Forms.{told_by}
-use Rattle.lalrpop_formats.specs.Gives.{◌>>=◌, here, within}
-use Rattle.lalrpop_formats.specs.Key.{text_of}
-use Rattle.lalrpop_formats.specs.Lists.{with_first}
-use Rattle.lalrpop_formats.specs.Objects.{field_at, keys_at, member_at}
-use Rattle.lalrpop_formats.specs.Scalars.{empty_list_at, name_at, number_at, span_at, text_at}
+use Rattle.lalrpop_values.specs.declared.fault.Fault.{Fault}
+use Rattle.lalrpop_values.specs.declared.fault.FaultKind.TheVariants as fault
+use Rattle.lalrpop_values.specs.declared.fault.Step.TheVariants as step
+use Rattle.lalrpop_values.specs.declared.form.Form.{Form}
+use Rattle.lalrpop_values.specs.declared.form.Form.TheVariants as form
+use Rattle.lalrpop_values.specs.declared.key.Key.{Key}
+use Rattle.lalrpop_values.specs.declared.key.Key.TheVariants as key
+use Rattle.lalrpop_values.specs.Forms.{told_by}
+use Rattle.lalrpop_values.specs.Gives.{◌>>=◌, here, within}
+use Rattle.lalrpop_values.specs.Key.{text_of}
+use Rattle.lalrpop_values.specs.Lists.{with_first}
+use Rattle.lalrpop_values.specs.Objects.{field_at, keys_at, member_at}
+use Rattle.lalrpop_values.specs.Scalars.{empty_list_at, name_at, number_at, span_at, text_at}
 use Rattle.lalrpop_formats.specs.Symbols.{quoted_at}
 
 -- ---- leaves

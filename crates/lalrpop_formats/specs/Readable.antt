@@ -17,17 +17,9 @@ use Rattle.lalrpop_grammar.specs.declared.nonterminal.Visibility.TheVariants as 
 use Rattle.lalrpop_grammar.specs.declared.type_ref.TypeRef as types
 use Rattle.lalrpop_formats.specs.Alternatives.{written_at}
 use Rattle.lalrpop_formats.specs.Prefix.{IsFreePrefix}
-use Rattle.lalrpop_formats.specs.Scalars.{is_name}
+use Rattle.lalrpop_values.specs.Scalars.{is_name}
+use Rattle.lalrpop_values.specs.Spelled.{EachFrom, IsSpan}
 use Rattle.lalrpop_formats.specs.Texts.{texts_of}
-
--- each of a list, from a place on
-abbrev pub EachFrom : {A : Type 0} → (ℕ → A → Type 0) → ℕ → List A → Type 0
-EachFrom P i [] = Unit {0}
-EachFrom P i (x ∷ xs) = P i x × EachFrom P (i + 1) xs
-
-pub record IsSpan (s : Span) : Type 0 where
-  pub ordered : s.0 ≤ s.1
-  pub limit : s.1 < 2 ^ 32
 
 pub data IsReadableSymbol (s : Symbol) : Type 0 where
   id : (span : Span) (name : List ℕ) → s ≡ roll-Symbol (record { span = span; kind = kinds.AmbiguousId name })

@@ -5,8 +5,8 @@ use Rattle.lalrpop_symbols.specs.declared.terminal.TerminalLiteral.TheVariants a
 use Rattle.lalrpop_symbols.specs.declared.terminal.TerminalString.TheVariants as terminals
 use Rattle.lalrpop_grammar.specs.declared.tree.WrittenTree.{WrittenTree}
 use Rattle.lalrpop_grammar.specs.declared.tree.WrittenTree.TheVariants as tree
-use Rattle.lalrpop_formats.specs.Readable.{IsSpan}
-use Rattle.lalrpop_formats.specs.Scalars.{is_name}
+use Rattle.lalrpop_values.specs.Scalars.{is_name}
+use Rattle.lalrpop_values.specs.Spelled.{IsSpan}
 
 mutual
   pub data IsReadableTree : WrittenTree → Type 0 where

@@ -8,21 +8,21 @@ use Rattle.lalrpop_grammar.specs.declared.nonterminal.NonterminalData.{Nontermin
 use Rattle.lalrpop_grammar.specs.declared.nonterminal.Visibility.{Visibility}
 use Rattle.lalrpop_grammar.specs.declared.nonterminal.Visibility.TheVariants as visible
 use Rattle.lalrpop_grammar.specs.declared.type_ref.TypeRef as types
-use Rattle.lalrpop_formats.specs.declared.fault.Fault.{Fault}
-use Rattle.lalrpop_formats.specs.declared.fault.FaultKind.TheVariants as fault
-use Rattle.lalrpop_formats.specs.declared.form.Form.{Form}
-use Rattle.lalrpop_formats.specs.declared.form.Form.TheVariants as form
-use Rattle.lalrpop_formats.specs.declared.key.Key.{Key}
-use Rattle.lalrpop_formats.specs.declared.key.Key.TheVariants as key
-use Rattle.lalrpop_formats.specs.declared.word.Word.{Word}
-use Rattle.lalrpop_formats.specs.declared.word.Word.TheVariants as word
+use Rattle.lalrpop_values.specs.declared.fault.Fault.{Fault}
+use Rattle.lalrpop_values.specs.declared.fault.FaultKind.TheVariants as fault
+use Rattle.lalrpop_values.specs.declared.form.Form.{Form}
+use Rattle.lalrpop_values.specs.declared.form.Form.TheVariants as form
+use Rattle.lalrpop_values.specs.declared.key.Key.{Key}
+use Rattle.lalrpop_values.specs.declared.key.Key.TheVariants as key
+use Rattle.lalrpop_values.specs.declared.word.Word.{Word}
+use Rattle.lalrpop_values.specs.declared.word.Word.TheVariants as word
 use Rattle.lalrpop_formats.specs.Alternatives.{alternatives_at, as_some}
-use Rattle.lalrpop_formats.specs.Forms.{form_at, told_by}
-use Rattle.lalrpop_formats.specs.Gives.{◌>>=◌, here, required}
-use Rattle.lalrpop_formats.specs.Key.{text_of}
-use Rattle.lalrpop_formats.specs.Lists.{list_at}
-use Rattle.lalrpop_formats.specs.Objects.{field_at, keys_at}
-use Rattle.lalrpop_formats.specs.Scalars.{empty, empty_list_at, is_word, name_at, span_at, word_at}
+use Rattle.lalrpop_values.specs.Forms.{form_at, told_by}
+use Rattle.lalrpop_values.specs.Gives.{◌>>=◌, here, required}
+use Rattle.lalrpop_values.specs.Key.{text_of}
+use Rattle.lalrpop_values.specs.Lists.{list_at}
+use Rattle.lalrpop_values.specs.Objects.{field_at, keys_at}
+use Rattle.lalrpop_values.specs.Scalars.{empty, empty_list_at, is_word, name_at, span_at, word_at}
 
 -- ---- types and visibilities
 

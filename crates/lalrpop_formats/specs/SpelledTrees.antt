@@ -6,8 +6,9 @@ use Rattle.lalrpop_symbols.specs.declared.terminal.TerminalString.{TerminalStrin
 use Rattle.lalrpop_symbols.specs.declared.terminal.TerminalString.TheVariants as terminals
 use Rattle.lalrpop_grammar.specs.declared.tree.WrittenTree.{WrittenTree, fold-WrittenTree}
 use Rattle.lalrpop_grammar.specs.declared.tree.WrittenTree.TheOpen as layer
-use Rattle.lalrpop_formats.specs.declared.key.Key.TheVariants as key
-use Rattle.lalrpop_formats.specs.Spelling.{list_json, literal_json, number_json, object_of, span_json, symbol_json}
+use Rattle.lalrpop_values.specs.declared.key.Key.TheVariants as key
+use Rattle.lalrpop_formats.specs.Spelling.{literal_json, symbol_json}
+use Rattle.lalrpop_values.specs.Spelled.{list_json, number_json, object_of, span_json}
 
 abbrev pub terminal_json : TerminalString → Data
 terminal_json (terminals.Literal l) = literal_json l

@@ -20,33 +20,11 @@ use Rattle.lalrpop_grammar.specs.declared.nonterminal.NonterminalData.{Nontermin
 use Rattle.lalrpop_grammar.specs.declared.nonterminal.Visibility.{Visibility}
 use Rattle.lalrpop_grammar.specs.declared.nonterminal.Visibility.TheVariants as visible
 use Rattle.lalrpop_grammar.specs.declared.type_ref.TypeRef.{TypeRef}
-use Rattle.lalrpop_formats.specs.declared.key.Key.{Key}
-use Rattle.lalrpop_formats.specs.declared.key.Key.TheVariants as key
-use Rattle.lalrpop_formats.specs.declared.word.Word.{Word}
-use Rattle.lalrpop_formats.specs.declared.word.Word.TheVariants as word
-use Rattle.lalrpop_formats.specs.Key.{text_of}
-use Rattle.lalrpop_formats.specs.Word.{word_text}
-
--- ---- small parts
-
-abbrev pub members_from : List (Key × Data) → Members
-members_from [] = no_members
-members_from (m ∷ ms) = member (text_of m.0) m.1 (members_from ms)
-
-abbrev pub object_of : List (Key × Data) → Data
-object_of ms = object (members_from ms)
-
-abbrev pub list_json : {A : Type 0} → (A → Data) → List A → Data
-list_json spelled xs = array (items_of (map spelled xs))
-
-abbrev pub number_json : ℕ → Data
-number_json n = number (unsigned n)
-
-abbrev pub word_json : Word → Data
-word_json w = string (word_text w)
-
-abbrev pub span_json : Span → Data
-span_json s = array (item (number_json s.0) (item (number_json s.1) no_items))
+use Rattle.lalrpop_values.specs.declared.key.Key.{Key}
+use Rattle.lalrpop_values.specs.declared.key.Key.TheVariants as key
+use Rattle.lalrpop_values.specs.declared.word.Word.{Word}
+use Rattle.lalrpop_values.specs.declared.word.Word.TheVariants as word
+use Rattle.lalrpop_values.specs.Spelled.{list_json, object_of, span_json, word_json}
 
 -- ---- symbols
 

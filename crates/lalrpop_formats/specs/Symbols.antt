@@ -6,19 +6,19 @@ use Rattle.lalrpop_symbols.specs.declared.symbol.SymbolKind.TheVariants as kinds
 use Rattle.lalrpop_symbols.specs.declared.terminal.TerminalLiteral.{TerminalLiteral}
 use Rattle.lalrpop_symbols.specs.declared.terminal.TerminalLiteral.TheVariants as literals
 use Rattle.lalrpop_symbols.specs.declared.terminal.TerminalString.TheVariants as terminals
-use Rattle.lalrpop_formats.specs.declared.fault.Fault.{Fault}
-use Rattle.lalrpop_formats.specs.declared.fault.FaultKind.TheVariants as fault
-use Rattle.lalrpop_formats.specs.declared.form.Form.{Form}
-use Rattle.lalrpop_formats.specs.declared.form.Form.TheVariants as form
-use Rattle.lalrpop_formats.specs.declared.key.Key.{Key}
-use Rattle.lalrpop_formats.specs.declared.key.Key.TheVariants as key
-use Rattle.lalrpop_formats.specs.declared.word.Word.{Word}
-use Rattle.lalrpop_formats.specs.declared.word.Word.TheVariants as word
-use Rattle.lalrpop_formats.specs.Forms.{form_at, told_by}
-use Rattle.lalrpop_formats.specs.Gives.{◌>>=◌, here}
-use Rattle.lalrpop_formats.specs.Lists.{list_at}
-use Rattle.lalrpop_formats.specs.Objects.{field_at, keys_at}
-use Rattle.lalrpop_formats.specs.Scalars.{name_at, span_at, text_at, word_at}
+use Rattle.lalrpop_values.specs.declared.fault.Fault.{Fault}
+use Rattle.lalrpop_values.specs.declared.fault.FaultKind.TheVariants as fault
+use Rattle.lalrpop_values.specs.declared.form.Form.{Form}
+use Rattle.lalrpop_values.specs.declared.form.Form.TheVariants as form
+use Rattle.lalrpop_values.specs.declared.key.Key.{Key}
+use Rattle.lalrpop_values.specs.declared.key.Key.TheVariants as key
+use Rattle.lalrpop_values.specs.declared.word.Word.{Word}
+use Rattle.lalrpop_values.specs.declared.word.Word.TheVariants as word
+use Rattle.lalrpop_values.specs.Forms.{form_at, told_by}
+use Rattle.lalrpop_values.specs.Gives.{◌>>=◌, here}
+use Rattle.lalrpop_values.specs.Lists.{list_at}
+use Rattle.lalrpop_values.specs.Objects.{field_at, keys_at}
+use Rattle.lalrpop_values.specs.Scalars.{name_at, span_at, text_at, word_at}
 
 -- ---- literals
 

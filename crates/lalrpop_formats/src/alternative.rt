@@ -2,18 +2,17 @@
 
 ghost use Rattle.std.specs.Prelude.{◌≡◌};
 ghost use Rattle.serde_json.specs.View.{view};
-ghost use Rattle.lalrpop_formats.specs.Gives.{Gives, within};
-ghost use Rattle.lalrpop_formats.specs.Objects.{field_at};
+ghost use Rattle.lalrpop_values.specs.Gives.{Gives, within};
+ghost use Rattle.lalrpop_values.specs.Objects.{field_at};
 ghost use Rattle.lalrpop_formats.specs.Alternatives.{action_at, alternative_at, alternatives_at, nothing_at, place_at, user_at};
-ghost use Rattle.lalrpop_formats.specs.declared.fault.Step.TheVariants as step;
+ghost use Rattle.lalrpop_values.specs.declared.fault.Step.TheVariants as step;
 
-use crate::fault::{FaultKind, ReadError};
-use crate::form::{Form, told};
-use crate::key::Key;
-use crate::object::{at_index, at_key, here, keys, member};
-use crate::scalar::{empty_list_field, span_field, text_field};
 use crate::symbol::symbols_field;
 use lalrpop_grammar::{ActionKind, Alternative, Atom, List, NonterminalString, Origin};
+use lalrpop_values::{
+    FaultKind, Form, Key, ReadError, at_index, at_key, empty_list_field, here, keys, member,
+    span_field, text_field, told,
+};
 use serde_json::Value;
 use std::alloc::Global;
 
@@ -44,7 +43,7 @@ pub fn action_of(alloc: Global, value: &Value) -> Result<Option<ActionKind>, Rea
     }
 }
 
-#[tactic(auto, unfolding(crate::specs::Objects::field_at, crate::specs::Objects::member_at))]
+#[tactic(auto, unfolding(lalrpop_values::specs::Objects::field_at, lalrpop_values::specs::Objects::member_at))]
 fn action_field(alloc: Global, value: &Value, key: Key) -> Result<Option<ActionKind>, ReadError>
     ensures { Gives result (field_at key action_at (view value.now)) }
 {
@@ -63,7 +62,7 @@ fn nothing_of<T>(alloc: Global, value: &Value) -> Result<Option<T>, ReadError>
     }
 }
 
-#[tactic(auto, unfolding(crate::specs::Objects::field_at, crate::specs::Objects::member_at))]
+#[tactic(auto, unfolding(lalrpop_values::specs::Objects::field_at, lalrpop_values::specs::Objects::member_at))]
 fn nothing_field<T: Drop>(alloc: Global, value: &Value, key: Key) -> Result<Option<T>, ReadError>
     ensures { Gives result (field_at key nothing_at (view value.now)) }
 {
@@ -136,7 +135,7 @@ fn alternative_in(
 }
 
 /// The alternatives of the rule of that name.
-#[tactic(auto, using(crate::proofs::Lists::lists), unfolding(crate::specs::Lists::list_at))]
+#[tactic(auto, using(lalrpop_values::proofs::Lists::lists), unfolding(lalrpop_values::specs::Lists::list_at))]
 pub fn alternatives_of(
     alloc: Global,
     value: &Value,
@@ -156,7 +155,7 @@ pub fn alternatives_of(
 }
 
 /// The alternatives at a key.
-#[tactic(auto, unfolding(crate::specs::Objects::field_at, crate::specs::Objects::member_at))]
+#[tactic(auto, unfolding(lalrpop_values::specs::Objects::field_at, lalrpop_values::specs::Objects::member_at))]
 pub fn alternatives_field(
     alloc: Global,
     value: &Value,

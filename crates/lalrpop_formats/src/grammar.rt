@@ -2,20 +2,17 @@
 
 ghost use Rattle.std.specs.Prelude.{◌≡◌, ◌∷◌, IfOk, Ok};
 ghost use Rattle.serde_json.specs.View.{view};
-ghost use Rattle.lalrpop_formats.specs.Gives.{Gives};
+ghost use Rattle.lalrpop_values.specs.Gives.{Gives};
 ghost use Rattle.lalrpop_formats.specs.Grammars.{grammar_at};
 ghost use Rattle.lalrpop_formats.specs.Laws.{Spells};
 ghost use Rattle.lalrpop_formats.specs.Prefix.{longest_of, IsFreePrefix};
 ghost use Rattle.lalrpop_grammar.specs.declared.grammar.Grammar.{Grammar};
 ghost use Rattle.lalrpop_formats.specs.Texts.{items_texts, texts_of};
 
-use crate::fault::ReadError;
-use crate::key::Key;
-use crate::object::keys;
 use crate::prefix::{larger, longest_in_items, longest_run, prefix_past};
 use crate::rule::items_field;
-use crate::scalar::{empty_list_field, span_field, text_field};
 use lalrpop_grammar::{Atom, Grammar, GrammarItem};
+use lalrpop_values::{Key, ReadError, empty_list_field, keys, span_field, text_field};
 use serde_json::Value;
 use std::alloc::Global;
 

@@ -4,11 +4,11 @@ ghost use Rattle.std.specs.Prelude.{◌≡◌, ◌++◌, IfOk, OnOk, string_byte
 ghost use Rattle.lalrpop_symbols.specs.Texts.{joined};
 ghost use Rattle.lalrpop_symbols.specs.Parts.{texts_of};
 ghost use Rattle.lalrpop_grammar.specs.Views.{tree as seen, option_tree};
-ghost use Rattle.lalrpop_formats.specs.JsonText.{json_text};
+ghost use Rattle.lalrpop_values.specs.JsonText.{json_text};
 ghost use Rattle.lalrpop_formats.specs.Printing.{row_text, arguments_text, head_text, tree_text};
 
-use crate::json::json_string;
 use lalrpop_grammar::{Boxed, NonterminalString, Symbol, WrittenTree};
+use lalrpop_values::json_string;
 use std::alloc::{AllocError, Global};
 
 /// The printed tree: `Rule<X, Y>#place(a, b)` for a rule, `[a, b]` for a list, `(a, b)` for a group, `?()` or `?(a)` for

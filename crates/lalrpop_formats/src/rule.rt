@@ -2,25 +2,23 @@
 
 ghost use Rattle.std.specs.Prelude.{◌≡◌};
 ghost use Rattle.serde_json.specs.View.{view};
-ghost use Rattle.lalrpop_formats.specs.Gives.{Gives, within};
-ghost use Rattle.lalrpop_formats.specs.Objects.{field_at};
+ghost use Rattle.lalrpop_values.specs.Gives.{Gives, within};
+ghost use Rattle.lalrpop_values.specs.Objects.{field_at};
 ghost use Rattle.lalrpop_formats.specs.Rules.{item_at, item_form, items_at, name_in, rule_at, tuple_at, type_at, visibility_at};
-ghost use Rattle.lalrpop_formats.specs.declared.fault.Step.TheVariants as step;
+ghost use Rattle.lalrpop_values.specs.declared.fault.Step.TheVariants as step;
 
 use crate::alternative::alternatives_field;
-use crate::fault::{FaultKind, ReadError, Step};
-use crate::form::{Form, form_of, told};
-use crate::key::Key;
-use crate::object::{at_index, at_key, here, keys, member, outside};
-use crate::scalar::{empty_list_field, name_field, span_field, word_field};
-use crate::word::Word;
 use lalrpop_grammar::{
     Atom, GrammarItem, List, NonterminalData, NonterminalString, TypeRef, Visibility,
+};
+use lalrpop_values::{
+    FaultKind, Form, Key, ReadError, Step, Word, at_index, at_key, empty_list_field, form_of, here,
+    keys, member, name_field, outside, span_field, told, word_field,
 };
 use serde_json::Value;
 use std::alloc::Global;
 
-#[tactic(auto, using(crate::proofs::Pairs::pairs), unfolding(crate::specs::Rules::tuple_at, crate::specs::Objects::field_at, crate::specs::Objects::member_at))]
+#[tactic(auto, using(lalrpop_values::proofs::Pairs::pairs), unfolding(crate::specs::Rules::tuple_at, lalrpop_values::specs::Objects::field_at, lalrpop_values::specs::Objects::member_at))]
 fn tuple_of(alloc: Global, value: &Value) -> Result<TypeRef, ReadError>
     ensures { Gives result (tuple_at (view value.now)) }
 {
@@ -64,7 +62,7 @@ pub fn type_of(alloc: Global, value: &Value) -> Result<Option<TypeRef>, ReadErro
     }
 }
 
-#[tactic(auto, unfolding(crate::specs::Objects::field_at, crate::specs::Objects::member_at))]
+#[tactic(auto, unfolding(lalrpop_values::specs::Objects::field_at, lalrpop_values::specs::Objects::member_at))]
 fn type_field(alloc: Global, value: &Value, key: Key) -> Result<Option<TypeRef>, ReadError>
     ensures { Gives result (field_at key type_at (view value.now)) }
 {
@@ -89,7 +87,7 @@ pub fn visibility_of(alloc: Global, value: &Value) -> Result<Visibility, ReadErr
     }
 }
 
-#[tactic(auto, unfolding(crate::specs::Objects::field_at, crate::specs::Objects::member_at))]
+#[tactic(auto, unfolding(lalrpop_values::specs::Objects::field_at, lalrpop_values::specs::Objects::member_at))]
 fn visibility_field(alloc: Global, value: &Value, key: Key) -> Result<Visibility, ReadError>
     ensures { Gives result (field_at key visibility_at (view value.now)) }
 {
@@ -192,7 +190,7 @@ fn item_in(alloc: Global, value: &Value, index: usize) -> Result<GrammarItem, Re
 }
 
 /// A list of items.
-#[tactic(auto, using(crate::proofs::Lists::lists), unfolding(crate::specs::Lists::list_at))]
+#[tactic(auto, using(lalrpop_values::proofs::Lists::lists), unfolding(lalrpop_values::specs::Lists::list_at))]
 pub fn items_of(alloc: Global, value: &Value) -> Result<List<GrammarItem>, ReadError>
     ensures { Gives result (items_at (view value.now)) }
 {
@@ -208,7 +206,7 @@ pub fn items_of(alloc: Global, value: &Value) -> Result<List<GrammarItem>, ReadE
 }
 
 /// The items at a key.
-#[tactic(auto, unfolding(crate::specs::Objects::field_at, crate::specs::Objects::member_at))]
+#[tactic(auto, unfolding(lalrpop_values::specs::Objects::field_at, lalrpop_values::specs::Objects::member_at))]
 pub fn items_field(alloc: Global, value: &Value, key: Key) -> Result<List<GrammarItem>, ReadError>
     ensures { Gives result (field_at key items_at (view value.now)) }
 {

@@ -2,18 +2,16 @@
 
 ghost use Rattle.std.specs.Prelude.{◌≡◌};
 ghost use Rattle.serde_json.specs.View.{view};
-ghost use Rattle.lalrpop_formats.specs.Gives.{Gives, within};
-ghost use Rattle.lalrpop_formats.specs.Objects.{field_at};
+ghost use Rattle.lalrpop_values.specs.Gives.{Gives, within};
+ghost use Rattle.lalrpop_values.specs.Objects.{field_at};
 ghost use Rattle.lalrpop_formats.specs.Symbols.{id_at, literal_at, quoted_at, symbol_at, symbols_at, terminal_at};
-ghost use Rattle.lalrpop_formats.specs.declared.fault.Step.TheVariants as step;
+ghost use Rattle.lalrpop_values.specs.declared.fault.Step.TheVariants as step;
 
-use crate::fault::{FaultKind, ReadError};
-use crate::form::{Form, form_of, told};
-use crate::key::Key;
-use crate::object::{at_index, at_key, here, keys, member};
-use crate::scalar::{name_field, span_field, text_field, word_field};
-use crate::word::Word;
 use lalrpop_grammar::{List, Symbol, SymbolKind, TerminalLiteral, TerminalString};
+use lalrpop_values::{
+    FaultKind, Form, Key, ReadError, Word, at_index, at_key, form_of, here, keys, member,
+    name_field, span_field, text_field, told, word_field,
+};
 use serde_json::Value;
 use std::alloc::Global;
 
@@ -39,7 +37,7 @@ pub fn literal_of(alloc: Global, value: &Value) -> Result<TerminalLiteral, ReadE
     }
 }
 
-#[tactic(auto, unfolding(crate::specs::Objects::field_at, crate::specs::Objects::member_at))]
+#[tactic(auto, unfolding(lalrpop_values::specs::Objects::field_at, lalrpop_values::specs::Objects::member_at))]
 fn literal_field(alloc: Global, value: &Value, key: Key) -> Result<TerminalLiteral, ReadError>
     ensures { Gives result (field_at key literal_at (view value.now)) }
 {
@@ -105,7 +103,7 @@ fn symbol_in(alloc: Global, value: &Value, index: usize) -> Result<Symbol, ReadE
 }
 
 /// A list of symbols.
-#[tactic(auto, using(crate::proofs::Lists::lists), unfolding(crate::specs::Lists::list_at))]
+#[tactic(auto, using(lalrpop_values::proofs::Lists::lists), unfolding(lalrpop_values::specs::Lists::list_at))]
 pub fn symbols_of(alloc: Global, value: &Value) -> Result<List<Symbol>, ReadError>
     ensures { Gives result (symbols_at (view value.now)) }
 {
@@ -121,7 +119,7 @@ pub fn symbols_of(alloc: Global, value: &Value) -> Result<List<Symbol>, ReadErro
 }
 
 /// The symbols at a key.
-#[tactic(auto, unfolding(crate::specs::Objects::field_at, crate::specs::Objects::member_at))]
+#[tactic(auto, unfolding(lalrpop_values::specs::Objects::field_at, lalrpop_values::specs::Objects::member_at))]
 pub fn symbols_field(alloc: Global, value: &Value, key: Key) -> Result<List<Symbol>, ReadError>
     ensures { Gives result (field_at key symbols_at (view value.now)) }
 {

@@ -2,20 +2,19 @@
 
 ghost use Rattle.std.specs.Prelude.{◌≡◌, IfOk, Ok};
 ghost use Rattle.serde_json.specs.View.{view};
-ghost use Rattle.lalrpop_formats.specs.Gives.{Gives, within};
+ghost use Rattle.lalrpop_values.specs.Gives.{Gives, within};
 ghost use Rattle.lalrpop_grammar.specs.declared.tree.WrittenTree.{WrittenTree};
 ghost use Rattle.lalrpop_formats.specs.Laws.{SpellsTree};
-ghost use Rattle.lalrpop_formats.specs.Objects.{field_at};
+ghost use Rattle.lalrpop_values.specs.Objects.{field_at};
 ghost use Rattle.lalrpop_formats.specs.ReadTrees.{leaf_at, leaf_literal_at, nested_of, node_at, tree_at, trees_at};
-ghost use Rattle.lalrpop_formats.specs.declared.fault.Step.TheVariants as step;
+ghost use Rattle.lalrpop_values.specs.declared.fault.Step.TheVariants as step;
 
-use crate::fault::{FaultKind, ReadError, Step};
-use crate::form::{Form, told};
-use crate::key::Key;
-use crate::object::{at_key, here, keys, member, outside};
-use crate::scalar::{empty_list_field, name_field, number_field, span_field, text_field};
 use crate::symbol::quoted_of;
 use lalrpop_grammar::{List, NonterminalString, TerminalString, WrittenTree};
+use lalrpop_values::{
+    FaultKind, Form, Key, ReadError, Step, at_key, empty_list_field, here, keys, member,
+    name_field, number_field, outside, span_field, text_field, told,
+};
 use serde_json::Value;
 use std::alloc::Global;
 
@@ -38,7 +37,7 @@ fn leaf_literal_of(alloc: Global, value: &Value) -> Result<TerminalString, ReadE
     }
 }
 
-#[tactic(auto, unfolding(crate::specs::Objects::field_at, crate::specs::Objects::member_at))]
+#[tactic(auto, unfolding(lalrpop_values::specs::Objects::field_at, lalrpop_values::specs::Objects::member_at))]
 fn leaf_literal_field(alloc: Global, value: &Value, key: Key) -> Result<TerminalString, ReadError>
     ensures { Gives result (field_at key leaf_literal_at (view value.now)) }
 {

@@ -1,6 +1,6 @@
 -- What `judge` has to say to a grammar and a tree.
 use Rattle.std.specs.Prelude.{◌≡◌, ◌⊎◌, ◌↔◌, ℕ, Bool, IsTrue, List, Result, Ok, Err, Option, Some, None, map}
-use Rattle.lalrpop_formats.specs.declared.fault.Fault.{Fault}
+use Rattle.lalrpop_values.specs.declared.fault.Fault.{Fault}
 use Rattle.lalrpop_formats.specs.Grammars.{grammar_at}
 use Rattle.lalrpop_formats.specs.ReadTrees.{tree_at}
 use Rattle.lalrpop_grammar.specs.declared.grammar.Grammar.{Grammar}

@@ -1,6 +1,6 @@
 -- What the program writes for what it has to say, and the status that it ends with. Each line ends with a line feed.
 use Rattle.std.specs.Prelude.{ℕ, true, false, List, [], ◌∷◌, ◌++◌, codes}
-use Rattle.lalrpop_formats.specs.FaultText.{fault_text}
+use Rattle.lalrpop_values.specs.FaultText.{fault_text}
 use Rattle.lalrpop_run.specs.declared.reply.Reply.{Reply}
 use Rattle.lalrpop_run.specs.declared.reply.Reply.TheVariants as replies
 

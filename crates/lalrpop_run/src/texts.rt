@@ -2,7 +2,7 @@
 
 ghost use Rattle.std.specs.Prelude.{◌≡◌, ◌++◌, IfOk, string_bytes};
 ghost use Rattle.lalrpop_run.specs.Replies.{text_of, line};
-ghost use Rattle.lalrpop_formats.specs.FaultText.{fault_text as fault_words};
+ghost use Rattle.lalrpop_values.specs.FaultText.{fault_text as fault_words};
 
 use crate::reply::Reply;
 use lalrpop_formats::{Fault, fault_text};

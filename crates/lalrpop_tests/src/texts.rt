@@ -1,10 +1,11 @@
 //! Texts of symbols and terminals.
 
 use lalrpop_symbols::{
-    Atom, ExprSymbol, List, MacroSymbol, NonterminalString, RepeatOp, RepeatSymbol, Span, Symbol,
-    SymbolKind, TerminalLiteral, TerminalString,
+    Atom, Boxed, ExprSymbol, List, MacroSymbol, Name, NonterminalString, RepeatOp, RepeatSymbol,
+    Span, Symbol, SymbolKind, TerminalLiteral, TerminalString,
 };
 use std::alloc::{AllocError, Global};
+use std::process::Abort;
 use std::test::Fail;
 
 fn plain(kind: SymbolKind) -> Symbol {
@@ -119,4 +120,50 @@ fn each_kind_of_call(rt: HostRuntime) -> Result<(), Fail> {
     };
     assert_eq!(rt; repeat.canonical_form(alloc)?.as_str(), "M<(a b), c>+");
     Ok(())
+}
+
+/// That `a`, repeated so, prints so.
+fn repeats(rt: &impl Abort, alloc: Global, op: RepeatOp, wanted: &str) -> Result<(), Fail> {
+    let repeat = RepeatSymbol {
+        op,
+        symbol: named(alloc, "a")?,
+    };
+    assert_eq!(rt; repeat.canonical_form(alloc)?.as_str(), wanted);
+    Ok(())
+}
+
+#[test]
+fn each_sign(rt: HostRuntime) -> Result<(), Fail> {
+    let alloc = rt.alloc();
+    repeats(&rt, alloc, RepeatOp::Star, "a*")?;
+    repeats(&rt, alloc, RepeatOp::Plus, "a+")?;
+    repeats(&rt, alloc, RepeatOp::Question, "a?")
+}
+
+#[test]
+fn a_choice(rt: HostRuntime) -> Result<(), Fail> {
+    let alloc = rt.alloc();
+    let chosen = SymbolKind::Choose(Boxed::new(alloc, named(alloc, "a")?)?);
+    assert_eq!(rt; plain(chosen).canonical_form(alloc)?.as_str(), "<a>");
+    Ok(())
+}
+
+/// That `a` under the name `n` prints so.
+fn is_named(rt: &impl Abort, alloc: Global, name: Name, wanted: &str) -> Result<(), Fail> {
+    let inner = Boxed::new(alloc, named(alloc, "a")?)?;
+    let symbol = plain(SymbolKind::Name(name, inner));
+    assert_eq!(rt; symbol.canonical_form(alloc)?.as_str(), wanted);
+    Ok(())
+}
+
+#[test]
+fn names_for_the_action(rt: HostRuntime) -> Result<(), Fail> {
+    let alloc = rt.alloc();
+    is_named(&rt, alloc, Name::immut(Atom::new(alloc, "n")?), "<n:a>")?;
+    is_named(
+        &rt,
+        alloc,
+        Name::new(true, Atom::new(alloc, "n")?),
+        "<mut n:a>",
+    )
 }

@@ -1,5 +1,5 @@
 use Rattle.lalrpop_formats.specs.Symbols.{symbol_at}
-use Rattle.lalrpop_formats.proofs.Lists.{IsAt}
+use Rattle.lalrpop_values.proofs.Lists.{IsAt}
 use Rattle.lalrpop_formats.proofs.symbol.symbols_of.Given as goal
 
 abbrev pub invariant-loop-index : goal.invariant-loop-index

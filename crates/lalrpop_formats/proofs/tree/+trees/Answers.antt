@@ -3,8 +3,8 @@ use Rattle.std.proofs.lemmas.Result.{err_from_is_err_and}
 use Rattle.serde_json.specs.Data.{depth, items_depth}
 use Rattle.serde_json.specs.View.{view, items_view}
 use Rattle.lalrpop_formats.specs.ReadTrees.{tree_at, trees_at}
-use Rattle.lalrpop_formats.specs.Gives.{Fails}
-use Rattle.lalrpop_formats.proofs.Lists.{starts, goes_on, stops, ends, rest_of}
+use Rattle.lalrpop_values.specs.Gives.{Fails}
+use Rattle.lalrpop_values.proofs.Lists.{starts, goes_on, stops, ends, rest_of}
 use Rattle.lalrpop_formats.proofs.Nesting.{nesting, below_items, below_array, array_of, trees_from-list_from}
 use Rattle.lalrpop_formats.proofs.tree.+trees.Goals as goal
 

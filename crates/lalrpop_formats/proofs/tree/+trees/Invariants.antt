@@ -2,7 +2,7 @@ use Rattle.std.proofs.Common.{◌+◌, ◌*◌}
 use Rattle.serde_json.specs.Data.{depth}
 use Rattle.serde_json.specs.View.{view}
 use Rattle.lalrpop_formats.specs.ReadTrees.{tree_at}
-use Rattle.lalrpop_formats.proofs.Lists.{IsAt}
+use Rattle.lalrpop_values.proofs.Lists.{IsAt}
 use Rattle.lalrpop_formats.proofs.tree.+trees.Given as goal
 
 abbrev pub decreases-node_of : goal.decreases-node_of

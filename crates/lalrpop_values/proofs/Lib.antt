@@ -1,0 +1,6 @@
+pub mod ListLaws
+pub mod Lists
+pub mod MemberNames
+pub mod Pairs
+pub mod ScalarLaws
+pub mod Steps

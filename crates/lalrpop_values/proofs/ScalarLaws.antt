@@ -1,0 +1,129 @@
+-- Numbers, spans, texts, names and words: what is read is spelled so, and what is spelled so is read.
+use Rattle.std.proofs.Common.{◌≡◌, ℕ, ◌^◌, ◌<◌, ◌≤◌, List, [], Option, Some, None, Result, Ok, Err, Bool, true, false, arith, refl, ap, sym, ◌∙◌, cond, nat_lt}
+use Rattle.std.specs.Prelude.{⊤}
+use Rattle.std.specs.Cmp.Lexicographic.{same_text}
+use borrow.Author.Tests.{ltb-true, ltb-false, le-ltb, lt-ltb}
+use Rattle.serde_json.specs.Data.{Data, null, boolean, number, string, array, object, Num, unsigned, negative, float, Items, no_items, item}
+use Rattle.lalrpop_symbols.specs.declared.span.Span.{Span}
+use Rattle.lalrpop_values.specs.declared.fault.Fault.{Fault}
+use Rattle.lalrpop_values.specs.declared.fault.FaultKind.TheVariants.{BadNumber}
+use Rattle.lalrpop_values.specs.declared.fault.Step.TheVariants.{Index}
+use Rattle.lalrpop_values.specs.declared.word.Word.{Word}
+use Rattle.lalrpop_values.specs.Gives.{◌>>=◌, here, required, within}
+use Rattle.lalrpop_values.specs.Scalars.{below_limit, empty, empty_list_at, is_name, is_word, name_at, number_at, ordered, pair_of, span_at, text_at, word_at}
+use Rattle.lalrpop_values.specs.Word.{word_text}
+use Rattle.lalrpop_values.proofs.Steps.{bind_ok, part_ok, guard_ok, required_ok}
+use Rattle.lalrpop_values.specs.Spelled.{IsSpan, number_json, span_json, word_json}
+
+-- ---- numbers and spans
+
+pub number_takes : (d : Data) (n : ℕ) → number_at d ≡ Ok n → (d ≡ number_json n) × (n < 2 ^ 32)
+unfolding number_at
+number_takes null n e = absurd (cc)
+number_takes (boolean b) n e = absurd (cc)
+number_takes (number (unsigned m)) n e = let h = guard_ok (nat_lt m (2 ^ 32)) _ m n e in (ap number_json h.1, omega (arith, h.1, ltb-true m (2 ^ 32) h.0))
+number_takes (number (negative z)) n e = absurd (cc)
+number_takes (number (float x)) n e = absurd (cc)
+number_takes (string s) n e = absurd (cc)
+number_takes (array ds) n e = absurd (cc)
+number_takes (object ms) n e = absurd (cc)
+
+pub number_again : (n : ℕ) → n < 2 ^ 32 → number_at (number_json n) ≡ Ok n
+unfolding number_at
+number_again n h = let below : nat_lt n (2 ^ 32) ≡ true = lt-ltb n (2 ^ 32) h in rw below refl
+
+pair_takes : (ds : Items) (a b : Data) → required (pair_of ds) ≡ Ok (a, b) → ds ≡ item a (item b no_items)
+pair_takes no_items a b e = absurd (cc)
+pair_takes (item x no_items) a b e = absurd (cc)
+pair_takes (item x (item y no_items)) a b e = let same : ◌≡◌ {A = Data × Data} (x, y) (a, b) = cc in ap (λ p. item p.0 (item p.1 no_items)) same
+pair_takes (item x (item y (item z ds))) a b e = absurd (cc)
+
+order_takes : (lo hi : ℕ) (s : Span) → ordered lo hi ≡ Ok s → (lo ≤ hi) × (s ≡ record { 0 = lo; 1 = hi })
+order_takes lo hi s e = by_test (nat_lt hi lo) refl e
+  where
+    by_test : (b : Bool) → nat_lt hi lo ≡ b → cond b (Err (here BadNumber)) (Ok (record { 0 = lo; 1 = hi })) ≡ Ok s → (lo ≤ hi) × (s ≡ record { 0 = lo; 1 = hi })
+    by_test true t h = absurd (cc)
+    by_test false t h = (omega (arith, ltb-false hi lo t), cc)
+
+span_joined : (ds : Items) (a b : Data) (lo hi : ℕ) (s : Span) → ds ≡ item a (item b no_items) → (a ≡ number_json lo) × (lo < 2 ^ 32) → (b ≡ number_json hi) × (hi < 2 ^ 32)
+    → (lo ≤ hi) × (s ≡ record { 0 = lo; 1 = hi }) → (array ds ≡ span_json s) × IsSpan s
+span_joined ds a b lo hi s pair first second order =
+    (rw (pair, first.0, second.0, order.1) refl, rw order.1 (record { ordered = order.0; limit = second.1 }))
+
+pub span_takes : (d : Data) (s : Span) → span_at d ≡ Ok s → (d ≡ span_json s) × IsSpan s
+unfolding span_at
+span_takes null s e = absurd (cc)
+span_takes (boolean b) s e = absurd (cc)
+span_takes (number n) s e = absurd (cc)
+span_takes (string t) s e = absurd (cc)
+span_takes (object ms) s e = absurd (cc)
+span_takes (array ds) s e =
+    let ends = bind_ok (required (pair_of ds)) _ s e in
+    let lo = part_ok (Index 0) (number_at ends.0.0) _ s ends.2 in
+    let hi = part_ok (Index 1) (number_at ends.0.1) _ s lo.2 in
+    span_joined ds ends.0.0 ends.0.1 lo.0 hi.0 s (pair_takes ds ends.0.0 ends.0.1 ends.1) (number_takes ends.0.0 lo.0 lo.1)
+    (number_takes ends.0.1 hi.0 hi.1) (order_takes lo.0 hi.0 s hi.2)
+
+pub span_again : (s : Span) → IsSpan s → span_at (span_json s) ≡ Ok s
+unfolding span_at number_at
+span_again s is =
+    let lo : nat_lt s.0 (2 ^ 32) ≡ true = lt-ltb s.0 (2 ^ 32) (omega (arith, is.ordered, is.limit)) in
+    let hi : nat_lt s.1 (2 ^ 32) ≡ true = lt-ltb s.1 (2 ^ 32) is.limit in
+    let order : nat_lt s.1 s.0 ≡ false = le-ltb s.1 s.0 is.ordered in
+    rw (lo, hi, order) refl
+
+-- ---- texts, names and words
+
+pub text_takes : (d : Data) (t : List ℕ) → text_at d ≡ Ok t → d ≡ string t
+unfolding text_at
+text_takes null t e = absurd (cc)
+text_takes (boolean b) t e = absurd (cc)
+text_takes (number n) t e = absurd (cc)
+text_takes (string s) t e = let same : s ≡ t = cc in ap string same
+text_takes (array ds) t e = absurd (cc)
+text_takes (object ms) t e = absurd (cc)
+
+pub text_again : (t : List ℕ) → text_at (string t) ≡ Ok t
+unfolding text_at
+text_again t = refl
+
+pub name_takes : (d : Data) (t : List ℕ) → name_at d ≡ Ok t → (d ≡ string t) × (is_name t ≡ true)
+unfolding name_at
+name_takes null t e = absurd (cc)
+name_takes (boolean b) t e = absurd (cc)
+name_takes (number n) t e = absurd (cc)
+name_takes (string s) t e = let h = guard_ok (is_name s) _ s t e in (ap string h.1, ap is_name (sym h.1) ∙ h.0)
+name_takes (array ds) t e = absurd (cc)
+name_takes (object ms) t e = absurd (cc)
+
+pub name_again : (t : List ℕ) → is_name t ≡ true → name_at (string t) ≡ Ok t
+unfolding name_at
+name_again t h = rw h refl
+
+pub word_takes : (w : Word) (d : Data) (u : ⊤) → word_at w d ≡ Ok u → d ≡ word_json w
+unfolding word_at
+word_takes w null u e = absurd (cc)
+word_takes w (boolean b) u e = absurd (cc)
+word_takes w (number n) u e = absurd (cc)
+word_takes w (string s) u e = let h = guard_ok (is_word w s) _ tt u e in ap string (same_text s (word_text w) (sym h.0))
+word_takes w (array ds) u e = absurd (cc)
+word_takes w (object ms) u e = absurd (cc)
+
+-- ---- empty lists
+
+pub empty_takes : {A : Type 0} (ds : Items) (xs : List A) → empty ds ≡ Ok xs → (ds ≡ no_items) × (xs ≡ [])
+empty_takes no_items xs e = (refl, cc)
+empty_takes (item d ds) xs e = absurd (cc)
+
+pub empty_list_takes : {A : Type 0} (d : Data) (xs : List A) → empty_list_at d ≡ Ok xs → (d ≡ array no_items) × (xs ≡ [])
+unfolding empty_list_at
+empty_list_takes null xs e = absurd (cc)
+empty_list_takes (boolean b) xs e = absurd (cc)
+empty_list_takes (number n) xs e = absurd (cc)
+empty_list_takes (string s) xs e = absurd (cc)
+empty_list_takes (array ds) xs e = let h = empty_takes ds xs e in (ap array h.0, h.1)
+empty_list_takes (object ms) xs e = absurd (cc)
+
+pub empty_list_again : {A : Type 0} → ◌≡◌ {A = Result (List A) Fault} (empty_list_at (array no_items)) (Ok [])
+unfolding empty_list_at
+empty_list_again = refl

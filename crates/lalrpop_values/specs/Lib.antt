@@ -1,0 +1,10 @@
+pub mod FaultText
+pub mod Forms
+pub mod Gives
+pub mod JsonText
+pub mod Key
+pub mod Lists
+pub mod Objects
+pub mod Scalars
+pub mod Spelled
+pub mod Word

@@ -1,0 +1,86 @@
+-- Numbers, spans, texts, names and words as values.
+use Rattle.std.specs.Prelude.{ℕ, ◌^◌, List, [], ◌∷◌, Result, Ok, Err, Option, Some, None, nat_lt, if◌then◌else◌, Bool, true, false, ◌==◌, ◌&&◌, ◌||◌, ⊤}
+use Rattle.std.specs.Char.{is_ascii_alphabetic, is_ascii_alphanumeric}
+use Rattle.std.specs.List.{list_all}
+use Rattle.serde_json.specs.Data.{Data, Items, no_items, item}
+use Rattle.serde_json.specs.Find.{as_array, as_number, as_str, as_u64}
+use Rattle.lalrpop_symbols.specs.declared.span.Span.{Span}
+use Rattle.lalrpop_values.specs.declared.fault.Fault.{Fault}
+use Rattle.lalrpop_values.specs.declared.fault.FaultKind.TheVariants as fault
+use Rattle.lalrpop_values.specs.declared.fault.Step.TheVariants as step
+use Rattle.lalrpop_values.specs.declared.word.Word.{Word}
+use Rattle.lalrpop_values.specs.Gives.{◌>>=◌, here, required, within}
+use Rattle.lalrpop_values.specs.Objects.{equal_texts}
+use Rattle.lalrpop_values.specs.Word.{word_text}
+
+-- ---- numbers and spans
+
+abbrev pub below_limit : Option ℕ → Result ℕ Fault
+below_limit None = Err (here fault.BadNumber)
+below_limit (Some n) = if nat_lt n (2 ^ 32) then Ok n else Err (here fault.BadNumber)
+
+-- a whole number below 2 ^ 32
+unfoldable pub number_at : Data → Result ℕ Fault
+number_at d = do
+  n ← required (as_number d)
+  below_limit (as_u64 n)
+
+abbrev pub pair_of : Items → Option (Data × Data)
+pair_of (item a (item b no_items)) = Some (a, b)
+pair_of _ = None
+
+abbrev pub ordered : ℕ → ℕ → Result Span Fault
+ordered lo hi = if nat_lt hi lo then Err (here fault.BadNumber) else Ok (record { 0 = lo; 1 = hi })
+
+-- two numbers, the first not above the second
+unfoldable pub span_at : Data → Result Span Fault
+span_at d = do
+  ds ← required (as_array d)
+  ends ← required (pair_of ds)
+  lo ← within (step.Index 0) (number_at ends.0)
+  hi ← within (step.Index 1) (number_at ends.1)
+  ordered lo hi
+
+-- ---- texts
+
+unfoldable pub text_at : Data → Result (List ℕ) Fault
+text_at d = required (as_str d)
+
+abbrev pub begins_name : ℕ → Bool
+begins_name c = is_ascii_alphabetic c || c == 95
+
+abbrev pub continues_name : ℕ → Bool
+continues_name c = is_ascii_alphanumeric c || c == 95
+
+-- an ASCII letter or `_`, then ASCII letters, digits or `_`
+abbrev pub is_name : List ℕ → Bool
+is_name [] = false
+is_name (c ∷ cs) = begins_name c && list_all continues_name cs
+
+abbrev pub named : List ℕ → Result (List ℕ) Fault
+named t = if is_name t then Ok t else Err (here fault.BadName)
+
+unfoldable pub name_at : Data → Result (List ℕ) Fault
+name_at d = do
+  t ← required (as_str d)
+  named t
+
+abbrev pub is_word : Word → List ℕ → Bool
+is_word w t = equal_texts t (word_text w)
+
+-- this very word
+unfoldable pub word_at : Word → Data → Result ⊤ Fault
+word_at w d = do
+  t ← required (as_str d)
+  if is_word w t then Ok tt else Err (here fault.WrongShape)
+
+-- ---- lists with nothing in them
+
+abbrev pub empty : {A : Type 0} → Items → Result (List A) Fault
+empty no_items = Ok []
+empty (item d ds) = Err (here fault.WrongShape)
+
+unfoldable pub empty_list_at : {A : Type 0} → Data → Result (List A) Fault
+empty_list_at d = do
+  ds ← required (as_array d)
+  empty ds

@@ -1,0 +1,140 @@
+//! The keys of the format.
+
+ghost use Rattle.std.specs.Prelude.{◌≡◌};
+ghost use Rattle.lalrpop_values.specs.Key.{text_of};
+
+/// A key of the format.
+#[derive(Clone, Copy, Debug, PartialEq, Eq)]
+pub enum Key {
+    /// What an alternative does.
+    Action,
+    /// The alternatives of a rule.
+    Alternatives,
+    /// Parameters or arguments.
+    Args,
+    /// The associated types of an extern block.
+    Associated,
+    /// Attributes.
+    Attributes,
+    /// A bare name.
+    Bare,
+    /// The trees below a tree.
+    Children,
+    /// When an alternative is there.
+    Condition,
+    /// The levels of a match block.
+    Contents,
+    /// The tokens of an extern block.
+    Enum,
+    /// The symbols of an alternative or a group.
+    Expr,
+    /// An action that may fail.
+    Fallible,
+    /// The trees of a group.
+    Group,
+    /// A name in a type.
+    Id,
+    /// The items of a grammar.
+    Items,
+    /// Which form an item or a symbol has.
+    Kind,
+    /// The lifetime of a reference type.
+    Lifetime,
+    /// The trees of a repetition.
+    List,
+    /// The tree of a look.
+    Look,
+    /// Whether `mut` stands there.
+    Mutable,
+    /// A name.
+    Name,
+    /// A sign.
+    Op,
+    /// The tree of an option.
+    Opt,
+    /// The parameters of the parser.
+    Parameters,
+    /// The path of a type.
+    Path,
+    /// Which alternative of its rule.
+    Place,
+    /// The text of a quoted literal.
+    Quoted,
+    /// What a reference type refers to.
+    Ref,
+    /// The text of a regular expression.
+    Regex,
+    /// The rule of a tree.
+    Rule,
+    /// Where a thing is written.
+    Span,
+    /// A symbol.
+    Symbol,
+    /// A terminal.
+    Terminal,
+    /// A text.
+    Text,
+    /// The types of a tuple.
+    Tuple,
+    /// The type of a rule.
+    DeclaredType,
+    /// The type parameters of the parser.
+    TypeParameters,
+    /// The code of an action.
+    User,
+    /// Who may use a rule.
+    Visibility,
+    /// The where clauses of the parser.
+    WhereClauses,
+}
+
+impl Key {
+    /// The key as it stands in the JSON text.
+    #[tactic(auto, unfolding(crate::specs::Key::text_of))]
+    pub fn text(self) -> &'static str
+        ensures { result.now ≡ text_of self }
+    {
+        match self {
+            Key::Action => "action",
+            Key::Alternatives => "alternatives",
+            Key::Args => "args",
+            Key::Associated => "associated",
+            Key::Attributes => "attributes",
+            Key::Bare => "bare",
+            Key::Children => "children",
+            Key::Condition => "condition",
+            Key::Contents => "contents",
+            Key::Enum => "enum",
+            Key::Expr => "expr",
+            Key::Fallible => "fallible",
+            Key::Group => "group",
+            Key::Id => "id",
+            Key::Items => "items",
+            Key::Kind => "kind",
+            Key::Lifetime => "lifetime",
+            Key::List => "list",
+            Key::Look => "look",
+            Key::Mutable => "mutable",
+            Key::Name => "name",
+            Key::Op => "op",
+            Key::Opt => "opt",
+            Key::Parameters => "parameters",
+            Key::Path => "path",
+            Key::Place => "place",
+            Key::Quoted => "quoted",
+            Key::Ref => "ref",
+            Key::Regex => "regex",
+            Key::Rule => "rule",
+            Key::Span => "span",
+            Key::Symbol => "symbol",
+            Key::Terminal => "terminal",
+            Key::Text => "text",
+            Key::Tuple => "tuple",
+            Key::DeclaredType => "type",
+            Key::TypeParameters => "type_parameters",
+            Key::User => "user",
+            Key::Visibility => "visibility",
+            Key::WhereClauses => "where_clauses",
+        }
+    }
+}
