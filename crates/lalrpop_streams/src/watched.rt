@@ -42,6 +42,21 @@ impl<T> Watched<T> {
             bytes: MAX_BYTES,
         }
     }
+
+    /// Whether it has failed.
+    fn has_ended(&self) -> bool
+        ensures { result ≡ is_over self.now }
+    {
+        self.failed || self.calls == 0
+    }
+
+    /// How many calls are left.
+    fn calls_left(&self) -> u64
+        ensures { result ≡ calls_of self.now }
+    {
+        let left = self.calls;
+        left
+    }
 }
 
 impl<T: Read> Source for Watched<T> {
@@ -89,11 +104,11 @@ impl<T: Read> Source for Watched<T> {
     }
 
     fn failed(&self) -> bool {
-        self.failed || self.calls == 0
+        self.has_ended()
     }
 
     fn left(&self) -> u64 {
-        self.calls
+        self.calls_left()
     }
 }
 
@@ -125,10 +140,10 @@ impl<T: Write> Sink for Watched<T> {
     }
 
     fn failed(&self) -> bool {
-        self.failed || self.calls == 0
+        self.has_ended()
     }
 
     fn left(&self) -> u64 {
-        self.calls
+        self.calls_left()
     }
 }
