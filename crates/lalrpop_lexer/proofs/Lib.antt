@@ -1,0 +1,17 @@
+pub mod OrderLemmas
+pub mod RunLemmas
+pub mod GrowLemmas
+pub mod MachineLemmas
+pub mod MovesLemmas
+pub mod StatesLemmas
+pub mod ExploreLemmas
+pub mod PiecesLemmas
+pub mod OutcomeLemmas
+pub mod WordLemmas
+pub mod WholeLemmas
+pub mod StepLemmas
+pub mod DecideLemmas
+pub mod NodeLemmas
+pub mod FollowLemmas
+pub mod BuildLemmas
+pub mod AnswerLemmas

@@ -1,0 +1,26 @@
+-- What a run of a deterministic automaton tells of the other one. For the making of the automaton.
+use Rattle.std.proofs.Common.{◌≡◌, ℕ, zero, suc, ◌<◌, ◌↔◌, List, [], ◌∷◌, ◌++◌, length, Contains, inl, inr, sym, ap, ◌∙◌, refl, subst, arith}
+use Rattle.lalrpop_nfa.specs.Paths.{Table, Reads}
+use Rattle.lalrpop_nfa.specs.Sets.{IsClosed, IsStep, Arrives, start, free, read, IsSetOf}
+use Rattle.lalrpop_nfa.proofs.ArrivalLemmas.{set_start, set_step}
+use Rattle.lalrpop_lexer.specs.Runs.{Edge, edge_at, Goes, Runs, here, more}
+use Rattle.lalrpop_lexer.specs.Sets.{set_at, IsMachine}
+
+module _ (t : Table) (begin : ℕ) (sets : List (List ℕ)) (edges : ℕ → List Edge) (n : ℕ) (machine : IsMachine t begin sets edges n) where
+  pub run_inside : {w : List ℕ} {s : ℕ} → Runs edges w s → s < n
+  run_inside here = machine.some
+  run_inside (more w s c k run goes) = machine.inside s k (run_inside run) goes.0
+
+  -- a state's set is what its words lead to
+  pub run_set : {w : List ℕ} {s : ℕ} → Runs edges w s → IsSetOf t begin w (set_at sets s)
+  run_set here = set_start t begin (set_at sets 0) machine.first
+  run_set (more w s c k run goes) = set_step t begin (set_at sets s) (set_at sets (edge_at (edges s) k).2) w c (run_set run) (machine.fits s k c (run_inside run) goes)
+
+  -- what a word leads to has a run
+  pub run_from_arrives : {w : List ℕ} {q : ℕ} → Arrives t begin w q → (s : ℕ) × Runs edges w s
+  run_from_arrives start = (0, here)
+  run_from_arrives (free q a lead) = run_from_arrives a
+  run_from_arrives (read {w = u} {r = r} q c a reads) =
+      let run = run_from_arrives a in
+      let edge = machine.all run.0 c q r (run_inside run.1) ((run_set run.1 q).1 a) reads in
+      ((edge_at (edges run.0) edge.0).2, more u run.0 c edge.0 run.1 edge.1)

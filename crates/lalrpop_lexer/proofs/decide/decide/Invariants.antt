@@ -1,0 +1,8 @@
+use Rattle.std.proofs.Common.{◌≡◌, length}
+use Rattle.lalrpop_lexer.specs.Moves.{lists}
+use Rattle.lalrpop_lexer.specs.Outcome.{numbers}
+use Rattle.lalrpop_lexer.proofs.NodeLemmas.{AreDecided}
+use Rattle.lalrpop_lexer.proofs.decide.decide.Given as goal
+
+abbrev pub invariant-loop-i : goal.invariant-loop-i
+invariant-loop-i l = AreDecided (lists l.sets) (numbers l.precedences) l.i l.fn.states l.states

@@ -1,0 +1,12 @@
+pub mod Runs
+pub mod Machine
+pub mod Sets
+pub mod Moves
+pub mod States
+pub mod Explore
+pub mod Outcome
+pub mod Automaton
+pub mod Build
+pub mod Nodes
+pub mod Ties
+pub mod Answer

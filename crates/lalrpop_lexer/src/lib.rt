@@ -1,0 +1,24 @@
+//! The lexer's automata: which of several patterns a text begins with, the longest match first.
+#![tactic(auto)]
+
+pub mod aliases;
+mod automaton;
+mod build;
+mod decide;
+pub mod dfa;
+mod edge;
+mod error;
+mod explore;
+mod interpreter;
+mod kind;
+mod moves;
+pub mod nfa;
+mod outcome;
+mod outcome_of;
+mod pieces;
+pub mod re;
+mod state;
+mod states;
+#[cfg(test)]
+mod tests;
+mod whole;

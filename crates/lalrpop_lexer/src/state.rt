@@ -1,0 +1,13 @@
+ghost use Rattle.lalrpop_lexer.specs.Machine.{AreApart};
+ghost use Rattle.lalrpop_lexer.specs.Explore.{edges_of};
+
+use crate::edge::DfaEdge;
+use crate::kind::NfaIndex;
+
+/// A state of an automaton: the pattern that the words which lead to it belong to, if any, and the edges to other states.
+#[derive(Debug, Drop)]
+pub struct State {
+    pub(crate) accepts: Option<NfaIndex>,
+    pub(crate) edges: Vec<DfaEdge>,
+    pub ghost apart: { AreApart (edges_of edges.items) },
+}

@@ -1,0 +1,27 @@
+use Rattle.std.proofs.Common.{ℕ, List, [], ◌∷◌, refl, arith, ◌<◌, ◌≡◌}
+use Rattle.lalrpop_pattern.specs.Meaning.{meaning}
+use Rattle.lalrpop_pattern.specs.Matches.{Matches}
+use Rattle.lalrpop_nfa.specs.declared.automaton.TheConstants.{ACCEPT, START}
+use Rattle.lalrpop_nfa.specs.Paths.{table_of}
+use Rattle.lalrpop_nfa.specs.Fragments.{AreBuilt}
+use Rattle.lalrpop_nfa.proofs.TableLemmas.{AreBuilt-none, AreBuilt-push}
+use Rattle.lalrpop_nfa.proofs.WholeLemmas.{whole, no_leads_yet}
+use Rattle.lalrpop_nfa.proofs.automaton.Nfa.from_re.Goals as goal
+use Rattle.lalrpop_nfa.proofs.automaton.Nfa.from_re.Goals.{In_ok-first}
+
+-- the one part
+parts : (c : In_ok-first) → AreBuilt (table_of c.in_ok-nfa.nfa) (table_of c.expr.new.self) (λ k. Matches (meaning c.args.pattern.now)) 1 (c.in_ok-first.first ∷ []) (λ k. 0)
+parts c =
+    AreBuilt-push _ (table_of c.in_ok-nfa.nfa) _ _ 0 c.in_ok-first.first (λ k. 0) [] (omega (arith, c.in_ok-nfa.ensures.size))
+    (AreBuilt-none _ (λ k. Matches (meaning c.args.pattern.now)) [] (λ k. 0) refl) c.in_ok-first.ensures
+
+pub push_noops-requires-clause-none : goal.push_noops-requires-clause-none
+push_noops-requires-clause-none c =
+    no_leads_yet (table_of c.in_ok-nfa.nfa) (table_of c.expr.new.self) _ 1 3 (c.in_ok-first.first ∷ []) (λ k. 0) c.in_ok-nfa.ensures
+    (parts (goal.at.push_noops-requires-clause-none c).In_ok-first) 2 (omega arith)
+
+pub returns-clause-accepts : goal.returns-clause-accepts
+returns-clause-accepts c =
+    let p = parts (goal.at.returns-clause-accepts c).In_ok-first in
+    whole (table_of c.in_ok-nfa.nfa) (table_of c.expr.new.self) (table_of c.push_noops.new.self) (λ k. Matches (meaning c.args.pattern.now)) 1 3 START.0 (c.in_ok-first.first ∷ []) (λ k. 0)
+    c.in_ok-nfa.ensures (omega arith) (λ k l. omega arith) (λ k l e. omega arith) (λ j k l m e. omega arith) p c.in_ok-push_noops.ensures 0 (omega arith)

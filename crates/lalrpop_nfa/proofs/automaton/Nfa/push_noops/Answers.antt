@@ -1,0 +1,26 @@
+use Rattle.std.proofs.Common.{arith, refl, get_or}
+use Rattle.std.proofs.lemmas.List.{take_more, take_all}
+use Rattle.lalrpop_nfa.specs.Paths.{table_of}
+use Rattle.lalrpop_nfa.proofs.GrowthLemmas.{HasNewNoops-none, HasNewNoops-more, IsLast-no_leads}
+use Rattle.lalrpop_nfa.proofs.automaton.Nfa.push_noops.Goals as goal
+
+pub loop-i-init : goal.loop-i-init
+loop-i-init c = record {
+  more = HasNewNoops-none _ _;
+  last = IsLast-no_leads (table_of c.args.self.now) _ _ refl c.requires.none;
+}
+
+pub loop-i-preserved : goal.loop-i-preserved
+loop-i-preserved c = record {
+  more = rw (take_more c.args.targets.now c.loop-i.i 0 (omega arith)) (HasNewNoops-more _ (table_of c.loop-i.self) _ _ _ _ c.loop-i.invariant.more c.in_ok-push_noop.ensures.noops);
+  last = c.in_ok-push_noop.ensures.last;
+}
+
+pub push_noop-requires-clause-from : goal.push_noop-requires-clause-from
+push_noop-requires-clause-from c = omega (arith, c.loop-i.invariant.more.count, c.requires.from)
+
+pub push_noop-requires-clause-to : goal.push_noop-requires-clause-to
+push_noop-requires-clause-to c = omega (arith, c.loop-i.invariant.more.count, c.requires.targets c.loop-i.i 0 (omega arith))
+
+pub push_noop-requires-clause-last : goal.push_noop-requires-clause-last
+push_noop-requires-clause-last c = c.loop-i.invariant.last

@@ -1,0 +1,9 @@
+pub mod Ranges
+pub mod EdgeLists
+pub mod Labels
+pub mod Paths
+pub mod Growth
+pub mod Fragments
+pub mod Refusals
+pub mod Sets
+pub mod Fronts

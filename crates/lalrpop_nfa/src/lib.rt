@@ -1,0 +1,32 @@
+//! The finite automata of single patterns.
+//!
+//! A pattern's tree becomes an automaton by Thompson's construction (Aho, Sethi and Ullman, section 3.7): edges that
+//! read one character of a range, and edges that read nothing.
+#![tactic(auto)]
+
+mod automaton;
+mod build;
+mod edge;
+mod edges;
+mod from_re;
+mod grow;
+mod interpreter;
+mod label;
+mod overlap;
+mod reach;
+mod state;
+mod state_set;
+mod test;
+#[cfg(test)]
+mod tests;
+
+pub use automaton::{ACCEPT, FIRST_ACCEPT, Nfa, REJECT, START};
+pub use edge::{Edge, NfaStateIndex, Noop, Other};
+pub use edges::EdgeIterator;
+pub use from_re::NfaConstructionError;
+pub use interpreter::interpret;
+pub use label::EdgeLabel;
+pub use overlap::remove_overlap;
+pub use state::{Edges, State, StateKind};
+pub use state_set::StateSet;
+pub use test::Test;

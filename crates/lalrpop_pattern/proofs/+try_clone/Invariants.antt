@@ -1,0 +1,10 @@
+use Rattle.std.proofs.Common.{◌≡◌, map, take}
+use Rattle.lalrpop_pattern.specs.Meaning.{meaning}
+use Rattle.lalrpop_pattern.specs.Trees.{tree}
+use Rattle.lalrpop_pattern.proofs.+try_clone.Given as goal
+
+abbrev pub invariant-copies::clone_all-loop-sub : goal.invariant-copies::clone_all-loop-sub
+invariant-copies::clone_all-loop-sub l = record {
+  same : map tree l.copies.items ≡ map tree (take l.sub-index l.subs);
+  meant : map meaning l.copies.items ≡ map meaning (take l.sub-index l.subs);
+}

@@ -1,0 +1,6 @@
+pub mod MeaningLemmas
+pub mod RefusalLemmas
+pub mod SetLemmas
+pub mod FoldLemmas
+pub mod PairLemmas
+pub mod MemberLemmas

@@ -1,0 +1,86 @@
+ghost use Rattle.std.specs.Prelude.{◌≡◌, IfOk, map, option_map};
+ghost use Rattle.std.specs.String.{string_bytes};
+ghost use Rattle.lalrpop_pattern.specs.Meaning.{meaning};
+ghost use Rattle.lalrpop_pattern.specs.Trees.{tree};
+
+use crate::class::Class;
+use crate::set::CharacterSet;
+use crate::tree::Hir;
+use std::alloc::{AllocError, Global};
+
+impl Class {
+    /// A copy with the same ranges. Fails for want of memory alone.
+    pub fn try_clone(&self, alloc: Global) -> Result<Class, AllocError>
+        ensures { IfOk result (λ copy. copy.ranges.items ≡ self.now.ranges.items) }
+    {
+        let ranges = Vec::from_slice(alloc, &self.ranges)?;
+        Ok(Class { ranges })
+    }
+}
+
+impl CharacterSet {
+    /// A copy with the same ranges. Fails for want of memory alone.
+    pub fn try_clone(&self, alloc: Global) -> Result<CharacterSet, AllocError>
+        ensures { IfOk result (λ copy. copy.ranges.items ≡ self.now.ranges.items) }
+    {
+        let ranges = Vec::from_slice(alloc, &self.ranges)?;
+        Ok(CharacterSet { ranges })
+    }
+}
+
+impl Hir {
+    /// A copy with the same contents, and so of the same meaning. Fails for want of memory alone.
+    #[cycle(try_clone)]
+    pub fn try_clone(&self, alloc: Global) -> Result<Hir, AllocError>
+        ensures same { IfOk result (λ copy. tree copy ≡ tree self.now) }
+        ensures meaning { IfOk result (λ copy. meaning copy ≡ meaning self.now) }
+    {
+        match self {
+            Hir::Empty => Ok(Hir::Empty),
+            Hir::Literal(characters) => Ok(Hir::Literal(Vec::from_slice(alloc, characters)?)),
+            Hir::Class(class) => Ok(Hir::Class(class.try_clone(alloc)?)),
+            Hir::Look(look) => Ok(Hir::Look(*look)),
+            Hir::Capture { name, sub } => {
+                let name = clone_name(alloc, name)?;
+                let sub = sub.try_clone(alloc)?;
+                Ok(Hir::Capture {
+                    name,
+                    sub: Box::new(alloc, sub)?,
+                })
+            }
+            Hir::Repetition { repeats, sub } => {
+                let sub = sub.try_clone(alloc)?;
+                Ok(Hir::Repetition {
+                    repeats: *repeats,
+                    sub: Box::new(alloc, sub)?,
+                })
+            }
+            Hir::Concat(subs) => Ok(Hir::Concat(clone_all(alloc, subs)?)),
+            Hir::Alternation(subs) => Ok(Hir::Alternation(clone_all(alloc, subs)?)),
+        }
+    }
+}
+
+/// A copy of a name, if there is one.
+fn clone_name(alloc: Global, name: &Option<String>) -> Result<Option<String>, AllocError>
+    ensures { IfOk result (λ copy. option_map string_bytes copy ≡ option_map string_bytes name.now) }
+{
+    match name {
+        None => Ok(None),
+        Some(text) => Ok(Some(String::from_str(alloc, text)?)),
+    }
+}
+
+/// Copies of some trees, in their order.
+#[cycle(try_clone)]
+fn clone_all(alloc: Global, subs: &[Hir]) -> Result<Vec<Hir>, AllocError>
+    ensures same { IfOk result (λ copies. map tree copies.items ≡ map tree subs.now) }
+    ensures meaning { IfOk result (λ copies. map meaning copies.items ≡ map meaning subs.now) }
+{
+    let mut copies = Vec::new(alloc);
+    for sub in subs {
+        let copy = sub.try_clone(alloc)?;
+        copies.push(copy)?;
+    }
+    Ok(copies)
+}

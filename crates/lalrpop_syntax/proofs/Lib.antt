@@ -1,0 +1,4 @@
+pub mod PatternLemmas
+pub mod PlaceLemmas
+pub mod EscapingLemmas
+pub mod Examples
