@@ -1,6 +1,6 @@
 -- Grammars: what is read is spelled so, and what is spelled so is read.
 use Rattle.std.proofs.Common.{◌≡◌, ℕ, List, [], ◌∷◌, Result, Ok, Err, refl, ap, ◌∙◌, subst, IfOk}
-use Rattle.serde_json.specs.Data.{Data, string, array, object, no_items}
+use Rattle.serde_json.specs.Data.{Data, string, object}
 use Rattle.lalrpop_symbols.specs.declared.span.Span.{Span}
 use Rattle.lalrpop_grammar.specs.declared.attribute.Attribute.{Attribute}
 use Rattle.lalrpop_grammar.specs.declared.grammar.Grammar.{Grammar}
@@ -11,73 +11,83 @@ use Rattle.lalrpop_values.specs.declared.fault.Fault.{Fault}
 use Rattle.lalrpop_values.specs.declared.fault.ReadError.{ReadError}
 use Rattle.lalrpop_values.specs.declared.fault.Step.TheVariants as step
 use Rattle.lalrpop_values.specs.Gives.{Gives}
-use Rattle.lalrpop_formats.specs.Laws.{Spells}
-use Rattle.lalrpop_formats.specs.Grammars.{grammar_at, grammar_keys, prefixed}
 use Rattle.lalrpop_values.specs.Key.{text_of}
+use Rattle.lalrpop_values.specs.Lists.{list_at}
 use Rattle.lalrpop_values.specs.Objects.{field_at, keys_at}
-use Rattle.lalrpop_formats.specs.Prefix.{IsFreePrefix, longest_of, prefix_past}
-use Rattle.lalrpop_formats.specs.Readable.{IsReadable, IsReadableItem}
-use Rattle.lalrpop_formats.specs.Rules.{items_at}
-use Rattle.lalrpop_values.specs.Scalars.{empty_list_at, span_at, text_at}
-use Rattle.lalrpop_formats.specs.Spelling.{item_json, spelling}
-use Rattle.lalrpop_formats.specs.Texts.{texts_of}
-use Rattle.lalrpop_formats.proofs.RuleLaws.{items_take, items_again}
-use Rattle.lalrpop_formats.proofs.Runs.{free_prefix, only_prefix}
-use Rattle.lalrpop_values.proofs.ScalarLaws.{empty_list_takes, empty_list_again, span_takes, span_again, text_takes, text_again}
-use Rattle.lalrpop_values.proofs.Steps.{bind_ok, part_ok, keys_ok, Fields, filled}
+use Rattle.lalrpop_values.specs.Scalars.{span_at, text_at}
 use Rattle.lalrpop_values.specs.Spelled.{EachFrom, IsSpan, list_json, span_json}
+use Rattle.lalrpop_values.proofs.ScalarLaws.{span_takes, span_again, text_takes, text_again}
+use Rattle.lalrpop_values.proofs.Steps.{part, ok_same, object_ok, Fields, filled}
+use Rattle.lalrpop_symbol_formats.specs.Attributes.{attribute_at}
+use Rattle.lalrpop_symbol_formats.specs.Readable.{AreReadableAttributes}
+use Rattle.lalrpop_symbol_formats.specs.Spelling.{attribute_json}
+use Rattle.lalrpop_symbol_formats.proofs.AttributeLaws.{attributes_take, attributes_again}
+use Rattle.lalrpop_item_formats.specs.Items.{item_at}
+use Rattle.lalrpop_item_formats.specs.Readable.{IsReadableItem}
+use Rattle.lalrpop_item_formats.specs.Spelling.{item_json}
+use Rattle.lalrpop_item_formats.proofs.ItemLaws.{items_take, items_again}
+use Rattle.lalrpop_prefix.specs.Prefix.{IsFreePrefix, longest_of, prefix_past}
+use Rattle.lalrpop_prefix.specs.Strings.{strings}
+use Rattle.lalrpop_prefix.proofs.Runs.{free_prefix, only_prefix}
+use Rattle.lalrpop_formats.specs.Grammars.{grammar_at}
+use Rattle.lalrpop_formats.specs.Laws.{Spells}
+use Rattle.lalrpop_formats.specs.Readable.{IsReadable}
+use Rattle.lalrpop_formats.specs.Spelling.{spelling, texts_of}
 
 -- ---- what is read
 
-abbrev unnamed : List Attribute → List GrammarItem → List ℕ → Span → List ℕ → List ℕ → Grammar
-unnamed attributes items parameters span type_parameters where_clauses =
-    record { prefix = []; span = span; parameters = parameters; type_parameters = type_parameters; where_clauses = where_clauses; attributes = attributes; items = items }
+abbrev grammar_keys : List Key
+grammar_keys = key.Attributes ∷ key.Items ∷ key.Parameters ∷ key.Span ∷ key.TypeParameters ∷ key.WhereClauses ∷ []
+
+-- the grammar of these parts
+abbrev made : List ℕ → List Attribute → List GrammarItem → List ℕ → Span → List ℕ → List ℕ → Grammar
+made prefix attributes items parameters span type_parameters where_clauses =
+    record { prefix = prefix; span = span; parameters = parameters; type_parameters = type_parameters; where_clauses = where_clauses; attributes = attributes; items = items }
+
+-- what spells the grammar leaves it one prefix
+with_prefix : (d : Data) (g : Grammar) → d ≡ spelling g → g.prefix ≡ prefix_past (longest_of (strings d)) → IsSpan g.span → AreReadableAttributes g.attributes
+    → EachFrom (λ _. IsReadableItem) 0 g.items → Spells d g
+with_prefix d g e p span attributes items =
+    let own : g.prefix ≡ prefix_past (longest_of (texts_of g)) = p ∙ ap (λ x. prefix_past (longest_of (strings x))) e in
+    (e, record { prefix = rw own (free_prefix (texts_of g)); span = span; attributes = attributes; items = items })
 
 grammar_joined : (fields : Fields grammar_keys) (attributes : List Attribute) (items : List GrammarItem) (parameters : List ℕ) (span : Span)
     (type_parameters where_clauses : List ℕ) (g : Grammar)
-    → (fields.0 ≡ array no_items) × (attributes ≡ []) → (fields.1.0 ≡ list_json item_json items) × EachFrom (λ i. IsReadableItem) 0 items
+    → (fields.0 ≡ list_json attribute_json attributes) × AreReadableAttributes attributes
+    → (fields.1.0 ≡ list_json item_json items) × EachFrom (λ _. IsReadableItem) 0 items
     → fields.1.1.0 ≡ string parameters → (fields.1.1.1.0 ≡ span_json span) × IsSpan span
     → fields.1.1.1.1.0 ≡ string type_parameters → fields.1.1.1.1.1.0 ≡ string where_clauses
-    → prefixed (unnamed attributes items parameters span type_parameters where_clauses) ≡ g
-    → (object (filled grammar_keys fields) ≡ spelling g) × IsReadable g
-grammar_joined fields attributes items parameters span type_parameters where_clauses g none listed texts spanned types clauses e =
-    rw (← e) (
-      rw (none.0, listed.0, texts, spanned.0, types, clauses) refl,
-      record { prefix = free_prefix (texts_of (unnamed attributes items parameters span type_parameters where_clauses)); span = spanned.1; attributes = none.1; items = listed.1 },
-    )
+    → made (prefix_past (longest_of (strings (object (filled grammar_keys fields))))) attributes items parameters span type_parameters where_clauses ≡ g
+    → Spells (object (filled grammar_keys fields)) g
+grammar_joined fields attributes items parameters span type_parameters where_clauses g attributed listed texts spanned types clauses e =
+    let prefix = prefix_past (longest_of (strings (object (filled grammar_keys fields)))) in
+    let whole = made prefix attributes items parameters span type_parameters where_clauses in
+    let spelled : object (filled grammar_keys fields) ≡ spelling whole = rw (attributed.0, listed.0, texts, spanned.0, types, clauses) refl in
+    rw (← e) (with_prefix (object (filled grammar_keys fields)) whole spelled refl spanned.1 attributed.1 listed.1)
 
-grammar_opened : (fields : Fields grammar_keys) (g : Grammar) → grammar_at (object (filled grammar_keys fields)) ≡ Ok g
-    → (object (filled grammar_keys fields) ≡ spelling g) × IsReadable g
-unfolding grammar_at keys_at field_at text_of
-grammar_opened fields g e =
-    let attributes = part_ok (step.Key key.Attributes) (empty_list_at fields.0) _ g e in
-    let items = part_ok (step.Key key.Items) (items_at fields.1.0) _ g attributes.2 in
-    let parameters = part_ok (step.Key key.Parameters) (text_at fields.1.1.0) _ g items.2 in
-    let span = part_ok (step.Key key.Span) (span_at fields.1.1.1.0) _ g parameters.2 in
-    let types = part_ok (step.Key key.TypeParameters) (text_at fields.1.1.1.1.0) _ g span.2 in
-    let clauses = part_ok (step.Key key.WhereClauses) (text_at fields.1.1.1.1.1.0) _ g types.2 in
-    grammar_joined fields attributes.0 items.0 parameters.0 span.0 types.0 clauses.0 g (empty_list_takes fields.0 attributes.0 attributes.1)
-    (items_take fields.1.0 items.0 items.1) (text_takes fields.1.1.0 parameters.0 parameters.1) (span_takes fields.1.1.1.0 span.0 span.1)
-    (text_takes fields.1.1.1.1.0 types.0 types.1) (text_takes fields.1.1.1.1.1.0 clauses.0 clauses.1) cc
-
-pub grammar_takes : (d : Data) (g : Grammar) → grammar_at d ≡ Ok g → (d ≡ spelling g) × IsReadable g
-unfolding grammar_at
-grammar_takes d g e =
-    let keyed = bind_ok (keys_at grammar_keys d) _ g e in
-    let fields = keys_ok grammar_keys d keyed.0 keyed.1 in
-    rw fields.1 (grammar_opened fields.0 g (rw fields.1 at e))
+pub grammar_takes : (d : Data) (g : Grammar) → grammar_at d ≡ Ok g → Spells d g
+unfolding grammar_at field_at text_of
+grammar_takes = object_ok grammar_keys _ Spells λ fields g e.
+    part (step.Key key.Attributes) (list_at (λ _. attribute_at) fields.0) _ g e λ attributes attributed e.
+    part (step.Key key.Items) (list_at (λ _. item_at) fields.1.0) _ g e λ items listed e.
+    part (step.Key key.Parameters) (text_at fields.1.1.0) _ g e λ parameters texts e.
+    part (step.Key key.Span) (span_at fields.1.1.1.0) _ g e λ span spanned e.
+    part (step.Key key.TypeParameters) (text_at fields.1.1.1.1.0) _ g e λ type_parameters types e.
+    part (step.Key key.WhereClauses) (text_at fields.1.1.1.1.1.0) _ g e λ where_clauses clauses e.
+    grammar_joined fields attributes items parameters span type_parameters where_clauses g (attributes_take fields.0 attributes attributed)
+    (items_take fields.1.0 items listed) (text_takes fields.1.1.0 parameters texts) (span_takes fields.1.1.1.0 span spanned)
+    (text_takes fields.1.1.1.1.0 type_parameters types) (text_takes fields.1.1.1.1.1.0 where_clauses clauses) (ok_same _ g e)
 
 -- ---- what is spelled
 
-renamed : (g : Grammar) → g.attributes ≡ [] → g.prefix ≡ prefix_past (longest_of (texts_of g))
-    → prefixed (unnamed [] g.items g.parameters g.span g.type_parameters g.where_clauses) ≡ g
-renamed g e f = rw (← f, ← e) refl
+renamed : (g : Grammar) (prefix : List ℕ) → g.prefix ≡ prefix → made prefix g.attributes g.items g.parameters g.span g.type_parameters g.where_clauses ≡ g
+renamed g prefix e = rw (← e) refl
 
 pub grammar_again : (g : Grammar) → IsReadable g → grammar_at (spelling g) ≡ Ok g
 unfolding grammar_at keys_at field_at text_of text_at
 grammar_again g is =
-    rw (empty_list_again {A = Attribute}, items_again g.items is.items, span_again g.span is.span)
-    (ap Ok (renamed g is.attributes (only_prefix (texts_of g) g.prefix is.prefix)))
+    rw (attributes_again g.attributes is.attributes, items_again g.items is.items, span_again g.span is.span)
+    (ap Ok (renamed g (prefix_past (longest_of (texts_of g))) (only_prefix (texts_of g) g.prefix is.prefix)))
 
 -- ---- what a reader answers
 

@@ -1,13 +1,8 @@
-pub mod Alternatives
 pub mod Grammars
 pub mod Laws
-pub mod Prefix
 pub mod Printing
 pub mod ReadTrees
 pub mod Readable
 pub mod ReadableTrees
-pub mod Rules
 pub mod SpelledTrees
 pub mod Spelling
-pub mod Symbols
-pub mod Texts

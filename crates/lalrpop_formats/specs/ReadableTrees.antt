@@ -1,21 +1,26 @@
 -- Which written trees are read.
-use Rattle.std.specs.Prelude.{◌≡◌, ◌<◌, ℕ, ◌^◌, List, [], ◌∷◌, IsTrue}
+use Rattle.std.specs.Prelude.{◌≡◌, ◌<◌, ℕ, ◌^◌, List, [], ◌∷◌, Some, None, IsTrue}
 use Rattle.lalrpop_symbols.specs.declared.span.Span.{Span}
-use Rattle.lalrpop_symbols.specs.declared.terminal.TerminalLiteral.TheVariants as literals
-use Rattle.lalrpop_symbols.specs.declared.terminal.TerminalString.TheVariants as terminals
+use Rattle.lalrpop_symbols.specs.declared.symbol.Symbol.{Symbol}
+use Rattle.lalrpop_symbols.specs.declared.terminal.TerminalString.{TerminalString}
 use Rattle.lalrpop_grammar.specs.declared.tree.WrittenTree.{WrittenTree}
 use Rattle.lalrpop_grammar.specs.declared.tree.WrittenTree.TheVariants as tree
 use Rattle.lalrpop_values.specs.Scalars.{is_name}
 use Rattle.lalrpop_values.specs.Spelled.{IsSpan}
+use Rattle.lalrpop_symbol_formats.specs.Readable.{IsReadableTerminal, AreReadableSymbols}
 
 mutual
   pub data IsReadableTree : WrittenTree → Type 0 where
-    node : {t : WrittenTree} (name : List ℕ) (place : ℕ) (children : List WrittenTree)
-        → t ≡ tree.Rule (record { 0 = name }) [] place children
-        → IsTrue (is_name name) → place < 2 ^ 32 → AreReadableTrees children → IsReadableTree t
-    leaf : {t : WrittenTree} (literal text : List ℕ) (span : Span)
-        → t ≡ tree.Terminal (terminals.Literal (literals.Quoted literal)) text span
-        → IsSpan span → IsReadableTree t
+    node : {t : WrittenTree} (name : List ℕ) (args : List Symbol) (place : ℕ) (children : List WrittenTree)
+        → t ≡ tree.Rule (record { 0 = name }) args place children
+        → IsTrue (is_name name) → AreReadableSymbols args → place < 2 ^ 32 → AreReadableTrees children → IsReadableTree t
+    repeated : {t : WrittenTree} (trees : List WrittenTree) → t ≡ tree.List trees → AreReadableTrees trees → IsReadableTree t
+    absent : {t : WrittenTree} → t ≡ tree.Opt None → IsReadableTree t
+    present : {t : WrittenTree} (inside : WrittenTree) → t ≡ tree.Opt (Some inside) → IsReadableTree inside → IsReadableTree t
+    grouped : {t : WrittenTree} (trees : List WrittenTree) → t ≡ tree.Group trees → AreReadableTrees trees → IsReadableTree t
+    leaf : {t : WrittenTree} (terminal : TerminalString) (text : List ℕ) (span : Span) → t ≡ tree.Terminal terminal text span
+        → IsReadableTerminal terminal → IsSpan span → IsReadableTree t
+    look : {t : WrittenTree} → t ≡ tree.Look → IsReadableTree t
 
   pub data AreReadableTrees : List WrittenTree → Type 0 where
     none : AreReadableTrees []

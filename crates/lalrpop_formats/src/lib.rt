@@ -4,13 +4,9 @@
 //! grammar and each tree.
 #![tactic(auto)]
 
-mod alternative;
 mod grammar;
 mod laws;
-mod prefix;
 mod printing;
-mod rule;
-mod symbol;
 mod tree;
 
 pub use grammar::read_grammar;

@@ -3,47 +3,23 @@
 ghost use Rattle.std.specs.Prelude.{◌≡◌, IfOk, Ok};
 ghost use Rattle.serde_json.specs.View.{view};
 ghost use Rattle.lalrpop_values.specs.Gives.{Gives, within};
+ghost use Rattle.lalrpop_values.specs.Lists.{list_at};
+ghost use Rattle.lalrpop_values.specs.Objects.{field_at};
+ghost use Rattle.lalrpop_values.specs.Scalars.{optional};
 ghost use Rattle.lalrpop_grammar.specs.declared.tree.WrittenTree.{WrittenTree};
 ghost use Rattle.lalrpop_formats.specs.Laws.{SpellsTree};
-ghost use Rattle.lalrpop_values.specs.Objects.{field_at};
-ghost use Rattle.lalrpop_formats.specs.ReadTrees.{leaf_at, leaf_literal_at, nested_of, node_at, tree_at, trees_at};
+ghost use Rattle.lalrpop_formats.specs.ReadTrees.{form_of_tree, group_at, leaf_at, look_at, node_at, option_at, repeated_at, tree_at};
 ghost use Rattle.lalrpop_values.specs.declared.fault.Step.TheVariants as step;
 
-use crate::symbol::quoted_of;
-use lalrpop_grammar::{List, NonterminalString, TerminalString, WrittenTree};
+use lalrpop_grammar::WrittenTree;
+use lalrpop_symbol_formats::{symbols_field, terminal_field};
+use lalrpop_symbols::{Boxed, List, NonterminalString};
 use lalrpop_values::{
-    FaultKind, Form, Key, ReadError, Step, at_key, empty_list_field, here, keys, member,
-    name_field, number_field, outside, span_field, text_field, told,
+    FaultKind, Form, Key, ReadError, Step, at_key, here, keys, member, name_field, null_field,
+    number_field, outside, span_field, text_field, told,
 };
 use serde_json::Value;
 use std::alloc::Global;
-
-/// The terminal of a leaf; so far a quoted literal alone.
-#[tactic(auto, unfolding(crate::specs::ReadTrees::leaf_literal_at))]
-fn leaf_literal_of(alloc: Global, value: &Value) -> Result<TerminalString, ReadError>
-    ensures { Gives result (leaf_literal_at (view value.now)) }
-{
-    let rows = [
-        (Key::Bare, Form::Other),
-        (Key::Quoted, Form::Quoted),
-        (Key::Regex, Form::Other),
-    ];
-    match told(&rows, value) {
-        Some(Form::Quoted) => {
-            let literal = quoted_of(alloc, value)?;
-            Ok(TerminalString::Literal(literal))
-        }
-        _ => Err(here(alloc, FaultKind::WrongShape)),
-    }
-}
-
-#[tactic(auto, unfolding(lalrpop_values::specs::Objects::field_at, lalrpop_values::specs::Objects::member_at))]
-fn leaf_literal_field(alloc: Global, value: &Value, key: Key) -> Result<TerminalString, ReadError>
-    ensures { Gives result (field_at key leaf_literal_at (view value.now)) }
-{
-    let found = member(alloc, value, key)?;
-    Ok(at_key(leaf_literal_of(alloc, found), key)?)
-}
 
 /// A token.
 #[tactic(auto, unfolding(crate::specs::ReadTrees::leaf_at))]
@@ -52,7 +28,7 @@ fn leaf_of(alloc: Global, value: &Value) -> Result<WrittenTree, ReadError>
 {
     keys(alloc, value, &[Key::Span, Key::Terminal, Key::Text])?;
     let span = span_field(alloc, value, Key::Span)?;
-    let terminal = leaf_literal_field(alloc, value, Key::Terminal)?;
+    let terminal = terminal_field(alloc, value, Key::Terminal)?;
     let text = text_field(alloc, value, Key::Text)?;
     Ok(WrittenTree::Terminal {
         terminal,
@@ -61,20 +37,29 @@ fn leaf_of(alloc: Global, value: &Value) -> Result<WrittenTree, ReadError>
     })
 }
 
+/// A place.
+#[tactic(auto, unfolding(crate::specs::ReadTrees::look_at))]
+fn look_of(alloc: Global, value: &Value) -> Result<WrittenTree, ReadError>
+    ensures { Gives result (look_at (view value.now)) }
+{
+    keys(alloc, value, &[Key::Look])?;
+    null_field(alloc, value, Key::Look)?;
+    Ok(WrittenTree::Look)
+}
+
 /// A rule, by one of its alternatives.
 #[cycle(trees)]
-#[tactic(auto, using(crate::proofs::Nesting::nesting), unfolding(crate::specs::ReadTrees::node_at))]
+#[tactic(auto, using(crate::proofs::TreeNesting::tree_nesting), unfolding(crate::specs::ReadTrees::node_at))]
 fn node_of(alloc: Global, value: &Value) -> Result<WrittenTree, ReadError>
-    ensures { Gives result (node_at (view value.now) (nested_of (view value.now))) }
+    ensures { Gives result (node_at tree_at (view value.now)) }
 {
     keys(
         alloc,
         value,
         &[Key::Args, Key::Children, Key::Place, Key::Rule],
     )?;
-    let args = empty_list_field(alloc, value, Key::Args)?;
-    let found = member(alloc, value, Key::Children)?;
-    let children = at_key(trees_of(alloc, found), Key::Children)?;
+    let args = symbols_field(alloc, value, Key::Args)?;
+    let children = trees_field(alloc, value, Key::Children)?;
     let place = number_field(alloc, value, Key::Place)?;
     let rule = name_field(alloc, value, Key::Rule)?;
     Ok(WrittenTree::Rule {
@@ -85,35 +70,115 @@ fn node_of(alloc: Global, value: &Value) -> Result<WrittenTree, ReadError>
     })
 }
 
+/// The elements of a repetition.
 #[cycle(trees)]
-#[tactic(auto, using(crate::proofs::Nesting::nesting), unfolding(crate::specs::ReadTrees::tree_with))]
-fn tree_of(alloc: Global, value: &Value) -> Result<WrittenTree, ReadError>
-    ensures { Gives result (tree_at (view value.now)) }
+#[tactic(auto, using(crate::proofs::TreeNesting::tree_nesting), unfolding(crate::specs::ReadTrees::repeated_at))]
+fn repeated_of(alloc: Global, value: &Value) -> Result<WrittenTree, ReadError>
+    ensures { Gives result (repeated_at tree_at (view value.now)) }
+{
+    keys(alloc, value, &[Key::List])?;
+    let trees = trees_field(alloc, value, Key::List)?;
+    Ok(WrittenTree::List(trees))
+}
+
+/// What an option holds.
+#[cycle(trees)]
+#[tactic(auto, using(crate::proofs::TreeNesting::tree_nesting), unfolding(crate::specs::ReadTrees::option_at))]
+fn option_of(alloc: Global, value: &Value) -> Result<WrittenTree, ReadError>
+    ensures { Gives result (option_at tree_at (view value.now)) }
+{
+    keys(alloc, value, &[Key::Opt])?;
+    let inside = optional_field(alloc, value, Key::Opt)?;
+    Ok(WrittenTree::Opt(inside))
+}
+
+/// The trees of a group.
+#[cycle(trees)]
+#[tactic(auto, using(crate::proofs::TreeNesting::tree_nesting), unfolding(crate::specs::ReadTrees::group_at))]
+fn group_of(alloc: Global, value: &Value) -> Result<WrittenTree, ReadError>
+    ensures { Gives result (group_at tree_at (view value.now)) }
+{
+    keys(alloc, value, &[Key::Group])?;
+    let trees = trees_field(alloc, value, Key::Group)?;
+    Ok(WrittenTree::Group(trees))
+}
+
+#[tactic(auto, unfolding(crate::specs::ReadTrees::form_of_tree))]
+fn form_of_tree(value: &Value) -> Option<Form>
+    ensures { result ≡ form_of_tree (view value.now) }
 {
     let rows = [
         (Key::Args, Form::Rule),
         (Key::Children, Form::Rule),
-        (Key::Group, Form::Other),
-        (Key::List, Form::Other),
-        (Key::Look, Form::Other),
-        (Key::Opt, Form::Other),
+        (Key::Group, Form::Group),
+        (Key::List, Form::List),
+        (Key::Look, Form::Look),
+        (Key::Opt, Form::Opt),
         (Key::Place, Form::Rule),
         (Key::Rule, Form::Rule),
         (Key::Span, Form::Terminal),
         (Key::Terminal, Form::Terminal),
         (Key::Text, Form::Terminal),
     ];
-    match told(&rows, value) {
+    told(&rows, value)
+}
+
+#[cycle(trees)]
+#[tactic(auto, using(crate::proofs::TreeNesting::tree_nesting), unfolding(crate::specs::ReadTrees::tree_form))]
+fn tree_of(alloc: Global, value: &Value) -> Result<WrittenTree, ReadError>
+    ensures { Gives result (tree_at (view value.now)) }
+{
+    match form_of_tree(value) {
+        Some(Form::Group) => group_of(alloc, value),
+        Some(Form::List) => repeated_of(alloc, value),
+        Some(Form::Look) => look_of(alloc, value),
+        Some(Form::Opt) => option_of(alloc, value),
         Some(Form::Rule) => node_of(alloc, value),
         Some(Form::Terminal) => leaf_of(alloc, value),
         _ => Err(here(alloc, FaultKind::WrongShape)),
     }
 }
 
+/// `null`, or a tree.
 #[cycle(trees)]
-#[tactic(auto, using(crate::proofs::Nesting::nesting))]
+fn optional_of(alloc: Global, value: &Value) -> Result<Option<Boxed<WrittenTree>>, ReadError>
+    ensures { Gives result (optional tree_at (view value.now)) }
+{
+    if value.is_null() {
+        return Ok(None);
+    }
+    let tree = tree_of(alloc, value)?;
+    let tree = Boxed::new(alloc, tree)?;
+    Ok(Some(tree))
+}
+
+#[cycle(trees)]
+#[tactic(auto, using(crate::proofs::TreeNesting::tree_nesting), unfolding(lalrpop_values::specs::Objects::field_at, lalrpop_values::specs::Objects::member_at))]
+fn optional_field(
+    alloc: Global,
+    value: &Value,
+    key: Key,
+) -> Result<Option<Boxed<WrittenTree>>, ReadError>
+    ensures { Gives result (field_at key (optional tree_at) (view value.now)) }
+{
+    let found = member(alloc, value, key)?;
+    Ok(at_key(optional_of(alloc, found), key)?)
+}
+
+#[cycle(trees)]
+fn tree_in(alloc: Global, value: &Value, index: usize) -> Result<WrittenTree, ReadError>
+    ensures { Gives result (within (step.Index index) (tree_at (view value.now))) }
+{
+    match tree_of(alloc, value) {
+        Ok(found) => Ok(found),
+        Err(error) => Err(outside(error, Step::Index(index))),
+    }
+}
+
+#[cycle(trees)]
+#[tactic(auto, using(crate::proofs::TreeNesting::tree_nesting, lalrpop_values::proofs::Lists::lists), unfolding(lalrpop_values::specs::Lists::list_at))]
 fn trees_of(alloc: Global, value: &Value) -> Result<List<WrittenTree>, ReadError>
-    ensures { Gives result (trees_at (view value.now)) }
+    ensures { Gives result (list_at (λ _. tree_at) (view value.now)) }
 {
     let Some(values) = value.as_array() else {
         return Err(here(alloc, FaultKind::WrongShape));
@@ -127,20 +192,19 @@ fn trees_of(alloc: Global, value: &Value) -> Result<List<WrittenTree>, ReadError
 }
 
 #[cycle(trees)]
-fn tree_in(alloc: Global, value: &Value, index: usize) -> Result<WrittenTree, ReadError>
-    ensures { Gives result (within (step.Index index) (tree_at (view value.now))) }
+#[tactic(auto, using(crate::proofs::TreeNesting::tree_nesting), unfolding(lalrpop_values::specs::Objects::field_at, lalrpop_values::specs::Objects::member_at))]
+fn trees_field(alloc: Global, value: &Value, key: Key) -> Result<List<WrittenTree>, ReadError>
+    ensures { Gives result (field_at key (list_at (λ _. tree_at)) (view value.now)) }
 {
-    match tree_of(alloc, value) {
-        Ok(tree) => Ok(tree),
-        Err(error) => Err(outside(error, Step::Index(index))),
-    }
+    let found = member(alloc, value, key)?;
+    Ok(at_key(trees_of(alloc, found), key)?)
 }
 
 /// The tree that a JSON value spells.
 ///
 /// A `ReadError::Shape` holds the first fault in reading order: in an object the first missing key in byte order, then
-/// the first unknown one, then the values in byte order of their keys; in a list from the front. So far trees of a rule
-/// without arguments and of a quoted literal are read; another tree is of the wrong shape.
+/// the first unknown one, then the values in byte order of their keys; in a list from the front. The first of its keys that
+/// belongs to a form tells the form of a tree.
 pub fn read_tree(alloc: Global, value: &Value) -> Result<WrittenTree, ReadError>
     ensures reads { Gives result (tree_at (view value.now)) }
     ensures spelled { IfOk result (λ tree. SpellsTree (view value.now) tree) }

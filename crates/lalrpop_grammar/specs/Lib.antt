@@ -1,6 +1,3 @@
-pub mod Admitting
-pub mod Closing
-pub mod Enabled
 pub mod Items
 pub mod Leaves
 pub mod Trees

@@ -1,5 +1,8 @@
-pub mod Choosing
-pub mod Naming
+pub mod Placing
+pub mod Searching
 pub mod Seeing
+pub mod Sizes
+pub mod Standing
+pub mod Starting
 pub mod Taking
 pub mod Walking

@@ -1,136 +1,161 @@
--- A tree fixes its tokens, and admission over its own leaves goes part by part: for the walk and the judge.
-use Rattle.std.proofs.Common.{◌≡◌, ◌↔◌, ℕ, List, [], ◌∷◌, ◌++◌, ◌+◌, Bool, true, false, IsTrue, Some, None, refl, ap, sym, ◌∙◌, map, drop}
-use Rattle.lalrpop_symbols.specs.Symbols.{Text, Argument, Closed, Written, call, end}
-use Rattle.lalrpop_symbols.specs.Views.{symbol, unmarked}
-use Rattle.lalrpop_symbols.specs.declared.symbol.Symbol.{Symbol}
-use Rattle.lalrpop_grammar.specs.Enabled.{Rules}
-use Rattle.lalrpop_grammar.specs.Closing.{close}
-use Rattle.lalrpop_grammar.specs.Trees.{Token, Tree, Trees, node, list, absent, present, together, leaf, look, no_tree, tree_and, trees, leaves, leaves_of}
-use Rattle.lalrpop_grammar.specs.Admitting.{Admits, AdmitsAll}
-use Rattle.lalrpop_grammar.specs.Views.{tree}
+-- Admission over a tree's own leaves goes part by part: for the walk and the judge.
+use Rattle.std.proofs.Common.{◌≡◌, ◌↔◌, ◌⊎◌, ℕ, Bool, true, false, List, [], ◌∷◌, ◌++◌, ◌+◌, Option, Some, None, Result, Ok, Err, IfOk, IsTrue, refl, ap, sym, ◌∙◌, map, drop, length, inl, inr, arith}
+use Rattle.lalrpop_symbols.specs.Symbols.{Text, Op, star, plus, question, Argument, Closed, Closeds, closed_list, call, many, row, end, and}
+use Rattle.lalrpop_grammar.specs.Trees.{Token, Tree, Trees, node, list, absent, present, together, leaf, look, no_tree, tree_and, leaves, leaves_of, trees}
+use Rattle.lalrpop_grammar.specs.Views.{grammar as grammar_seen, tree}
 use Rattle.lalrpop_grammar.specs.declared.tree.WrittenTree.{WrittenTree}
-use Rattle.std.specs.Borrow.{Bor}
-use Rattle.lalrpop_judge.specs.Admitted.{Admitted, AdmittedAll, IsOnly, IsSide}
-
--- arguments are none where none are written
-pub no_arguments : (args : List Symbol) → map (λ s. unmarked (symbol s)) args ≡ [] → args ≡ []
-no_arguments [] e = refl
-no_arguments (s ∷ ss) e = absurd (cc)
+use Rattle.lalrpop_written.specs.Enabled.{Rules}
+use Rattle.lalrpop_written.specs.Closing.{inner, right_side}
+use Rattle.lalrpop_written.specs.Admitting.{Admits, AdmitsAll, AdmitsEach, AsMany, argument_list, binding}
+use Rattle.lalrpop_written.proofs.Leaves.{tokens_are, all_tokens_are, each_tokens_are}
+use Rattle.lalrpop_written.proofs.Places.{places_apart}
+use Rattle.lalrpop_rules.specs.Table.{rules_with}
+use Rattle.lalrpop_rules.specs.declared.table.Rules as table
+use Rattle.lalrpop_closed.specs.Views.{closeds}
+use Rattle.lalrpop_judge.specs.Admitted.{Admitted, AdmittedAll, AdmittedEach, IsSide, MayBe}
 
 pub never : {A : Type 0} → IsTrue false → A
 never e = absurd (let f : ◌≡◌ {A = Bool} false true = e in cc)
 
+-- the answer about the one fact is the answer about the other
+pub answered : {E : Type 0} (P Q : Type 0) (r : Result Bool E) → (P → Q) → (Q → P) → IfOk r (λ yes. IsTrue yes ↔ P) → IfOk r (λ yes. IsTrue yes ↔ Q)
+answered P Q (Ok b) to from is = (λ y. to (is.0 y), λ q. is.1 (from q))
+answered P Q (Err e) to from is = is
+
 module _ (g : Rules) where
-  mutual
-    pub fixed : (x : Closed) (t : Tree) (tokens : List Token) → Admits g x t tokens → tokens ≡ leaves t
-    fixed x (node n args place ts) tokens a = fixed_all _ ts tokens a.children
-    fixed x (list ts) tokens a = absurd a
-    fixed x absent tokens a = absurd a
-    fixed x (present t) tokens a = absurd a
-    fixed x (together ts) tokens a = absurd a
-    fixed x (leaf token) tokens a = a.1
-    fixed x look tokens a = absurd a
+  pub all_first : (x : Closed) (xs : List Closed) (t : Tree) (ts : Trees) → AdmittedAll g (x ∷ xs) (tree_and t ts) → Admitted g x t
+  all_first x xs t ts a = rw (tokens_are g x t a.0 a.3) at a.3
 
-    pub fixed_all : (xs : List Closed) (ts : Trees) (tokens : List Token) → AdmitsAll g xs ts tokens → tokens ≡ leaves_of ts
-    fixed_all [] no_tree tokens a = a
-    fixed_all [] (tree_and t ts) tokens a = absurd a
-    fixed_all (x ∷ xs) no_tree tokens a = absurd a
-    fixed_all (x ∷ xs) (tree_and t ts) tokens a =
-        a.2 ∙ ap (λ l. l ++ a.1) (fixed x t a.0 a.3) ∙ ap (λ l. leaves t ++ l) (fixed_all xs ts a.1 a.4)
+  pub all_rest : (x : Closed) (xs : List Closed) (t : Tree) (ts : Trees) → AdmittedAll g (x ∷ xs) (tree_and t ts) → AdmittedAll g xs ts
+  all_rest x xs t ts a = rw (all_tokens_are g xs ts a.1 a.4) at a.4
 
-  module _ (x : Closed) (xs : List Closed) (t : Tree) (ts : Trees) where
-    pub all_first : AdmittedAll g (x ∷ xs) (tree_and t ts) → Admitted g x t
-    all_first a = rw (fixed x t a.0 a.3) at a.3
+  pub all_join : (x : Closed) (xs : List Closed) (t : Tree) (ts : Trees) → Admitted g x t → AdmittedAll g xs ts → AdmittedAll g (x ∷ xs) (tree_and t ts)
+  all_join x xs t ts a b = (leaves t, leaves_of ts, refl, a, b)
 
-    pub all_rest : AdmittedAll g (x ∷ xs) (tree_and t ts) → AdmittedAll g xs ts
-    all_rest a = rw (fixed_all xs ts a.1 a.4) at a.4
+  pub each_first : (x : Closed) (t : Tree) (ts : Trees) → AdmittedEach g x (tree_and t ts) → Admitted g x t
+  each_first x t ts a = rw (tokens_are g x t a.0 a.3) at a.3
 
-    pub all_join : Admitted g x t → AdmittedAll g xs ts → AdmittedAll g (x ∷ xs) (tree_and t ts)
-    all_join a b = (leaves t, leaves_of ts, refl, a, b)
+  pub each_rest : (x : Closed) (t : Tree) (ts : Trees) → AdmittedEach g x (tree_and t ts) → AdmittedEach g x ts
+  each_rest x t ts a = rw (each_tokens_are g x ts a.1 a.4) at a.4
 
-  -- a node of a plain rule is admitted where its children are those of the one right side
-  pub node_to : (n : Text) (place : ℕ) (ts : Trees) (side : List Written) → IsSide g n place side → AdmittedAll g (map (close g) side) ts
-      → Admitted g (call n end None) (node n [] place ts)
-  node_to n place ts side i a = record {
-    symbol_is = refl;
-    no_arguments = refl;
+  pub each_join : (x : Closed) (t : Tree) (ts : Trees) → Admitted g x t → AdmittedEach g x ts → AdmittedEach g x (tree_and t ts)
+  each_join x t ts a b = (leaves t, leaves_of ts, refl, a, b)
+
+many-same : (op p : Op) (x y : Closed) → many op x ≡ many p y → (op ≡ p) × (x ≡ y)
+many-same op p x y e = (cc, cc)
+
+pub may-be : (op : Op) (ts : Trees) (empty : Bool) → ((ts ≡ no_tree) ↔ IsTrue empty) → MayBe op empty → AsMany op ts
+may-be star ts empty e m = tt
+may-be plus no_tree true e m = absurd (cc)
+may-be plus no_tree false e m = absurd (let f : IsTrue false = e.0 refl in cc)
+may-be plus (tree_and t ts) empty e m = tt
+may-be question ts empty e m = m
+
+pub as-many : (op : Op) (ts : Trees) (empty : Bool) → ((ts ≡ no_tree) ↔ IsTrue empty) → AsMany op ts → MayBe op empty
+as-many star ts empty e m = tt
+as-many plus no_tree empty e m = absurd m
+as-many plus (tree_and t ts) true e m = absurd (let f : tree_and t ts ≡ no_tree = e.1 refl in cc)
+as-many plus (tree_and t ts) false e m = refl
+as-many question ts empty e m = m
+
+pub trees-empty : (ts : List WrittenTree) → (trees (map tree ts) ≡ no_tree) ↔ (length ts ≡ 0)
+trees-empty [] = (λ e. refl, λ e. refl)
+trees-empty (t ∷ ts) = (λ e. absurd (cc), λ e. absurd (omega arith))
+
+closed_list-closeds : (xs : List Closed) → closed_list (closeds xs) ≡ xs
+closed_list-closeds [] = refl
+closed_list-closeds (x ∷ xs) = ap (λ l. x ∷ l) (closed_list-closeds xs)
+
+call-same : (n m : Text) (xs ys : Closeds) (k l : Option ℕ) → call n xs k ≡ call m ys l → (n ≡ m) × (xs ≡ ys) × (k ≡ l)
+call-same n m xs ys k l e = (cc, cc, cc)
+
+module _ (g : Rules) where
+  pub list_to : (x y : Closed) (op : Op) (ts : Trees) → inner x ≡ many op y → AsMany op ts → AdmittedEach g y ts → Admitted g x (list ts)
+  list_to x y op ts e m a = (op, y, e, m, a)
+
+  pub list_from : (x y : Closed) (op : Op) (ts : Trees) → inner x ≡ many op y → Admitted g x (list ts) → AdmittedEach g y ts
+  list_from x y op ts e a = let same : a.1 ≡ y = (many-same a.0 op a.1 y (sym a.2 ∙ e)).1 in rw same at a.4
+
+  pub group_to : (x : Closed) (ys : List Closed) (ts : Trees) → inner x ≡ row (closeds ys) → AdmittedAll g ys ts → Admitted g x (together ts)
+  group_to x ys ts e a = (closeds ys, e, rw (closed_list-closeds ys) a)
+
+  pub group_from : (x : Closed) (ys : List Closed) (ts : Trees) → inner x ≡ row (closeds ys) → Admitted g x (together ts) → AdmittedAll g ys ts
+  group_from x ys ts e a =
+      let same : a.0 ≡ closeds ys = cc in
+      let back : closed_list a.0 ≡ ys = ap closed_list same ∙ closed_list-closeds ys in
+      rw back at a.2
+
+  pub one_from : (x y : Closed) (t : Tree) → inner x ≡ many question y → Admitted g x (present t) → Admitted g y t
+  one_from x y t e a = let same : a.0 ≡ y = cc in rw same at a.2
+
+  pub node_to : (x : Closed) (n : Text) (args : List Argument) (place : ℕ) (ts : Trees) (given : Closeds) (level : Option ℕ) (side : List Closed)
+      → inner x ≡ call n given level → args ≡ argument_list g.spelled given → IsSide g n given level place side
+      → AdmittedAll g side ts → Admitted g x (node n args place ts)
+  node_to x n args place ts given level side e f i a = record {
+    given = given;
+    level = level;
+    symbol_is = e;
+    args_are = f;
     rule = i.rule;
-    rule_is = i.rule_is;
-    no_parameters = i.no_parameters;
-    no_levels = i.no_levels;
     choice = i.choice;
-    among = i.among;
+    fits = i.fits;
     at = i.at;
-    unconditional = i.unconditional;
+    low = i.low;
     children = rw i.side_is at a;
   }
 
   module _ (x : Closed) (n : Text) (args : List Argument) (place : ℕ) (ts : Trees) where
-    pub node_side : Admitted g x (node n args place ts) → (side : List Written) × IsSide g n place side × AdmittedAll g (map (close g) side) ts
-    node_side a = (
-      a.choice.expr,
-      record {
-        rule = a.rule;
-        rule_is = a.rule_is;
-        no_parameters = a.no_parameters;
-        no_levels = a.no_levels;
-        choice = a.choice;
-        among = a.among;
-        at = a.at;
-        unconditional = a.unconditional;
-        side_is = refl;
-      },
-      a.children,
-    )
+    pub node_name : (m : Text) (given : Closeds) (level : Option ℕ) → inner x ≡ call m given level → Admitted g x (node n args place ts) → m ≡ n
+    node_name m given level e a = (call-same m n given a.given level a.level (sym e ∙ a.symbol_is)).0
 
-  module _ (x : Closed) (n : Text) (args : List Symbol) (place : ℕ) (ts : Trees) where
-    abbrev pub Asks : List Written → Type 0
-    Asks side = (x ≡ call n end None) × (args ≡ []) × IsSide g n place side
+    pub node_args : (m : Text) (given : Closeds) (level : Option ℕ) → inner x ≡ call m given level → Admitted g x (node n args place ts) → args ≡ argument_list g.spelled given
+    node_args m given level e a =
+        let same : given ≡ a.given = (call-same m n given a.given level a.level (sym e ∙ a.symbol_is)).1 in rw same a.args_are
 
-    abbrev seen : Tree
-    seen = node n (map (λ s. unmarked (symbol s)) args) place ts
+    pub node_side : (m : Text) (given : Closeds) (level : Option ℕ) → inner x ≡ call m given level → Admitted g x (node n args place ts)
+        → (side : List Closed) × IsSide g n given level place side × AdmittedAll g side ts
+    node_side m given level e a =
+        let same = call-same m n given a.given level a.level (sym e ∙ a.symbol_is) in
+        let side : IsSide g n a.given a.level place (right_side g a.rule (binding a.rule a.given) a.choice) =
+        record { rule = a.rule; choice = a.choice; fits = a.fits; at = a.at; low = a.low; side_is = refl } in
+        (right_side g a.rule (binding a.rule a.given) a.choice, rw (same.1, same.2) side, a.children)
 
-    asked : Admitted g x seen → (side : List Written) × Asks side × AdmittedAll g (map (close g) side) ts
-    asked a =
-        let s = node_side x n (map (λ s. unmarked (symbol s)) args) place ts a in
-        (s.0, (a.symbol_is, no_arguments args a.no_arguments, s.1), s.2)
+-- a call asks for the same at a place, whoever says it
+pub same_side : (finds : Text → Text → Option Bool) (t : table.Rules) (n : Text) (given : Closeds) (level : Option ℕ) (place : ℕ) (a b : List Closed)
+    → IsSide (rules_with finds t) n given level place a → IsSide (rules_with finds t) n given level place b → a ≡ b
+same_side finds t n given level place a b i j =
+    let one = places_apart finds t.features.now (grammar_seen t.grammar.now) n given i.rule j.rule i.choice j.choice i.fits j.fits (i.at ∙ sym j.at) in
+    i.side_is ∙ ap (λ r. right_side (rules_with finds t) r (binding r given) i.choice) one.0
+    ∙ ap (λ q. right_side (rules_with finds t) j.rule (binding j.rule given) q) one.1 ∙ sym j.side_is
 
-    -- a node is admitted nowhere where its symbol has no right side
-    pub node_refused : IsOnly Asks None → Admitted g x seen → ⊥
-    node_refused refused a = let s = asked a in refused s.0 s.1
+-- admission is: the tokens are those at the leaves, and the tree is admitted over its leaves
+pub tokens_apart : (g : Rules) (x : Closed) (t : Tree) (tokens : List Token) → Admits g x t tokens ↔ ((tokens ≡ leaves t) × Admitted g x t)
+tokens_apart g x t tokens = (
+  λ a. let same : tokens ≡ leaves t = tokens_are g x t tokens a in (same, rw same at a),
+  λ p. rw p.0 p.1,
+)
 
-    -- else where its children are those of the one right side
-    pub node_by_side : (found : Bor (List Symbol)) → IsOnly Asks (Some found) → AdmittedAll g (map (close g) (map symbol found.now)) ts ↔ Admitted g x seen
-    node_by_side found only = (
-      λ q. let p = (only (map symbol found.now)).1 refl in rw (p.0, p.1) (node_to n place ts (map symbol found.now) p.2 q),
-      λ a. let s = asked a in let same : s.0 ≡ map symbol found.now = (only s.0).0 s.1 in rw same at s.2,
-    )
+module _ (g : Rules) (A : Type 0) (ts : List WrittenTree) (i : ℕ) (t : WrittenTree) (here : drop i ts ≡ t ∷ drop (i + 1) ts) where
+  abbrev behind : Trees
+  behind = trees (map tree (drop (i + 1) ts))
 
-  module _ (A : Type 0) (left others : List Symbol) (s : Symbol) (ts : List WrittenTree) (i : ℕ) (t : WrittenTree)
-      (split : left ≡ s ∷ others) (here : drop i ts ≡ t ∷ drop (i + 1) ts)
-      (before : A ↔ AdmittedAll g (map (close g) (map symbol left)) (trees (map tree (drop i ts)))) where
-    abbrev symbols : List Closed
-    symbols = map (close g) (map symbol others)
-
-    abbrev behind : Trees
-    behind = trees (map tree (drop (i + 1) ts))
-
-    opened : A ↔ AdmittedAll g (close g (symbol s) ∷ symbols) (tree_and (tree t) behind)
-    opened = rw (split, here) at before
+  module _ (x : Closed) (others left : List Closed) (split : left ≡ x ∷ others) (before : A ↔ AdmittedAll g left (trees (map tree (drop i ts)))) where
+    all_opened : A ↔ AdmittedAll g (x ∷ others) (tree_and (tree t) behind)
+    all_opened = rw (split, here) at before
 
     -- one tree further
-    pub one_on : Admitted g (close g (symbol s)) (tree t) → A ↔ AdmittedAll g symbols behind
-    one_on a = (
-      λ p. all_rest (close g (symbol s)) symbols (tree t) behind (opened.0 p),
-      λ q. opened.1 (all_join (close g (symbol s)) symbols (tree t) behind a q),
-    )
+    pub all_on : Admitted g x (tree t) → A ↔ AdmittedAll g others behind
+    all_on a = (λ p. all_rest g x others (tree t) behind (all_opened.0 p), λ q. all_opened.1 (all_join g x others (tree t) behind a q))
 
-    pub no_further : (Admitted g (close g (symbol s)) (tree t) → ⊥) → A → ⊥
-    no_further refused p = refused (all_first (close g (symbol s)) symbols (tree t) behind (opened.0 p))
+    pub all_stop : (Admitted g x (tree t) → ⊥) → A → ⊥
+    all_stop refused p = refused (all_first g x others (tree t) behind (all_opened.0 p))
 
-  -- admission is: the tokens are those at the leaves, and the tree is admitted over its leaves
-  pub tokens_apart : (x : Closed) (t : Tree) (tokens : List Token) → Admits g x t tokens ↔ ((tokens ≡ leaves t) × Admitted g x t)
-  tokens_apart x t tokens = (
-    λ a. let same : tokens ≡ leaves t = fixed x t tokens a in (same, rw same at a),
-    λ p. rw p.0 p.1,
-  )
+  module _ (x : Closed) (before : A ↔ AdmittedEach g x (trees (map tree (drop i ts)))) where
+    each_opened : A ↔ AdmittedEach g x (tree_and (tree t) behind)
+    each_opened = rw here at before
+
+    pub each_on : Admitted g x (tree t) → A ↔ AdmittedEach g x behind
+    each_on a = (λ p. each_rest g x (tree t) behind (each_opened.0 p), λ q. each_opened.1 (each_join g x (tree t) behind a q))
+
+    pub each_stop : (Admitted g x (tree t) → ⊥) → A → ⊥
+    each_stop refused p = refused (each_first g x (tree t) behind (each_opened.0 p))

@@ -1,4 +1,4 @@
 pub mod Admitted
-pub mod Closed
 pub mod Ends
-pub mod Table
+pub mod Faults
+pub mod Placed

@@ -3,6 +3,7 @@
 ghost use Rattle.std.specs.Prelude.{◌≡◌};
 ghost use Rattle.lalrpop_judge.specs.declared.error.JudgeError.TheVariants.{Memory};
 
+use lalrpop_closed::ConditionFault;
 use std::alloc::{AllocError, AllocFailed};
 use std::error::Error;
 use std::fmt;
@@ -10,7 +11,7 @@ use std::fmt;
 /// Why the judge has no answer.
 #[derive(Clone, Copy, Debug, PartialEq, Eq)]
 pub enum JudgeError {
-    /// The pattern of a condition can't be read.
+    /// The pattern of a condition isn't read, or the search for it is refused.
     Condition,
     /// Memory ran out.
     Memory,
@@ -40,5 +41,19 @@ impl<T: Drop> From<AllocFailed<T>> for JudgeError {
 
     fn from(_error: AllocFailed<T>) -> JudgeError {
         JudgeError::Memory
+    }
+}
+
+impl From<ConditionFault> for JudgeError {
+    ghost use Rattle.lalrpop_judge.specs.Faults.{fault_of};
+
+    ghost from_gives = { λ fault e. e ≡ fault_of fault };
+
+    fn from(fault: ConditionFault) -> JudgeError {
+        match fault {
+            ConditionFault::NotRead => JudgeError::Condition,
+            ConditionFault::Refused => JudgeError::Condition,
+            ConditionFault::Memory => JudgeError::Memory,
+        }
     }
 }

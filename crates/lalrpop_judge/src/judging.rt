@@ -1,29 +1,38 @@
 //! The judge.
 
 ghost use Rattle.std.specs.Prelude.{◌≡◌, ◌↔◌, IfErr, IfOk, IsTrue, map};
-ghost use Rattle.lalrpop_grammar.specs.Admitting.{AdmitsFrom};
+ghost use Rattle.lalrpop_grammar.specs.Trees.{leaves};
 ghost use Rattle.lalrpop_grammar.specs.Views.{grammar as grammar_seen, token as token_seen, tree as tree_seen};
+ghost use Rattle.lalrpop_written.specs.Admitting.{AdmitsFrom, AdmitsStart};
+ghost use Rattle.lalrpop_written.specs.Enabled.{enabled};
+ghost use Rattle.lalrpop_rules.specs.Table.{IsTable, rules_with};
+ghost use Rattle.lalrpop_finder.specs.Search.{finds};
+ghost use Rattle.lalrpop_judge.specs.Faults.{HasSearch, OnlyWhere};
 
-use crate::closed::Closed;
 use crate::error::JudgeError;
 use crate::leaves::are_leaves;
-use crate::table::Rules;
 use crate::walk::admits;
-use lalrpop_grammar::{Atom, Grammar, ScanToken, WrittenTree};
+use lalrpop_closed::ClosedSymbol;
+use lalrpop_finder::PatternFinder;
+use lalrpop_grammar::{Atom, Grammar, List, ScanToken, WrittenTree};
+use lalrpop_rules::Rules;
 use std::alloc::Global;
 
 /// Whether the grammar that the features enable admits the tree from the start, with exactly these tokens.
 ///
-/// `features` are the names for which `#[cfg(feature = "name")]` holds; `start` is a rule's name. A symbol admits a
-/// node where the node names the symbol's rule, which stands in the enabled grammar exactly once, and one of its
-/// enabled alternatives, and the symbols of that alternative admit the children, one each; a literal admits its leaf.
-/// The tokens have to be those at the leaves, from left to right, with their texts and spans. Where nothing of this
-/// fits, also for a faulty grammar, the answer is no. Rules with parameters or levels, alternatives under conditions,
-/// and trees of repeats, options, groups and places are admitted nowhere.
+/// `features` are the names for which `#[cfg(feature = "name")]` holds; `start` is a rule's name. The start asks for
+/// the rule of that name at its loosest level. A call asks for a node of its rule, which stands in the enabled grammar
+/// exactly once, with the call's arguments and an enabled alternative, whose condition holds and whose level is at
+/// most the call's, and whose symbols, with parameters bound and levels at calls, admit the children, one each. A
+/// repeat asks for a list or an option, a group for one tree for each of its symbols, a place for a place, a literal or
+/// mapped bare name for its leaf; names and choices ask for what is under them, and error recovery for nothing. The
+/// tokens have to be those at the leaves, from left to right, with their texts and spans. Where nothing of this fits,
+/// also for a faulty grammar, the answer is no.
 ///
 /// # Errors
 ///
-/// `Memory`, where memory ran out.
+/// `Condition`, where the pattern of a condition isn't read or the search for it is refused; it comes only where a node
+/// of the tree names an enabled alternative whose condition is a search for a pattern. `Memory`, where memory ran out.
 pub fn judge(
     alloc: Global,
     grammar: &Grammar,
@@ -33,13 +42,38 @@ pub fn judge(
     tokens: &[ScanToken<'_>],
 ) -> Result<bool, JudgeError>
     ensures exact { IfOk result (λ yes. IsTrue yes
-        ↔ AdmitsFrom features.now (grammar_seen grammar.now) start.now (tree_seen tree.now)
+        ↔ AdmitsFrom finds features.now (grammar_seen grammar.now) start.now (tree_seen tree.now)
         (map token_seen tokens.now)) }
-    ensures only_memory { IfErr result (λ e. e ≡ JudgeError.Memory) }
+    ensures condition { IfErr result (OnlyWhere
+        (HasSearch (enabled finds features.now (grammar_seen grammar.now)) (tree_seen tree.now))) }
 {
     if !are_leaves(tree, tokens) {
         return Ok(false);
     }
     let rules = Rules::new(alloc, grammar, features)?;
-    Ok(admits(&rules, tree, Closed::Call(start)))
+    let yes = admits_start(alloc, &rules, start, tree)?;
+    Ok(yes)
+}
+
+/// Whether the start admits the tree over its own leaves.
+fn admits_start(
+    alloc: Global,
+    rules: &Rules<'_>,
+    start: &Atom,
+    tree: &WrittenTree,
+) -> Result<bool, JudgeError>
+    requires { IsTable rules.now }
+    ensures exact { IfOk result (λ yes. IsTrue yes
+        ↔ AdmitsStart (rules_with finds rules.now) start.now (tree_seen tree.now) (leaves (tree_seen tree.now))) }
+    ensures fault { IfErr result (OnlyWhere (HasSearch (rules_with finds rules.now) (tree_seen tree.now))) }
+{
+    let Some(rule) = rules.find(start) else {
+        return Ok(false);
+    };
+    if !rule.written.args.is_empty() {
+        return Ok(false);
+    }
+    let symbol = ClosedSymbol::Call(start.try_clone()?, List::new(alloc), rule.loosest);
+    let yes = admits(alloc, rules, &PatternFinder, tree, &symbol)?;
+    Ok(yes)
 }

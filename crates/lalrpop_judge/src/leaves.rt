@@ -6,7 +6,7 @@ ghost use Rattle.lalrpop_grammar.specs.Trees.{leaves, leaves_of, trees as tree_l
 ghost use Rattle.lalrpop_grammar.specs.Views.{token as token_seen, tree as tree_seen};
 ghost use Rattle.lalrpop_judge.specs.Ends.{EndsAt};
 
-use crate::closed::same_terminal;
+use lalrpop_closed::same_terminal;
 use lalrpop_grammar::{Atom, ScanToken, Span, TerminalString, WrittenTree};
 
 /// Whether the tokens are those at the leaves of the tree, from left to right.

@@ -1,13 +1,11 @@
 //! Whether a written grammar admits a written tree with given tokens.
 #![tactic(auto)]
 
-mod closed;
-mod closing;
-mod enabling;
+mod asking;
+mod choosing;
 mod error;
 mod judging;
 mod leaves;
-mod table;
 mod walk;
 
 pub use error::JudgeError;

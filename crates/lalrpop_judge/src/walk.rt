@@ -1,26 +1,36 @@
-//! Whether a symbol admits a tree over the tree's own leaves.
+//! Whether a closed symbol admits a tree over the tree's own leaves.
 
-ghost use Rattle.std.specs.Prelude.{◌≡◌, ◌↔◌, [], IsTrue, None, map};
-ghost use Rattle.lalrpop_symbols.specs.Symbols.{call, end};
-ghost use Rattle.lalrpop_symbols.specs.Views.{symbol as symbol_seen};
-ghost use Rattle.lalrpop_grammar.specs.Closing.{close as closed_of};
-ghost use Rattle.lalrpop_grammar.specs.Trees.{trees as tree_list};
+ghost use Rattle.std.specs.Prelude.{◌≡◌, ◌↔◌, IfErr, IfOk, IsTrue, map};
+ghost use Rattle.lalrpop_symbols.specs.Views.{symbol as symbol_seen, unmarked};
+ghost use Rattle.lalrpop_grammar.specs.Trees.{list, node, together, trees as tree_list};
 ghost use Rattle.lalrpop_grammar.specs.Views.{tree as tree_seen};
-ghost use Rattle.lalrpop_judge.specs.Admitted.{Admitted, AdmittedAll, IsOnly, IsSide};
-ghost use Rattle.lalrpop_judge.specs.Closed.{closed};
-ghost use Rattle.lalrpop_judge.specs.Table.{IsTable, rules_seen};
+ghost use Rattle.lalrpop_rules.specs.Table.{IsTable, rules_with};
+ghost use Rattle.lalrpop_closed.specs.Views.{closed};
+ghost use Rattle.lalrpop_judge.specs.Admitted.{Admitted, AdmittedAll, AdmittedEach};
+ghost use Rattle.lalrpop_judge.specs.Faults.{HasSearch, HaveSearch, OnlyWhere};
 
-use crate::closed::Closed;
-use crate::closing::close;
-use crate::table::Rules;
+use crate::asking::{call_of, grouped, is_literal, is_look, optional, repeated};
+use crate::choosing::chosen_side;
+use crate::error::JudgeError;
+use lalrpop_closed::{ClosedSymbol, Finder, same_name, show_as};
 use lalrpop_grammar::{Atom, Symbol, WrittenTree};
+use lalrpop_rules::Rules;
+use std::alloc::Global;
 
 /// Whether the symbol admits the tree over its own leaves.
 #[cycle(admits)]
-pub(crate) fn admits(rules: &Rules<'_>, tree: &WrittenTree, wanted: Closed<'_>) -> bool
+pub(crate) fn admits<F: Finder>(
+    alloc: Global,
+    rules: &Rules<'_>,
+    finder: &F,
+    tree: &WrittenTree,
+    symbol: &ClosedSymbol,
+) -> Result<bool, JudgeError>
     requires { IsTable rules.now }
-    ensures { IsTrue result
-        ↔ Admitted (rules_seen rules.now) (closed wanted.entry) (tree_seen tree.now) }
+    ensures exact { IfOk result (λ yes. IsTrue yes
+        ↔ Admitted (rules_with (F.finds finder.now) rules.now) (closed symbol.now) (tree_seen tree.now)) }
+    ensures fault { IfErr result (OnlyWhere
+        (HasSearch (rules_with (F.finds finder.now) rules.now) (tree_seen tree.now))) }
 {
     match tree {
         WrittenTree::Rule {
@@ -28,58 +38,159 @@ pub(crate) fn admits(rules: &Rules<'_>, tree: &WrittenTree, wanted: Closed<'_>) 
             args,
             place,
             children,
-        } => {
-            let Some(side) = called_side(rules, wanted, &rule.0, args.as_slice(), *place) else {
-                return false;
-            };
-            admits_all(rules, children.as_slice(), side)
-        }
-        WrittenTree::Terminal { terminal, .. } => wanted.is_literal(terminal),
-        WrittenTree::List(_) => false,
-        WrittenTree::Opt(_) => false,
-        WrittenTree::Group(_) => false,
-        WrittenTree::Look => false,
+        } => admits_node(
+            alloc,
+            rules,
+            finder,
+            &rule.0,
+            args.as_slice(),
+            *place,
+            children.as_slice(),
+            symbol,
+        ),
+        WrittenTree::List(trees) => admits_list(alloc, rules, finder, trees.as_slice(), symbol),
+        WrittenTree::Opt(inside) => match inside {
+            None => Ok(optional(symbol).is_some()),
+            Some(tree) => {
+                let Some(item) = optional(symbol) else {
+                    return Ok(false);
+                };
+                admits(alloc, rules, finder, tree.get(), item)
+            }
+        },
+        WrittenTree::Group(trees) => admits_group(alloc, rules, finder, trees.as_slice(), symbol),
+        WrittenTree::Terminal { terminal, .. } => Ok(is_literal(symbol, terminal)),
+        WrittenTree::Look => Ok(is_look(symbol)),
     }
+}
+
+/// Whether the symbol admits a node of the rule with these arguments, place and children.
+#[cycle(admits)]
+fn admits_node<F: Finder>(
+    alloc: Global,
+    rules: &Rules<'_>,
+    finder: &F,
+    rule: &Atom,
+    args: &[Symbol],
+    place: u32,
+    trees: &[WrittenTree],
+    symbol: &ClosedSymbol,
+) -> Result<bool, JudgeError>
+    requires { IsTable rules.now }
+    ensures exact { IfOk result (λ yes. IsTrue yes
+        ↔ Admitted (rules_with (F.finds finder.now) rules.now) (closed symbol.now)
+        (node rule.now (map (λ s. unmarked (symbol_seen s)) args.now) place (tree_list (map tree_seen trees.now)))) }
+    ensures fault { IfErr result (OnlyWhere (HasSearch (rules_with (F.finds finder.now) rules.now)
+        (node rule.now (map (λ s. unmarked (symbol_seen s)) args.now) place (tree_list (map tree_seen trees.now))))) }
+{
+    let Some(call) = call_of(symbol) else {
+        return Ok(false);
+    };
+    if !same_name(call.name, rule) {
+        return Ok(false);
+    }
+    if !show_as(call.args, args) {
+        return Ok(false);
+    }
+    let Some(side) = chosen_side(alloc, rules, finder, rule, call.args, call.level, place)? else {
+        return Ok(false);
+    };
+    admits_all(alloc, rules, finder, trees, side.as_slice())
+}
+
+/// Whether the symbol admits a list of these trees.
+#[cycle(admits)]
+fn admits_list<F: Finder>(
+    alloc: Global,
+    rules: &Rules<'_>,
+    finder: &F,
+    trees: &[WrittenTree],
+    symbol: &ClosedSymbol,
+) -> Result<bool, JudgeError>
+    requires { IsTable rules.now }
+    ensures exact { IfOk result (λ yes. IsTrue yes
+        ↔ Admitted (rules_with (F.finds finder.now) rules.now) (closed symbol.now)
+        (list (tree_list (map tree_seen trees.now)))) }
+    ensures fault { IfErr result (OnlyWhere (HaveSearch (rules_with (F.finds finder.now) rules.now)
+        (tree_list (map tree_seen trees.now)))) }
+{
+    let Some(item) = repeated(symbol, trees.is_empty()) else {
+        return Ok(false);
+    };
+    admits_each(alloc, rules, finder, trees, item)
+}
+
+/// Whether the symbol admits a group of these trees.
+#[cycle(admits)]
+fn admits_group<F: Finder>(
+    alloc: Global,
+    rules: &Rules<'_>,
+    finder: &F,
+    trees: &[WrittenTree],
+    symbol: &ClosedSymbol,
+) -> Result<bool, JudgeError>
+    requires { IsTable rules.now }
+    ensures exact { IfOk result (λ yes. IsTrue yes
+        ↔ Admitted (rules_with (F.finds finder.now) rules.now) (closed symbol.now)
+        (together (tree_list (map tree_seen trees.now)))) }
+    ensures fault { IfErr result (OnlyWhere (HaveSearch (rules_with (F.finds finder.now) rules.now)
+        (tree_list (map tree_seen trees.now)))) }
+{
+    let Some(symbols) = grouped(symbol) else {
+        return Ok(false);
+    };
+    admits_all(alloc, rules, finder, trees, symbols)
 }
 
 /// Whether each symbol admits its tree, one for each.
 #[cycle(admits)]
-fn admits_all(rules: &Rules<'_>, trees: &[WrittenTree], symbols: &[Symbol]) -> bool
+fn admits_all<F: Finder>(
+    alloc: Global,
+    rules: &Rules<'_>,
+    finder: &F,
+    trees: &[WrittenTree],
+    symbols: &[ClosedSymbol],
+) -> Result<bool, JudgeError>
     requires { IsTable rules.now }
-    ensures { IsTrue result ↔ AdmittedAll (rules_seen rules.now)
-        (map (closed_of (rules_seen rules.now)) (map symbol_seen symbols.now))
-        (tree_list (map tree_seen trees.now)) }
+    ensures exact { IfOk result (λ yes. IsTrue yes
+        ↔ AdmittedAll (rules_with (F.finds finder.now) rules.now) (map closed symbols.now)
+        (tree_list (map tree_seen trees.now))) }
+    ensures fault { IfErr result (OnlyWhere (HaveSearch (rules_with (F.finds finder.now) rules.now)
+        (tree_list (map tree_seen trees.now)))) }
 {
     let mut left = symbols;
     for tree in trees {
         let Some((symbol, others)) = left.split_first() else {
-            return false;
+            return Ok(false);
         };
-        if !admits(rules, tree, close(rules, symbol)) {
-            return false;
+        if !admits(alloc, rules, finder, tree, symbol)? {
+            return Ok(false);
         }
         left = others;
     }
-    left.is_empty()
+    Ok(left.is_empty())
 }
 
-/// The symbols of which the node's children have to be, where the node is one of the wanted symbol.
-fn called_side<'g>(
-    rules: &Rules<'g>,
-    wanted: Closed<'_>,
-    name: &Atom,
-    args: &[Symbol],
-    place: u32,
-) -> Option<&'g [Symbol]>
+/// Whether the symbol admits each of the trees.
+#[cycle(admits)]
+fn admits_each<F: Finder>(
+    alloc: Global,
+    rules: &Rules<'_>,
+    finder: &F,
+    trees: &[WrittenTree],
+    symbol: &ClosedSymbol,
+) -> Result<bool, JudgeError>
     requires { IsTable rules.now }
-    ensures { IsOnly (λ side. (closed wanted.entry ≡ call name.now end None) × (args.now ≡ [])
-        × IsSide (rules_seen rules.now) name.now place side) result }
+    ensures exact { IfOk result (λ yes. IsTrue yes
+        ↔ AdmittedEach (rules_with (F.finds finder.now) rules.now) (closed symbol.now)
+        (tree_list (map tree_seen trees.now))) }
+    ensures fault { IfErr result (OnlyWhere (HaveSearch (rules_with (F.finds finder.now) rules.now)
+        (tree_list (map tree_seen trees.now)))) }
 {
-    if !wanted.is_call(name) {
-        return None;
+    for tree in trees {
+        if !admits(alloc, rules, finder, tree, symbol)? {
+            return Ok(false);
+        }
     }
-    if !args.is_empty() {
-        return None;
-    }
-    rules.right_side(name, place)
+    Ok(true)
 }

@@ -7,10 +7,12 @@ ghost use Rattle.lalrpop_options.specs.Task.{IsTaskWord, word_of};
 pub enum Task {
     /// Whether a tree is one of the grammar's.
     Judge,
+    /// The tokens of a text.
+    Tokens,
 }
 
 /// The words that name tasks, in the order of `Task`.
-pub(crate) static TASK_WORDS: [&str; 1] = ["judge"];
+pub(crate) static TASK_WORDS: [&str; 2] = ["judge", "tokens"];
 
 impl Task {
     /// The word that names the task.
@@ -19,6 +21,7 @@ impl Task {
     {
         match self {
             Task::Judge => "judge",
+            Task::Tokens => "tokens",
         }
     }
 
@@ -29,6 +32,7 @@ impl Task {
     {
         match word {
             "judge" => Task::Judge,
+            "tokens" => Task::Tokens,
             _ => unreachable!(),
         }
     }

@@ -1,5 +1,9 @@
+pub mod Answering
 pub mod Json
 pub mod Judging
 pub mod Questions
+pub mod Reading
 pub mod Replies
 pub mod Runs
+pub mod Starts
+pub mod Tokens

@@ -1,25 +1,19 @@
 //! What `judge` has to say.
 
-ghost use Rattle.std.specs.Prelude.{IfOk};
-ghost use Rattle.lalrpop_formats.specs.ReadTrees.{tree_at};
+ghost use Rattle.std.specs.Prelude.{IfOk, option_map};
 ghost use Rattle.lalrpop_formats.specs.Grammars.{grammar_at};
-ghost use Rattle.lalrpop_run.specs.Judging.{IsGrammarReply, IsJudgement, IsReply, IsTreeReply, IsVerdict};
+ghost use Rattle.lalrpop_formats.specs.ReadTrees.{tree_at};
+ghost use Rattle.lalrpop_run.specs.Judging.{IsGrammarReply, IsJudgeReply, IsJudgement, IsReply, IsTreeReply, IsVerdict};
 ghost use Rattle.serde_json.specs.View.{view};
 
 use crate::json::{value_of, value_of_text};
+use crate::question::Question;
 use crate::reply::Reply;
 use lalrpop_formats::{ReadError, read_grammar, read_tree};
-use lalrpop_grammar::{Atom, Grammar, WrittenTree};
+use lalrpop_grammar::{Grammar, WrittenTree};
 use lalrpop_judge::{JudgeError, judge};
 use serde_json::Value;
 use std::alloc::{AllocError, Global};
-
-/// The rule to start from and the features, as the judge takes them.
-#[derive(Drop)]
-pub(crate) struct Question {
-    pub(crate) start: Atom,
-    pub(crate) features: Vec<Atom>,
-}
 
 /// Whether the grammar admits the tree over its own leaves.
 fn verdict(
@@ -27,7 +21,7 @@ fn verdict(
     question: &Question,
     grammar: &Grammar,
     tree: &WrittenTree,
-) -> Result<bool, AllocError>
+) -> Result<Reply<'static>, AllocError>
     ensures { IfOk result (IsVerdict question.now.features.items question.now.start grammar.now tree.now) }
 {
     let tokens = tree.tokens(alloc)?;
@@ -40,9 +34,9 @@ fn verdict(
         tree,
         tokens.as_slice(),
     ) {
-        Ok(yes) => Ok(yes),
+        Ok(admitted) => Ok(Reply::Judged(admitted)),
+        Err(JudgeError::Condition) => Ok(Reply::ConditionLimit),
         Err(JudgeError::Memory) => Err(AllocError),
-        Err(JudgeError::Condition) => unreachable!(),
     }
 }
 
@@ -52,14 +46,14 @@ fn tree_reply(
     question: &Question,
     grammar: &Grammar,
     value: &Value,
-) -> Result<Reply, AllocError>
+) -> Result<Reply<'static>, AllocError>
     ensures { IfOk result (IsTreeReply question.now.features.items question.now.start grammar.now
         (tree_at (view value.now))) }
 {
     match read_tree(alloc, value) {
         Ok(tree) => {
-            let yes = verdict(alloc, question, grammar, &tree)?;
-            Ok(Reply::Judged(yes))
+            let reply = verdict(alloc, question, grammar, &tree)?;
+            Ok(reply)
         }
         Err(ReadError::Shape(fault)) => Ok(Reply::TreeFault(fault)),
         Err(ReadError::Memory) => Err(AllocError),
@@ -67,12 +61,12 @@ fn tree_reply(
 }
 
 /// The reply to the tree's text.
-pub(crate) fn judgement(
+fn judgement(
     alloc: Global,
     question: &Question,
     grammar: &Grammar,
     tree: &str,
-) -> Result<Reply, AllocError>
+) -> Result<Reply<'static>, AllocError>
     ensures { IfOk result (IsJudgement question.now.features.items question.now.start grammar.now tree.now) }
 {
     match value_of_text(alloc, tree)? {
@@ -84,13 +78,32 @@ pub(crate) fn judgement(
     }
 }
 
+/// The reply once the grammar is read.
+pub(crate) fn judge_reply(
+    alloc: Global,
+    question: &Question,
+    grammar: &Grammar,
+    tree: Option<&str>,
+) -> Result<Reply<'static>, AllocError>
+    ensures { IfOk result (IsJudgeReply question.now.features.items question.now.start
+        (option_map (λ text. text.now) tree.entry) grammar.now) }
+{
+    match tree {
+        Some(tree) => {
+            let reply = judgement(alloc, question, grammar, tree)?;
+            Ok(reply)
+        }
+        None => Ok(Reply::WantsTree),
+    }
+}
+
 /// The reply to the grammar's value.
 fn grammar_reply(
     alloc: Global,
     question: &Question,
     tree: &str,
     value: &Value,
-) -> Result<Reply, AllocError>
+) -> Result<Reply<'static>, AllocError>
     ensures { IfOk result (IsGrammarReply question.now.features.items question.now.start tree.now
         (grammar_at (view value.now))) }
 {
@@ -110,7 +123,7 @@ pub(crate) fn reply_to(
     question: &Question,
     tree: &str,
     bytes: &[u8],
-) -> Result<Reply, AllocError>
+) -> Result<Reply<'static>, AllocError>
     ensures { IfOk result (IsReply question.now.features.items question.now.start tree.now bytes.now) }
 {
     match value_of(alloc, bytes)? {

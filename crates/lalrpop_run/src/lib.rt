@@ -3,15 +3,24 @@
 
 mod answering;
 mod json;
+mod judge_run;
 mod judging;
+mod putting;
+mod question;
+mod reading;
 mod reply;
 mod running;
+mod standing;
 mod texts;
+mod tokens;
+mod tokens_run;
 
 pub use answering::answer;
 pub use lalrpop_formats::{
     Fault, FaultKind, Key, ReadError, Step, print_tree, read_grammar, read_tree,
 };
 pub use lalrpop_options::{Options, OptionsError, Task, options};
+pub use lalrpop_scan::TokensFault;
+pub use lalrpop_writing::{WriteError, write_grammar};
 pub use reply::{Answer, Reply};
 pub use running::run;

@@ -1,10 +1,12 @@
 //! What the program has to say.
 
 use lalrpop_formats::Fault;
+use lalrpop_grammar::{Atom, ScanToken};
+use lalrpop_scan::TokensFault;
 
 /// What the program has to say, before it is put into words.
 #[derive(Debug, Drop)]
-pub enum Reply {
+pub enum Reply<'t> {
     /// Whether the grammar admits the tree.
     Judged(bool),
     /// `judge` was given no tree.
@@ -15,6 +17,20 @@ pub enum Reply {
     GrammarFault(Fault),
     /// The first fault of the tree's value.
     TreeFault(Fault),
+    /// The pattern of a condition isn't searched for.
+    ConditionLimit,
+    /// The text reader's bytes are no text.
+    NotUtf8,
+    /// A literal that can't be matched, or two that tie.
+    Literals(TokensFault),
+    /// No rule of that name can be a start.
+    UnknownStart(Atom),
+    /// A rule of that name can be a start, but none is public.
+    PrivateStart(Atom),
+    /// The tokens of the text.
+    Tokens(Vec<ScanToken<'t>>),
+    /// From this byte of the text on nothing is matched.
+    NoToken(usize),
 }
 
 /// What the program writes, and the status that it ends with.

@@ -1,15 +1,19 @@
 //! Replies in words.
 
-ghost use Rattle.std.specs.Prelude.{◌≡◌, ◌++◌, IfOk, string_bytes};
-ghost use Rattle.lalrpop_run.specs.Replies.{text_of, line};
+ghost use Rattle.std.specs.Prelude.{◌≡◌, ◌++◌, IfOk, OnOk, codes, decimal, string_bytes};
+ghost use Rattle.lalrpop_grammar.specs.Views.{token as token_seen};
+ghost use Rattle.lalrpop_run.specs.Replies.{text_of, line, token_text, tokens_text};
+ghost use Rattle.lalrpop_scan.specs.Faults as literals;
 ghost use Rattle.lalrpop_values.specs.FaultText.{fault_text as fault_words};
 
 use crate::reply::Reply;
-use lalrpop_formats::{Fault, fault_text};
+use lalrpop_formats::{Fault, fault_text, json_string};
+use lalrpop_grammar::ScanToken;
+use lalrpop_scan::TokensFault;
 use std::alloc::{AllocError, Global};
 
 /// The text of a reply.
-pub(crate) fn text_of_reply(alloc: Global, reply: &Reply) -> Result<String, AllocError>
+pub(crate) fn text_of_reply(alloc: Global, reply: &Reply<'_>) -> Result<String, AllocError>
     ensures { IfOk result (λ text. string_bytes text ≡ text_of reply.now) }
 {
     match reply {
@@ -19,6 +23,13 @@ pub(crate) fn text_of_reply(alloc: Global, reply: &Reply) -> Result<String, Allo
         Reply::NotJson => one_line(alloc, "not JSON"),
         Reply::GrammarFault(fault) => about(alloc, "grammar value: ", fault),
         Reply::TreeFault(fault) => about(alloc, "tree value: ", fault),
+        Reply::ConditionLimit => one_line(alloc, "condition limit"),
+        Reply::NotUtf8 => one_line(alloc, "text isn't UTF-8"),
+        Reply::Literals(fault) => of_literals(alloc, fault),
+        Reply::UnknownStart(name) => named(alloc, "unknown start: ", name.as_str()),
+        Reply::PrivateStart(name) => named(alloc, "private start: ", name.as_str()),
+        Reply::Tokens(tokens) => lines(alloc, tokens.as_slice()),
+        Reply::NoToken(at) => no_token(alloc, *at),
     }
 }
 
@@ -31,13 +42,68 @@ fn one_line(alloc: Global, text: &str) -> Result<String, AllocError>
     Ok(written)
 }
 
-/// A line on a fault.
+/// A line of what is said and a name.
+fn named(alloc: Global, said: &str, name: &str) -> Result<String, AllocError>
+    ensures { IfOk result (λ written. string_bytes written ≡ line (said.now ++ name.now)) }
+{
+    let mut written = String::from_str(alloc, said)?;
+    written.push_str(name)?;
+    written.push('\n')?;
+    Ok(written)
+}
+
+/// A line on a fault of a value.
 fn about(alloc: Global, whose: &str, fault: &Fault) -> Result<String, AllocError>
     ensures { IfOk result (λ written. string_bytes written ≡ line (whose.now ++ fault_words fault.now)) }
 {
-    let mut written = String::from_str(alloc, whose)?;
     let words = fault_text(alloc, fault)?;
-    written.push_str(words.as_str())?;
+    let written = named(alloc, whose, words.as_str())?;
+    Ok(written)
+}
+
+/// A line on a fault of literals.
+fn of_literals(alloc: Global, fault: &TokensFault) -> Result<String, AllocError>
+    ensures { IfOk result (λ written. string_bytes written ≡ line (literals.fault_text fault.now)) }
+{
+    let words = fault.message(alloc)?;
+    let written = one_line(alloc, words.as_str())?;
+    Ok(written)
+}
+
+/// A line on the byte without a token.
+fn no_token(alloc: Global, at: usize) -> Result<String, AllocError>
+    ensures { IfOk result (λ written. string_bytes written ≡ line (codes "no token at byte " ++ decimal at)) }
+{
+    let byte = at.to_string(alloc)?;
+    let written = named(alloc, "no token at byte ", byte.as_str())?;
+    Ok(written)
+}
+
+/// A line for each token.
+fn lines(alloc: Global, tokens: &[ScanToken<'_>]) -> Result<String, AllocError>
+    ensures { IfOk result (λ written. string_bytes written ≡ tokens_text tokens.now) }
+{
+    let mut written = String::new(alloc);
+    for token in tokens {
+        let words = token_line(alloc, token)?;
+        written.push_str(words.as_str())?;
+    }
+    Ok(written)
+}
+
+/// From which byte to which byte a token stands, its terminal, and its text as a JSON string.
+fn token_line(alloc: Global, token: &ScanToken<'_>) -> Result<String, AllocError>
+    ensures { IfOk result (λ written. string_bytes written ≡ line (token_text (token_seen token.now))) }
+{
+    let mut written = token.span.0.to_string(alloc)?;
+    let end = token.span.1.to_string(alloc)?;
+    let text = json_string(alloc, token.text)?;
+    written.push_str("..")?;
+    written.push_str(end.as_str())?;
+    written.push_str(" ")?;
+    token.terminal.write_text(alloc, &mut written)?;
+    written.push_str(" ")?;
+    written.push_str(text.as_str())?;
     written.push('\n')?;
     Ok(written)
 }

@@ -247,3 +247,96 @@ fn no_tree(rt: HostRuntime) -> Result<(), Fail> {
         4,
     )
 }
+
+#[test]
+fn a_choice_in_the_last_place(rt: HostRuntime) -> Result<(), Fail> {
+    judges(
+        &rt,
+        rt.alloc(),
+        Sample::Choices,
+        "E",
+        Sample::LastChoice,
+        "yes\n",
+        0,
+    )
+}
+
+#[test]
+fn a_choice_in_the_middle(rt: HostRuntime) -> Result<(), Fail> {
+    judges(
+        &rt,
+        rt.alloc(),
+        Sample::Choices,
+        "E",
+        Sample::MiddleChoice,
+        "no\n",
+        1,
+    )
+}
+
+#[test]
+fn a_list_by_a_macro(rt: HostRuntime) -> Result<(), Fail> {
+    judges(
+        &rt,
+        rt.alloc(),
+        Sample::Commas,
+        "L",
+        Sample::TwoItems,
+        "yes\n",
+        0,
+    )
+}
+
+#[test]
+fn a_condition_whose_pattern_is_none(rt: HostRuntime) -> Result<(), Fail> {
+    judges(
+        &rt,
+        rt.alloc(),
+        Sample::NoPattern,
+        "S",
+        Sample::OfAll,
+        "condition limit\n",
+        3,
+    )
+}
+
+/// The words of `judge` from `S` under a feature.
+fn judge_under<'a>(feature: &'a str, tree: &'a str) -> [&'a str; 8] {
+    [
+        "lalrpop_run",
+        "judge",
+        "--start",
+        "S",
+        "--tree",
+        tree,
+        "--features",
+        feature,
+    ]
+}
+
+#[test]
+fn an_alternative_under_its_feature(rt: HostRuntime) -> Result<(), Fail> {
+    let words = judge_under("x", Sample::CompactTree.text());
+    let grammar = Sample::UnderX.text().as_bytes();
+    says(&rt, rt.alloc(), words.as_slice(), grammar, "yes\n", 0)
+}
+
+#[test]
+fn an_alternative_under_another_feature(rt: HostRuntime) -> Result<(), Fail> {
+    let words = judge_under("y", Sample::CompactTree.text());
+    let grammar = Sample::UnderX.text().as_bytes();
+    says(&rt, rt.alloc(), words.as_slice(), grammar, "no\n", 1)
+}
+
+#[test]
+fn an_alternative_without_its_feature(rt: HostRuntime) -> Result<(), Fail> {
+    judges(
+        &rt,
+        rt.alloc(),
+        Sample::UnderX,
+        "S",
+        Sample::CompactTree,
+        "no\n",
+        1,
+    )
+}

@@ -3,9 +3,9 @@
 #![tactic(auto)]
 
 #[cfg(test)]
-mod ends;
+mod conditions;
 #[cfg(test)]
-mod faults;
+mod ends;
 #[cfg(test)]
 mod grammars;
 #[cfg(test)]
@@ -20,5 +20,7 @@ mod program;
 mod streams;
 #[cfg(test)]
 mod texts;
+#[cfg(test)]
+mod tokens;
 #[cfg(test)]
 mod words;

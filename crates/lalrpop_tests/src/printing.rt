@@ -1,9 +1,11 @@
 //! Printed trees.
 
-use lalrpop_formats::{json_string, print_tree};
+use crate::grammars::Sample;
+use lalrpop_formats::{json_string, print_tree, read_tree};
 use lalrpop_grammar::{
     Atom, Boxed, List, NonterminalString, Span, Symbol, SymbolKind, TerminalString, WrittenTree,
 };
+use serde_json::Value;
 use std::alloc::{AllocError, Global};
 use std::process::Abort;
 use std::test::Fail;
@@ -118,4 +120,27 @@ fn leaf_as_a_json_string(rt: HostRuntime) -> Result<(), Fail> {
     assert_eq!(rt; json_string(alloc, text)?.as_str(), wanted);
     assert_eq!(rt; json_string(alloc, "")?.as_str(), "\"\"");
     Ok(())
+}
+
+/// That the tree that is read prints so.
+fn prints_as(rt: &impl Abort, alloc: Global, sample: Sample, wanted: &str) -> Result<(), Fail> {
+    let value = Value::from_str(alloc, sample.text())?;
+    let Ok(tree) = read_tree(alloc, &value) else {
+        return Err(Fail::from("no tree"));
+    };
+    prints(rt, alloc, &tree, wanted)
+}
+
+#[test]
+fn trees_as_they_are_read(rt: HostRuntime) -> Result<(), Fail> {
+    let alloc = rt.alloc();
+    let list = "L#0(Comma<Id>#0([(Id#0(\"a\"), \",\")], ?(Id#0(\"b\"))))";
+    prints_as(&rt, alloc, Sample::TwoItems, list)?;
+    prints_as(&rt, alloc, Sample::OfAll, "S#0(E<\"all\">#1(\"if\"))")?;
+    prints_as(
+        &rt,
+        alloc,
+        Sample::TwoSteps,
+        "S#0(\"a\", S#0(\"a\", S#1(\"b\")))",
+    )
 }

@@ -91,7 +91,7 @@ fn wrong_words_are_refused(rt: HostRuntime) -> Result<(), Fail> {
     let cases = [
         ("r judge", ErrorKind::MissingRequiredArgument),
         ("r --start S", ErrorKind::MissingRequiredArgument),
-        ("r tokens --start S", ErrorKind::InvalidValue),
+        ("r parse --start S", ErrorKind::InvalidValue),
         ("r judge judge --start S", ErrorKind::UnknownArgument),
         ("r judge --start S --copies 3", ErrorKind::UnknownArgument),
         ("r judge --start", ErrorKind::InvalidValue),

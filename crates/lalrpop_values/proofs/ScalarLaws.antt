@@ -1,19 +1,20 @@
 -- Numbers, spans, texts, names and words: what is read is spelled so, and what is spelled so is read.
-use Rattle.std.proofs.Common.{◌≡◌, ℕ, ◌^◌, ◌<◌, ◌≤◌, List, [], Option, Some, None, Result, Ok, Err, Bool, true, false, arith, refl, ap, sym, ◌∙◌, cond, nat_lt}
+use Rattle.std.proofs.Common.{◌≡◌, ℕ, ◌^◌, ◌<◌, ◌≤◌, List, [], Option, Some, None, Result, Ok, Err, Bool, true, false, arith, refl, ap, sym, ◌∙◌, cond, nat_lt, is_some}
 use Rattle.std.specs.Prelude.{⊤}
 use Rattle.std.specs.Cmp.Lexicographic.{same_text}
 use borrow.Author.Tests.{ltb-true, ltb-false, le-ltb, lt-ltb}
 use Rattle.serde_json.specs.Data.{Data, null, boolean, number, string, array, object, Num, unsigned, negative, float, Items, no_items, item}
+use Rattle.serde_json.specs.Find.{as_null}
 use Rattle.lalrpop_symbols.specs.declared.span.Span.{Span}
 use Rattle.lalrpop_values.specs.declared.fault.Fault.{Fault}
 use Rattle.lalrpop_values.specs.declared.fault.FaultKind.TheVariants.{BadNumber}
 use Rattle.lalrpop_values.specs.declared.fault.Step.TheVariants.{Index}
 use Rattle.lalrpop_values.specs.declared.word.Word.{Word}
 use Rattle.lalrpop_values.specs.Gives.{◌>>=◌, here, required, within}
-use Rattle.lalrpop_values.specs.Scalars.{below_limit, empty, empty_list_at, is_name, is_word, name_at, number_at, ordered, pair_of, span_at, text_at, word_at}
+use Rattle.lalrpop_values.specs.Scalars.{below_limit, empty, empty_list_at, flag_at, null_at, as_some, optional, is_name, is_word, name_at, number_at, ordered, pair_of, span_at, text_at, word_at}
 use Rattle.lalrpop_values.specs.Word.{word_text}
-use Rattle.lalrpop_values.proofs.Steps.{bind_ok, part_ok, guard_ok, required_ok}
-use Rattle.lalrpop_values.specs.Spelled.{IsSpan, number_json, span_json, word_json}
+use Rattle.lalrpop_values.proofs.Steps.{bind_ok, part_ok, guard_ok, required_ok, ok_same}
+use Rattle.lalrpop_values.specs.Spelled.{IsSpan, IfSome, option_json, number_json, span_json, word_json}
 
 -- ---- numbers and spans
 
@@ -100,6 +101,9 @@ pub name_again : (t : List ℕ) → is_name t ≡ true → name_at (string t) �
 unfolding name_at
 name_again t h = rw h refl
 
+pub word_is : (w : Word) (t : List ℕ) → is_word w t ≡ true → string t ≡ word_json w
+word_is w t h = ap string (same_text t (word_text w) (sym h))
+
 pub word_takes : (w : Word) (d : Data) (u : ⊤) → word_at w d ≡ Ok u → d ≡ word_json w
 unfolding word_at
 word_takes w null u e = absurd (cc)
@@ -108,6 +112,55 @@ word_takes w (number n) u e = absurd (cc)
 word_takes w (string s) u e = let h = guard_ok (is_word w s) _ tt u e in ap string (same_text s (word_text w) (sym h.0))
 word_takes w (array ds) u e = absurd (cc)
 word_takes w (object ms) u e = absurd (cc)
+
+pub flag_takes : (d : Data) (b : Bool) → flag_at d ≡ Ok b → d ≡ boolean b
+unfolding flag_at
+flag_takes null b e = absurd (cc)
+flag_takes (boolean c) b e = let same : c ≡ b = cc in ap boolean same
+flag_takes (number n) b e = absurd (cc)
+flag_takes (string s) b e = absurd (cc)
+flag_takes (array ds) b e = absurd (cc)
+flag_takes (object ms) b e = absurd (cc)
+
+pub null_takes : (d : Data) (u : ⊤) → null_at d ≡ Ok u → d ≡ null
+unfolding null_at
+null_takes null u e = refl
+null_takes (boolean b) u e = absurd (cc)
+null_takes (number n) u e = absurd (cc)
+null_takes (string s) u e = absurd (cc)
+null_takes (array ds) u e = absurd (cc)
+null_takes (object ms) u e = absurd (cc)
+
+-- ---- values that may be missing
+
+module _ {A : Type 0} (read : Data → Result A Fault) (spelled : A → Data) (P : A → Type 0) (takes : (d : Data) (x : A) → read d ≡ Ok x → (d ≡ spelled x) × P x) where
+  some_takes : (d : Data) (o : Option A) → as_some (read d) ≡ Ok o → (d ≡ option_json spelled o) × IfSome P o
+  some_takes d o e =
+      let got = bind_ok (read d) (λ x. Ok (Some x)) o e in
+      rw (← ok_same (Some got.0) o got.2) (takes d got.0 got.1)
+
+  -- `null`, or what is taken
+  pub optional_takes : (d : Data) (o : Option A) → optional read d ≡ Ok o → (d ≡ option_json spelled o) × IfSome P o
+  optional_takes null o e = rw (← ok_same None o e) (refl, tt)
+  optional_takes (boolean b) o e = some_takes (boolean b) o e
+  optional_takes (number n) o e = some_takes (number n) o e
+  optional_takes (string s) o e = some_takes (string s) o e
+  optional_takes (array ds) o e = some_takes (array ds) o e
+  optional_takes (object ms) o e = some_takes (object ms) o e
+
+-- `null`, or what is spelled, where that isn't `null`
+pub optional_again : {A : Type 0} (read : Data → Result A Fault) (spelled : A → Data) (P : A → Type 0) → ((x : A) → P x → read (spelled x) ≡ Ok x)
+    → ((x : A) → P x → is_some (as_null (spelled x)) ≡ false) → (o : Option A) → IfSome P o → optional read (option_json spelled o) ≡ Ok o
+optional_again read spelled P again some None is = refl
+optional_again read spelled P again some (Some x) is = rw (some x is, again x is) refl
+
+pub optional_text_takes : (d : Data) (o : Option (List ℕ)) → optional text_at d ≡ Ok o → d ≡ option_json string o
+optional_text_takes d o e = (optional_takes text_at string (λ _. Unit {0}) (λ d t h. (text_takes d t h, tt)) d o e).0
+
+pub optional_text_again : (o : Option (List ℕ)) → optional text_at (option_json string o) ≡ Ok o
+unfolding text_at
+optional_text_again None = refl
+optional_text_again (Some t) = refl
 
 -- ---- empty lists
 

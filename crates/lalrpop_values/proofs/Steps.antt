@@ -19,6 +19,12 @@ pub part_ok : {A B : Type 0} (s : Step) (r : Result A Fault) (f : A → Result B
 part_ok s (Ok x) f y e = (x, refl, e)
 part_ok s (Err g) f y e = absurd (cc)
 
+-- the same, handed on
+pub part : {A B C : Type 0} (s : Step) (r : Result A Fault) (f : A → Result B Fault) (y : B) → (within s r >>= f) ≡ Ok y
+    → ((x : A) → r ≡ Ok x → f x ≡ Ok y → C) → C
+part s (Ok x) f y e next = next x refl e
+part s (Err g) f y e next = absurd (cc)
+
 pub guard_ok : {A : Type 0} (b : Bool) (d : Fault) (x y : A) → cond b (Ok x) (Err d) ≡ Ok y → (b ≡ true) × (x ≡ y)
 guard_ok true d x y e = (refl, cc)
 guard_ok false d x y e = absurd (cc)
@@ -68,3 +74,12 @@ keys_ok ks (object ms) u e =
     let named = guard_ok (are_named ks (names ms)) _ tt u e in
     let got = named_filled ks ms named.0 in
     (got.0, ap object got.1)
+
+-- a reading that begins with the keys of an object
+pub object_ok : {B : Type 0} (ks : List Key) (f : Data → Result B Fault) (P : Data → B → Type 0)
+    → ((fields : Fields ks) (y : B) → f (object (filled ks fields)) ≡ Ok y → P (object (filled ks fields)) y)
+    → (d : Data) (y : B) → (keys_at ks d >>= λ _. f d) ≡ Ok y → P d y
+object_ok ks f P next d y e =
+    let keyed = bind_ok (keys_at ks d) (λ _. f d) y e in
+    let fields = keys_ok ks d keyed.0 keyed.1 in
+    rw fields.1 (next fields.0 y (rw fields.1 at keyed.2))

@@ -4,6 +4,7 @@ pub mod Gives
 pub mod JsonText
 pub mod Key
 pub mod Lists
+pub mod Nested
 pub mod Objects
 pub mod Scalars
 pub mod Spelled

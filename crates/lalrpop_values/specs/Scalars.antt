@@ -1,9 +1,9 @@
 -- Numbers, spans, texts, names and words as values.
-use Rattle.std.specs.Prelude.{ℕ, ◌^◌, List, [], ◌∷◌, Result, Ok, Err, Option, Some, None, nat_lt, if◌then◌else◌, Bool, true, false, ◌==◌, ◌&&◌, ◌||◌, ⊤}
+use Rattle.std.specs.Prelude.{ℕ, ◌^◌, List, [], ◌∷◌, Result, Ok, Err, Option, Some, None, is_some, nat_lt, if◌then◌else◌, Bool, true, false, ◌==◌, ◌&&◌, ◌||◌, ⊤}
 use Rattle.std.specs.Char.{is_ascii_alphabetic, is_ascii_alphanumeric}
 use Rattle.std.specs.List.{list_all}
 use Rattle.serde_json.specs.Data.{Data, Items, no_items, item}
-use Rattle.serde_json.specs.Find.{as_array, as_number, as_str, as_u64}
+use Rattle.serde_json.specs.Find.{as_array, as_bool, as_null, as_number, as_str, as_u64}
 use Rattle.lalrpop_symbols.specs.declared.span.Span.{Span}
 use Rattle.lalrpop_values.specs.declared.fault.Fault.{Fault}
 use Rattle.lalrpop_values.specs.declared.fault.FaultKind.TheVariants as fault
@@ -73,6 +73,23 @@ unfoldable pub word_at : Word → Data → Result ⊤ Fault
 word_at w d = do
   t ← required (as_str d)
   if is_word w t then Ok tt else Err (here fault.WrongShape)
+
+-- `true` or `false`
+unfoldable pub flag_at : Data → Result Bool Fault
+flag_at d = required (as_bool d)
+
+-- nothing but `null`
+unfoldable pub null_at : Data → Result ⊤ Fault
+null_at d = required (as_null d)
+
+-- ---- values that may be missing
+
+abbrev pub as_some : {A : Type 0} → Result A Fault → Result (Option A) Fault
+as_some read = read >>= λ x. Ok (Some x)
+
+-- `null`, or what is read
+abbrev pub optional : {A : Type 0} → (Data → Result A Fault) → Data → Result (Option A) Fault
+optional read d = if is_some (as_null d) then Ok None else as_some (read d)
 
 -- ---- lists with nothing in them
 

@@ -1,6 +1,6 @@
 -- The JSON of small parts: objects, lists, numbers, words and spans.
-use Rattle.std.specs.Prelude.{ℕ, ◌+◌, ◌<◌, ◌≤◌, ◌^◌, List, [], ◌∷◌, map}
-use Rattle.serde_json.specs.Data.{Data, number, string, array, object, unsigned, no_items, item, Members, no_members, member}
+use Rattle.std.specs.Prelude.{ℕ, ◌+◌, ◌<◌, ◌≤◌, ◌^◌, List, [], ◌∷◌, map, Option, Some, None}
+use Rattle.serde_json.specs.Data.{Data, null, number, string, array, object, unsigned, no_items, item, Members, no_members, member}
 use Rattle.serde_json.specs.View.{items_of}
 use Rattle.lalrpop_symbols.specs.declared.span.Span.{Span}
 use Rattle.lalrpop_values.specs.declared.key.Key.{Key}
@@ -17,6 +17,15 @@ object_of ms = object (members_from ms)
 
 abbrev pub list_json : {A : Type 0} → (A → Data) → List A → Data
 list_json spelled xs = array (items_of (map spelled xs))
+
+abbrev pub option_json : {A : Type 0} → (A → Data) → Option A → Data
+option_json spelled None = null
+option_json spelled (Some x) = spelled x
+
+-- that of what is there, where something is
+abbrev pub IfSome : {A : Type 0} → (A → Type 0) → Option A → Type 0
+IfSome P None = Unit {0}
+IfSome P (Some x) = P x
 
 abbrev pub number_json : ℕ → Data
 number_json n = number (unsigned n)

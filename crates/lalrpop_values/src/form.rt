@@ -11,18 +11,70 @@ use serde_json::Value;
 /// A form of a value that has several.
 #[derive(Clone, Copy, Debug, PartialEq, Eq)]
 pub enum Form {
-    /// A symbol that is a name.
+    /// A terminal that is a bare name.
+    Bare,
+    /// The entry of a match block for all literals that aren't listed.
+    CatchAll,
+    /// A symbol that is chosen.
+    Choose,
+    /// An entry of a match block for one literal.
+    Entry,
+    /// An attribute with a text.
+    Equal,
+    /// A symbol that is error recovery.
+    Error,
+    /// An item that is an extern block.
+    Extern,
+    /// An action that may fail.
+    Fallible,
+    /// A symbol or a tree that is a group.
+    Group,
+    /// A symbol that is a name, or a type that may be a parameter.
     Id,
+    /// A tree of a repetition.
+    List,
+    /// A tree of a place.
+    Look,
+    /// A symbol that is the place of the next token.
+    Lookahead,
+    /// A symbol that is the place of the last token.
+    Lookbehind,
+    /// A symbol that calls a macro.
+    Macro,
+    /// An item that is a match block.
+    Match,
+    /// A symbol with a name.
+    Named,
+    /// A type with a path.
+    Nominal,
+    /// A tree of an option.
+    Opt,
     /// A form that isn't read.
     Other,
+    /// An attribute with attributes inside.
+    Paren,
+    /// A rule that is public in a path.
+    PubIn,
     /// A quoted literal.
     Quoted,
+    /// A type that is a reference.
+    Ref,
+    /// A literal that is a regular expression.
+    Regex,
+    /// A symbol that is repeated.
+    Repeat,
     /// A rule of a grammar, or a tree of one.
     Rule,
+    /// The type of a symbol.
+    Symbol,
     /// A symbol that is a terminal, or a tree of one token.
     Terminal,
+    /// A type as text.
+    Text,
     /// A type that is a tuple.
     Tuple,
+    /// An item that is an import.
+    Use,
     /// An action of the user's code.
     User,
 }

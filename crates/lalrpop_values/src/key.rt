@@ -10,6 +10,8 @@ pub enum Key {
     Action,
     /// The alternatives of a rule.
     Alternatives,
+    /// What stands behind an attribute.
+    Arg,
     /// Parameters or arguments.
     Args,
     /// The associated types of an extern block.
@@ -18,18 +20,26 @@ pub enum Key {
     Attributes,
     /// A bare name.
     Bare,
+    /// The entry for all literals that aren't listed.
+    CatchAll,
     /// The trees below a tree.
     Children,
     /// When an alternative is there.
     Condition,
     /// The levels of a match block.
     Contents,
+    /// How the user's tokens are seen.
+    Conversions,
     /// The tokens of an extern block.
     Enum,
+    /// The text of an attribute.
+    Equal,
     /// The symbols of an alternative or a group.
     Expr,
     /// An action that may fail.
     Fallible,
+    /// What a token of the user is.
+    From,
     /// The trees of a group.
     Group,
     /// A name in a type.
@@ -38,12 +48,18 @@ pub enum Key {
     Items,
     /// Which form an item or a symbol has.
     Kind,
+    /// The parameter of a condition.
+    Lhs,
     /// The lifetime of a reference type.
     Lifetime,
     /// The trees of a repetition.
     List,
+    /// The literal of an entry.
+    Literal,
     /// The tree of a look.
     Look,
+    /// What an entry's matches become.
+    Map,
     /// Whether `mut` stands there.
     Mutable,
     /// A name.
@@ -54,16 +70,22 @@ pub enum Key {
     Opt,
     /// The parameters of the parser.
     Parameters,
+    /// The attributes inside an attribute.
+    Paren,
     /// The path of a type.
     Path,
     /// Which alternative of its rule.
     Place,
+    /// Where a rule may be used.
+    PubIn,
     /// The text of a quoted literal.
     Quoted,
     /// What a reference type refers to.
     Ref,
     /// The text of a regular expression.
     Regex,
+    /// What a parameter is tested against.
+    Rhs,
     /// The rule of a tree.
     Rule,
     /// Where a thing is written.
@@ -74,6 +96,8 @@ pub enum Key {
     Terminal,
     /// A text.
     Text,
+    /// The pattern of a token of the user.
+    To,
     /// The types of a tuple.
     Tuple,
     /// The type of a rule.
@@ -97,38 +121,50 @@ impl Key {
         match self {
             Key::Action => "action",
             Key::Alternatives => "alternatives",
+            Key::Arg => "arg",
             Key::Args => "args",
             Key::Associated => "associated",
             Key::Attributes => "attributes",
             Key::Bare => "bare",
+            Key::CatchAll => "catch_all",
             Key::Children => "children",
             Key::Condition => "condition",
             Key::Contents => "contents",
+            Key::Conversions => "conversions",
             Key::Enum => "enum",
+            Key::Equal => "equal",
             Key::Expr => "expr",
             Key::Fallible => "fallible",
+            Key::From => "from",
             Key::Group => "group",
             Key::Id => "id",
             Key::Items => "items",
             Key::Kind => "kind",
+            Key::Lhs => "lhs",
             Key::Lifetime => "lifetime",
             Key::List => "list",
+            Key::Literal => "literal",
             Key::Look => "look",
+            Key::Map => "map",
             Key::Mutable => "mutable",
             Key::Name => "name",
             Key::Op => "op",
             Key::Opt => "opt",
             Key::Parameters => "parameters",
+            Key::Paren => "paren",
             Key::Path => "path",
             Key::Place => "place",
+            Key::PubIn => "pub_in",
             Key::Quoted => "quoted",
             Key::Ref => "ref",
             Key::Regex => "regex",
+            Key::Rhs => "rhs",
             Key::Rule => "rule",
             Key::Span => "span",
             Key::Symbol => "symbol",
             Key::Terminal => "terminal",
             Key::Text => "text",
+            Key::To => "to",
             Key::Tuple => "tuple",
             Key::DeclaredType => "type",
             Key::TypeParameters => "type_parameters",

@@ -5,7 +5,7 @@ ghost use Rattle.std.specs.List.{list_all};
 ghost use Rattle.serde_json.specs.View.{view};
 ghost use Rattle.lalrpop_values.specs.Gives.{Gives};
 ghost use Rattle.lalrpop_values.specs.Objects.{field_at};
-ghost use Rattle.lalrpop_values.specs.Scalars.{number_at, span_at, text_at, name_at, word_at, empty_list_at, begins_name, continues_name, is_name};
+ghost use Rattle.lalrpop_values.specs.Scalars.{number_at, span_at, text_at, flag_at, null_at, optional, name_at, word_at, empty_list_at, begins_name, continues_name, is_name};
 
 use crate::fault::{FaultKind, ReadError};
 use crate::key::Key;
@@ -113,6 +113,40 @@ pub fn word_of(alloc: Global, value: &Value, word: Word) -> Result<(), ReadError
     }
 }
 
+/// `true` or `false`.
+#[tactic(auto, unfolding(crate::specs::Scalars::flag_at))]
+pub fn flag_of(alloc: Global, value: &Value) -> Result<bool, ReadError>
+    ensures { Gives result (flag_at (view value.now)) }
+{
+    match value.as_bool() {
+        Some(flag) => Ok(flag),
+        None => Err(here(alloc, FaultKind::WrongShape)),
+    }
+}
+
+/// `null` alone.
+#[tactic(auto, unfolding(crate::specs::Scalars::null_at))]
+pub fn null_of(alloc: Global, value: &Value) -> Result<(), ReadError>
+    ensures { Gives result (null_at (view value.now)) }
+{
+    if value.is_null() {
+        Ok(())
+    } else {
+        Err(here(alloc, FaultKind::WrongShape))
+    }
+}
+
+/// `null`, or any text.
+pub fn optional_text_of(alloc: Global, value: &Value) -> Result<Option<Atom>, ReadError>
+    ensures { Gives result (optional text_at (view value.now)) }
+{
+    if value.is_null() {
+        return Ok(None);
+    }
+    let text = text_of(alloc, value)?;
+    Ok(Some(text))
+}
+
 /// A list with nothing in it.
 #[tactic(auto, using(crate::proofs::Pairs::pairs), unfolding(crate::specs::Scalars::empty_list_at))]
 pub fn empty_list_of<T>(alloc: Global, value: &Value) -> Result<List<T>, ReadError>
@@ -183,4 +217,35 @@ pub fn empty_list_field<T: Drop>(
 {
     let found = member(alloc, value, key)?;
     Ok(at_key(empty_list_of(alloc, found), key)?)
+}
+
+/// The `true` or `false` at a key.
+#[tactic(auto, unfolding(crate::specs::Objects::field_at, crate::specs::Objects::member_at))]
+pub fn flag_field(alloc: Global, value: &Value, key: Key) -> Result<bool, ReadError>
+    ensures { Gives result (field_at key flag_at (view value.now)) }
+{
+    let found = member(alloc, value, key)?;
+    Ok(at_key(flag_of(alloc, found), key)?)
+}
+
+/// That `null` stands at a key.
+#[tactic(auto, unfolding(crate::specs::Objects::field_at, crate::specs::Objects::member_at))]
+pub fn null_field(alloc: Global, value: &Value, key: Key) -> Result<(), ReadError>
+    ensures { Gives result (field_at key null_at (view value.now)) }
+{
+    let found = member(alloc, value, key)?;
+    Ok(at_key(null_of(alloc, found), key)?)
+}
+
+/// The text at a key, or `null`.
+#[tactic(auto, unfolding(crate::specs::Objects::field_at, crate::specs::Objects::member_at))]
+pub fn optional_text_field(
+    alloc: Global,
+    value: &Value,
+    key: Key,
+) -> Result<Option<Atom>, ReadError>
+    ensures { Gives result (field_at key (optional text_at) (view value.now)) }
+{
+    let found = member(alloc, value, key)?;
+    Ok(at_key(optional_text_of(alloc, found), key)?)
 }

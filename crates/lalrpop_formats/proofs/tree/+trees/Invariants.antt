@@ -6,16 +6,34 @@ use Rattle.lalrpop_values.proofs.Lists.{IsAt}
 use Rattle.lalrpop_formats.proofs.tree.+trees.Given as goal
 
 abbrev pub decreases-node_of : goal.decreases-node_of
-decreases-node_of l = 3 * depth (view l.value.now)
+decreases-node_of l = 4 * depth (view l.value.now) + 1
+
+abbrev pub decreases-repeated_of : goal.decreases-repeated_of
+decreases-repeated_of l = 4 * depth (view l.value.now) + 1
+
+abbrev pub decreases-option_of : goal.decreases-option_of
+decreases-option_of l = 4 * depth (view l.value.now) + 1
+
+abbrev pub decreases-group_of : goal.decreases-group_of
+decreases-group_of l = 4 * depth (view l.value.now) + 1
 
 abbrev pub decreases-tree_of : goal.decreases-tree_of
-decreases-tree_of l = 3 * depth (view l.value.now) + 1
+decreases-tree_of l = 4 * depth (view l.value.now) + 2
+
+abbrev pub decreases-optional_of : goal.decreases-optional_of
+decreases-optional_of l = 4 * depth (view l.value.now) + 3
+
+abbrev pub decreases-optional_field : goal.decreases-optional_field
+decreases-optional_field l = 4 * depth (view l.value.now)
+
+abbrev pub decreases-tree_in : goal.decreases-tree_in
+decreases-tree_in l = 4 * depth (view l.value.now) + 3
 
 abbrev pub decreases-trees_of : goal.decreases-trees_of
-decreases-trees_of l = 3 * depth (view l.value.now)
+decreases-trees_of l = 4 * depth (view l.value.now) + 1
+
+abbrev pub decreases-trees_field : goal.decreases-trees_field
+decreases-trees_field l = 4 * depth (view l.value.now)
 
 abbrev pub invariant-trees_of-loop-index : goal.invariant-trees_of-loop-index
 invariant-trees_of-loop-index l = IsAt (λ _. tree_at) l.value-items l.trees l.index
-
-abbrev pub decreases-tree_in : goal.decreases-tree_in
-decreases-tree_in l = 3 * depth (view l.value.now) + 2

@@ -1,0 +1,4 @@
+pub mod Sizes
+pub mod Arguments
+pub mod Alike
+pub mod Calls

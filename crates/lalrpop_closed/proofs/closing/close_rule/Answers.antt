@@ -1,0 +1,10 @@
+use Rattle.std.proofs.Common.{◌≡◌, [], refl, rules, ◌∙◌}
+use Rattle.lalrpop_rules.specs.Details.{pure_of}
+use Rattle.lalrpop_closed.specs.Scopes.{scope_seen}
+use Rattle.lalrpop_closed.proofs.Calls.{name_refused, seen-Faulty}
+use Rattle.lalrpop_closed.proofs.closing.close_rule.Goals as goal
+
+pub returns-then-not-is_empty : goal.returns-then-not-is_empty
+returns-then-not-is_empty c =
+    seen-Faulty ∙ name_refused (scope_seen c.args.scope.now) c.args.before c.args.name.now (pure_of c.args.scope.now.rules.now.features.now c.in-Rule.rule.now)
+    c.in-Rule.rule.now.written.now.args refl c.in-Rule.ensures.0 (λ none. search (rules, none))

@@ -1,0 +1,16 @@
+use Rattle.std.proofs.Common.{ℕ, ◌+◌, ◌*◌, map}
+use Rattle.lalrpop_closed.specs.Views.{closed, closeds}
+use Rattle.lalrpop_closed.proofs.Sizes.{size, sizes}
+use Rattle.lalrpop_closed.proofs.comparing.+shows.Given as goal
+
+abbrev pub decreases-shows : goal.decreases-shows
+decreases-shows l = 2 * size (closed l.symbol.now) + 1
+
+abbrev pub decreases-call_shows : goal.decreases-call_shows
+decreases-call_shows l = 2 * sizes (closeds (map closed l.args.now)) + 2
+
+abbrev pub decreases-show_as : goal.decreases-show_as
+decreases-show_as l = 2 * sizes (closeds (map closed l.symbols.now))
+
+abbrev pub decreases-macro_shows : goal.decreases-macro_shows
+decreases-macro_shows l = 2 * sizes (closeds (map closed l.args.now)) + 1

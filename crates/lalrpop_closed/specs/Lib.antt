@@ -1,0 +1,3 @@
+pub mod Views
+pub mod Scopes
+pub mod Finding

@@ -1,0 +1,16 @@
+//! What the judge and the macro pass both ask of a written grammar: closed symbols, and the conditions of alternatives.
+//!
+//! Each call says that its answer is the one that the definitions of the written language give.
+#![tactic(auto)]
+
+mod binding;
+mod closed_symbol;
+mod closing;
+mod comparing;
+mod condition;
+
+pub use binding::{Binding, Bound, bound_to};
+pub use closed_symbol::ClosedSymbol;
+pub use closing::right_side;
+pub use comparing::{same_name, same_terminal, show_as};
+pub use condition::{ConditionFault, Finder, Finding, holds};

@@ -1,0 +1,28 @@
+//! Tests of the format: for each form a value that is read, and values of it with one part replaced, each with its first
+//! fault and the path to it.
+#![tactic(auto)]
+
+#[cfg(test)]
+mod alternatives;
+#[cfg(test)]
+mod attributes;
+#[cfg(test)]
+mod blocks;
+#[cfg(test)]
+mod entries;
+#[cfg(test)]
+mod grammars;
+#[cfg(test)]
+mod numbers;
+#[cfg(test)]
+mod places;
+#[cfg(test)]
+mod reading;
+#[cfg(test)]
+mod rules;
+#[cfg(test)]
+mod symbols;
+#[cfg(test)]
+mod trees;
+#[cfg(test)]
+mod types;

@@ -1,0 +1,5 @@
+pub mod AlternativeLaws
+pub mod ExternLaws
+pub mod ItemLaws
+pub mod MatchLaws
+pub mod RuleLaws

@@ -1,0 +1,5 @@
+pub mod FormLemmas
+pub mod NumberLemmas
+pub mod SpanLemmas
+pub mod StringLemmas
+pub mod TreeLemmas

@@ -1,0 +1,4 @@
+pub mod Digits
+pub mod Naming
+pub mod Ranking
+pub mod Bares

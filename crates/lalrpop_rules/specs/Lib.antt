@@ -1,0 +1,3 @@
+pub mod Ranks
+pub mod Details
+pub mod Table

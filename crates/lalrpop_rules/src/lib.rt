@@ -1,0 +1,14 @@
+//! The enabled rules of a written grammar, found by their names, with the levels of their alternatives.
+//!
+//! Each call says that its answer is the one that the definitions of the written language give.
+#![tactic(auto)]
+
+mod enabling;
+mod levels;
+mod rule;
+mod table;
+
+pub use enabling::cfg_active;
+pub use levels::{Rank, Side};
+pub use rule::{Choice, EnabledRule};
+pub use table::{Meaning, Rules};

@@ -1,0 +1,3 @@
+pub mod OverLemmas
+pub mod PlainLemmas
+pub mod StartLemmas

@@ -1,0 +1,41 @@
+//! Replies as answers: texts with the status that the program ends with.
+
+ghost use Rattle.std.specs.Prelude.{◌≡◌, IfOk};
+ghost use Rattle.lalrpop_run.specs.Answering.{IsAnswerText};
+ghost use Rattle.lalrpop_run.specs.Replies.{status_of};
+
+use crate::reply::{Answer, Reply};
+use crate::texts::text_of_reply;
+use std::alloc::{AllocError, Global};
+
+/// The answer that says it.
+pub(crate) fn put(alloc: Global, reply: Reply<'_>) -> Result<Answer, AllocError>
+    ensures { IfOk result (IsAnswerText reply.entry) }
+{
+    let answer = answer_to(alloc, &reply)?;
+    Ok(answer)
+}
+
+fn answer_to(alloc: Global, reply: &Reply<'_>) -> Result<Answer, AllocError>
+    ensures { IfOk result (IsAnswerText reply.now) }
+{
+    let text = text_of_reply(alloc, reply)?;
+    Ok(Answer {
+        text,
+        status: status(reply),
+    })
+}
+
+/// The exit status of a reply.
+fn status(reply: &Reply<'_>) -> u8
+    ensures { result ≡ status_of reply.now }
+{
+    match reply {
+        Reply::Judged(true) | Reply::Tokens(_) => 0,
+        Reply::Judged(false) | Reply::NoToken(_) => 1,
+        Reply::ConditionLimit | Reply::Literals(_) => 3,
+        Reply::UnknownStart(_) | Reply::PrivateStart(_) => 3,
+        Reply::WantsTree | Reply::NotJson | Reply::NotUtf8 => 4,
+        Reply::GrammarFault(_) | Reply::TreeFault(_) => 4,
+    }
+}

@@ -1,0 +1,9 @@
+pub mod CutLemmas
+pub mod FillLemmas
+pub mod ListedLemmas
+pub mod MakeLemmas
+pub mod NotingLemmas
+pub mod PieceLemmas
+pub mod ReadingLemmas
+pub mod ScanLemmas
+pub mod TextLemmas

@@ -1,0 +1,10 @@
+pub mod Alternatives
+pub mod Attributes
+pub mod Each
+pub mod Grammars
+pub mod Items
+pub mod Listed
+pub mod Matches
+pub mod Symbols
+pub mod Terminals
+pub mod Types

@@ -1,0 +1,45 @@
+//! Literals and the terminals of tokens as values.
+
+ghost use Rattle.std.specs.Prelude.{◌≡◌, ◌↔◌, IfOk, IsTrue};
+ghost use Rattle.serde_json.specs.View.{view};
+ghost use Rattle.lalrpop_symbol_formats.specs.Readable.{IsReadableTerminal};
+ghost use Rattle.lalrpop_symbol_formats.specs.Spelling.{literal_json, terminal_json};
+
+use lalrpop_symbols::{TerminalLiteral, TerminalString};
+use lalrpop_values::is_name;
+use serde_json::{Value, json};
+use std::alloc::{AllocError, Global};
+
+/// Whether the terminal has a spelling as that of a token.
+pub(crate) fn is_readable_terminal(terminal: &TerminalString) -> bool
+    ensures { IsTrue result ↔ IsReadableTerminal terminal.now }
+{
+    match terminal {
+        TerminalString::Literal(_) => true,
+        TerminalString::Bare(name) => is_name(name.as_str()),
+        TerminalString::Error => false,
+    }
+}
+
+/// The literal as an object.
+#[tactic(auto, unfolding(lalrpop_values::specs::Key::text_of))]
+pub(crate) fn literal_value(alloc: Global, literal: &TerminalLiteral) -> Result<Value, AllocError>
+    ensures { IfOk result (λ value. view value ≡ literal_json literal.now) }
+{
+    match literal {
+        TerminalLiteral::Quoted(text) => json!(in alloc; {"quoted": text.as_str()}),
+        TerminalLiteral::Regex(text) => json!(in alloc; {"regex": text.as_str()}),
+    }
+}
+
+/// The terminal as an object. One without a spelling gives `null`.
+#[tactic(auto, unfolding(lalrpop_values::specs::Key::text_of))]
+pub(crate) fn terminal_value(alloc: Global, terminal: &TerminalString) -> Result<Value, AllocError>
+    ensures { IfOk result (λ value. view value ≡ terminal_json terminal.now) }
+{
+    match terminal {
+        TerminalString::Literal(literal) => literal_value(alloc, literal),
+        TerminalString::Bare(name) => json!(in alloc; {"bare": name.as_str()}),
+        TerminalString::Error => Ok(Value::Null),
+    }
+}

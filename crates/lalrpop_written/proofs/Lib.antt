@@ -1,0 +1,13 @@
+pub mod Places
+pub mod Sound
+pub mod Complete
+pub mod Unique
+pub mod Starts
+pub mod Comparing
+pub mod Checking
+pub mod Writing
+pub mod ExamplesOfLevels
+pub mod ExamplesOfMacros
+pub mod ExamplesOfSymbols
+pub mod Leaves
+pub mod ExamplesOfExpansion

@@ -1,0 +1,10 @@
+pub mod Among
+pub mod Enabled
+pub mod Levels
+pub mod Closing
+pub mod Conditions
+pub mod Admitting
+pub mod Sentences
+pub mod Expansion
+pub mod Expanding
+pub mod Corresponding
