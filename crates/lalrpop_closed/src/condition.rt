@@ -7,14 +7,14 @@ ghost use Rattle.lalrpop_written.specs.Closing.{bound as bound_in};
 ghost use Rattle.lalrpop_written.specs.Conditions.{Holds, HoldsOf, Passes};
 ghost use Rattle.lalrpop_closed.specs.Finding.{IsFault, IsFinding, IsNotKnown, IsRefusal, IsUndecided, quoted_in};
 ghost use Rattle.lalrpop_closed.specs.Scopes.{binding_seen};
-ghost use Rattle.lalrpop_closed.specs.Table.{rules_with};
+ghost use Rattle.lalrpop_rules.specs.Table.{rules_with};
 ghost use Rattle.lalrpop_closed.specs.Views.{closed};
 
 use crate::binding::{Binding, Bound, bound_to};
 use crate::closed_symbol::ClosedSymbol;
 use crate::comparing::same_name;
-use crate::table::Rules;
 use lalrpop_grammar::{Condition, ConditionOp};
+use lalrpop_rules::Rules;
 use lalrpop_symbols::{Atom, TerminalLiteral, TerminalString};
 use std::alloc::{AllocError, Global};
 
