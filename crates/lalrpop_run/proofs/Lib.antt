@@ -1,3 +1,4 @@
 pub mod OverLemmas
 pub mod PlainLemmas
+pub mod QuotingLemmas
 pub mod StartLemmas

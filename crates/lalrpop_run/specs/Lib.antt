@@ -2,6 +2,7 @@ pub mod Answering
 pub mod Json
 pub mod Judging
 pub mod Questions
+pub mod Quoting
 pub mod Reading
 pub mod Replies
 pub mod Runs

@@ -1,12 +1,11 @@
 -- What `tokens` has to say to a grammar and a text.
-use Rattle.std.specs.Prelude.{◌≡◌, ◌≢◌, ◌⊎◌, ℕ, Bool, true, false, List, [], ◌∷◌, Result, Ok, Err, Option, IsUtf8, Vec, map}
+use Rattle.std.specs.Prelude.{◌≡◌, ◌≢◌, ◌⊎◌, ℕ, Bool, true, false, List, [], ◌∷◌, Result, Ok, Err, Option, ⊤, IsUtf8, Vec, map}
 use Rattle.std.specs.Str.{chars}
 use Rattle.std.specs.declared.alloc.Global.{Global}
 use Rattle.serde_json.specs.Data.{Data}
 use Rattle.lalrpop_symbols.specs.Symbols.{Text}
 use Rattle.lalrpop_values.specs.declared.fault.Fault.{Fault}
 use Rattle.lalrpop_values.specs.declared.fault.FaultKind.TheVariants as fault
-use Rattle.lalrpop_values.specs.Gives.{◌>>=◌}
 use Rattle.lalrpop_grammar.specs.declared.grammar.Grammar.{Grammar}
 use Rattle.lalrpop_grammar.specs.declared.token.ScanToken.{ScanToken}
 use Rattle.lalrpop_grammar.specs.Views.{grammar, token}
@@ -15,6 +14,8 @@ use Rattle.lalrpop_formats.specs.Grammars.{grammar_at}
 use Rattle.lalrpop_streams.specs.Streams.{ReadsAll}
 use Rattle.lalrpop_plain.specs.Paths.{Path}
 use Rattle.lalrpop_plain.specs.Plain.{in_grammar}
+use Rattle.lalrpop_refused.specs.Order.{earlier}
+use Rattle.lalrpop_refused.specs.Refused.{in_value}
 use Rattle.lalrpop_scan.specs.declared.fault.TokensFault.{TokensFault}
 use Rattle.lalrpop_scan.specs.declared.fault.TokensFault.TheVariants as faults
 use Rattle.lalrpop_scan.specs.Entries.{Entry, patterns, precedences}
@@ -70,9 +71,14 @@ plain_by g (p ∷ ps) = Err (record { path = p; kind = fault.WrongShape })
 abbrev pub plain : Grammar → Result Grammar Fault
 plain g = plain_by g (in_grammar (grammar g))
 
+-- A value that spells no grammar may hold what no plain grammar holds before its first fault, or around it.
+abbrev pub plain_read : Result ⊤ Fault → Result Grammar Fault → Result Grammar Fault
+plain_read found (Ok g) = plain g
+plain_read found (Err f) = Err (earlier found f)
+
 -- the plain grammar at a value
 abbrev pub plain_at : Data → Result Grammar Fault
-plain_at d = grammar_at d >>= plain
+plain_at d = plain_read (in_value d) (grammar_at d)
 
 -- the plain grammar that bytes spell
 abbrev pub IsPlainOf : List ℕ → Grammar → Type 0

@@ -6,7 +6,7 @@ ghost use Rattle.lalrpop_formats.specs.ReadTrees.{tree_at};
 ghost use Rattle.lalrpop_run.specs.Judging.{IsGrammarReply, IsJudgeReply, IsJudgement, IsReply, IsTreeReply, IsVerdict};
 ghost use Rattle.serde_json.specs.View.{view};
 
-use crate::json::{value_of, value_of_text};
+use crate::json_value::{value_of, value_of_text};
 use crate::question::Question;
 use crate::reply::Reply;
 use lalrpop_formats::{ReadError, read_grammar, read_tree};

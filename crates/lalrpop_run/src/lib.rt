@@ -2,11 +2,12 @@
 #![tactic(auto)]
 
 mod answering;
-mod json;
+mod json_value;
 mod judge_run;
 mod judging;
 mod putting;
 mod question;
+mod quoting;
 mod reading;
 mod reply;
 mod running;

@@ -3,13 +3,14 @@
 ghost use Rattle.std.specs.Prelude.{IfOk};
 ghost use Rattle.lalrpop_run.specs.Reading.{IsReadAs, IsSaid};
 ghost use Rattle.lalrpop_values.specs.Gives.{Gives};
-ghost use Rattle.lalrpop_run.specs.Tokens.{plain_at};
+ghost use Rattle.lalrpop_run.specs.Tokens.{plain, plain_at};
 ghost use Rattle.serde_json.specs.View.{view};
 
-use crate::json::value_of;
+use crate::json_value::value_of;
 use lalrpop_formats::{Fault, ReadError, read_grammar};
 use lalrpop_grammar::Grammar;
 use lalrpop_plain::check_plain;
+use lalrpop_refused::first_fault;
 use serde_json::Value;
 use std::alloc::{AllocError, Global};
 
@@ -39,7 +40,17 @@ fn plain_of_value(alloc: Global, value: &Value) -> Result<Plain, AllocError>
 fn read_plain(alloc: Global, value: &Value) -> Result<Grammar, ReadError>
     ensures { Gives result (plain_at (view value.now)) }
 {
-    let grammar = read_grammar(alloc, value)?;
+    match read_grammar(alloc, value) {
+        Ok(grammar) => only_plain(alloc, grammar),
+        Err(ReadError::Shape(fault)) => Err(first_fault(alloc, value, fault)),
+        Err(ReadError::Memory) => Err(ReadError::Memory),
+    }
+}
+
+/// The grammar, where it is plain.
+fn only_plain(alloc: Global, grammar: Grammar) -> Result<Grammar, ReadError>
+    ensures { Gives result (plain grammar) }
+{
     check_plain(alloc, &grammar)?;
     Ok(grammar)
 }

@@ -6,8 +6,9 @@ ghost use Rattle.lalrpop_run.specs.Replies.{text_of, line, token_text, tokens_te
 ghost use Rattle.lalrpop_scan.specs.Faults as literals;
 ghost use Rattle.lalrpop_values.specs.FaultText.{fault_text as fault_words};
 
+use crate::quoting::push_json;
 use crate::reply::Reply;
-use lalrpop_formats::{Fault, fault_text, json_string};
+use lalrpop_formats::{Fault, fault_text};
 use lalrpop_grammar::ScanToken;
 use lalrpop_scan::TokensFault;
 use std::alloc::{AllocError, Global};
@@ -85,25 +86,19 @@ fn lines(alloc: Global, tokens: &[ScanToken<'_>]) -> Result<String, AllocError>
 {
     let mut written = String::new(alloc);
     for token in tokens {
-        let words = token_line(alloc, token)?;
-        written.push_str(words.as_str())?;
+        push_line(alloc, token, &mut written)?;
     }
     Ok(written)
 }
 
-/// From which byte to which byte a token stands, its terminal, and its text as a JSON string.
-fn token_line(alloc: Global, token: &ScanToken<'_>) -> Result<String, AllocError>
-    ensures { IfOk result (λ written. string_bytes written ≡ line (token_text (token_seen token.now))) }
+/// Appends from which byte to which byte a token stands, its terminal, and its text as a JSON string.
+fn push_line(alloc: Global, token: &ScanToken<'_>, written: &mut String) -> Result<(), AllocError>
+    ensures { OnOk result (string_bytes written.new
+        ≡ string_bytes written.old ++ line (token_text (token_seen token.now))) }
 {
-    let mut written = token.span.0.to_string(alloc)?;
-    let end = token.span.1.to_string(alloc)?;
-    let text = json_string(alloc, token.text)?;
-    written.push_str("..")?;
-    written.push_str(end.as_str())?;
-    written.push_str(" ")?;
-    token.terminal.write_text(alloc, &mut written)?;
-    written.push_str(" ")?;
-    written.push_str(text.as_str())?;
-    written.push('\n')?;
-    Ok(written)
+    write!(written, "{}..{} ", token.span.0, token.span.1)?;
+    token.terminal.write_text(alloc, written)?;
+    written.push(' ')?;
+    push_json(alloc, token.text, written)?;
+    written.push('\n')
 }

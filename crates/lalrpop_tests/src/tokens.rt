@@ -308,16 +308,111 @@ fn grammars_that_are_not_plain(rt: HostRuntime) -> Result<(), Fail> {
     Ok(())
 }
 
+/// What spells no grammar, because of a part that `tokens` doesn't take, or with a fault behind one: where that part is.
+fn misshapen_values() -> [(&'static str, &'static str, &'static str); 8] {
+    [
+        (
+            r#"{"attributes":[],"items""#,
+            r#"{"attributes":[5],"items""#,
+            "/attributes",
+        ),
+        (
+            r#"{"attributes":[],"items":["#,
+            r#"{"attributes":[{"arg":null,"id":"LALR","span":[0,0]}],"items":[5,"#,
+            "/attributes",
+        ),
+        (
+            r#""attributes":[],"condition""#,
+            r#""attributes":[{"arg":null}],"condition""#,
+            "/items/0/alternatives/0/attributes",
+        ),
+        (
+            r#""args":[],"attributes":[],"kind""#,
+            r#""args":[5],"attributes":[5],"kind""#,
+            "/items/0/args",
+        ),
+        (
+            r#"{"kind":"terminal","span":[0,0],"terminal":{"quoted":"a"}}"#,
+            r#"{"kind":"macro"}"#,
+            "/items/0/alternatives/0/expr/0",
+        ),
+        (
+            r#"{"kind":"terminal","span":[0,0],"terminal":{"quoted":"a"}}"#,
+            r#"{"kind":"repeat","op":"*","span":[0,0],"symbol":{"args":[{}],"kind":"macro","name":"1","span":[0]}}"#,
+            "/items/0/alternatives/0/expr/0/symbol",
+        ),
+        (r#""items":["#, r#""items":[{"kind":"match"},"#, "/items/0"),
+        (
+            r#"],"parameters""#,
+            r#",{"kind":"extern","x":1}],"parameters""#,
+            "/items/1",
+        ),
+    ]
+}
+
 #[test]
-fn a_fault_of_the_value_comes_before_an_attribute(rt: HostRuntime) -> Result<(), Fail> {
+fn values_with_a_part_that_is_not_looked_into(rt: HostRuntime) -> Result<(), Fail> {
     let alloc = rt.alloc();
-    let grammar = changed(
-        alloc,
-        r#"{"attributes":[],"items":["#,
-        r#"{"attributes":[{"arg":null,"id":"LALR","span":[0,0]}],"items":[5,"#,
-    )?;
-    let line = "grammar value: wrong shape at \"/items/0\"\n";
-    says(&rt, alloc, grammar.as_str(), b"a".as_slice(), line, 4)
+    for (old, new, path) in misshapen_values() {
+        let grammar = changed(alloc, old, new)?;
+        let line = format!(in alloc; "grammar value: wrong shape at \"{path}\"\n")?;
+        let text = Pieces::failing(b"".as_slice(), 0);
+        says(&rt, alloc, grammar.as_str(), text, line.as_str(), 4)?;
+    }
+    Ok(())
+}
+
+/// What spells no grammar, and has a part that `tokens` doesn't take behind the fault: the fault.
+fn misread_values() -> [(&'static str, &'static str, &'static str); 7] {
+    [
+        (
+            r#"{"attributes":[],"items""#,
+            r#"{"attributes":[5],"x":1,"items""#,
+            r#"unknown key "x" at """#,
+        ),
+        (
+            r#""span":[0,0]}],"args":[],"attributes":[],"kind""#,
+            r#""span":[0]}],"args":[],"attributes":[5],"kind""#,
+            r#"wrong shape at "/items/0/alternatives/0/span""#,
+        ),
+        (
+            r#"{"tuple":[]}"#,
+            r#"{"tuple":[5,{"symbol":{"kind":"macro"}}]}"#,
+            r#"wrong shape at "/items/0/type/tuple/0""#,
+        ),
+        (
+            r#"{"tuple":[]}"#,
+            r#"{"tuple":[{"symbol":{"kind":"macro"}}]},"z":1"#,
+            r#"unknown key "z" at "/items/0""#,
+        ),
+        (
+            r#""attributes":[],"kind":"rule","#,
+            r#""attributes":[5],"#,
+            r#"missing key "kind" at "/items/0""#,
+        ),
+        (
+            r#"{"kind":"terminal","span":[0,0],"terminal":{"quoted":"a"}}"#,
+            r#"{"args":[],"name":"M","span":[0,0]}"#,
+            r#"missing key "kind" at "/items/0/alternatives/0/expr/0""#,
+        ),
+        (
+            r#"{"kind":"terminal","span":[0,0],"terminal":{"quoted":"a"}}"#,
+            r#"{"kind":"id","name":"1","span":[0,0]},{"kind":"macro"}"#,
+            r#"bad name at "/items/0/alternatives/0/expr/0/name""#,
+        ),
+    ]
+}
+
+#[test]
+fn faults_that_come_first(rt: HostRuntime) -> Result<(), Fail> {
+    let alloc = rt.alloc();
+    for (old, new, fault) in misread_values() {
+        let grammar = changed(alloc, old, new)?;
+        let line = format!(in alloc; "grammar value: {fault}\n")?;
+        let text = Pieces::failing(b"".as_slice(), 0);
+        says(&rt, alloc, grammar.as_str(), text, line.as_str(), 4)?;
+    }
+    Ok(())
 }
 
 #[test]

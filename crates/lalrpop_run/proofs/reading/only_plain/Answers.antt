@@ -1,16 +1,14 @@
 use Rattle.std.proofs.Common.{rules}
-use Rattle.serde_json.specs.View.{view}
 use Rattle.lalrpop_values.specs.Gives.{Fails}
 use Rattle.lalrpop_grammar.specs.Views.{grammar}
 use Rattle.lalrpop_plain.specs.Plain.{in_grammar}
-use Rattle.lalrpop_run.specs.Tokens.{plain_at}
+use Rattle.lalrpop_run.specs.Tokens.{plain}
 use Rattle.lalrpop_run.proofs.PlainLemmas.{refused}
-use Rattle.lalrpop_run.proofs.reading.read_plain.Goals as goal
+use Rattle.lalrpop_run.proofs.reading.only_plain.Goals as goal
 
 pub returns-in_err-check_plain : goal.returns-in_err-check_plain
 returns-in_err-check_plain c =
-    let g = c.in_ok-grammar.grammar in
+    let g = c.args.grammar in
     let e = c.in_err-check_plain.field-0.0 in
-    let fact : Fails e (plain_at (view c.args.value.now)) =
-    rw c.in_ok-grammar.ensures.reads (refused g (in_grammar (grammar g)) e c.in_err-check_plain.ensures) in
+    let fact : Fails e (plain g) = refused g (in_grammar (grammar g)) e c.in_err-check_plain.ensures in
     search (rules, fact)
