@@ -1,14 +1,14 @@
 -- The alternatives of a rule by their places: for the choosing of the one that a node names.
-use Rattle.std.proofs.Common.{◌≡◌, ◌≢◌, ◌↔◌, ◌⊎◌, ℕ, zero, suc, ◌+◌, Bool, true, false, List, [], ◌∷◌, Option, Some, None, refl, ap, sym, ◌∙◌, map, inl, inr, arith}
+use Rattle.std.proofs.Common.{◌≡◌, ℕ, zero, suc, ◌+◌, List, [], ◌∷◌, Option, Some, None, refl, ap, sym, ◌∙◌, map, inl, inr, arith}
 use Rattle.std.specs.Prelude.{filter, slice_get, option_map}
 use Rattle.lalrpop_symbols.specs.Symbols.{Text}
-use Rattle.lalrpop_grammar.specs.Written.{Origin, alternative, same_text}
+use Rattle.lalrpop_grammar.specs.Written.{alternative}
 use Rattle.lalrpop_grammar.specs.Views.{alternative as alternative_seen}
 use Rattle.lalrpop_written.specs.Among.{Among}
 use Rattle.lalrpop_written.specs.Enabled.{Choice, EnabledRule, choice_of, has_name, named, Rules}
 use Rattle.lalrpop_written.specs.Levels as pure
 use Rattle.lalrpop_written.proofs.Places.{among_filter, same_text-eq}
-use Rattle.lalrpop_rules.specs.Details.{Detailed, Kept, detail_seen, detailed, detailed_at, detailed_with, pure_of, tighter_in}
+use Rattle.lalrpop_rules.specs.Details.{Detailed, Kept, detail_seen, detailed_at, detailed_with, pure_of, tighter_in}
 use Rattle.lalrpop_rules.specs.Ranks.{rank}
 use Rattle.lalrpop_rules.specs.Table.{IsOnly, rules_seen}
 use Rattle.lalrpop_rules.specs.declared.rule.EnabledRule as kept

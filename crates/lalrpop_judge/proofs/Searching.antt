@@ -1,6 +1,6 @@
 -- Searches for patterns at the nodes of trees, part by part: for the walk.
-use Rattle.std.proofs.Common.{◌≡◌, ◌⊎◌, ℕ, zero, suc, ◌+◌, List, [], ◌∷◌, inl, inr, sym, map, drop}
-use Rattle.lalrpop_grammar.specs.Trees.{trees, leaves_of, tree_and}
+use Rattle.std.proofs.Common.{◌≡◌, ℕ, zero, suc, List, [], ◌∷◌, inl, inr, map, drop}
+use Rattle.lalrpop_grammar.specs.Trees.{trees}
 use Rattle.lalrpop_grammar.specs.Views.{tree}
 use Rattle.lalrpop_grammar.specs.declared.tree.WrittenTree.{WrittenTree}
 use Rattle.lalrpop_written.specs.Enabled.{Rules}

@@ -1,5 +1,5 @@
 -- Whether the alternative at a place may be chosen, and what it asks for: for the choosing of a node's alternative.
-use Rattle.std.proofs.Common.{◌≡◌, ◌≢◌, ◌↔◌, ℕ, Bool, true, false, List, [], ◌∷◌, Option, Some, None, Result, Ok, Err, IfOk, IsTrue, refl, ap, sym, ◌∙◌, map, length}
+use Rattle.std.proofs.Common.{◌≡◌, ◌≢◌, ◌↔◌, ℕ, Bool, true, false, List, Option, Some, None, IsTrue, refl, ap, sym, ◌∙◌, map, length}
 use Rattle.std.proofs.lemmas.List.{length-map}
 use Rattle.std.proofs.Math.Bool.{beq, not}
 use Rattle.std.specs.Prelude.{is_some, option_map, zip}
@@ -11,11 +11,11 @@ use Rattle.lalrpop_grammar.specs.Views.{alternative, condition as seen}
 use Rattle.lalrpop_written.specs.Among.{Among}
 use Rattle.lalrpop_written.specs.Enabled.{Choice, EnabledRule, IsRule, Rules, choice_of}
 use Rattle.lalrpop_written.specs.Levels as pure
-use Rattle.lalrpop_written.specs.Closing.{Binding, bound, right_side}
+use Rattle.lalrpop_written.specs.Closing.{bound, right_side}
 use Rattle.lalrpop_written.specs.Conditions.{Holds}
 use Rattle.lalrpop_written.specs.Admitting.{AtMost, Fits, binding, rank_level}
 use Rattle.lalrpop_closed.proofs.Arguments.{closed_list-closeds}
-use Rattle.lalrpop_rules.specs.Details.{Kept, pure_of}
+use Rattle.lalrpop_rules.specs.Details.{Kept}
 use Rattle.lalrpop_rules.specs.Ranks.{rank}
 use Rattle.lalrpop_rules.specs.Table.{rules_with}
 use Rattle.lalrpop_closed.specs.Views.{binding_of, closed, closeds}

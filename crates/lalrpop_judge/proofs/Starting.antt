@@ -1,10 +1,9 @@
 -- Admission from a start: for the judge.
-use Rattle.std.proofs.Common.{◌≡◌, ◌↔◌, ℕ, Bool, List, [], ◌∷◌, Option, Result, Ok, Err, IfOk, IfErr, IsTrue, refl, ap, ap₂, sym, subst, ◌∙◌, map}
+use Rattle.std.proofs.Common.{◌≡◌, ◌↔◌, ℕ, Bool, List, [], ◌∷◌, Option, IsTrue, refl, ap, ap₂, sym, subst, ◌∙◌, map}
 use Rattle.lalrpop_symbols.specs.Symbols.{Text, call, end}
 use Rattle.lalrpop_symbols.specs.declared.names.NonterminalString.{NonterminalString}
 use Rattle.lalrpop_grammar.specs.Trees.{Token, Tree, leaves}
 use Rattle.lalrpop_grammar.specs.Written.{Grammar}
-use Rattle.lalrpop_grammar.specs.Views.{grammar}
 use Rattle.lalrpop_written.specs.Enabled.{Rules, EnabledRule, enabled}
 use Rattle.lalrpop_written.specs.Levels.{loosest}
 use Rattle.lalrpop_written.specs.Admitting.{AdmitsStart}

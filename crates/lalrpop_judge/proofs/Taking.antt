@@ -1,6 +1,6 @@
 -- Tokens are taken from the front, tree by tree: for the comparison of tokens with leaves.
-use Rattle.std.proofs.Common.{◌≡◌, ◌↔◌, ℕ, ◌+◌, ◌≤◌, ◌<◌, List, [], ◌∷◌, ◌++◌, ap, sym, ◌∙◌, map, drop, length, get_or, arith}
-use Rattle.std.proofs.lemmas.List.{append_assoc, append_cancel_left, append-nil, drop_all, length-drop, length-map, drop_more, get_or-map}
+use Rattle.std.proofs.Common.{◌≡◌, ◌↔◌, ℕ, ◌+◌, ◌<◌, List, ◌∷◌, ◌++◌, ap, sym, ◌∙◌, map, drop, length, get_or}
+use Rattle.std.proofs.lemmas.List.{append_assoc, append_cancel_left, length-map, drop_more, get_or-map}
 use Rattle.lalrpop_grammar.specs.Trees.{Token, leaves, leaves_of, trees}
 use Rattle.lalrpop_grammar.specs.Views.{token, tree}
 use Rattle.lalrpop_grammar.specs.declared.token.ScanToken.{ScanToken}

@@ -1,12 +1,12 @@
 -- Admission over a tree's own leaves goes part by part: for the walk and the judge.
-use Rattle.std.proofs.Common.{◌≡◌, ◌↔◌, ◌⊎◌, ℕ, Bool, true, false, List, [], ◌∷◌, ◌++◌, ◌+◌, Option, Some, None, Result, Ok, Err, IfOk, IsTrue, refl, ap, sym, ◌∙◌, map, drop, length, inl, inr, arith}
-use Rattle.lalrpop_symbols.specs.Symbols.{Text, Op, star, plus, question, Argument, Closed, Closeds, closed_list, call, many, row, end, and}
-use Rattle.lalrpop_grammar.specs.Trees.{Token, Tree, Trees, node, list, absent, present, together, leaf, look, no_tree, tree_and, leaves, leaves_of, trees}
+use Rattle.std.proofs.Common.{◌≡◌, ◌↔◌, ℕ, Bool, true, false, List, [], ◌∷◌, ◌+◌, Option, Result, Ok, Err, IfOk, IsTrue, refl, ap, sym, ◌∙◌, map, drop, length, arith}
+use Rattle.lalrpop_symbols.specs.Symbols.{Text, Op, star, plus, question, Argument, Closed, Closeds, closed_list, call, many, row}
+use Rattle.lalrpop_grammar.specs.Trees.{Token, Tree, Trees, node, list, present, together, no_tree, tree_and, leaves, leaves_of, trees}
 use Rattle.lalrpop_grammar.specs.Views.{grammar as grammar_seen, tree}
 use Rattle.lalrpop_grammar.specs.declared.tree.WrittenTree.{WrittenTree}
 use Rattle.lalrpop_written.specs.Enabled.{Rules}
 use Rattle.lalrpop_written.specs.Closing.{inner, right_side}
-use Rattle.lalrpop_written.specs.Admitting.{Admits, AdmitsAll, AdmitsEach, AsMany, argument_list, binding}
+use Rattle.lalrpop_written.specs.Admitting.{Admits, AsMany, argument_list, binding}
 use Rattle.lalrpop_written.proofs.Leaves.{tokens_are, all_tokens_are, each_tokens_are}
 use Rattle.lalrpop_written.proofs.Places.{places_apart}
 use Rattle.lalrpop_rules.specs.Table.{rules_with}

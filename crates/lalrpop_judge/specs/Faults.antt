@@ -1,5 +1,5 @@
 -- Why there is no answer: the nodes at which a search for a pattern is asked for.
-use Rattle.std.specs.Prelude.{◌≡◌, ◌⊎◌, ℕ, Option, Some}
+use Rattle.std.specs.Prelude.{◌≡◌, ◌⊎◌, ℕ, List, Option, Some, codes}
 use Rattle.lalrpop_symbols.specs.Symbols.{Text}
 use Rattle.lalrpop_grammar.specs.Trees.{Tree, Trees, node, list, absent, present, together, leaf, look, no_tree, tree_and}
 use Rattle.lalrpop_grammar.specs.Written.{Condition}
@@ -17,6 +17,10 @@ abbrev pub fault_of : ConditionFault → JudgeError
 fault_of faults.NotRead = errors.Condition
 fault_of faults.Refused = errors.Condition
 fault_of faults.Memory = errors.Memory
+
+abbrev pub words_of : JudgeError → List ℕ
+words_of errors.Condition = codes "condition limit"
+words_of errors.Memory = codes "out of memory"
 
 -- the enabled alternative of the rule at the place is under a search for a pattern
 pub record NamesSearch (g : Rules) (n : Text) (place : ℕ) : Type 0 where

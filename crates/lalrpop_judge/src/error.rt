@@ -18,6 +18,11 @@ pub enum JudgeError {
 }
 
 impl fmt::Display for JudgeError {
+    ghost use Rattle.std.specs.Prelude.{Some};
+    ghost use Rattle.lalrpop_judge.specs.Faults.{words_of};
+
+    ghost output = { λ e. Some (words_of e) };
+
     fn fmt<W: fmt::Write>(&self, f: &mut fmt::Formatter<W>) -> fmt::Result {
         match self {
             JudgeError::Condition => write!(f, "condition limit"),

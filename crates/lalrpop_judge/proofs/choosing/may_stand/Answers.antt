@@ -1,4 +1,4 @@
-use Rattle.std.proofs.Common.{◌≡◌, sym, ◌∙◌, rules}
+use Rattle.std.proofs.Common.{sym, ◌∙◌, rules}
 use Rattle.std.specs.Prelude.{option_map}
 use Rattle.lalrpop_written.specs.Admitting.{AtMost, rank_level}
 use Rattle.lalrpop_rules.specs.Ranks.{rank}

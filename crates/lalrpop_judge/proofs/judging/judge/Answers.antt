@@ -1,5 +1,4 @@
-use Rattle.std.proofs.Common.{rules, ◌≡◌, IsTrue, map}
-use Rattle.lalrpop_grammar.specs.Trees.{leaves}
+use Rattle.std.proofs.Common.{rules, IsTrue, map}
 use Rattle.lalrpop_grammar.specs.Views.{grammar, token, tree}
 use Rattle.lalrpop_written.specs.Enabled.{enabled}
 use Rattle.lalrpop_finder.specs.Search.{finds}

@@ -1,4 +1,4 @@
-use Rattle.std.proofs.Common.{ℕ, ◌+◌, ◌*◌, ◌↔◌, map, drop}
+use Rattle.std.proofs.Common.{◌+◌, ◌*◌, ◌↔◌, map, drop}
 use Rattle.lalrpop_grammar.specs.Trees.{trees}
 use Rattle.lalrpop_grammar.specs.Views.{tree}
 use Rattle.lalrpop_rules.specs.Table.{rules_with}
