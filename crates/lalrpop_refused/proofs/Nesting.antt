@@ -1,14 +1,13 @@
 -- Values inside values: that a check looks at a value by its form, for the functions that call each other.
-use Rattle.std.proofs.Common.{◌≡◌, ℕ, suc, ◌+◌, ◌<◌, max, Option, Some, None, Result, refl, ap, arith}
+use Rattle.std.proofs.Common.{◌≡◌, ℕ, suc, ◌+◌, ◌<◌, Option, Some, None, refl, ap, arith}
 use Rattle.std.specs.Prelude.{⊤, Bool, true, false, if◌then◌else◌}
 use Rattle.serde_json.specs.Data.{Data, null, boolean, number, string, array, object, Items, no_items, item, depth, items_depth}
 use Rattle.serde_json.specs.Find.{get}
-use Rattle.lalrpop_values.specs.declared.fault.Fault.{Fault}
 use Rattle.lalrpop_values.specs.declared.fault.Step.TheVariants as step
 use Rattle.lalrpop_values.specs.declared.key.Key.{Key}
 use Rattle.lalrpop_values.specs.declared.key.Key.TheVariants as key
 use Rattle.lalrpop_values.specs.declared.word.Word.TheVariants as word
-use Rattle.lalrpop_values.specs.Gives.{◌>>=◌, within}
+use Rattle.lalrpop_values.specs.Gives.{within}
 use Rattle.lalrpop_values.specs.Key.{text_of}
 use Rattle.lalrpop_values.specs.Nested.{Reader, AgreeBelow, IsInward}
 use Rattle.lalrpop_values.specs.Objects.{member_at}

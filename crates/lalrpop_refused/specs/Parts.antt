@@ -1,5 +1,5 @@
 -- Looking for what is refused: in what stands at a key, and in each item of a list. What has another shape is passed over.
-use Rattle.std.specs.Prelude.{ℕ, ◌+◌, List, Bool, true, false, ⊤, Result, Ok, Err, Option, Some, None, is_some, if◌then◌else◌}
+use Rattle.std.specs.Prelude.{ℕ, ◌+◌, List, Bool, false, ⊤, Result, Ok, Err, Option, Some, None, is_some, if◌then◌else◌}
 use Rattle.serde_json.specs.Data.{Data, Items, no_items, item}
 use Rattle.serde_json.specs.Find.{at, get, as_array, as_str}
 use Rattle.lalrpop_values.specs.declared.fault.Fault.{Fault}

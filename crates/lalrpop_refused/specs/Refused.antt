@@ -1,8 +1,6 @@
 -- The first value that `tokens` refuses, in a value that may spell no grammar: a list of attributes or of parameters that
 -- isn't empty, a symbol of the kind `macro`, an item of the kind `match` or `extern`.
-use Rattle.std.specs.Prelude.{⊤, Bool, Result, Ok, Err, if◌then◌else◌, ◌||◌}
-use Rattle.serde_json.specs.Data.{Data}
-use Rattle.lalrpop_values.specs.declared.fault.Fault.{Fault}
+use Rattle.std.specs.Prelude.{⊤, if◌then◌else◌, ◌||◌}
 use Rattle.lalrpop_values.specs.declared.key.Key.TheVariants as key
 use Rattle.lalrpop_values.specs.declared.word.Word.TheVariants as word
 use Rattle.lalrpop_values.specs.Gives.{◌>>=◌}

@@ -1,4 +1,3 @@
-use Rattle.std.proofs.Common.{rules}
 use Rattle.lalrpop_refused.proofs.OrderLemmas.{ended}
 use Rattle.lalrpop_refused.proofs.first.comes_first.Goals as goal
 
