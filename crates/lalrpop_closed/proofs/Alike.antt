@@ -8,7 +8,7 @@ use Rattle.lalrpop_symbols.specs.declared.symbol.Symbol.{Symbol}
 use Rattle.lalrpop_grammar.specs.Written.{Alternative, Grammar, same_text, start}
 use Rattle.lalrpop_grammar.specs.Views.{grammar as grammar_seen}
 use Rattle.lalrpop_written.specs.Enabled.{enabled, choice_of, EnabledRule}
-use Rattle.lalrpop_written.specs.Levels.{Rank, allowed, loosest, levels, reaches}
+use Rattle.lalrpop_written.specs.Levels.{Rank, allowed, loosest, levels}
 use Rattle.lalrpop_written.specs.Closing.{Binding, Meaning, Scope, a_rule, a_terminal, unclear, bound, close, close_all, close_list, closed_term, if_plain, if_macro, meaning, name_or, names_owner, occurrences, occurrences_in, occurrences_of, plain_call, plain_name, right_side, sound}
 use Rattle.lalrpop_rules.specs.Details.{tighter_in}
 use Rattle.lalrpop_closed.specs.Scopes.{allowed_by, binding_seen, level_seen, scope_seen}

@@ -1,6 +1,6 @@
 -- Closed symbols as the arguments of a tree: for their comparison and for the walk over trees.
 use Rattle.std.proofs.Common.{◌≡◌, ℕ, List, [], ◌∷◌, Option, refl, ap, sym, ◌∙◌, map, length}
-use Rattle.lalrpop_symbols.specs.Symbols.{Text, Argument, Syms, syms, list_of, none, more, Closed, Closeds, closed_list, call, end, and, macro}
+use Rattle.lalrpop_symbols.specs.Symbols.{Text, syms, list_of, more, Closed, Closeds, closed_list, call, end, and, macro}
 use Rattle.lalrpop_symbols.specs.Views.{symbol, unmarked}
 use Rattle.lalrpop_symbols.specs.declared.symbol.Symbol.{Symbol}
 use Rattle.lalrpop_grammar.specs.Trees.{as_argument, as_arguments}

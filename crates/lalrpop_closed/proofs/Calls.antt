@@ -1,12 +1,12 @@
 -- What a name or a call stands for, where the name stands for one rule: for the closing of names and calls.
-use Rattle.std.proofs.Common.{◌≡◌, ◌≢◌, ℕ, Bool, true, false, List, [], ◌∷◌, Option, refl, ap, sym, ◌∙◌, map, length}
+use Rattle.std.proofs.Common.{◌≡◌, ◌≢◌, ℕ, List, [], ◌∷◌, Option, refl, ap, sym, ◌∙◌, map, length}
 use Rattle.std.proofs.lemmas.Bool.{eq-eqb, ne_eqb}
 use Rattle.std.proofs.lemmas.List.{length-map}
 use Rattle.std.specs.Prelude.{◌==◌, if◌then◌else◌}
 use Rattle.lalrpop_symbols.specs.Symbols.{Text, Closed, Closeds, closed_list, call, faulty, end}
 use Rattle.lalrpop_symbols.specs.declared.names.NonterminalString.{NonterminalString}
 use Rattle.lalrpop_written.specs.Enabled.{Rules, EnabledRule, lists, named}
-use Rattle.lalrpop_written.specs.Closing.{Scope, Meaning, a_rule, carried, if_plain, if_macro, meaning, meaning_in, plain_name, plain_call}
+use Rattle.lalrpop_written.specs.Closing.{Scope, a_rule, carried, if_plain, if_macro, meaning, meaning_in, plain_name, plain_call}
 use Rattle.lalrpop_symbols.specs.declared.atom.Atom.{Atom}
 use Rattle.lalrpop_closed.specs.declared.closed_symbol.ClosedSymbol.{ClosedSymbol, fold-roll-ClosedSymbol}
 use Rattle.lalrpop_closed.specs.declared.closed_symbol.ClosedSymbol.TheVariants as variant

@@ -1,5 +1,5 @@
 -- What a search for a pattern says, and why it isn't known whether a condition holds.
-use Rattle.std.specs.Prelude.{◌≡◌, ◌≢◌, ◌⊎◌, Bool, true, false, Option, Some, None}
+use Rattle.std.specs.Prelude.{◌≡◌, ◌⊎◌, Bool, true, false, Option, Some, None}
 use Rattle.lalrpop_symbols.specs.Symbols.{Text, Closed, literal, quoted}
 use Rattle.lalrpop_grammar.specs.Written.{Condition, Test, equals, differs, found, missing}
 use Rattle.lalrpop_written.specs.Closing.{Binding, bound}

@@ -1,5 +1,5 @@
 -- What parameters stand for and where symbols are closed, as definitions see it.
-use Rattle.std.specs.Prelude.{ℕ, List, Option, Some, None, map, zip, if◌then◌else◌}
+use Rattle.std.specs.Prelude.{ℕ, Option, Some, None, if◌then◌else◌}
 use Rattle.lalrpop_symbols.specs.Symbols.{Closed, faulty}
 use Rattle.lalrpop_written.specs.Closing as pure
 use Rattle.lalrpop_written.specs.Levels.{Rank, reaches}

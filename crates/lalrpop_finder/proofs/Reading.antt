@@ -1,14 +1,14 @@
 -- A compiled expression finds what the grammar's reading of its text finds: for the search.
-use Rattle.std.proofs.Common.{◌≡◌, ◌≢◌, ◌≤◌, ◌<◌, ◌⊎◌, ℕ, Bool, true, false, List, length, Option, Some, None, All, IsSomeAnd, IfSome, inl, inr, refl, ap, sym, ◌∙◌, arith}
+use Rattle.std.proofs.Common.{◌≡◌, ◌≢◌, ◌≤◌, ◌<◌, ◌⊎◌, ℕ, Bool, true, false, List, length, Option, Some, None, All, IsSomeAnd, IfSome, inl, inr, refl, ap, sym, ◌∙◌}
 use Rattle.std.proofs.lemmas.Bool.{lt-ltb}
-use Rattle.std.specs.Prelude.{Result, Ok, Err, IfOk, option_map, is_some, chars, nat_lt}
+use Rattle.std.specs.Prelude.{Result, Ok, Err, IfOk, option_map, is_some}
 use Rattle.regex_hir.specs.Re.{Re}
 use Rattle.regex_hir.specs.Meaning.{meaning}
 use Rattle.regex_hir.specs.declared.hir.Hir.{Hir}
 use Rattle.regex_hir.specs.Find.{find_str}
 use Rattle.regex_syntax.specs.Brackets.{Nested}
 use Rattle.regex_syntax.specs.Captures.{SameCaptures}
-use Rattle.regex_syntax.specs.Grammar.{Names, group_count, read}
+use Rattle.regex_syntax.specs.Grammar.{Names, group_count}
 use Rattle.regex_syntax.specs.Verdict.{Reads, Refuses, default_config}
 use Rattle.regex_syntax.specs.declared.error.ErrorKind.{ErrorKind}
 use Rattle.regex_syntax.specs.declared.error.ErrorKind.TheVariants.{OutOfMemory, NestLimitExceeded}

@@ -1,5 +1,5 @@
 -- What the answer by an automaton of patterns says of the patterns. For callers of the building and of the interpreter.
-use Rattle.std.proofs.Common.{◌≡◌, ℕ, List, Option, Some, None, length, subst}
+use Rattle.std.proofs.Common.{◌≡◌, ℕ, List, Option, None, length, subst}
 use Rattle.std.specs.Str.{chars}
 use Rattle.lalrpop_pattern.specs.Matches.{Pattern}
 use Rattle.lalrpop_pattern.specs.Wins.{IsLongest, HasNoMatch}

@@ -1,6 +1,5 @@
 -- From the states of the automaton to what the building of it promises.
-use Rattle.std.proofs.Common.{◌≡◌, ℕ, ◌+◌, ◌<◌, ◌≤◌, ◌↔◌, List, [], ◌∷◌, length, map, Option, sym, ap, ◌∙◌, refl, subst, arith}
-use Rattle.std.proofs.lemmas.List.{length-map}
+use Rattle.std.proofs.Common.{◌≡◌, ℕ, ◌+◌, ◌<◌, ◌↔◌, List, length, map, Option, sym, subst, arith}
 use Rattle.lalrpop_pattern.specs.Matches.{Pattern, empty, Matches}
 use Rattle.lalrpop_pattern.specs.Wins.{HasNoTie}
 use Rattle.std.specs.Prelude.{slice_index_or}

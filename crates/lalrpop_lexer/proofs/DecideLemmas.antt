@@ -1,19 +1,18 @@
 -- What the whole automaton tells of the patterns: the first tie, or that there is none, and the longest match.
-use Rattle.std.proofs.Common.{◌≡◌, ◌≢◌, ℕ, zero, suc, ◌+◌, ◌-◌, ◌<◌, ◌≤◌, ◌⊎◌, ◌↔◌, List, [], ◌∷◌, ◌++◌, length, get_or, take, Contains, Option, Some, None, inl, inr, ⊎_elim, sym, ap, ◌∙◌, refl, subst, arith, append_assoc, length-append}
+use Rattle.std.proofs.Common.{◌≡◌, ℕ, zero, suc, ◌+◌, ◌-◌, ◌<◌, ◌≤◌, ◌↔◌, List, [], ◌∷◌, ◌++◌, length, get_or, take, Option, Some, None, ⊎_elim, sym, ap, ◌∙◌, refl, subst, arith, append_assoc, length-append}
 use Rattle.std.specs.Prelude.{slice_index_or, slice_get, option_and_then}
 use Rattle.std.proofs.lemmas.Bool.{cases_lt, cases_eq}
-use Rattle.std.proofs.lemmas.List.{take_at, length_push, take_all}
+use Rattle.std.proofs.lemmas.List.{take_at, length_push}
 use Rattle.lalrpop_pattern.specs.Matches.{Pattern, empty, Matches}
-use Rattle.lalrpop_pattern.specs.Wins.{MatchesAt, Wins, Ties, ComesBefore, IsFirstTie, HasNoTie, IsLongest, HasNoMatch}
-use Rattle.lalrpop_nfa.specs.Paths.{Table, Reads, LeadsTo}
-use Rattle.lalrpop_nfa.specs.Sets.{Arrives, IsSetOf}
+use Rattle.lalrpop_pattern.specs.Wins.{MatchesAt, Wins, Ties, IsFirstTie, HasNoTie}
+use Rattle.lalrpop_nfa.specs.Paths.{Table, LeadsTo}
+use Rattle.lalrpop_nfa.specs.Sets.{Arrives}
 use Rattle.lalrpop_nfa.proofs.ArrivalLemmas.{leads_arrives}
-use Rattle.lalrpop_lexer.specs.Runs.{Edge, edge_at, Goes, Runs, here, more, IsFirstSeen}
-use Rattle.lalrpop_lexer.specs.Sets.{set_at, IsMachine}
+use Rattle.lalrpop_lexer.specs.Runs.{Edge, Runs, here, more}
 use Rattle.lalrpop_lexer.specs.Automaton.{IsAutomaton}
 use Rattle.lalrpop_lexer.specs.Outcome.{IsBest, IsLastTie, IsAccepted}
 use Rattle.lalrpop_lexer.specs.Ties.{Holds}
-use Rattle.lalrpop_lexer.specs.Machine.{Node, step_of, next_node, better, walk, answer_of, IsAnswer, Decides}
+use Rattle.lalrpop_lexer.specs.Machine.{Node, step_of, better, walk, answer_of, IsAnswer}
 use Rattle.lalrpop_lexer.proofs.MachineLemmas.{run_inside, run_set, run_from_arrives}
 use Rattle.lalrpop_lexer.proofs.RunLemmas.{first_word}
 use Rattle.lalrpop_lexer.proofs.WordLemmas.{word_of, are_words, word_runs}

@@ -1,11 +1,11 @@
 -- One more edge of the state under way. For the loop that gives a state its edges.
-use Rattle.std.proofs.Common.{◌≡◌, ℕ, ◌+◌, ◌<◌, ◌≤◌, ◌⊎◌, List, [], ◌∷◌, ◌++◌, length, get_or, map, Contains, Vec, Global, Bool, true, false, cond, eqb, eq-eqb, inl, inr, ⊎_elim, sym, ap, ◌∙◌, refl, subst, arith, length-append, append-nil, append_assoc}
+use Rattle.std.proofs.Common.{◌≡◌, ℕ, ◌+◌, ◌<◌, ◌≤◌, ◌⊎◌, List, [], ◌∷◌, ◌++◌, length, get_or, Contains, Vec, Global, Bool, true, false, cond, eqb, eq-eqb, inl, inr, ⊎_elim, sym, ap, ◌∙◌, refl, subst, arith, length-append, append-nil, append_assoc}
 use Rattle.std.proofs.Math.Seq.{get_or-append_seam}
 use Rattle.std.proofs.lemmas.Bool.{cases_lt, cases_eq, eqb-true}
-use Rattle.std.proofs.lemmas.List.{get_or_append_left, length_push, map_push, length-map, map-append}
+use Rattle.std.proofs.lemmas.List.{get_or_append_left, length_push, length-map, map-append}
 use Rattle.lalrpop_nfa.specs.declared.test.Test.{Test}
-use Rattle.lalrpop_nfa.specs.Paths.{Table, Reads}
-use Rattle.lalrpop_nfa.specs.Sets.{Follows, IsClosed, IsStep}
+use Rattle.lalrpop_nfa.specs.Paths.{Table}
+use Rattle.lalrpop_nfa.specs.Sets.{IsClosed, IsStep}
 use Rattle.lalrpop_lexer.specs.Runs.{Edge, edge_at}
 use Rattle.lalrpop_lexer.specs.Moves.{lists, items_at, start_at, AreMoves}
 use Rattle.lalrpop_lexer.specs.Machine.{AreApart}

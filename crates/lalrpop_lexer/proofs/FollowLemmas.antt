@@ -1,8 +1,8 @@
 -- The automaton along a text, a character at a time. For the function that answers a text.
-use Rattle.std.proofs.Common.{◌≡◌, ℕ, zero, suc, ◌+◌, ◌<◌, ◌≤◌, ◌⊎◌, List, [], ◌∷◌, ◌++◌, length, Option, Some, None, MatchOption, IfSome, get_or, inl, inr, ⊎_elim, sym, ap, ◌∙◌, refl, subst, arith, length-append}
+use Rattle.std.proofs.Common.{◌≡◌, ℕ, ◌+◌, ◌<◌, ◌≤◌, List, [], ◌∷◌, ◌++◌, length, Option, Some, None, MatchOption, IfSome, get_or, ⊎_elim, sym, ap, ◌∙◌, refl, arith}
 use Rattle.std.specs.Prelude.{slice_get, encode_utf8}
 use Rattle.std.specs.Str.{chars, IsUtf8}
-use Rattle.std.proofs.lemmas.Bool.{cases_lt, cases_eq}
+use Rattle.std.proofs.lemmas.Bool.{cases_lt}
 use Rattle.std.proofs.lemmas.List.{append_cancel_right, nil_from_length, length_push, length-map, get_or-map}
 use Rattle.std.proofs.lemmas.Str.{chars-nil, chars_past_char}
 use denote.Ref.{Bor}

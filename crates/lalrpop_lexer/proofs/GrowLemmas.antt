@@ -1,9 +1,9 @@
 -- An automaton whose states are numbered as they are first seen, with one more edge.
-use Rattle.std.proofs.Common.{◌≡◌, ℕ, zero, suc, ◌+◌, ◌<◌, ◌≤◌, ◌⊎◌, List, [], ◌∷◌, ◌++◌, length, get_or, inl, inr, ⊎_elim, sym, ap, ◌∙◌, refl, subst, arith, length-append}
+use Rattle.std.proofs.Common.{◌≡◌, ℕ, ◌+◌, ◌<◌, ◌≤◌, ◌⊎◌, List, [], ◌∷◌, ◌++◌, length, inl, inr, ⊎_elim, sym, ap, ◌∙◌, subst, arith, length-append}
 use Rattle.std.proofs.Math.Seq.{get_or-append_seam}
 use Rattle.std.proofs.lemmas.List.{get_or_append_left}
 use Rattle.std.proofs.lemmas.Bool.{cases_lt, cases_eq}
-use Rattle.lalrpop_lexer.specs.Runs.{Edge, edge_at, IsFirstSeen}
+use Rattle.lalrpop_lexer.specs.Runs.{Edge, edge_at}
 use Rattle.lalrpop_lexer.specs.Explore.{IsGrowing}
 
 module _ (edges edges' : ℕ → List Edge) (cur : ℕ) (e : Edge) (same : (s : ℕ) → (s ≡ cur → ⊥) → edges' s ≡ edges s) (grown : edges' cur ≡ edges cur ++ e ∷ []) where

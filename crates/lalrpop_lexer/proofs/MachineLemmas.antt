@@ -1,9 +1,9 @@
 -- What a run of a deterministic automaton tells of the other one. For the making of the automaton.
-use Rattle.std.proofs.Common.{◌≡◌, ℕ, zero, suc, ◌<◌, ◌↔◌, List, [], ◌∷◌, ◌++◌, length, Contains, inl, inr, sym, ap, ◌∙◌, refl, subst, arith}
-use Rattle.lalrpop_nfa.specs.Paths.{Table, Reads}
-use Rattle.lalrpop_nfa.specs.Sets.{IsClosed, IsStep, Arrives, start, free, read, IsSetOf}
+use Rattle.std.proofs.Common.{ℕ, ◌<◌, List}
+use Rattle.lalrpop_nfa.specs.Paths.{Table}
+use Rattle.lalrpop_nfa.specs.Sets.{Arrives, start, free, read, IsSetOf}
 use Rattle.lalrpop_nfa.proofs.ArrivalLemmas.{set_start, set_step}
-use Rattle.lalrpop_lexer.specs.Runs.{Edge, edge_at, Goes, Runs, here, more}
+use Rattle.lalrpop_lexer.specs.Runs.{Edge, edge_at, Runs, here, more}
 use Rattle.lalrpop_lexer.specs.Sets.{set_at, IsMachine}
 
 module _ (t : Table) (begin : ℕ) (sets : List (List ℕ)) (edges : ℕ → List Edge) (n : ℕ) (machine : IsMachine t begin sets edges n) where

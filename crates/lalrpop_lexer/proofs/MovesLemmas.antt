@@ -1,5 +1,5 @@
 -- Where edges lead for each range, gathered edge by edge. For the moves of a set of states.
-use Rattle.std.proofs.Common.{◌≡◌, ℕ, ◌+◌, ◌<◌, ◌≤◌, ◌⊎◌, List, [], ◌∷◌, ◌++◌, length, get_or, set, take, map, Contains, Vec, Global, inl, inr, ⊎_elim, sym, ap, ◌∙◌, refl, subst, arith, eqb, eq-eqb, replicate}
+use Rattle.std.proofs.Common.{◌≡◌, ℕ, ◌+◌, ◌<◌, ◌≤◌, ◌⊎◌, List, [], ◌∷◌, ◌++◌, length, get_or, set, map, Contains, Vec, Global, inl, inr, ⊎_elim, sym, ap, ◌∙◌, refl, subst, arith, eqb, eq-eqb}
 use Rattle.std.specs.Prelude.{filter}
 use Rattle.std.proofs.lemmas.Bool.{eqb-true, cases_lt, cases_eq}
 use Rattle.std.proofs.lemmas.List.{map-set, get_or-map, get_or-set_same, get_or-set_other, length-set, length-map, get_or_past, get_or_push, get_or_append_left, length_push, map_push}

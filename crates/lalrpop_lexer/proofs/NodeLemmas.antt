@@ -2,7 +2,7 @@
 use Rattle.std.proofs.Common.{◌≡◌, ℕ, zero, suc, ◌+◌, ◌<◌, ◌≤◌, ◌⊎◌, List, [], ◌∷◌, ◌++◌, length, get_or, set, map, Vec, Global, Option, Some, None, inl, inr, ⊎_elim, sym, ap, ◌∙◌, refl, subst, arith}
 use Rattle.std.specs.Prelude.{slice_get}
 use Rattle.std.proofs.lemmas.Bool.{cases_lt, cases_eq}
-use Rattle.std.proofs.lemmas.List.{map-set, get_or-set_same, get_or-set_other, length-set, length-map, get_or_past, get_or_push, get_or_append_left, length_push, map_push}
+use Rattle.std.proofs.lemmas.List.{map-set, get_or-set_same, get_or-set_other, length-map, get_or_past, get_or_push, get_or_append_left, length_push, map_push}
 use Rattle.lalrpop_lexer.specs.declared.state.State.{State}
 use Rattle.lalrpop_nfa.specs.Paths.{Table}
 use Rattle.lalrpop_lexer.specs.Runs.{Edge}

@@ -1,5 +1,5 @@
 -- The pieces that what edges read falls into. For the making of the pieces.
-use Rattle.std.proofs.Common.{◌≡◌, ℕ, ◌+◌, ◌<◌, ◌≤◌, ◌⊎◌, List, [], ◌∷◌, length, get_or, map, Contains, All, AllPairs, inl, inr, ⊎_elim, sym, ap, ◌∙◌, refl, subst, arith, eqb, eq-eqb}
+use Rattle.std.proofs.Common.{◌≡◌, ℕ, ◌+◌, ◌<◌, ◌≤◌, ◌⊎◌, List, [], ◌∷◌, length, get_or, map, Contains, inl, inr, ⊎_elim, sym, ap, ◌∙◌, refl, subst, arith, eqb, eq-eqb}
 use Rattle.std.specs.Prelude.{filter}
 use Rattle.std.specs.Ordering.{match_ordering, ordering_then, nat_cmp}
 use Rattle.std.proofs.lemmas.Map.Lookups.{exact_unsigned}
@@ -11,9 +11,9 @@ use Rattle.std.proofs.lemmas.List.{get_or-map, get_or_default}
 use Rattle.std.proofs.lemmas.List.Elements.{All-get_or}
 use Rattle.lalrpop_nfa.specs.declared.test.Test.{Test}
 use Rattle.lalrpop_nfa.specs.declared.edge.Edge.{Edge}
-use Rattle.lalrpop_nfa.specs.Paths.{Table, TestEdge, Reads, test_of}
+use Rattle.lalrpop_nfa.specs.Paths.{Table, TestEdge, test_of}
 use Rattle.lalrpop_nfa.proofs.ListLemmas.{Contains-nil, Contains-head, Contains-tail, Contains-cons_cases, Contains-filter, Contains-from_map}
-use Rattle.lalrpop_nfa.specs.Ranges.{Holds, IsPiece, IsSplit}
+use Rattle.lalrpop_nfa.specs.Ranges.{IsPiece, IsSplit}
 use Rattle.lalrpop_lexer.specs.Moves.{start_at}
 use Rattle.lalrpop_lexer.specs.Explore.{end_at, ArePieces}
 

@@ -1,9 +1,9 @@
-use Rattle.std.proofs.Common.{◌≡◌, ℕ, zero, suc, ◌+◌, ◌<◌, ◌≤◌, ◌⊎◌, List, [], ◌∷◌, ◌++◌, length, inl, inr, ⊎_elim, sym, ap, ◌∙◌, refl, subst, arith, length-append}
+use Rattle.std.proofs.Common.{◌≡◌, ℕ, zero, suc, ◌<◌, ◌≤◌, List, [], ◌∷◌, ◌++◌, inl, inr, ⊎_elim, sym, ap, subst, arith, length-append}
 use Rattle.std.proofs.lemmas.Bool.{cases_lt}
-use Rattle.lalrpop_pattern.specs.Wins.{IsLess, ComesBefore}
+use Rattle.lalrpop_pattern.specs.Wins.{ComesBefore}
 use Rattle.lalrpop_lexer.specs.Runs.{IsNoLater}
 use Rattle.lalrpop_lexer.specs.Runs.{Edge, edge_at, Goes, Runs, here, more, IsFirstSeen}
-use Rattle.lalrpop_lexer.proofs.OrderLemmas.{ComesBefore-irrefl, ComesBefore-trans, ComesBefore-snoc, ComesBefore-last, IsNoLater-nil, IsNoLater-trans, IsNoLater-snoc, not_before, before_no_later}
+use Rattle.lalrpop_lexer.proofs.OrderLemmas.{ComesBefore-snoc, ComesBefore-last, IsNoLater-nil, IsNoLater-trans, IsNoLater-snoc, not_before, before_no_later}
 
 -- the words along the edges where states were first seen
 pub record AreWords (edges : ℕ → List Edge) (n : ℕ) (parent place : ℕ → ℕ) (word : ℕ → List ℕ) : Type 0 where

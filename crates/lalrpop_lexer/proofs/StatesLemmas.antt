@@ -1,5 +1,5 @@
 -- Sets of states by the numbers that they were given. For the states of an automaton under way.
-use Rattle.std.proofs.Common.{◌≡◌, ℕ, ◌+◌, ◌<◌, ◌≤◌, ◌⊎◌, ◌↔◌, List, [], ◌∷◌, ◌++◌, length, get_or, take, map, Contains, All, Vec, Global, Bool, true, false, cond, Option, Some, None, inl, inr, ⊎_elim, sym, ap, ◌∙◌, refl, subst, arith}
+use Rattle.std.proofs.Common.{◌≡◌, ℕ, ◌+◌, ◌<◌, ◌↔◌, List, [], ◌∷◌, ◌++◌, length, get_or, take, Contains, All, Vec, Global, Bool, true, false, Some, ⊎_elim, sym, ap, ◌∙◌, refl, subst, arith}
 use Rattle.std.specs.Map.{lookup}
 use Rattle.std.specs.Ordering.{match_ordering, is_eq, nat_cmp}
 use Rattle.std.specs.Cmp.Lexicographic.{slice_cmp}
@@ -7,15 +7,13 @@ use Rattle.std.proofs.lemmas.Map.Lookups.{exact_bytes}
 use Rattle.std.specs.declared.cmp.Ordering.{Ordering}
 use Rattle.std.specs.declared.cmp.Ordering.TheVariants.{Less, Equal, Greater}
 use Rattle.std.specs.BTreeMap.{insert_entry}
-use Rattle.std.proofs.lemmas.Bool.{cases_lt}
 use Rattle.std.proofs.lemmas.List.{get_or_append_left, map_push, length-map, get_or_push, take_more, length_push}
-use Rattle.std.proofs.lemmas.List.Elements.{Contains-push, Contains-push_cases, Contains-append_left, All-head, All-tail, All-push, All-contains, All-weaker, Contains-get_or, All-cons, All-nil}
+use Rattle.std.proofs.lemmas.List.Elements.{Contains-push, Contains-push_cases, Contains-append_left, All-head, All-tail, All-cons, All-nil}
 use Rattle.lalrpop_nfa.specs.Paths.{Table}
-use Rattle.lalrpop_nfa.specs.Sets.{Follows, IsClosed, Inserts}
-use Rattle.lalrpop_nfa.proofs.ListLemmas.{Contains-nil}
+use Rattle.lalrpop_nfa.specs.Sets.{IsClosed, Inserts}
 use Rattle.lalrpop_nfa.proofs.SetLemmas.{Inserts-old, Inserts-new, Inserts-cases}
 use Rattle.lalrpop_lexer.specs.Moves.{lists, items_at}
-use Rattle.lalrpop_lexer.specs.States.{AreNumbered, IsFound, AreInside}
+use Rattle.lalrpop_lexer.specs.States.{AreNumbered}
 
 -- the same members give the same closed set
 pub IsClosed-along : (t : Table) (old other new : List ℕ) → ((x : ℕ) → Contains old x → Contains other x) → ((x : ℕ) → Contains other x → Contains old x) → IsClosed t old new → IsClosed t other new

@@ -1,9 +1,9 @@
 -- The first edge that reads a number, and what words lead through. For all that follows the automaton along a text.
-use Rattle.std.proofs.Common.{◌≡◌, ℕ, zero, suc, ◌+◌, ◌<◌, ◌≤◌, ◌⊎◌, List, [], ◌∷◌, ◌++◌, length, get_or, Bool, true, false, cond, ◌&&◌, Option, Some, None, inl, inr, ⊎_elim, sym, ap, ◌∙◌, refl, subst, arith, append_assoc}
+use Rattle.std.proofs.Common.{◌≡◌, ℕ, zero, suc, ◌<◌, ◌≤◌, ◌⊎◌, List, [], ◌∷◌, ◌++◌, length, Bool, true, false, cond, ◌&&◌, Some, None, inl, inr, ⊎_elim, sym, ap, ◌∙◌, refl, subst, arith, append_assoc}
 use Rattle.std.specs.Prelude.{find, option_map, nat_le}
 use Rattle.std.proofs.lemmas.Bool.{leb-true, le-leb}
 use Rattle.std.proofs.lemmas.List.{same_from_push}
-use Rattle.lalrpop_nfa.specs.Paths.{Table, Leads, Reads}
+use Rattle.lalrpop_nfa.specs.Paths.{Table, Reads}
 use Rattle.lalrpop_nfa.specs.Sets.{Arrives, start, free, read}
 use Rattle.lalrpop_lexer.specs.Runs.{Edge, edge_at}
 use Rattle.lalrpop_lexer.specs.Machine.{step_of}

@@ -1,5 +1,5 @@
 -- The states that have their edges, one more after another. For the loop that explores all states.
-use Rattle.std.proofs.Common.{◌≡◌, ℕ, ◌+◌, ◌<◌, ◌≤◌, ◌⊎◌, List, [], ◌∷◌, ◌++◌, length, Contains, Vec, Global, inl, inr, ⊎_elim, sym, ap, ◌∙◌, refl, subst, arith}
+use Rattle.std.proofs.Common.{◌≡◌, ℕ, ◌+◌, ◌<◌, ◌≤◌, List, [], ◌∷◌, length, Contains, Vec, Global, inl, ⊎_elim, sym, ap, ◌∙◌, subst, arith}
 use Rattle.std.proofs.lemmas.Bool.{cases_lt}
 use Rattle.lalrpop_nfa.specs.Paths.{Table, Reads}
 use Rattle.lalrpop_nfa.specs.Sets.{IsClosed, IsStep}

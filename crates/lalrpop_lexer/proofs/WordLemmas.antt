@@ -1,6 +1,6 @@
 -- For each state the word along the edges where the states on the way to it were first seen. For the first tie.
-use Rattle.std.proofs.Common.{◌≡◌, ℕ, zero, suc, ◌<◌, ◌≤◌, List, [], ◌∷◌, ◌++◌, length, sym, ap, ◌∙◌, refl, subst, arith}
-use Rattle.lalrpop_lexer.specs.Runs.{Edge, edge_at, Goes, Runs, here, more, IsFirstSeen}
+use Rattle.std.proofs.Common.{◌≡◌, ℕ, zero, suc, ◌<◌, ◌≤◌, List, [], ◌∷◌, ◌++◌, length, sym, ap, refl, subst, arith}
+use Rattle.lalrpop_lexer.specs.Runs.{Edge, edge_at, Runs, here, more, IsFirstSeen}
 use Rattle.lalrpop_lexer.proofs.RunLemmas.{AreWords}
 
 -- the word of a state that is reached from 0 in at most so many steps

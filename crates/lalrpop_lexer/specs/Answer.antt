@@ -1,5 +1,5 @@
 -- What an automaton answers, as a part of the text.
-use Rattle.std.specs.Prelude.{◌≡◌, ℕ, List, ◌++◌, Option, Some, length}
+use Rattle.std.specs.Prelude.{◌≡◌, ℕ, List, ◌++◌, Some, length}
 use Rattle.std.specs.Str.{chars}
 use Rattle.lalrpop_lexer.specs.Machine.{Node, answer_of}
 

@@ -1,5 +1,5 @@
 -- Where the edges from a set of states lead, for each of some ranges.
-use Rattle.std.specs.Prelude.{◌≡◌, ℕ, ◌<◌, ◌⊎◌, ◌↔◌, List, [], length, map, Contains, Vec, slice_index_or}
+use Rattle.std.specs.Prelude.{◌≡◌, ℕ, ◌<◌, ◌⊎◌, List, [], length, map, Contains, Vec, slice_index_or}
 use Rattle.std.specs.declared.alloc.Global.{Global}
 use Rattle.lalrpop_nfa.specs.declared.edge.Edge.{Edge}
 use Rattle.lalrpop_nfa.specs.declared.test.Test.{Test}

@@ -1,5 +1,5 @@
 -- Runs of an automaton whose states are numbered as they were first seen.
-use Rattle.std.specs.Prelude.{◌≡◌, ℕ, zero, suc, ◌<◌, ◌≤◌, ◌⊎◌, List, [], ◌∷◌, ◌++◌, length, slice_index_or}
+use Rattle.std.specs.Prelude.{◌≡◌, ℕ, ◌<◌, ◌≤◌, ◌⊎◌, List, [], ◌∷◌, ◌++◌, length, slice_index_or}
 use Rattle.lalrpop_pattern.specs.Wins.{ComesBefore}
 
 -- an edge: the first and the last number that it reads, and the state that it leads to

@@ -1,5 +1,5 @@
 -- A deterministic automaton whose states are sets of the states of another one.
-use Rattle.std.specs.Prelude.{◌≡◌, ℕ, ◌<◌, List, [], ◌∷◌, length, slice_index_or, Contains}
+use Rattle.std.specs.Prelude.{ℕ, ◌<◌, List, [], ◌∷◌, length, slice_index_or, Contains}
 use Rattle.lalrpop_nfa.specs.Paths.{Table, Reads}
 use Rattle.lalrpop_nfa.specs.Sets.{IsClosed, IsStep}
 use Rattle.lalrpop_lexer.specs.Runs.{Edge, edge_at, Goes}

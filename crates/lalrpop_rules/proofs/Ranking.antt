@@ -1,10 +1,9 @@
 -- Levels and ranks of a rule's alternatives, place by place: for the making of an enabled rule.
-use Rattle.std.proofs.Common.{◌≡◌, ℕ, ◌+◌, ◌≤◌, ◌<◌, zero, suc, Bool, true, false, ◌||◌, ◌&&◌, List, [], ◌∷◌, ◌++◌, Option, Some, None, refl, ap, sym, ◌∙◌, map, length, drop, arith}
+use Rattle.std.proofs.Common.{◌≡◌, ℕ, ◌+◌, ◌≤◌, ◌<◌, suc, Bool, true, false, ◌||◌, ◌&&◌, List, [], ◌∷◌, ◌++◌, Option, Some, None, refl, ap, sym, ◌∙◌, map, length, drop, arith}
 use Rattle.std.proofs.lemmas.Bool.{lt-ltb, le-ltb}
 use Rattle.std.proofs.lemmas.List.{append_assoc}
 use Rattle.std.specs.Prelude.{filter, filter_map, if◌then◌else◌, codes, option_map, max, nat_lt}
 use Rattle.std.specs.List.{list_any}
-use Rattle.std.specs.Borrow.{Bor}
 use Rattle.lalrpop_symbols.specs.Symbols.{Text}
 use Rattle.lalrpop_grammar.specs.Written.{Alternative, Origin, alternative, start}
 use Rattle.lalrpop_grammar.specs.Views.{alternative as alternative_seen, a_nonterminal}
@@ -14,7 +13,7 @@ use Rattle.lalrpop_written.specs.Enabled.{Choice as PureChoice, EnabledRule as P
 use Rattle.lalrpop_written.specs.Levels as pure
 use Rattle.lalrpop_rules.specs.Ranks.{rank}
 use Rattle.lalrpop_rules.specs.declared.levels.Rank.{Rank}
-use Rattle.lalrpop_rules.specs.Details.{Detailed, IsRanked, Kept, and_level, detailed, detailed_at, detailed_with, details, is_leveled, last_of, level_at, level_of_rank, levels_in, next_rank, ranked_at, ranked_from, tightened, tighter_in}
+use Rattle.lalrpop_rules.specs.Details.{IsRanked, Kept, and_level, detailed, detailed_at, detailed_with, details, is_leveled, last_of, level_of_rank, levels_in, next_rank, ranked_at, ranked_from, tightened, tighter_in}
 use Rattle.lalrpop_rules.specs.declared.rule.Choice.{Choice}
 use Rattle.lalrpop_rules.specs.declared.rule.Ranked.{Ranked}
 

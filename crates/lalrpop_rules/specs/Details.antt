@@ -1,6 +1,5 @@
 -- What the program keeps of an enabled rule: its alternatives by their places, with ranks and the next tighter levels.
-use Rattle.std.specs.Prelude.{ℕ, ◌+◌, ◌≡◌, Bool, true, false, ◌&&◌, nat_lt, List, [], ◌∷◌, Option, Some, None, option_map, option_and_then, filter, map, codes}
-use Rattle.std.specs.Borrow.{Bor}
+use Rattle.std.specs.Prelude.{ℕ, ◌+◌, ◌≡◌, Bool, true, false, ◌&&◌, nat_lt, List, [], ◌∷◌, Option, Some, None, option_map, filter, map, codes}
 use Rattle.lalrpop_symbols.specs.Symbols.{Text}
 use Rattle.lalrpop_grammar.specs.Written.{Alternative, alternative, start}
 use Rattle.lalrpop_grammar.specs.Views.{alternative as alternative_seen, a_nonterminal}

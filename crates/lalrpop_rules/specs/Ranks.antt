@@ -1,5 +1,5 @@
 -- Ranks as the program holds them, and what attributes say of them.
-use Rattle.std.specs.Prelude.{ℕ, ◌+◌, ◌-◌, ◌*◌, ◌^◌, ◌&&◌, nat_le, nat_lt, List, Option, Some, None, option_map, option_and_then, if◌then◌else◌, codes}
+use Rattle.std.specs.Prelude.{ℕ, ◌+◌, ◌-◌, ◌*◌, ◌^◌, ◌&&◌, nat_le, nat_lt, List, Option, Some, None, option_map, if◌then◌else◌, codes}
 use Rattle.lalrpop_symbols.specs.Symbols.{Text}
 use Rattle.lalrpop_grammar.specs.Written.{Attr, Attrs, plain, paren, equal, done, and_attr, same_text}
 use Rattle.lalrpop_written.specs.Levels as pure

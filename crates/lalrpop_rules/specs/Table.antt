@@ -1,5 +1,5 @@
 -- What the table of a grammar's rules and bare names holds.
-use Rattle.std.specs.Prelude.{ℕ, ◌≡◌, true, false, Bool, ◌||◌, List, [], ◌∷◌, ◌++◌, Option, Some, None, option_map, filter, flat_map, map, is_some}
+use Rattle.std.specs.Prelude.{◌≡◌, true, false, Bool, List, [], ◌∷◌, Option, Some, None, option_map, filter, flat_map, map, is_some}
 use Rattle.std.specs.Borrow.{Bor}
 use Rattle.std.specs.HashMap.{HashMap, get_by}
 use Rattle.std.specs.Str.{bytes_eq}

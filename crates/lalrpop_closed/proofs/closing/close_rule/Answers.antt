@@ -1,4 +1,4 @@
-use Rattle.std.proofs.Common.{◌≡◌, [], refl, rules, ◌∙◌}
+use Rattle.std.proofs.Common.{refl, rules, ◌∙◌}
 use Rattle.lalrpop_rules.specs.Details.{pure_of}
 use Rattle.lalrpop_closed.specs.Scopes.{scope_seen}
 use Rattle.lalrpop_closed.proofs.Calls.{name_refused, seen-Faulty}

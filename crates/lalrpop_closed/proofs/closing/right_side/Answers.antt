@@ -1,6 +1,5 @@
-use Rattle.std.proofs.Common.{◌≡◌, map, ap, ◌∙◌}
+use Rattle.std.proofs.Common.{◌≡◌, ap}
 use Rattle.std.specs.Prelude.{option_map}
-use Rattle.lalrpop_symbols.specs.Views.{symbol}
 use Rattle.lalrpop_grammar.specs.Views.{alternative}
 use Rattle.lalrpop_written.specs.Closing.{close_list, right_side}
 use Rattle.lalrpop_written.specs.Enabled.{choice_of}

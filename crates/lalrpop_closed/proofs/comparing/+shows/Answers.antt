@@ -1,4 +1,4 @@
-use Rattle.std.proofs.Common.{rules, ◌≡◌, map}
+use Rattle.std.proofs.Common.{rules}
 use Rattle.lalrpop_closed.proofs.Arguments.{call_with_some}
 use Rattle.lalrpop_closed.proofs.comparing.+shows.Goals as goal
 

@@ -1,4 +1,4 @@
-use Rattle.std.proofs.Common.{ℕ, ◌+◌, ◌*◌, map}
+use Rattle.std.proofs.Common.{◌+◌, ◌*◌, map}
 use Rattle.lalrpop_closed.specs.Views.{closed, closeds}
 use Rattle.lalrpop_closed.proofs.Sizes.{size, sizes}
 use Rattle.lalrpop_closed.proofs.comparing.+shows.Given as goal

@@ -1,4 +1,4 @@
-use Rattle.std.proofs.Common.{◌≡◌, ◌≢◌, ◌<◌, ℕ, All, List, get_or, arith, rules}
+use Rattle.std.proofs.Common.{◌≢◌, ◌<◌, ℕ, All, get_or, arith}
 use Rattle.std.proofs.lemmas.List.{get_or_default}
 use Rattle.std.specs.Prelude.{is_some}
 use Rattle.regex.specs.Names.{names_of}

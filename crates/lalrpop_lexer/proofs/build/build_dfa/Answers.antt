@@ -1,8 +1,7 @@
-use Rattle.std.proofs.Common.{ℕ, ◌≡◌, ◌+◌, ◌<◌, ◌++◌, ◌∙◌, arith, refl, ap, sym, List, Vec, Global, map, length, take, drop, subst}
+use Rattle.std.proofs.Common.{ℕ, ◌≡◌, ◌<◌, ◌∙◌, arith, ap, sym, List, Vec, Global, map, length, drop, subst}
 use Rattle.std.proofs.lemmas.List.{length-map, take_at}
 use Rattle.std.proofs.lemmas.Result.{err_from_is_err_and}
 use Rattle.lalrpop_pattern.specs.Meaning.{meaning}
-use Rattle.lalrpop_pattern.specs.Matches.{Pattern}
 use Rattle.lalrpop_nfa.specs.declared.automaton.TheConstants.{START}
 use Rattle.lalrpop_nfa.specs.Paths.{table_of}
 use Rattle.lalrpop_lexer.specs.declared.outcome.Precedence.{Precedence}

@@ -1,4 +1,4 @@
-use Rattle.std.proofs.Common.{◌≡◌, ℕ, ◌∙◌, below_more, ap, sym}
+use Rattle.std.proofs.Common.{◌∙◌, below_more, ap, sym}
 use Rattle.std.proofs.lemmas.List.{get_or-map}
 use Rattle.lalrpop_pattern.specs.declared.tree.Hir.{Hir}
 use Rattle.lalrpop_pattern.specs.Matches.{empty}

@@ -1,4 +1,4 @@
-use Rattle.std.proofs.Common.{ℕ, ◌≡◌, ◌+◌, ◌<◌, ◌∙◌, arith, refl, ap, sym, List, [], Vec, Global, Contains, get_or, length, subst}
+use Rattle.std.proofs.Common.{ℕ, ◌≡◌, ◌+◌, ◌<◌, ◌∙◌, arith, ap, sym, List, [], Vec, Global, Contains, length, subst}
 use Rattle.std.proofs.lemmas.List.{get_or-map, length-map}
 use Rattle.lalrpop_lexer.specs.declared.outcome.Outcome.{Outcome}
 use Rattle.lalrpop_lexer.specs.declared.state.State.{State}

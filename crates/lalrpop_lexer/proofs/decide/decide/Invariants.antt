@@ -1,4 +1,3 @@
-use Rattle.std.proofs.Common.{◌≡◌, length}
 use Rattle.lalrpop_lexer.specs.Moves.{lists}
 use Rattle.lalrpop_lexer.specs.Outcome.{numbers}
 use Rattle.lalrpop_lexer.proofs.NodeLemmas.{AreDecided}

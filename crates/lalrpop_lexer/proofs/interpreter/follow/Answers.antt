@@ -1,13 +1,10 @@
-use Rattle.std.proofs.Common.{ℕ, ◌≡◌, ◌++◌, ◌∷◌, [], ◌+◌, List, Option, Some, None, length, map, sym, ap, ◌∙◌, refl, subst, arith}
-use Rattle.std.specs.Prelude.{option_map, slice_get}
+use Rattle.std.proofs.Common.{◌++◌, ◌∷◌, [], map, sym, ap, ◌∙◌}
+use Rattle.std.specs.Prelude.{option_map}
 use Rattle.std.specs.Str.Iter.{chars_rest}
 use Rattle.std.proofs.lemmas.Option.{slice_get-map}
-use denote.Ref.{Bor}
 use Rattle.lalrpop_nfa.proofs.TextLemmas.{read_char}
 use Rattle.lalrpop_lexer.specs.declared.kind.NfaIndex.{NfaIndex}
-use Rattle.lalrpop_lexer.specs.declared.state.State.{State}
 use Rattle.lalrpop_lexer.specs.Nodes.{node_of}
-use Rattle.lalrpop_lexer.specs.Machine.{next_node}
 use Rattle.lalrpop_lexer.proofs.FollowLemmas.{follow_start, follow_dead, follow_on, follow_accepted, follow_end, follow_answer}
 use Rattle.lalrpop_lexer.proofs.interpreter.follow.Goals as goal
 use Rattle.lalrpop_lexer.proofs.interpreter.follow.Goals.{In-Some-next_state}

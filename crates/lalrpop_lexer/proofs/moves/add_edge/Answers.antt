@@ -1,6 +1,5 @@
-use Rattle.std.proofs.Common.{arith, ◌≡◌, ◌<◌, ◌≤◌, ℕ, ◌++◌, ◌∷◌, [], ◌∙◌, ap, sym, refl, get_or, length, Vec, Global}
+use Rattle.std.proofs.Common.{arith, ◌<◌, ℕ, ◌++◌, ◌∷◌, [], ◌∙◌, ap, sym, length, Vec, Global}
 use Rattle.std.proofs.lemmas.List.{get_or-map}
-use Rattle.lalrpop_lexer.specs.Moves.{items_at, start_at}
 use Rattle.lalrpop_lexer.proofs.MovesLemmas.{goes_past, goes_rest, goes_more_push, start_is, starts_rise}
 use Rattle.lalrpop_lexer.proofs.moves.add_edge.Goals as goal
 

@@ -1,5 +1,4 @@
-use Rattle.std.proofs.Common.{ℕ, ◌≡◌, ◌+◌, ◌-◌, ◌/◌, ◌<◌, ◌≤◌, ◌∙◌, arith, sym, length}
-use Rattle.lalrpop_lexer.specs.Moves.{start_at}
+use Rattle.std.proofs.Common.{◌+◌, ◌-◌, ◌/◌, ◌<◌, arith, length}
 use Rattle.lalrpop_lexer.proofs.MovesLemmas.{start_is, starts_rise}
 use Rattle.lalrpop_lexer.proofs.moves.first_from.Goals as goal
 

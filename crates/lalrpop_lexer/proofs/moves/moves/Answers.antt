@@ -1,6 +1,5 @@
-use Rattle.std.proofs.Common.{arith, ◌≡◌, ◌∙◌, ℕ, [], ap, sym, refl, get_or, length, take, drop}
+use Rattle.std.proofs.Common.{arith, ◌∙◌, ap, refl, length, drop}
 use Rattle.std.proofs.lemmas.List.{take_more, take_at, take_all, length_push}
-use Rattle.lalrpop_nfa.specs.declared.edge.Edge.{Edge}
 use Rattle.lalrpop_nfa.specs.declared.test.Test.{Test}
 use Rattle.lalrpop_nfa.specs.declared.edges.EdgeIterator.{EdgeIterator}
 use Rattle.lalrpop_nfa.specs.Labels.{front_from}

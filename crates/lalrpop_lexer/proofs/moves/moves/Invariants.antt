@@ -1,4 +1,4 @@
-use Rattle.std.proofs.Common.{◌≡◌, ℕ, [], take, length, map, get_or}
+use Rattle.std.proofs.Common.{◌≡◌, ℕ, [], take, length, get_or}
 use Rattle.lalrpop_nfa.specs.Labels.{front_from}
 use Rattle.lalrpop_nfa.specs.Paths.{table_of}
 use Rattle.lalrpop_lexer.specs.Moves.{items_at, AreMoves}

@@ -1,4 +1,4 @@
-use Rattle.std.proofs.Common.{ℕ, ◌≡◌, ◌+◌, ◌<◌, ◌≤◌, ◌∙◌, inl, inr, arith, refl, ap, sym, List, Contains, get_or, length}
+use Rattle.std.proofs.Common.{ℕ, ◌≡◌, ◌+◌, ◌<◌, ◌∙◌, inl, inr, arith, Contains, get_or, length}
 use Rattle.std.proofs.lemmas.List.{get_or_default, length-map}
 use Rattle.lalrpop_lexer.specs.declared.outcome.Precedence.{Precedence}
 use Rattle.lalrpop_lexer.specs.Outcome.{numbers}

@@ -1,4 +1,4 @@
-use Rattle.std.proofs.Common.{ℕ, ◌≡◌, ◌+◌, ◌-◌, ◌<◌, ◌≤◌, ◌∙◌, arith, refl, ap, sym, List, Contains, get_or, length, take}
+use Rattle.std.proofs.Common.{◌-◌, ◌≤◌, arith, get_or, take}
 use Rattle.std.proofs.lemmas.List.{take_more, take_all}
 use Rattle.std.proofs.lemmas.List.Sorted.{Contains-permutation, IsPermutation-sym, IsNonDecreasingBy-from_sort}
 use Rattle.lalrpop_lexer.proofs.OutcomeLemmas.{no_patterns, patterns_more, patterns_skip}

@@ -1,4 +1,4 @@
-use Rattle.std.proofs.Common.{arith, ◌≡◌, ◌∙◌, ◌<◌, ℕ, ap, sym, refl, subst}
+use Rattle.std.proofs.Common.{arith, ◌∙◌, ◌<◌, ap, refl}
 use Rattle.lalrpop_nfa.specs.declared.edge.Edge.{Edge}
 use Rattle.lalrpop_nfa.specs.declared.test.Test.{Test}
 use Rattle.lalrpop_nfa.specs.declared.edges.EdgeIterator.{EdgeIterator}

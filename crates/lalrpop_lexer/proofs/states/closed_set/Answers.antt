@@ -1,4 +1,4 @@
-use Rattle.std.proofs.Common.{ℕ, ◌≡◌, ◌<◌, ◌∙◌, arith, refl, ap, sym, take, vec_len}
+use Rattle.std.proofs.Common.{◌<◌, ◌∙◌, arith, vec_len}
 use Rattle.std.proofs.lemmas.List.{take_all}
 use Rattle.lalrpop_nfa.specs.Paths.{table_of}
 use Rattle.lalrpop_nfa.proofs.SetLemmas.{Inserts-all}

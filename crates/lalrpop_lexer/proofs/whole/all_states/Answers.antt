@@ -1,4 +1,4 @@
-use Rattle.std.proofs.Common.{ℕ, ◌≡◌, ◌<◌, ◌≤◌, ◌∙◌, arith, refl, ap, sym, List, length, subst, vec_len}
+use Rattle.std.proofs.Common.{◌∙◌, arith, refl, sym, List, length, subst}
 use Rattle.lalrpop_nfa.specs.declared.automaton.TheConstants.{START}
 use Rattle.lalrpop_nfa.specs.Paths.{table_of}
 use Rattle.lalrpop_lexer.specs.declared.state.State.{State}

@@ -1,4 +1,4 @@
-use Rattle.std.proofs.Common.{◌≡◌, ◌++◌, List, length, map, drop, None}
+use Rattle.std.proofs.Common.{◌≡◌, ◌++◌, length, map, drop, None}
 use Rattle.std.specs.Prelude.{option_map}
 use Rattle.lalrpop_symbols.specs.Symbols.{Text}
 use Rattle.lalrpop_grammar.specs.Views.{alternative}

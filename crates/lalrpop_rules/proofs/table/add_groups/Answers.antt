@@ -1,9 +1,8 @@
 use Rattle.std.proofs.Common.{◌≡◌, ◌∷◌, ◌||◌, ◌+◌, ap, sym, ◌∙◌, drop}
 use Rattle.std.proofs.lemmas.List.{drop_more}
-use Rattle.lalrpop_grammar.specs.Views.{entry, item}
-use Rattle.lalrpop_written.specs.Enabled.{bare_of, lists}
-use Rattle.lalrpop_rules.specs.Table.{bares_of_entries, bares_of_groups, bares_of_item, bares_of_items, knows}
-use Rattle.lalrpop_rules.proofs.Bares.{items_split, names_on}
+use Rattle.lalrpop_written.specs.Enabled.{lists}
+use Rattle.lalrpop_rules.specs.Table.{bares_of_entries, bares_of_groups, knows}
+use Rattle.lalrpop_rules.proofs.Bares.{names_on}
 use Rattle.lalrpop_rules.proofs.table.add_groups.Goals as goal
 
 pub loop-group-preserved : goal.loop-group-preserved

@@ -1,6 +1,6 @@
-use Rattle.std.proofs.Common.{ℕ, ◌≡◌, ◌+◌, ◌-◌, ◌/◌, ◌<◌, ◌≤◌, ◌∙◌, arith, refl, ap, sym, List, Some, get_or, length, subst}
+use Rattle.std.proofs.Common.{◌+◌, ◌-◌, ◌/◌, ◌<◌, ◌∙◌, arith, ap, sym, Some, length}
 use Rattle.std.proofs.lemmas.List.{length-map}
-use Rattle.lalrpop_lexer.specs.Runs.{Edge, edge_at}
+use Rattle.lalrpop_lexer.specs.Runs.{Edge}
 use Rattle.lalrpop_lexer.specs.Explore.{edge_of, edges_of}
 use Rattle.lalrpop_lexer.proofs.FollowLemmas.{edge_is, narrow_low, narrow_high, step_found, step_missing}
 use Rattle.lalrpop_lexer.proofs.state.State.target.Goals as goal

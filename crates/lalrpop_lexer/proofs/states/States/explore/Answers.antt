@@ -1,12 +1,12 @@
-use Rattle.std.proofs.Common.{ℕ, ◌≡◌, ◌<◌, ◌++◌, ◌∷◌, [], ◌∙◌, arith, refl, ap, sym, List, Vec, Global, Contains, length, get_or, All, subst, vec_len}
+use Rattle.std.proofs.Common.{ℕ, ◌≡◌, ◌<◌, [], ◌∙◌, arith, refl, ap, sym, List, Vec, Global, length, get_or, subst}
 use Rattle.std.proofs.lemmas.Bool.{eqb-true}
 use Rattle.std.proofs.lemmas.List.{get_or-map, map_push}
 use Rattle.std.proofs.lemmas.List.Elements.{Contains-get_or}
 use Rattle.lalrpop_nfa.specs.declared.test.Test.{Test}
 use Rattle.lalrpop_nfa.specs.Paths.{table_of}
 use Rattle.lalrpop_nfa.proofs.NfaLemmas.{reads_inside}
-use Rattle.lalrpop_lexer.specs.Moves.{items_at, start_at, AreMoves}
-use Rattle.lalrpop_lexer.specs.Explore.{edge_of, edges_of, end_at}
+use Rattle.lalrpop_lexer.specs.Moves.{items_at, AreMoves}
+use Rattle.lalrpop_lexer.specs.Explore.{edge_of, edges_of}
 use Rattle.lalrpop_lexer.proofs.ExploreLemmas.{explore_start, explore_more, explore_skip, explore_end, explore_apart}
 use Rattle.lalrpop_lexer.proofs.states.States.explore.Goals as goal
 use Rattle.lalrpop_lexer.proofs.states.States.explore.Goals.{In_ok-targets, then-not-is_empty+in_ok-to+in_ok-push, else-not-is_empty}
