@@ -1,5 +1,5 @@
 -- The longest run of underscores in a grammar's texts, and the prefix that is longer.
-use Rattle.std.proofs.Common.{◌≡◌, ◌≢◌, ℕ, zero, suc, ◌+◌, ◌<◌, ◌≤◌, max, List, [], ◌∷◌, ◌++◌, length, drop, get_or, replicate, Bool, true, false, cond, ◌==◌, arith, refl, ap, sym, ◌∙◌, add-one, drop-cons, append_assoc, ◌⊎◌, inl, inr, nat_le}
+use Rattle.std.proofs.Common.{◌≡◌, ℕ, zero, suc, ◌+◌, ◌<◌, ◌≤◌, max, List, [], ◌∷◌, ◌++◌, length, drop, get_or, Bool, true, false, cond, ◌==◌, arith, refl, ap, sym, ◌∙◌, add-one, drop-cons, ◌⊎◌, inl, inr, nat_le}
 use Rattle.std.specs.List.{All, Any}
 use Rattle.std.proofs.lemmas.List.{length-replicate}
 use borrow.Author.Tests.{eqb-true, eq-eqb, ne_eqb, leb-true, leb-false}

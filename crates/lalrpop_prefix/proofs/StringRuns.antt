@@ -1,5 +1,5 @@
 -- The longest run of underscores in the strings of a value, item by item and member by member: for the functions that find it.
-use Rattle.std.proofs.Common.{◌≡◌, ℕ, zero, suc, ◌+◌, ◌<◌, ◌≤◌, max, List, [], ◌∷◌, ◌++◌, length, drop, get_or, Option, Some, None, arith, refl, ap, sym, ◌∙◌, add-one, drop-cons, String, Global}
+use Rattle.std.proofs.Common.{◌≡◌, ℕ, zero, suc, ◌+◌, ◌<◌, ◌≤◌, max, List, [], ◌∷◌, ◌++◌, length, drop, get_or, Some, None, arith, refl, ap, add-one, drop-cons, String, Global}
 use Rattle.serde_json.specs.Data.{Data, null, boolean, number, string, array, object, Items, Members, depth, items_depth, members_depth}
 use Rattle.serde_json.specs.Find.{as_array, as_object, as_str}
 use Rattle.serde_json.specs.View.{view, items_view, members_view}

@@ -1,5 +1,5 @@
 -- Attributes: what is read is spelled so, and what is spelled so is read.
-use Rattle.std.proofs.Common.{◌≡◌, ℕ, ◌+◌, List, [], ◌∷◌, map, Option, Some, None, Result, Ok, true, refl, ap, sym, ◌∙◌}
+use Rattle.std.proofs.Common.{◌≡◌, ℕ, ◌+◌, List, [], ◌∷◌, map, Option, Some, Ok, true, refl, ap, sym, ◌∙◌}
 use Rattle.serde_json.specs.Data.{Data, null, boolean, number, string, array, object}
 use Rattle.serde_json.specs.View.{items_of}
 use Rattle.lalrpop_symbols.specs.declared.span.Span.{Span}
@@ -7,11 +7,9 @@ use Rattle.lalrpop_grammar.specs.declared.attribute.Attribute.{Attribute, fold-r
 use Rattle.lalrpop_grammar.specs.declared.attribute.AttributeArg.{AttributeArg, fold-roll-AttributeArg}
 use Rattle.lalrpop_grammar.specs.declared.attribute.AttributeArg.TheOpen as layer
 use Rattle.lalrpop_grammar.specs.declared.attribute.AttributeArg.TheVariants as args
-use Rattle.lalrpop_values.specs.declared.fault.Fault.{Fault}
 use Rattle.lalrpop_values.specs.declared.fault.Step.TheVariants as step
 use Rattle.lalrpop_values.specs.declared.form.Form.{Form}
 use Rattle.lalrpop_values.specs.declared.form.Form.TheVariants as form
-use Rattle.lalrpop_values.specs.declared.key.Key.{Key}
 use Rattle.lalrpop_values.specs.declared.key.Key.TheVariants as key
 use Rattle.lalrpop_values.specs.Forms.{told_by}
 use Rattle.lalrpop_values.specs.Key.{text_of}
@@ -19,10 +17,10 @@ use Rattle.lalrpop_values.specs.Lists.{list_at, list_from}
 use Rattle.lalrpop_values.specs.Nested.{Reader}
 use Rattle.lalrpop_values.specs.Objects.{field_at, keys_at}
 use Rattle.lalrpop_values.specs.Scalars.{is_name, name_at, span_at, text_at}
-use Rattle.lalrpop_values.specs.Spelled.{EachFrom, IsSpan, list_json, object_of, span_json}
+use Rattle.lalrpop_values.specs.Spelled.{EachFrom, IsSpan, list_json, object_of}
 use Rattle.lalrpop_values.proofs.ListLaws.{list_takes}
 use Rattle.lalrpop_values.proofs.Nesting.{nested_takes}
-use Rattle.lalrpop_values.proofs.ScalarLaws.{name_takes, name_again, span_takes, span_again, text_takes, text_again}
+use Rattle.lalrpop_values.proofs.ScalarLaws.{name_takes, name_again, span_takes, span_again, text_takes}
 use Rattle.lalrpop_values.proofs.Steps.{part, ok_same, object_ok}
 use Rattle.lalrpop_symbol_formats.specs.Attributes.{arg_at, arg_by, arg_rows, attribute_at, attribute_form, attribute_of, equal_at, paren_at}
 use Rattle.lalrpop_symbol_formats.specs.Readable.{IsReadableAttribute, attribute, IsReadableArg, plain, paren, equal, AreReadableAttributes, no_attribute, attribute_and}

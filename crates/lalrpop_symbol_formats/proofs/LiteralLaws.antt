@@ -1,20 +1,18 @@
 -- Literals and the terminals of tokens: what is read is spelled so, and what is spelled so is read.
-use Rattle.std.proofs.Common.{◌≡◌, List, [], ◌∷◌, Option, Some, Result, Ok, refl}
+use Rattle.std.proofs.Common.{◌≡◌, [], ◌∷◌, Option, Some, Ok, refl}
 use Rattle.serde_json.specs.Data.{Data}
 use Rattle.lalrpop_symbols.specs.declared.terminal.TerminalLiteral.{TerminalLiteral}
 use Rattle.lalrpop_symbols.specs.declared.terminal.TerminalLiteral.TheVariants as literals
 use Rattle.lalrpop_symbols.specs.declared.terminal.TerminalString.{TerminalString}
 use Rattle.lalrpop_symbols.specs.declared.terminal.TerminalString.TheVariants as terminals
-use Rattle.lalrpop_values.specs.declared.fault.Fault.{Fault}
 use Rattle.lalrpop_values.specs.declared.fault.Step.TheVariants as step
 use Rattle.lalrpop_values.specs.declared.form.Form.{Form}
 use Rattle.lalrpop_values.specs.declared.form.Form.TheVariants as form
-use Rattle.lalrpop_values.specs.declared.key.Key.{Key}
 use Rattle.lalrpop_values.specs.declared.key.Key.TheVariants as key
 use Rattle.lalrpop_values.specs.Forms.{told_by}
 use Rattle.lalrpop_values.specs.Key.{text_of}
 use Rattle.lalrpop_values.specs.Objects.{field_at, keys_at}
-use Rattle.lalrpop_values.specs.Scalars.{is_name, name_at, text_at}
+use Rattle.lalrpop_values.specs.Scalars.{name_at, text_at}
 use Rattle.lalrpop_values.proofs.ScalarLaws.{name_takes, name_again, text_takes}
 use Rattle.lalrpop_values.proofs.Steps.{bind_ok, part, ok_same, object_ok}
 use Rattle.lalrpop_symbol_formats.specs.Literals.{bare_at, literal_at, literal_by, literal_rows, quoted_at, regex_at, terminal_at, terminal_by, terminal_rows}

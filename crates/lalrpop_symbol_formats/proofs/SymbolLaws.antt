@@ -1,5 +1,5 @@
 -- Symbols: what is read is spelled so, and what is spelled so is read.
-use Rattle.std.proofs.Common.{◌≡◌, ℕ, ◌+◌, Bool, cond, false, Err, List, [], ◌∷◌, map, Option, Some, None, Result, Ok, true, refl, ap, sym, ◌∙◌}
+use Rattle.std.proofs.Common.{◌≡◌, ℕ, ◌+◌, Bool, cond, false, Err, List, [], ◌∷◌, map, Option, Some, Ok, true, refl, ap, sym, ◌∙◌}
 use Rattle.serde_json.specs.Data.{Data, null, boolean, number, string, array, object}
 use Rattle.serde_json.specs.View.{items_of}
 use Rattle.lalrpop_symbols.specs.declared.span.Span.{Span}
@@ -14,12 +14,10 @@ use Rattle.lalrpop_symbols.specs.declared.symbol.Symbol.{Symbol, fold-roll-Symbo
 use Rattle.lalrpop_symbols.specs.declared.symbol.SymbolKind.{SymbolKind, fold-roll-SymbolKind}
 use Rattle.lalrpop_symbols.specs.declared.symbol.SymbolKind.TheOpen as layer
 use Rattle.lalrpop_symbols.specs.declared.symbol.SymbolKind.TheVariants as kinds
-use Rattle.lalrpop_values.specs.declared.fault.Fault.{Fault}
 use Rattle.lalrpop_values.specs.declared.fault.Step.TheVariants as step
 use Rattle.lalrpop_values.specs.declared.fault.FaultKind.TheVariants as fault
 use Rattle.lalrpop_values.specs.declared.form.Form.{Form}
 use Rattle.lalrpop_values.specs.declared.form.Form.TheVariants as form
-use Rattle.lalrpop_values.specs.declared.key.Key.{Key}
 use Rattle.lalrpop_values.specs.declared.key.Key.TheVariants as key
 use Rattle.lalrpop_values.specs.declared.word.Word.{Word}
 use Rattle.lalrpop_values.specs.declared.word.Word.TheVariants as word
@@ -30,16 +28,16 @@ use Rattle.lalrpop_values.specs.Lists.{list_at, list_from}
 use Rattle.lalrpop_values.specs.Nested.{Reader}
 use Rattle.lalrpop_values.specs.Objects.{field_at, keys_at}
 use Rattle.lalrpop_values.specs.Scalars.{flag_at, is_name, is_word, name_at, span_at, word_at}
-use Rattle.lalrpop_values.specs.Spelled.{EachFrom, IsSpan, list_json, span_json, word_json}
+use Rattle.lalrpop_values.specs.Spelled.{EachFrom, IsSpan, list_json}
 use Rattle.lalrpop_values.specs.Word.{word_text}
 use Rattle.lalrpop_values.proofs.ListLaws.{list_takes}
 use Rattle.lalrpop_values.proofs.Nesting.{nested_takes}
 use Rattle.lalrpop_values.proofs.ScalarLaws.{flag_takes, name_takes, name_again, word_is, span_takes, span_again, word_takes}
-use Rattle.lalrpop_values.proofs.Steps.{bind_ok, part, ok_same, object_ok}
+use Rattle.lalrpop_values.proofs.Steps.{part, ok_same, object_ok}
 use Rattle.lalrpop_symbol_formats.specs.Literals.{literal_at}
 use Rattle.lalrpop_symbol_formats.specs.Readable.{IsReadableSymbol, id, terminal, group, macro, repeat, choose, named, lookahead, lookbehind, recovery, AreReadableSymbols, no_symbol, symbol_and}
-use Rattle.lalrpop_symbol_formats.specs.Spelling.{Kind, Call, Repeated, choose_json, expr_step, group_json, id_json, kind_json, kind_step, literal_json, literal_symbol_json, look_json, macro_json, macro_step, named_json, op_json, repeat_json, repeat_step, symbol_json, symbol_step}
-use Rattle.lalrpop_symbol_formats.specs.Symbols.{choose_at, form_of_symbol, group_at, group_of, id_at, literal_symbol_at, look_at, macro_at, macro_of, named_at, named_of, op_at, op_of, repeat_at, repeat_of, symbol_at, symbol_by, symbol_form, symbol_rows, symbol_words, written}
+use Rattle.lalrpop_symbol_formats.specs.Spelling.{Kind, Call, Repeated, choose_json, expr_step, group_json, id_json, kind_json, kind_step, literal_symbol_json, look_json, macro_json, macro_step, named_json, op_json, repeat_json, repeat_step, symbol_json, symbol_step}
+use Rattle.lalrpop_symbol_formats.specs.Symbols.{choose_at, form_of_symbol, group_at, group_of, id_at, literal_symbol_at, look_at, macro_at, macro_of, named_at, named_of, op_at, repeat_at, repeat_of, symbol_at, symbol_by, symbol_form, written}
 use Rattle.lalrpop_symbol_formats.proofs.LiteralLaws.{literal_takes, literal_again}
 use Rattle.lalrpop_symbol_formats.proofs.SymbolNesting.{symbol_opened}
 

@@ -1,17 +1,15 @@
 -- Types: what is read is spelled so, and what is spelled so is read.
-use Rattle.std.proofs.Common.{◌≡◌, ℕ, ◌+◌, Bool, false, is_some, List, [], ◌∷◌, map, Option, Some, None, Result, Ok, true, refl, ap, sym, ◌∙◌}
-use Rattle.serde_json.specs.Data.{Data, string, array, object}
+use Rattle.std.proofs.Common.{◌≡◌, ℕ, ◌+◌, Bool, false, is_some, List, [], ◌∷◌, map, Option, Some, None, Ok, true, refl, ap, sym, ◌∙◌}
+use Rattle.serde_json.specs.Data.{Data, string}
 use Rattle.serde_json.specs.Find.{as_null}
 use Rattle.serde_json.specs.View.{items_of}
 use Rattle.lalrpop_symbols.specs.declared.symbol.Symbol.{Symbol}
 use Rattle.lalrpop_grammar.specs.declared.type_ref.TypeRef.{TypeRef, fold-roll-TypeRef}
 use Rattle.lalrpop_grammar.specs.declared.type_ref.TypeRef.TheOpen as layer
 use Rattle.lalrpop_grammar.specs.declared.type_ref.TypeRef.TheVariants as types
-use Rattle.lalrpop_values.specs.declared.fault.Fault.{Fault}
 use Rattle.lalrpop_values.specs.declared.fault.Step.TheVariants as step
 use Rattle.lalrpop_values.specs.declared.form.Form.{Form}
 use Rattle.lalrpop_values.specs.declared.form.Form.TheVariants as form
-use Rattle.lalrpop_values.specs.declared.key.Key.{Key}
 use Rattle.lalrpop_values.specs.declared.key.Key.TheVariants as key
 use Rattle.lalrpop_values.specs.Forms.{told_by}
 use Rattle.lalrpop_values.specs.Key.{text_of}

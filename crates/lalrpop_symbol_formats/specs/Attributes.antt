@@ -1,5 +1,5 @@
 -- How attributes are read.
-use Rattle.std.specs.Prelude.{ℕ, List, [], ◌∷◌, Result, Ok, Err, Option, Some, None, is_some, if◌then◌else◌}
+use Rattle.std.specs.Prelude.{ℕ, List, [], ◌∷◌, Result, Ok, Err, Option, Some, is_some, if◌then◌else◌}
 use Rattle.serde_json.specs.Find.{as_null}
 use Rattle.lalrpop_grammar.specs.declared.attribute.Attribute.{Attribute, roll-Attribute}
 use Rattle.lalrpop_grammar.specs.declared.attribute.AttributeArg.{AttributeArg}

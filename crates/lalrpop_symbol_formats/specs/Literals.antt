@@ -1,5 +1,5 @@
 -- How literals and the terminals of tokens are read.
-use Rattle.std.specs.Prelude.{List, [], ◌∷◌, Result, Ok, Err, Option, Some, None}
+use Rattle.std.specs.Prelude.{List, [], ◌∷◌, Result, Ok, Err, Option, Some}
 use Rattle.lalrpop_symbols.specs.declared.terminal.TerminalLiteral.{TerminalLiteral}
 use Rattle.lalrpop_symbols.specs.declared.terminal.TerminalLiteral.TheVariants as literals
 use Rattle.lalrpop_symbols.specs.declared.terminal.TerminalString.{TerminalString}

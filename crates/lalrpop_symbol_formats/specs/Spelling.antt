@@ -1,13 +1,10 @@
 -- The one JSON value of a literal, a symbol, a type and an attribute.
-use Rattle.std.specs.Prelude.{ℕ, Bool, List, [], ◌∷◌, Option, Some, None}
+use Rattle.std.specs.Prelude.{ℕ, Bool, List, [], ◌∷◌, Option}
 use Rattle.serde_json.specs.Data.{Data, null, boolean, string, array}
 use Rattle.serde_json.specs.View.{items_of}
 use Rattle.lalrpop_symbols.specs.declared.span.Span.{Span}
-use Rattle.lalrpop_symbols.specs.declared.symbol.ExprSymbol.{ExprSymbol}
-use Rattle.lalrpop_symbols.specs.declared.symbol.MacroSymbol.{MacroSymbol}
 use Rattle.lalrpop_symbols.specs.declared.symbol.RepeatOp.{RepeatOp}
 use Rattle.lalrpop_symbols.specs.declared.symbol.RepeatOp.TheVariants as ops
-use Rattle.lalrpop_symbols.specs.declared.symbol.RepeatSymbol.{RepeatSymbol}
 use Rattle.lalrpop_symbols.specs.declared.symbol.Symbol.{Symbol}
 use Rattle.lalrpop_symbols.specs.declared.symbol.SymbolKind.{SymbolKind}
 use Rattle.lalrpop_symbols.specs.declared.symbol.SymbolKind.TheFolds as folds

@@ -1,8 +1,7 @@
 -- How symbols are read.
-use Rattle.std.specs.Prelude.{ℕ, Bool, List, [], ◌∷◌, Result, Ok, Err, Option, Some, None, if◌then◌else◌}
+use Rattle.std.specs.Prelude.{ℕ, Bool, List, [], ◌∷◌, Result, Ok, Err, Option, Some, if◌then◌else◌}
 use Rattle.serde_json.specs.Find.{as_str}
 use Rattle.lalrpop_symbols.specs.declared.span.Span.{Span}
-use Rattle.lalrpop_symbols.specs.declared.names.Name.{Name}
 use Rattle.lalrpop_symbols.specs.declared.symbol.ExprSymbol.{roll-ExprSymbol}
 use Rattle.lalrpop_symbols.specs.declared.symbol.MacroSymbol.{roll-MacroSymbol}
 use Rattle.lalrpop_symbols.specs.declared.symbol.RepeatOp.{RepeatOp}

@@ -1,5 +1,5 @@
 -- How declared types are read.
-use Rattle.std.specs.Prelude.{List, [], ◌∷◌, Result, Ok, Err, Option, Some, None}
+use Rattle.std.specs.Prelude.{List, [], ◌∷◌, Result, Ok, Err, Option, Some}
 use Rattle.lalrpop_grammar.specs.declared.type_ref.TypeRef.{TypeRef}
 use Rattle.lalrpop_grammar.specs.declared.type_ref.TypeRef.TheVariants as types
 use Rattle.serde_json.specs.Data.{Data}

@@ -1,11 +1,10 @@
 -- Lists: what is read is spelled so, and what is spelled so is read, where both hold of each item.
-use Rattle.std.proofs.Common.{◌≡◌, ℕ, ◌+◌, List, [], ◌∷◌, map, Result, Ok, Err, refl, ap, sym, ◌∙◌}
+use Rattle.std.proofs.Common.{◌≡◌, ℕ, ◌+◌, List, [], ◌∷◌, map, Result, Ok, refl, ap}
 use Rattle.serde_json.specs.Data.{Data, null, boolean, number, string, array, object, Items, no_items, item}
 use Rattle.serde_json.specs.View.{items_of}
 use Rattle.lalrpop_values.specs.declared.fault.Fault.{Fault}
 use Rattle.lalrpop_values.specs.declared.fault.Step.TheVariants.{Index}
-use Rattle.lalrpop_values.specs.Gives.{◌>>=◌, within}
-use Rattle.lalrpop_values.specs.Lists.{list_at, list_from, with_first}
+use Rattle.lalrpop_values.specs.Lists.{list_at, list_from}
 use Rattle.lalrpop_values.proofs.Steps.{bind_ok, part_ok}
 use Rattle.lalrpop_values.specs.Spelled.{EachFrom, list_json}
 

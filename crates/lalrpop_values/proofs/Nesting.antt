@@ -1,17 +1,16 @@
 -- Values inside values: for the readers that call each other, and the laws of what they read.
-use Rattle.std.proofs.Common.{◌≡◌, ℕ, zero, suc, ◌+◌, ◌<◌, ◌≤◌, max, List, [], ◌∷◌, length, get_or, Option, Some, None, Ok, Err, Result, arith, refl, ap, sym, ◌∙◌, Ordering, Less, Equal, Greater}
+use Rattle.std.proofs.Common.{◌≡◌, ℕ, zero, suc, ◌+◌, ◌<◌, ◌≤◌, max, List, [], ◌∷◌, length, get_or, Option, Some, None, Ok, arith, refl, ap, Ordering, Less, Equal, Greater}
 use Rattle.std.specs.Ordering.{nat_cmp, match_ordering}
 use Rattle.std.specs.Cmp.Lexicographic.{slice_cmp}
 use Rattle.serde_json.specs.Data.{Data, null, boolean, number, string, array, object, Items, no_items, item, Members, no_members, member, depth, items_depth, members_depth}
 use Rattle.serde_json.specs.Find.{get, get_member, as_array}
 use Rattle.serde_json.specs.View.{view, items_view}
 use Rattle.serde_json.specs.declared.value.Value.{Value}
-use Rattle.lalrpop_values.specs.declared.fault.Fault.{Fault}
 use Rattle.lalrpop_values.specs.declared.fault.Step.TheVariants as step
 use Rattle.lalrpop_values.specs.declared.key.Key.{Key}
 use Rattle.lalrpop_values.specs.Gives.{◌>>=◌, required, within}
 use Rattle.lalrpop_values.specs.Key.{text_of}
-use Rattle.lalrpop_values.specs.Lists.{list_at, list_from, with_first}
+use Rattle.lalrpop_values.specs.Lists.{list_at, list_from}
 use Rattle.lalrpop_values.specs.Nested.{Reader, to_depth, nested, AgreeBelow, IsInward}
 use Rattle.lalrpop_values.specs.Objects.{field_at, member_at}
 use Rattle.lalrpop_values.proofs.Steps.{required_ok}

@@ -3,17 +3,17 @@ use Rattle.std.proofs.Common.{◌≡◌, ℕ, ◌^◌, ◌<◌, ◌≤◌, List,
 use Rattle.std.specs.Prelude.{⊤}
 use Rattle.std.specs.Cmp.Lexicographic.{same_text}
 use borrow.Author.Tests.{ltb-true, ltb-false, le-ltb, lt-ltb}
-use Rattle.serde_json.specs.Data.{Data, null, boolean, number, string, array, object, Num, unsigned, negative, float, Items, no_items, item}
+use Rattle.serde_json.specs.Data.{Data, null, boolean, number, string, array, object, unsigned, negative, float, Items, no_items, item}
 use Rattle.serde_json.specs.Find.{as_null}
 use Rattle.lalrpop_symbols.specs.declared.span.Span.{Span}
 use Rattle.lalrpop_values.specs.declared.fault.Fault.{Fault}
 use Rattle.lalrpop_values.specs.declared.fault.FaultKind.TheVariants.{BadNumber}
 use Rattle.lalrpop_values.specs.declared.fault.Step.TheVariants.{Index}
 use Rattle.lalrpop_values.specs.declared.word.Word.{Word}
-use Rattle.lalrpop_values.specs.Gives.{◌>>=◌, here, required, within}
-use Rattle.lalrpop_values.specs.Scalars.{below_limit, empty, empty_list_at, flag_at, null_at, as_some, optional, is_name, is_word, name_at, number_at, ordered, pair_of, span_at, text_at, word_at}
+use Rattle.lalrpop_values.specs.Gives.{here, required}
+use Rattle.lalrpop_values.specs.Scalars.{empty, empty_list_at, flag_at, null_at, as_some, optional, is_name, is_word, name_at, number_at, ordered, pair_of, span_at, text_at, word_at}
 use Rattle.lalrpop_values.specs.Word.{word_text}
-use Rattle.lalrpop_values.proofs.Steps.{bind_ok, part_ok, guard_ok, required_ok, ok_same}
+use Rattle.lalrpop_values.proofs.Steps.{bind_ok, part_ok, guard_ok, ok_same}
 use Rattle.lalrpop_values.specs.Spelled.{IsSpan, IfSome, option_json, number_json, span_json, word_json}
 
 -- ---- numbers and spans

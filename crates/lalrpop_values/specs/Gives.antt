@@ -1,5 +1,5 @@
 -- What a reader answers, beside what reading gives.
-use Rattle.std.specs.Prelude.{◌≡◌, List, [], ◌∷◌, Result, Ok, Err, Option, Some, None}
+use Rattle.std.specs.Prelude.{◌≡◌, [], ◌∷◌, Result, Ok, Err, Option, Some, None}
 use Rattle.lalrpop_values.specs.declared.fault.Fault.{Fault}
 use Rattle.lalrpop_values.specs.declared.fault.FaultKind.{FaultKind}
 use Rattle.lalrpop_values.specs.declared.fault.FaultKind.TheVariants as fault

@@ -1,5 +1,5 @@
 -- Numbers, spans, texts, names and words as values.
-use Rattle.std.specs.Prelude.{ℕ, ◌^◌, List, [], ◌∷◌, Result, Ok, Err, Option, Some, None, is_some, nat_lt, if◌then◌else◌, Bool, true, false, ◌==◌, ◌&&◌, ◌||◌, ⊤}
+use Rattle.std.specs.Prelude.{ℕ, ◌^◌, List, [], ◌∷◌, Result, Ok, Err, Option, Some, None, is_some, nat_lt, if◌then◌else◌, Bool, false, ◌==◌, ◌&&◌, ◌||◌, ⊤}
 use Rattle.std.specs.Char.{is_ascii_alphabetic, is_ascii_alphanumeric}
 use Rattle.std.specs.List.{list_all}
 use Rattle.serde_json.specs.Data.{Data, Items, no_items, item}

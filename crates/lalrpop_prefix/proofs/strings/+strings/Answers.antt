@@ -1,4 +1,4 @@
-use Rattle.std.proofs.Common.{◌≡◌, ◌≤◌, rules, arith, ap, ◌∙◌}
+use Rattle.std.proofs.Common.{◌≤◌, rules, arith, ap, ◌∙◌}
 use Rattle.serde_json.specs.Data.{depth, items_depth}
 use Rattle.serde_json.specs.View.{view, items_view}
 use Rattle.lalrpop_prefix.specs.Prefix.{longest_of}

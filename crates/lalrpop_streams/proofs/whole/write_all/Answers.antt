@@ -1,4 +1,4 @@
-use Rattle.std.proofs.Common.{◌≡◌, ◌++◌, take, drop, rules, arith, append_assoc, sym, ap, ◌∙◌}
+use Rattle.std.proofs.Common.{◌++◌, take, rules, arith}
 use Rattle.std.proofs.lemmas.Grind.{common_steps}
 use Rattle.std.proofs.KnownBytes.{Appends-trans}
 use Rattle.lalrpop_streams.proofs.whole.write_all.Goals as goal
