@@ -1,28 +1,24 @@
 -- Alternatives: what is read is spelled so, and what is spelled so is read.
-use Rattle.std.proofs.Common.{◌≡◌, ℕ, ◌^◌, ◌<◌, List, [], ◌∷◌, Option, Some, None, Result, Ok, Err, Bool, true, false, cond, is_some, nat_lt, refl, ap, sym, ◌∙◌}
+use Rattle.std.proofs.Common.{◌≡◌, ℕ, ◌^◌, ◌<◌, List, [], ◌∷◌, Option, Some, None, Ok, Err, Bool, true, false, cond, nat_lt, refl, ap}
 use borrow.Author.Tests.{ltb-true, lt-ltb}
 use Rattle.serde_json.specs.Data.{Data, null, boolean, number, string, array, object}
-use Rattle.lalrpop_values.specs.declared.fault.Fault.{Fault}
 use Rattle.lalrpop_values.specs.declared.fault.FaultKind.TheVariants as fault
 use Rattle.lalrpop_values.specs.declared.fault.Step.TheVariants as step
 use Rattle.lalrpop_values.specs.declared.form.Form.{Form}
 use Rattle.lalrpop_values.specs.declared.form.Form.TheVariants as form
-use Rattle.lalrpop_values.specs.declared.key.Key.{Key}
 use Rattle.lalrpop_values.specs.declared.key.Key.TheVariants as key
 use Rattle.lalrpop_values.specs.declared.word.Word.TheVariants as word
-use Rattle.lalrpop_values.specs.Forms.{form_at, told_by}
+use Rattle.lalrpop_values.specs.Forms.{told_by}
 use Rattle.lalrpop_values.specs.Gives.{here}
 use Rattle.lalrpop_values.specs.Key.{text_of}
 use Rattle.lalrpop_values.specs.Lists.{list_at}
 use Rattle.lalrpop_values.specs.Objects.{field_at, keys_at}
-use Rattle.lalrpop_values.specs.Scalars.{as_some, is_name, is_word, name_at, optional, span_at, text_at, word_at}
-use Rattle.lalrpop_values.specs.Spelled.{EachFrom, IfSome, IsSpan, list_json, option_json, span_json, word_json}
+use Rattle.lalrpop_values.specs.Scalars.{as_some, is_word, name_at, optional, span_at, text_at}
+use Rattle.lalrpop_values.specs.Spelled.{EachFrom, IfSome, list_json, option_json}
 use Rattle.lalrpop_values.specs.Word.{word_text}
 use Rattle.lalrpop_values.proofs.ListLaws.{list_takes, list_again}
-use Rattle.lalrpop_values.proofs.ScalarLaws.{name_takes, name_again, optional_takes, optional_again, span_takes, span_again, text_takes, text_again, word_is, word_takes}
+use Rattle.lalrpop_values.proofs.ScalarLaws.{name_takes, name_again, optional_takes, optional_again, span_takes, span_again, text_takes, text_again, word_is}
 use Rattle.lalrpop_values.proofs.Steps.{bind_ok, part, guard_ok, ok_same, object_ok}
-use Rattle.lalrpop_symbols.specs.declared.span.Span.{Span}
-use Rattle.lalrpop_symbols.specs.declared.symbol.Symbol.{Symbol}
 use Rattle.lalrpop_grammar.specs.declared.alternative.ActionKind.{ActionKind}
 use Rattle.lalrpop_grammar.specs.declared.alternative.ActionKind.TheVariants as actions
 use Rattle.lalrpop_grammar.specs.declared.alternative.Alternative.{Alternative}
@@ -30,11 +26,10 @@ use Rattle.lalrpop_grammar.specs.declared.condition.Condition.{Condition}
 use Rattle.lalrpop_grammar.specs.declared.condition.ConditionOp.{ConditionOp}
 use Rattle.lalrpop_grammar.specs.declared.condition.ConditionOp.TheVariants as tests
 use Rattle.lalrpop_symbol_formats.specs.Attributes.{attribute_at}
-use Rattle.lalrpop_symbol_formats.specs.Spelling.{attribute_json, symbol_json}
 use Rattle.lalrpop_symbol_formats.specs.Symbols.{symbol_at}
 use Rattle.lalrpop_symbol_formats.proofs.AttributeLaws.{attributes_take, attributes_again}
 use Rattle.lalrpop_symbol_formats.proofs.SymbolLaws.{symbols_take, symbols_again}
-use Rattle.lalrpop_item_formats.specs.Alternatives.{action_at, action_by, action_rows, alternative_at, alternatives_at, condition_at, fallible_at, place_at, placed_at, test_at, test_of, user_at, written_at}
+use Rattle.lalrpop_item_formats.specs.Alternatives.{action_at, action_by, action_rows, alternative_at, alternatives_at, condition_at, fallible_at, place_at, placed_at, test_at, user_at, written_at}
 use Rattle.lalrpop_item_formats.specs.Readable.{IsReadableAction, absent, user, fallible, IsReadableAlternative, IsReadableCondition}
 use Rattle.lalrpop_item_formats.specs.Spelling.{action_json, alternative_json, condition_json, test_json}
 

@@ -1,25 +1,21 @@
 -- Items: what is read is spelled so, and what is spelled so is read.
-use Rattle.std.proofs.Common.{◌≡◌, ℕ, ◌^◌, ◌<◌, List, [], ◌∷◌, Option, Some, None, Result, Ok, Err, Bool, true, false, cond, is_some, nat_lt, refl, ap, sym, ◌∙◌}
-use Rattle.serde_json.specs.Data.{Data, null, boolean, number, string, array, object}
-use Rattle.lalrpop_values.specs.declared.fault.Fault.{Fault}
-use Rattle.lalrpop_values.specs.declared.fault.FaultKind.TheVariants as fault
+use Rattle.std.proofs.Common.{◌≡◌, ℕ, List, [], ◌∷◌, Option, Some, Ok, refl}
+use Rattle.serde_json.specs.Data.{Data}
 use Rattle.lalrpop_values.specs.declared.fault.Step.TheVariants as step
 use Rattle.lalrpop_values.specs.declared.form.Form.{Form}
 use Rattle.lalrpop_values.specs.declared.form.Form.TheVariants as form
-use Rattle.lalrpop_values.specs.declared.key.Key.{Key}
 use Rattle.lalrpop_values.specs.declared.key.Key.TheVariants as key
 use Rattle.lalrpop_values.specs.declared.word.Word.TheVariants as word
-use Rattle.lalrpop_values.specs.Forms.{form_at, told_by}
-use Rattle.lalrpop_values.specs.Gives.{here}
+use Rattle.lalrpop_values.specs.Forms.{form_at}
 use Rattle.lalrpop_values.specs.Key.{text_of}
 use Rattle.lalrpop_values.specs.Lists.{list_at}
 use Rattle.lalrpop_values.specs.Objects.{field_at, keys_at}
-use Rattle.lalrpop_values.specs.Scalars.{as_some, is_name, is_word, name_at, optional, span_at, text_at, word_at}
-use Rattle.lalrpop_values.specs.Spelled.{EachFrom, IfSome, IsSpan, list_json, option_json, span_json, word_json}
+use Rattle.lalrpop_values.specs.Scalars.{text_at, word_at}
+use Rattle.lalrpop_values.specs.Spelled.{EachFrom, list_json}
 use Rattle.lalrpop_values.specs.Word.{word_text}
 use Rattle.lalrpop_values.proofs.ListLaws.{list_takes, list_again}
-use Rattle.lalrpop_values.proofs.ScalarLaws.{name_takes, name_again, optional_takes, optional_again, span_takes, span_again, text_takes, text_again, word_is, word_takes}
-use Rattle.lalrpop_values.proofs.Steps.{bind_ok, part, guard_ok, ok_same, object_ok}
+use Rattle.lalrpop_values.proofs.ScalarLaws.{text_takes, word_takes}
+use Rattle.lalrpop_values.proofs.Steps.{bind_ok, part, ok_same, object_ok}
 use Rattle.lalrpop_grammar.specs.declared.extern_token.ExternToken.{ExternToken}
 use Rattle.lalrpop_grammar.specs.declared.grammar.GrammarItem.{GrammarItem}
 use Rattle.lalrpop_grammar.specs.declared.grammar.GrammarItem.TheVariants as items

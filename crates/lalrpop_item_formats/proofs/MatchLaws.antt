@@ -1,26 +1,24 @@
 -- Match blocks: what is read is spelled so, and what is spelled so is read.
-use Rattle.std.proofs.Common.{◌≡◌, ℕ, ◌^◌, ◌<◌, List, [], ◌∷◌, Option, Some, None, Result, Ok, Err, Bool, true, false, cond, is_some, nat_lt, refl, ap, sym, ◌∙◌}
+use Rattle.std.proofs.Common.{◌≡◌, ℕ, List, [], ◌∷◌, Option, Some, None, Ok, Err, Bool, true, false, cond, is_some, refl}
 use Rattle.serde_json.specs.Find.{as_null, as_str}
 use Rattle.serde_json.specs.Data.{Data, null, boolean, number, string, array, object}
-use Rattle.lalrpop_values.specs.declared.fault.Fault.{Fault}
 use Rattle.lalrpop_values.specs.declared.fault.FaultKind.TheVariants as fault
 use Rattle.lalrpop_values.specs.declared.fault.Step.TheVariants as step
 use Rattle.lalrpop_values.specs.declared.form.Form.{Form}
 use Rattle.lalrpop_values.specs.declared.form.Form.TheVariants as form
-use Rattle.lalrpop_values.specs.declared.key.Key.{Key}
 use Rattle.lalrpop_values.specs.declared.key.Key.TheVariants as key
 use Rattle.lalrpop_values.specs.declared.word.Word.TheVariants as word
-use Rattle.lalrpop_values.specs.Forms.{form_at, told_by}
+use Rattle.lalrpop_values.specs.Forms.{told_by}
 use Rattle.lalrpop_values.specs.Gives.{◌>>=◌, here}
 use Rattle.lalrpop_values.specs.Key.{text_of}
 use Rattle.lalrpop_values.specs.Lists.{list_at}
 use Rattle.lalrpop_values.specs.Objects.{field_at, keys_at}
-use Rattle.lalrpop_values.specs.Scalars.{as_some, is_name, is_word, name_at, optional, span_at, text_at, word_at}
-use Rattle.lalrpop_values.specs.Spelled.{object_of, EachFrom, IfSome, IsSpan, list_json, option_json, span_json, word_json}
+use Rattle.lalrpop_values.specs.Scalars.{is_word, optional, span_at, word_at}
+use Rattle.lalrpop_values.specs.Spelled.{object_of, EachFrom, IfSome, IsSpan, list_json, option_json, span_json}
 use Rattle.lalrpop_values.specs.Word.{word_text}
 use Rattle.lalrpop_values.proofs.ListLaws.{list_takes, list_again}
-use Rattle.lalrpop_values.proofs.ScalarLaws.{name_takes, name_again, optional_takes, optional_again, span_takes, span_again, text_takes, text_again, word_is, word_takes}
-use Rattle.lalrpop_values.proofs.Steps.{bind_ok, part, guard_ok, ok_same, object_ok}
+use Rattle.lalrpop_values.proofs.ScalarLaws.{optional_takes, optional_again, span_takes, span_again, word_is, word_takes}
+use Rattle.lalrpop_values.proofs.Steps.{bind_ok, part, ok_same, object_ok}
 use Rattle.lalrpop_symbols.specs.declared.span.Span.{Span}
 use Rattle.lalrpop_symbols.specs.declared.terminal.TerminalLiteral.{TerminalLiteral}
 use Rattle.lalrpop_symbols.specs.declared.terminal.TerminalLiteral.TheVariants as literals
@@ -35,7 +33,7 @@ use Rattle.lalrpop_symbol_formats.specs.Literals.{literal_at, terminal_at}
 use Rattle.lalrpop_symbol_formats.specs.Readable.{IsReadableTerminal, literal, bare}
 use Rattle.lalrpop_symbol_formats.specs.Spelling.{literal_json, terminal_json}
 use Rattle.lalrpop_symbol_formats.proofs.LiteralLaws.{literal_takes, literal_again, terminal_takes, terminal_again}
-use Rattle.lalrpop_item_formats.specs.Matches.{catch_all_at, contents_at, entry_at, entry_by, entry_of, entry_rows, listed_at, mapping_at, match_at, word_mapping}
+use Rattle.lalrpop_item_formats.specs.Matches.{catch_all_at, contents_at, entry_at, entry_by, entry_of, entry_rows, listed_at, mapping_at, match_at}
 use Rattle.lalrpop_item_formats.specs.Readable.{IsReadableMapping, skip, terminal, IsReadableEntry, catch_all, unmapped, mapped, IsReadableContents, IsReadableMatch}
 use Rattle.lalrpop_item_formats.specs.Spelling.{contents_json, entry_json, mapping_json, match_json}
 

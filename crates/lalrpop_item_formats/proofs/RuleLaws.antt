@@ -1,7 +1,6 @@
 -- Rules: what is read is spelled so, and what is spelled so is read.
-use Rattle.std.proofs.Common.{◌≡◌, ℕ, ◌^◌, ◌<◌, List, [], ◌∷◌, Option, Some, None, Result, Ok, Err, Bool, true, false, cond, is_some, nat_lt, refl, ap, sym, ◌∙◌}
+use Rattle.std.proofs.Common.{◌≡◌, ℕ, List, [], ◌∷◌, Option, Some, Ok, Err, Bool, true, false, cond, refl}
 use Rattle.serde_json.specs.Data.{Data, null, boolean, number, string, array, object}
-use Rattle.lalrpop_values.specs.declared.fault.Fault.{Fault}
 use Rattle.lalrpop_values.specs.declared.fault.FaultKind.TheVariants as fault
 use Rattle.lalrpop_values.specs.declared.fault.Step.TheVariants as step
 use Rattle.lalrpop_values.specs.declared.form.Form.{Form}
@@ -9,17 +8,17 @@ use Rattle.lalrpop_values.specs.declared.form.Form.TheVariants as form
 use Rattle.lalrpop_values.specs.declared.key.Key.{Key}
 use Rattle.lalrpop_values.specs.declared.key.Key.TheVariants as key
 use Rattle.lalrpop_values.specs.declared.word.Word.TheVariants as word
-use Rattle.lalrpop_values.specs.Forms.{form_at, told_by}
+use Rattle.lalrpop_values.specs.Forms.{told_by}
 use Rattle.lalrpop_values.specs.Gives.{here}
 use Rattle.lalrpop_values.specs.Key.{text_of}
 use Rattle.lalrpop_values.specs.Lists.{list_at}
 use Rattle.lalrpop_values.specs.Objects.{field_at, keys_at}
-use Rattle.lalrpop_values.specs.Scalars.{as_some, is_name, is_word, name_at, optional, span_at, text_at, word_at}
+use Rattle.lalrpop_values.specs.Scalars.{is_name, is_word, name_at, optional, span_at, text_at, word_at}
 use Rattle.lalrpop_values.specs.Spelled.{EachFrom, IfSome, IsSpan, list_json, option_json, span_json, word_json}
 use Rattle.lalrpop_values.specs.Word.{word_text}
 use Rattle.lalrpop_values.proofs.ListLaws.{list_takes, list_again}
-use Rattle.lalrpop_values.proofs.ScalarLaws.{name_takes, name_again, optional_takes, optional_again, span_takes, span_again, text_takes, text_again, word_is, word_takes}
-use Rattle.lalrpop_values.proofs.Steps.{bind_ok, part, Fields, filled, guard_ok, ok_same, object_ok}
+use Rattle.lalrpop_values.proofs.ScalarLaws.{name_takes, name_again, span_takes, span_again, text_takes, word_is, word_takes}
+use Rattle.lalrpop_values.proofs.Steps.{bind_ok, part, Fields, filled, ok_same, object_ok}
 use Rattle.lalrpop_symbols.specs.declared.names.NonterminalString.{NonterminalString}
 use Rattle.lalrpop_symbols.specs.declared.span.Span.{Span}
 use Rattle.lalrpop_grammar.specs.declared.nonterminal.NonterminalData.{NonterminalData}
@@ -36,7 +35,7 @@ use Rattle.lalrpop_symbol_formats.proofs.AttributeLaws.{attributes_take, attribu
 use Rattle.lalrpop_symbol_formats.proofs.TypeLaws.{optional_type_takes, optional_type_again}
 use Rattle.lalrpop_item_formats.specs.Alternatives.{alternatives_at}
 use Rattle.lalrpop_item_formats.specs.Readable.{IsReadableAlternative, IsReadableParameter, IsReadableRule}
-use Rattle.lalrpop_item_formats.specs.Rules.{name_in, parameter_at, pub_in_at, rule_at, visibility_at, visibility_by, visibility_of, visibility_rows}
+use Rattle.lalrpop_item_formats.specs.Rules.{name_in, parameter_at, pub_in_at, rule_at, visibility_at, visibility_by, visibility_rows}
 use Rattle.lalrpop_item_formats.specs.Spelling.{alternative_json, parameter_json, rule_json, visibility_json}
 use Rattle.lalrpop_item_formats.proofs.AlternativeLaws.{alternatives_take, alternatives_again}
 

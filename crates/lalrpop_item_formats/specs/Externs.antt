@@ -1,17 +1,12 @@
 -- How extern blocks are read.
-use Rattle.std.specs.Prelude.{ℕ, List, [], ◌∷◌, Result, Ok, Err, Option, Some, None}
+use Rattle.std.specs.Prelude.{[], ◌∷◌, Result, Ok}
 use Rattle.lalrpop_grammar.specs.declared.extern_token.AssociatedType.{AssociatedType}
 use Rattle.lalrpop_grammar.specs.declared.extern_token.Conversion.{Conversion}
 use Rattle.lalrpop_grammar.specs.declared.extern_token.EnumToken.{EnumToken}
 use Rattle.lalrpop_grammar.specs.declared.extern_token.ExternToken.{ExternToken}
 use Rattle.serde_json.specs.Data.{Data}
 use Rattle.lalrpop_values.specs.declared.fault.Fault.{Fault}
-use Rattle.lalrpop_values.specs.declared.fault.FaultKind.TheVariants as fault
-use Rattle.lalrpop_values.specs.declared.form.Form.{Form}
-use Rattle.lalrpop_values.specs.declared.form.Form.TheVariants as form
-use Rattle.lalrpop_values.specs.declared.key.Key.{Key}
 use Rattle.lalrpop_values.specs.declared.key.Key.TheVariants as key
-use Rattle.lalrpop_values.specs.declared.word.Word.{Word}
 use Rattle.lalrpop_values.specs.declared.word.Word.TheVariants as word
 use Rattle.lalrpop_values.specs.Gives.{◌>>=◌}
 use Rattle.lalrpop_values.specs.Lists.{list_at}

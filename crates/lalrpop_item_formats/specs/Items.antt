@@ -1,5 +1,5 @@
 -- How the items of a grammar are read.
-use Rattle.std.specs.Prelude.{List, [], ◌∷◌, Result, Ok, Err, Option, Some, None}
+use Rattle.std.specs.Prelude.{List, [], ◌∷◌, Result, Ok, Err, Option, Some}
 use Rattle.lalrpop_grammar.specs.declared.extern_token.ExternToken.{ExternToken}
 use Rattle.lalrpop_grammar.specs.declared.grammar.GrammarItem.{GrammarItem}
 use Rattle.lalrpop_grammar.specs.declared.grammar.GrammarItem.TheVariants as items

@@ -16,7 +16,6 @@ use Rattle.lalrpop_values.specs.declared.form.Form.{Form}
 use Rattle.lalrpop_values.specs.declared.form.Form.TheVariants as form
 use Rattle.lalrpop_values.specs.declared.key.Key.{Key}
 use Rattle.lalrpop_values.specs.declared.key.Key.TheVariants as key
-use Rattle.lalrpop_values.specs.declared.word.Word.{Word}
 use Rattle.lalrpop_values.specs.declared.word.Word.TheVariants as word
 use Rattle.lalrpop_values.specs.Forms.{told_by}
 use Rattle.lalrpop_values.specs.Gives.{◌>>=◌, here}

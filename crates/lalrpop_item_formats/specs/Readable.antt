@@ -1,5 +1,5 @@
 -- Which items of a grammar have a spelling.
-use Rattle.std.specs.Prelude.{◌≡◌, ◌<◌, ℕ, ◌^◌, List, [], ◌∷◌, Option, Some, None, IsTrue}
+use Rattle.std.specs.Prelude.{◌≡◌, ◌<◌, ℕ, ◌^◌, List, Option, Some, None, IsTrue}
 use Rattle.lalrpop_symbols.specs.declared.names.NonterminalString.{NonterminalString}
 use Rattle.lalrpop_symbols.specs.declared.span.Span.{Span}
 use Rattle.lalrpop_symbols.specs.declared.terminal.TerminalLiteral.{TerminalLiteral}

@@ -1,5 +1,5 @@
 -- The one JSON value of an item of a grammar.
-use Rattle.std.specs.Prelude.{List, [], ◌∷◌, Option, Some, None}
+use Rattle.std.specs.Prelude.{[], ◌∷◌, Option, Some, None}
 use Rattle.serde_json.specs.Data.{Data, null, string}
 use Rattle.lalrpop_symbols.specs.declared.names.NonterminalString.{NonterminalString}
 use Rattle.lalrpop_grammar.specs.declared.alternative.ActionKind.{ActionKind}

@@ -1,7 +1,7 @@
 -- Where words lead: along paths, and by sets of states, a character at a time. For all that runs an automaton.
-use Rattle.std.proofs.Common.{◌≡◌, ℕ, zero, suc, ◌+◌, ◌<◌, ◌⊎◌, ◌↔◌, List, [], ◌∷◌, ◌++◌, length, Contains, inl, inr, ⊎_elim, sym, ap, ◌∙◌, refl, subst, arith, append-nil, append_assoc, length-append}
+use Rattle.std.proofs.Common.{◌≡◌, ℕ, zero, suc, ◌↔◌, List, [], ◌∷◌, ◌++◌, length, Contains, inl, inr, ⊎_elim, sym, ap, ◌∙◌, refl, subst, arith, append-nil, append_assoc, length-append}
 use Rattle.std.proofs.lemmas.List.{same_from_push}
-use Rattle.lalrpop_nfa.specs.Paths.{Table, Leads, Reads, IsPath, LeadsTo}
+use Rattle.lalrpop_nfa.specs.Paths.{Table, Reads, IsPath, LeadsTo}
 use Rattle.lalrpop_nfa.specs.Sets.{Follows, stays, goes, IsClosed, IsStep, Arrives, start, free, read, IsSetOf}
 use Rattle.lalrpop_nfa.proofs.ListLemmas.{Contains-nil, Contains-head, Contains-cons_cases}
 

@@ -1,6 +1,6 @@
 -- Where ranges begin and end.
-use Rattle.std.proofs.Common.{◌≡◌, ℕ, ◌+◌, ◌≤◌, ◌⊎◌, List, [], ◌∷◌, ◌++◌, Contains, inl, inr, ⊎_elim, sym, ap, subst, arith}
-use Rattle.std.proofs.lemmas.List.Elements.{Contains-push, Contains-push_cases, Contains-append_left, Contains-append_cases, Contains-append_right}
+use Rattle.std.proofs.Common.{◌≡◌, ℕ, ◌+◌, ◌≤◌, ◌⊎◌, List, [], ◌∷◌, ◌++◌, Contains, inl, inr, ⊎_elim, sym, subst}
+use Rattle.std.proofs.lemmas.List.Elements.{Contains-push, Contains-push_cases, Contains-append_left, Contains-append_right}
 use Rattle.lalrpop_nfa.proofs.ListLemmas.{Contains-nil, Contains-cons_cases}
 use Rattle.lalrpop_nfa.specs.Ranges.{IsCut}
 use Rattle.lalrpop_nfa.specs.declared.test.Test.{Test}

@@ -1,9 +1,9 @@
 -- What parts of an automaton read, put together.
-use Rattle.std.proofs.Common.{◌≡◌, ℕ, zero, suc, ◌+◌, ◌-◌, ◌<◌, ◌≤◌, ◌⊎◌, List, [], ◌∷◌, ◌++◌, length, get_or, Contains, inl, inr, ⊎_elim, sym, ap, ◌∙◌, refl, subst, arith, append_assoc}
+use Rattle.std.proofs.Common.{◌≡◌, ℕ, zero, suc, ◌<◌, ◌≤◌, ◌⊎◌, List, [], ◌∷◌, ◌++◌, inl, inr, ⊎_elim, sym, ap, ◌∙◌, refl, subst, arith, append_assoc}
 use Rattle.lalrpop_pattern.specs.Matches.{Pieces}
 use Rattle.lalrpop_nfa.specs.Paths.{Table, Leads, Reads, IsPath}
 use Rattle.lalrpop_nfa.specs.Growth.{HasNoLeads, HasNoReads}
-use Rattle.lalrpop_nfa.specs.Fragments.{Agrees, IsCut, Does, Built, Then, Star, UpTo, Optional, IsOf}
+use Rattle.lalrpop_nfa.specs.Fragments.{Agrees, IsCut, Does, Then, Star, IsOf}
 
 pub Agrees-refl : (t : Table) (lo hi : ℕ) → Agrees t t lo hi
 Agrees-refl t lo hi = record { leads = λ q r a b h. h; leads_back = λ q r a b h. h; reads = λ q c r a b h. h; reads_back = λ q c r a b h. h }

@@ -1,13 +1,13 @@
 -- Edges that are added one after another from one state. For the loops that add them.
-use Rattle.std.proofs.Common.{◌≡◌, ◌≢◌, ℕ, ◌+◌, ◌<◌, List, [], ◌∷◌, ◌++◌, length, get_or, map, Contains, All, ◌≤◌, sym, ap, ◌∙◌, refl, arith}
-use Rattle.std.proofs.lemmas.List.{append-nil, append_assoc, map_push, get_or-map, get_or_default}
+use Rattle.std.proofs.Common.{◌≡◌, ◌≢◌, ℕ, ◌<◌, List, [], ◌∷◌, ◌++◌, length, get_or, map, All, ◌≤◌, sym, ap, ◌∙◌, refl, arith}
+use Rattle.std.proofs.lemmas.List.{append-nil, append_assoc, map_push, get_or-map}
 use Rattle.std.proofs.lemmas.List.Elements.{Contains-get_or}
 use Rattle.lalrpop_pattern.specs.declared.class.Range.{Range}
 use Rattle.lalrpop_nfa.specs.declared.edge.Edge.{Edge}
 use Rattle.lalrpop_nfa.specs.declared.edge.Noop.{Noop}
 use Rattle.lalrpop_nfa.specs.declared.test.Test.{Test}
 use Rattle.lalrpop_nfa.specs.EdgeLists.{sources, IsLast}
-use Rattle.lalrpop_nfa.specs.Paths.{Table, NoopEdge, TestEdge, Leads, Reads, noop_of, test_of}
+use Rattle.lalrpop_nfa.specs.Paths.{Table, noop_of, test_of}
 use Rattle.lalrpop_nfa.specs.Growth.{HasNoLeads, HasNoTests, HasNewNoops, HasNewTests, noops_from, tests_from}
 use Rattle.lalrpop_nfa.proofs.ListLemmas.{Contains-map}
 use Rattle.lalrpop_nfa.proofs.EdgeListLemmas.{IsLast-none, length-sources, sources_inside}

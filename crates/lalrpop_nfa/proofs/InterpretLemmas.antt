@@ -1,8 +1,6 @@
 -- The longest front that was found so far. For the run of an automaton over a text.
-use Rattle.std.proofs.Common.{◌≡◌, ℕ, ◌+◌, ◌-◌, ◌<◌, ◌≤◌, ◌⊎◌, ◌↔◌, List, [], ◌∷◌, ◌++◌, length, take, Contains, All, Option, Some, None, MatchOption, sym, ap, ◌∙◌, refl, subst, arith, length-append, vec_len, ⊎_elim, add-zero, inl, inr}
+use Rattle.std.proofs.Common.{◌≡◌, ℕ, ◌+◌, ◌<◌, ◌≤◌, ◌↔◌, List, [], ◌∷◌, ◌++◌, length, take, Contains, All, Option, Some, None, MatchOption, sym, ap, ◌∙◌, refl, subst, arith, length-append, vec_len, ⊎_elim, add-zero, inl, inr}
 use Rattle.std.specs.Str.{chars}
-use Rattle.std.specs.Str.Iter.{chars_rest}
-use Rattle.std.specs.declared.str.Chars.{Chars}
 use Rattle.std.proofs.lemmas.Bool.{cases_lt}
 use Rattle.std.proofs.lemmas.List.{append_cancel_right, nil_from_length}
 use Rattle.std.proofs.lemmas.Str.{chars-nil}

@@ -1,9 +1,7 @@
 -- The words of a pattern, as the parts of its automaton read them.
-use Rattle.std.proofs.Common.{◌≡◌, ℕ, zero, suc, ◌+◌, ◌-◌, ◌<◌, ◌≤◌, ◌⊎◌, List, [], ◌∷◌, ◌++◌, length, get_or, Contains, map, Option, Some, None, Bool, true, false, inl, inr, ⊎_elim, sym, ap, ◌∙◌, refl, subst, arith, append_assoc, zero-add, add-one, drop, drop-cons}
-use Rattle.std.specs.Option.{option_or}
-use Rattle.std.proofs.lemmas.List.Elements.{Contains-push, Contains-push_cases, Contains-append_left}
-use Rattle.lalrpop_pattern.specs.Matches.{Pattern, empty, literal, class, look, capture, repetition, cat, alt, cat_all, alt_all, Pieces, IsWithin, Matches}
-use Rattle.std.proofs.lemmas.List.{get_or-map, length-map}
+use Rattle.std.proofs.Common.{◌≡◌, ℕ, zero, suc, ◌+◌, ◌-◌, ◌<◌, ◌≤◌, List, [], ◌∷◌, ◌++◌, length, get_or, map, Some, None, Bool, inl, inr, ⊎_elim, sym, ap, ◌∙◌, refl, subst, arith, append_assoc, zero-add, add-one, drop, drop-cons}
+use Rattle.lalrpop_pattern.specs.Matches.{Pattern, empty, literal, repetition, alt_all, Pieces, Matches}
+use Rattle.std.proofs.lemmas.List.{get_or-map}
 use Rattle.lalrpop_pattern.specs.Meaning.{meaning}
 use Rattle.lalrpop_pattern.specs.declared.tree.Hir.{Hir}
 use Rattle.lalrpop_nfa.specs.Fragments.{Then, Star, UpTo, Optional, IsOf}

@@ -1,11 +1,11 @@
 -- What the invariants of an automaton say of its graph. For the functions that build or walk one.
-use Rattle.std.proofs.Common.{◌≡◌, ℕ, ◌<◌, List, length, map, All, Contains, vec_len, arith}
+use Rattle.std.proofs.Common.{ℕ, ◌<◌, Contains, vec_len, arith}
 use Rattle.std.proofs.lemmas.List.Elements.{All-map, All-contains}
 use Rattle.lalrpop_nfa.specs.declared.automaton.Nfa.{Nfa}
 use Rattle.lalrpop_nfa.specs.declared.edge.Edge.{Edge}
 use Rattle.lalrpop_nfa.specs.declared.edge.Noop.{Noop}
 use Rattle.lalrpop_nfa.specs.declared.test.Test.{Test}
-use Rattle.lalrpop_nfa.specs.Paths.{Table, NoopEdge, TestEdge, Leads, Reads, noop_of, test_of, table_of}
+use Rattle.lalrpop_nfa.specs.Paths.{NoopEdge, TestEdge, Leads, Reads, noop_of, test_of, table_of}
 use Rattle.lalrpop_nfa.proofs.TableLemmas.{AreInside}
 
 pub inside_of : (nfa : Nfa) → AreInside (table_of nfa)

@@ -1,11 +1,11 @@
 -- The pieces between one cut and the next.
-use Rattle.std.proofs.Common.{◌≡◌, ℕ, ◌+◌, ◌-◌, ◌<◌, ◌≤◌, ◌⊎◌, List, [], ◌∷◌, ◌++◌, length, get_or, Contains, All, AllPairs, inl, inr, ⊎_elim, sym, ap, ◌∙◌, refl, subst, arith}
+use Rattle.std.proofs.Common.{◌≡◌, ℕ, ◌+◌, ◌-◌, ◌<◌, ◌≤◌, ◌⊎◌, List, [], ◌∷◌, ◌++◌, length, get_or, Contains, All, AllPairs, inl, inr, ⊎_elim, sym, ◌∙◌, refl, arith}
 use Rattle.std.specs.List.Sorted.{IsNonDecreasing}
 use Rattle.std.proofs.lemmas.Bool.{cases_lt}
 use Rattle.std.proofs.lemmas.List.{get_or_default, get_or_read}
-use Rattle.std.proofs.lemmas.List.Elements.{Contains-push, Contains-push_cases, Contains-append_left, Contains-get_or, All-push, All-contains, All-nil, All-weaker, All-get_or}
+use Rattle.std.proofs.lemmas.List.Elements.{Contains-push, Contains-append_left, Contains-get_or, All-push, All-contains, All-nil}
 use Rattle.std.proofs.lemmas.List.Quantifiers.{all_pairs_push}
-use Rattle.lalrpop_nfa.specs.Ranges.{Holds, IsCovered, IsCut, IsUndivided, IsPiece, IsSplit}
+use Rattle.lalrpop_nfa.specs.Ranges.{IsCovered, IsCut, IsUndivided, IsPiece, IsSplit}
 use Rattle.lalrpop_nfa.specs.declared.test.Test.{Test}
 
 pub record AreCuts (ranges : List Test) (cs : List ℕ) : Type 0 where

@@ -1,5 +1,5 @@
 -- Where the edges of states lead which read a number. For the step of a set of states.
-use Rattle.std.proofs.Common.{◌≡◌, ℕ, ◌+◌, ◌<◌, ◌≤◌, ◌⊎◌, List, [], ◌∷◌, ◌++◌, length, get_or, take, map, Contains, All, inl, inr, ⊎_elim, sym, ap, ◌∙◌, refl, subst, arith, eqb, eq-eqb}
+use Rattle.std.proofs.Common.{◌≡◌, ℕ, ◌≤◌, ◌⊎◌, List, [], ◌∷◌, ◌++◌, map, Contains, inl, inr, ⊎_elim, sym, ap, ◌∙◌, subst, eqb, eq-eqb}
 use Rattle.std.specs.Prelude.{filter}
 use Rattle.std.proofs.lemmas.Bool.{eqb-true}
 use Rattle.std.proofs.lemmas.List.Elements.{Contains-push, Contains-push_cases, Contains-append_left}
@@ -7,7 +7,7 @@ use Rattle.lalrpop_nfa.specs.declared.edge.Edge.{Edge}
 use Rattle.lalrpop_nfa.specs.declared.test.Test.{Test}
 use Rattle.lalrpop_nfa.specs.Ranges.{Holds}
 use Rattle.lalrpop_nfa.specs.Paths.{Table, TestEdge, Reads, test_of}
-use Rattle.lalrpop_nfa.specs.Sets.{Follows, Inserts, IsClosed, IsStep, HasRead, AreRead}
+use Rattle.lalrpop_nfa.specs.Sets.{Inserts, IsClosed, IsStep, HasRead, AreRead}
 use Rattle.lalrpop_nfa.proofs.ListLemmas.{Contains-nil, Contains-head, Contains-tail, Contains-cons_cases, Contains-map, Contains-from_map, Contains-filter, Contains-from_filter}
 use Rattle.lalrpop_nfa.proofs.SetLemmas.{Inserts-old, Inserts-new, Inserts-cases}
 

@@ -1,13 +1,13 @@
 -- Sets of states under the edges that read nothing. For the functions that walk an automaton by sets of its states.
-use Rattle.std.proofs.Common.{◌≡◌, ℕ, ◌+◌, ◌<◌, ◌≤◌, ◌⊎◌, List, [], ◌∷◌, ◌++◌, length, get_or, map, Contains, All, inl, inr, ⊎_elim, sym, ap, ◌∙◌, refl, subst, arith, eqb, eq-eqb, append-nil, append_assoc, length-append}
+use Rattle.std.proofs.Common.{◌≡◌, ℕ, ◌+◌, ◌<◌, ◌≤◌, ◌⊎◌, List, [], ◌∷◌, ◌++◌, length, get_or, map, Contains, All, inl, inr, ⊎_elim, sym, ap, ◌∙◌, subst, arith, eqb, eq-eqb, append-nil, append_assoc}
 use Rattle.std.specs.Prelude.{filter}
 use Rattle.std.proofs.lemmas.Bool.{eqb-true, cases_lt}
 use Rattle.std.proofs.lemmas.List.{get_or_append_left, get_or_default}
 use Rattle.std.proofs.lemmas.List.Elements.{Contains-push, Contains-push_cases, Contains-append_left, Contains-get_or, All-push, All-contains}
 use Rattle.lalrpop_nfa.specs.declared.edge.Edge.{Edge}
 use Rattle.lalrpop_nfa.specs.declared.edge.Noop.{Noop}
-use Rattle.lalrpop_nfa.specs.Paths.{Table, NoopEdge, Leads, Reads, noop_of}
-use Rattle.lalrpop_nfa.specs.Sets.{Inserts, Follows, stays, goes, IsClosed, IsStep, HasTargets}
+use Rattle.lalrpop_nfa.specs.Paths.{Table, NoopEdge, Leads, noop_of}
+use Rattle.lalrpop_nfa.specs.Sets.{Inserts, Follows, stays, goes, IsClosed, HasTargets}
 use Rattle.lalrpop_nfa.proofs.ListLemmas.{Contains-nil, Contains-head, Contains-tail, Contains-cons_cases, Contains-map, Contains-from_map, Contains-filter, Contains-from_filter}
 
 -- one more member

@@ -1,5 +1,5 @@
 -- A text read from its front, a character at a time. For the functions that run an automaton over a text.
-use Rattle.std.proofs.Common.{◌≡◌, ℕ, ◌+◌, ◌-◌, ◌<◌, ◌≤◌, ◌⊎◌, List, [], ◌∷◌, ◌++◌, length, take, sym, ap, ◌∙◌, refl, subst, arith, length-append, append_assoc, append-nil, Bool, true, false, ◌&&◌}
+use Rattle.std.proofs.Common.{◌≡◌, ℕ, ◌-◌, List, [], ◌∷◌, ◌++◌, length, take, sym, ap, ◌∙◌, refl, arith, length-append, append_assoc, append-nil, Bool, true, false, ◌&&◌}
 use lib.Utf8.{scalars, scalar}
 use Rattle.std.specs.Str.{chars, IsUtf8, IsCharBoundary}
 use Rattle.std.specs.Char.{IsScalar}

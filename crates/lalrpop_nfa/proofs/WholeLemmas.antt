@@ -1,10 +1,10 @@
 -- A whole automaton: what leads from its start to its accepting states. For the functions that make automata from trees.
-use Rattle.std.proofs.Common.{◌≡◌, ℕ, zero, suc, ◌+◌, ◌<◌, ◌≤◌, ◌⊎◌, ◌↔◌, List, [], ◌∷◌, ◌++◌, Contains, get_or, inl, inr, ⊎_elim, sym, ap, ◌∙◌, refl, subst, arith, append-nil}
+use Rattle.std.proofs.Common.{◌≡◌, ℕ, zero, suc, ◌<◌, ◌↔◌, List, [], ◌++◌, get_or, inl, ⊎_elim, sym, ap, ◌∙◌, refl, subst, arith, append-nil}
 use Rattle.std.proofs.lemmas.List.{get_or_default}
 use Rattle.std.proofs.lemmas.List.Elements.{Contains-get_or}
-use Rattle.lalrpop_nfa.specs.Paths.{Table, Leads, Reads, IsPath, LeadsTo}
+use Rattle.lalrpop_nfa.specs.Paths.{Table, IsPath, LeadsTo}
 use Rattle.lalrpop_nfa.specs.Growth.{HasNoLeads, HasNoReads, HasNewNoops, IsStart}
-use Rattle.lalrpop_nfa.specs.Fragments.{Agrees, Does, AreBuilt}
+use Rattle.lalrpop_nfa.specs.Fragments.{Does, AreBuilt}
 use Rattle.lalrpop_nfa.proofs.FragmentLemmas.{Agrees-refl, Does-kept}
 use Rattle.lalrpop_nfa.proofs.TableLemmas.{leads_new, leads_cases, Agrees-noops}
 

@@ -1,5 +1,5 @@
 -- A part of an automaton, and what it reads.
-use Rattle.std.specs.Prelude.{◌≡◌, ℕ, zero, suc, ◌+◌, ◌<◌, Contains, All, length, slice_index, ◌≤◌, ◌⊎◌, List, [], ◌∷◌, ◌++◌}
+use Rattle.std.specs.Prelude.{◌≡◌, ℕ, ◌+◌, ◌<◌, Contains, All, length, slice_index, ◌≤◌, ◌⊎◌, List, [], ◌∷◌, ◌++◌}
 use Rattle.lalrpop_pattern.specs.Matches.{Pieces}
 use Rattle.lalrpop_nfa.specs.Paths.{Table, Leads, Reads, IsPath}
 

@@ -1,5 +1,5 @@
 -- How an automaton's graph grows.
-use Rattle.std.specs.Prelude.{◌≡◌, ◌≢◌, ℕ, ◌+◌, ◌-◌, ◌<◌, Bool, MatchBool, List, [], ◌∷◌, ◌++◌, Contains, length, map, slice_index}
+use Rattle.std.specs.Prelude.{◌≡◌, ◌≢◌, ℕ, ◌+◌, ◌-◌, ◌<◌, Bool, MatchBool, List, [], ◌++◌, Contains, length, map, slice_index}
 use Rattle.lalrpop_pattern.specs.declared.class.Range.{Range}
 use Rattle.lalrpop_nfa.specs.Paths.{Table, NoopEdge, TestEdge, Leads, Reads}
 

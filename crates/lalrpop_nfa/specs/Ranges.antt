@@ -1,5 +1,5 @@
 -- Ranges, and the ranges that a list of ranges falls into.
-use Rattle.std.specs.Prelude.{◌≡◌, ℕ, ◌+◌, ◌<◌, ◌≤◌, ◌⊎◌, ◌↔◌, List, All, Contains, AllPairs}
+use Rattle.std.specs.Prelude.{◌≡◌, ℕ, ◌+◌, ◌<◌, ◌≤◌, ◌⊎◌, List, All, Contains, AllPairs}
 use Rattle.lalrpop_nfa.specs.declared.test.Test.{Test}
 
 -- the range holds the number

@@ -1,5 +1,4 @@
-use Rattle.std.proofs.Common.{ap, sym, ◌∙◌, length, ◌-◌, List}
-use Rattle.std.specs.Prelude.{slice_get}
+use Rattle.std.proofs.Common.{sym}
 use Rattle.lalrpop_nfa.proofs.EdgeListLemmas.{begins_last, begins_none}
 use Rattle.lalrpop_nfa.proofs.grow.push_edge.Goals as goal
 use Rattle.lalrpop_nfa.proofs.grow.push_edge.Goals.{in-Some, in-None}

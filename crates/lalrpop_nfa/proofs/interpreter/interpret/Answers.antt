@@ -1,12 +1,10 @@
-use Rattle.std.proofs.Common.{ℕ, ◌≡◌, ◌++◌, ◌∷◌, [], ◌+◌, List, length, sym, ap, ◌∙◌, refl, subst, arith, true≢false, length-append}
+use Rattle.std.proofs.Common.{◌++◌, ◌∷◌, [], length, sym, ◌∙◌, true≢false}
 use Rattle.std.proofs.lemmas.List.{length_push}
-use Rattle.std.specs.Str.Iter.{chars_rest}
-use Rattle.lalrpop_nfa.specs.declared.automaton.TheConstants.{ACCEPT, START}
+use Rattle.lalrpop_nfa.specs.declared.automaton.TheConstants.{START}
 use Rattle.lalrpop_nfa.specs.Paths.{table_of}
-use Rattle.lalrpop_nfa.specs.Sets.{IsClosed}
 use Rattle.lalrpop_nfa.proofs.ArrivalLemmas.{set_start, set_step}
 use Rattle.lalrpop_nfa.proofs.TextLemmas.{read_start, read_char}
-use Rattle.lalrpop_nfa.proofs.InterpretLemmas.{IsRunning, found_here, found_kept, found_nothing, found_end, accepts_from_set, inserts_one}
+use Rattle.lalrpop_nfa.proofs.InterpretLemmas.{found_here, found_kept, found_nothing, found_end, accepts_from_set, inserts_one}
 use Rattle.lalrpop_nfa.proofs.interpreter.interpret.Goals as goal
 use Rattle.lalrpop_nfa.proofs.interpreter.interpret.Goals.{then-contains, else-contains}
 

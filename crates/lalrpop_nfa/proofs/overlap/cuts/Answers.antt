@@ -1,4 +1,4 @@
-use Rattle.std.proofs.Common.{◌≡◌, ℕ, ◌+◌, ◌≤◌, ◌^◌, ◌∷◌, Contains, All, rules, arith, sym, ⊎_elim}
+use Rattle.std.proofs.Common.{◌≤◌, ◌^◌, arith, ⊎_elim}
 use Rattle.std.specs.Map.Iter.{deref}
 use Rattle.std.proofs.lemmas.Map.Iter.{rest_more, rest_all}
 use Rattle.std.proofs.lemmas.List.Elements.{All-push}

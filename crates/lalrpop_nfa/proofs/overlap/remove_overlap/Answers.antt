@@ -1,5 +1,5 @@
-use Rattle.std.proofs.Common.{◌≡◌, ℕ, ◌+◌, ◌-◌, ◌<◌, ◌≤◌, get_or, length, rules, arith, sym, ap, ◌∙◌, subst, refl, true≢false}
-use Rattle.lalrpop_nfa.proofs.PieceLemmas.{AreCuts, neighbours, split_start, turn_push, turn_skip, turn_same, split_end}
+use Rattle.std.proofs.Common.{arith, sym, ◌∙◌, refl, true≢false}
+use Rattle.lalrpop_nfa.proofs.PieceLemmas.{AreCuts, split_start, turn_push, turn_skip, turn_same, split_end}
 use Rattle.lalrpop_nfa.proofs.overlap.remove_overlap.Goals as goal
 use Rattle.lalrpop_nfa.proofs.overlap.remove_overlap.Goals.{then-low-high+then-is_covered+in_ok-push, else-low-high, else-low-high-via-then-low-high+else-is_covered, else-low-high-via-else-low-high, In_ok-cuts}
 

@@ -1,13 +1,13 @@
-use Rattle.std.proofs.Common.{ℕ, ◌+◌, ◌-◌, ◌≤◌, ◌<◌, ◌⊎◌, ◌≡◌, ◌++◌, ◌∷◌, [], List, map, get_or, length, drop, vec_len, ap, ◌∙◌, sym, refl, subst, inl, inr, ⊎_elim, arith, rules, drop_of_length-le, Some, None, IfOk}
-use Rattle.std.proofs.lemmas.List.{get_or_default, length-map}
-use Rattle.lalrpop_pattern.specs.Matches.{Pattern, Matches, Pieces, repetition, cat_all, alt_all, empty}
+use Rattle.std.proofs.Common.{ℕ, ◌+◌, ◌≡◌, map, get_or, length, ap, ◌∙◌, subst, arith, drop_of_length-le, Some}
+use Rattle.std.proofs.lemmas.List.{length-map}
+use Rattle.lalrpop_pattern.specs.Matches.{Matches, Pieces, empty}
 use Rattle.lalrpop_pattern.specs.Meaning.{meaning}
-use Rattle.lalrpop_pattern.proofs.MeaningLemmas.{meaning-Empty, meaning-Literal, meaning-Class, meaning-Look, meaning-Capture, meaning-Repetition, meaning-Concat, meaning-Alternation}
+use Rattle.lalrpop_pattern.proofs.MeaningLemmas.{meaning-Empty}
 use Rattle.lalrpop_nfa.specs.Paths.{table_of}
-use Rattle.lalrpop_nfa.specs.Fragments.{Built, AreBuilt, UpTo, Star, Optional}
+use Rattle.lalrpop_nfa.specs.Fragments.{Built, AreBuilt, UpTo}
 use Rattle.lalrpop_nfa.proofs.TableLemmas.{Built-nothing, Built-along, Built-then, Built-star, Built-optional, Built-branch, Built-at_least, Built-between, Built-no_repeat, AreBuilt-push, IsNewState-no_leads}
 use Rattle.lalrpop_nfa.proofs.NfaLemmas.{inside_of}
-use Rattle.lalrpop_nfa.proofs.LanguageLemmas.{pieces_to, pieces_from, up_to_to, up_to_from, up_to_none, at_least_to, at_least_from, between_to, between_from, drop_less, meaning_at}
+use Rattle.lalrpop_nfa.proofs.LanguageLemmas.{pieces_to, pieces_from, up_to_to, up_to_from, up_to_none, drop_less, meaning_at}
 use Rattle.lalrpop_nfa.proofs.automaton.Nfa.+build.Goals as goal
 use Rattle.lalrpop_nfa.proofs.automaton.Nfa.+build.Goals.{repetition-in-Some+in_ok-rest-in-Some, repetition-in-None+in_ok-rest-in-None}
 

@@ -1,4 +1,4 @@
-use Rattle.std.proofs.Common.{ℕ, map, drop, get_or}
+use Rattle.std.proofs.Common.{map, drop, get_or}
 use Rattle.lalrpop_pattern.specs.Meaning.{meaning}
 use Rattle.lalrpop_pattern.specs.Matches.{Matches, Pieces, cat_all, empty}
 use Rattle.lalrpop_nfa.specs.Paths.{table_of}

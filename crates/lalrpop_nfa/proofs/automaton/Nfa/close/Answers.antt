@@ -1,5 +1,4 @@
-use Rattle.std.proofs.Common.{ℕ, ◌<◌, ◌∙◌, arith, vec_len, ap, length, get_or, List, refl}
-use Rattle.std.proofs.lemmas.List.{get_or_default}
+use Rattle.std.proofs.Common.{◌∙◌, arith, ap, length, get_or, refl}
 use Rattle.lalrpop_nfa.specs.Paths.{table_of}
 use Rattle.lalrpop_nfa.proofs.NfaLemmas.{leads_inside}
 use Rattle.lalrpop_nfa.proofs.SetLemmas.{closing_start, closing_more, closing_end, targets_inside}

@@ -1,4 +1,4 @@
-use Rattle.std.proofs.Common.{ℕ, ◌+◌, ◌<◌, ◌≡◌, List, map, length, get_or, arith, ap, ◌∙◌, sym, refl, subst}
+use Rattle.std.proofs.Common.{ℕ, ◌+◌, ◌≡◌, map, length, get_or, arith, ap, ◌∙◌, subst}
 use Rattle.lalrpop_pattern.specs.Meaning.{meaning}
 use Rattle.lalrpop_pattern.specs.Matches.{Matches, empty}
 use Rattle.lalrpop_nfa.specs.Paths.{table_of}

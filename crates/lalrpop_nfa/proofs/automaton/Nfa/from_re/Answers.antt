@@ -1,7 +1,7 @@
-use Rattle.std.proofs.Common.{ℕ, List, [], ◌∷◌, refl, arith, ◌<◌, ◌≡◌}
+use Rattle.std.proofs.Common.{[], ◌∷◌, refl, arith}
 use Rattle.lalrpop_pattern.specs.Meaning.{meaning}
 use Rattle.lalrpop_pattern.specs.Matches.{Matches}
-use Rattle.lalrpop_nfa.specs.declared.automaton.TheConstants.{ACCEPT, START}
+use Rattle.lalrpop_nfa.specs.declared.automaton.TheConstants.{START}
 use Rattle.lalrpop_nfa.specs.Paths.{table_of}
 use Rattle.lalrpop_nfa.specs.Fragments.{AreBuilt}
 use Rattle.lalrpop_nfa.proofs.TableLemmas.{AreBuilt-none, AreBuilt-push}

@@ -1,4 +1,4 @@
-use Rattle.std.proofs.Common.{refl, arith, ◌<◌, ◌≡◌, ◌∙◌, vec_len, ap, sym, true≢false}
+use Rattle.std.proofs.Common.{refl, arith, ◌∙◌, ap, sym, true≢false}
 use Rattle.lalrpop_nfa.specs.declared.test.Test.{Test}
 use Rattle.lalrpop_nfa.specs.declared.edges.EdgeIterator.{EdgeIterator}
 use Rattle.lalrpop_nfa.specs.Labels.{front_from}

@@ -1,5 +1,4 @@
-use Rattle.std.proofs.Common.{refl, arith, ◌<◌, ◌∙◌, vec_len, ap}
-use Rattle.lalrpop_nfa.specs.declared.edge.Edge.{Edge}
+use Rattle.std.proofs.Common.{refl, arith, ◌∙◌, ap}
 use Rattle.lalrpop_nfa.specs.declared.edge.Noop.{Noop}
 use Rattle.lalrpop_nfa.specs.declared.edges.EdgeIterator.{EdgeIterator}
 use Rattle.lalrpop_nfa.specs.Labels.{front_from}

@@ -1,4 +1,4 @@
-use Rattle.std.proofs.Common.{ℕ, ◌-◌, get_or, length, arith, drop_of_length-le}
+use Rattle.std.proofs.Common.{◌-◌, get_or, length, arith, drop_of_length-le}
 use Rattle.std.proofs.lemmas.List.{get_or_default}
 use Rattle.lalrpop_nfa.specs.Paths.{table_of}
 use Rattle.lalrpop_nfa.proofs.TableLemmas.{Built-nothing, Built-literal}

@@ -1,4 +1,4 @@
-use Rattle.std.proofs.Common.{◌≡◌, ℕ, ◌<◌, ◌++◌, ◌∷◌, [], length, arith, refl, sym, ap, ◌∙◌, subst, vec_len}
+use Rattle.std.proofs.Common.{◌<◌, arith, refl, vec_len}
 use Rattle.std.proofs.lemmas.List.Elements.{All-push}
 use Rattle.lalrpop_nfa.specs.EdgeLists.{sources}
 use Rattle.lalrpop_nfa.specs.declared.edge.Edge.{Edge}

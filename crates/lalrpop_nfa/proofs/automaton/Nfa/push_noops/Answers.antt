@@ -1,5 +1,5 @@
-use Rattle.std.proofs.Common.{arith, refl, get_or}
-use Rattle.std.proofs.lemmas.List.{take_more, take_all}
+use Rattle.std.proofs.Common.{arith, refl}
+use Rattle.std.proofs.lemmas.List.{take_more}
 use Rattle.lalrpop_nfa.specs.Paths.{table_of}
 use Rattle.lalrpop_nfa.proofs.GrowthLemmas.{HasNewNoops-none, HasNewNoops-more, IsLast-no_leads}
 use Rattle.lalrpop_nfa.proofs.automaton.Nfa.push_noops.Goals as goal

@@ -1,10 +1,10 @@
-use Rattle.std.proofs.Common.{◌≡◌, ℕ, ◌<◌, ◌++◌, ◌∷◌, [], length, arith, refl, sym, ap, ◌∙◌, subst, vec_len}
+use Rattle.std.proofs.Common.{◌<◌, arith, refl, vec_len}
 use Rattle.std.proofs.lemmas.List.Elements.{All-push}
 use Rattle.lalrpop_nfa.specs.EdgeLists.{sources}
 use Rattle.lalrpop_nfa.specs.declared.edge.Edge.{Edge}
 use Rattle.lalrpop_nfa.specs.declared.edge.Other.{Other}
 use Rattle.lalrpop_nfa.specs.declared.state.State.{State}
-use Rattle.lalrpop_nfa.proofs.EdgeListLemmas.{runs_kept, runs_first, runs_more, sources_push, IsLast-push, length-sources}
+use Rattle.lalrpop_nfa.proofs.EdgeListLemmas.{runs_kept, runs_first, runs_more, sources_push, length-sources}
 use Rattle.lalrpop_nfa.proofs.automaton.Nfa.push_other.Goals as goal
 
 pub invariant_of-self-then-branch-clause-other_runs : goal.invariant_of-self-then-branch-clause-other_runs

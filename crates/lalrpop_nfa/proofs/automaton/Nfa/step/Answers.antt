@@ -1,4 +1,4 @@
-use Rattle.std.proofs.Common.{ℕ, ◌<◌, ◌∙◌, arith, vec_len, ap, sym, length, get_or, take, refl}
+use Rattle.std.proofs.Common.{◌<◌, ◌∙◌, arith, vec_len, get_or}
 use Rattle.std.proofs.lemmas.List.{take_more, take_all}
 use Rattle.std.proofs.lemmas.List.Elements.{Contains-get_or, All-get_or}
 use Rattle.lalrpop_nfa.specs.Paths.{table_of}

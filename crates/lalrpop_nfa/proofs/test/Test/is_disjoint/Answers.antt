@@ -1,4 +1,4 @@
-use Rattle.std.proofs.Common.{◌≡◌, ◌↔◌, ℕ, Bool, true, false, IsTrue, refl, true≢false}
+use Rattle.std.proofs.Common.{◌↔◌, ℕ, Bool, true, false, IsTrue, refl}
 use Rattle.std.specs.Prelude.{not}
 use Rattle.lalrpop_nfa.specs.Ranges.{Holds}
 use Rattle.lalrpop_nfa.specs.declared.test.Test.{Test}
