@@ -1,14 +1,12 @@
 -- Which form of tree a symbol has, and what the text of a tree begins with.
-use Rattle.std.proofs.Common.{◌≡◌, ℕ, List, [], ◌∷◌, ◌++◌, Bool, true, false, refl, ap, sym, ◌∙◌, inl, inr, ◌⊎◌, arith, subst}
-use Rattle.std.specs.Prelude.{IsTrue, ◌&&◌}
-use Rattle.lalrpop_symbols.specs.Symbols.{Text, Op, star, plus, question, Closed, Closeds, literal, call, many, row, chosen, labelled, ahead, behind, faulty}
-use Rattle.lalrpop_grammar.specs.Trees.{Token, Tree, Trees, node, list, absent, present, together, leaf, look, no_tree, tree_and}
+use Rattle.std.proofs.Common.{◌≡◌, ℕ, List, [], ◌∷◌, Bool, true, false, refl, ap, sym, ◌∙◌, inl, inr, ◌⊎◌}
+use Rattle.std.specs.Prelude.{◌&&◌}
+use Rattle.lalrpop_symbols.specs.Symbols.{Text, Op, star, plus, question, Closed, literal, call, many, row, chosen, labelled, ahead, behind, faulty}
+use Rattle.lalrpop_grammar.specs.Trees.{Token, Tree, Trees, node, list, absent, present, together, leaf, look}
 use Rattle.lalrpop_values.specs.Scalars.{is_name, begins_name}
-use Rattle.lalrpop_formats.specs.Printing.{tree_text}
 use Rattle.lalrpop_written.specs.Enabled.{Rules}
 use Rattle.lalrpop_written.specs.Closing.{inner}
 use Rattle.lalrpop_written.specs.Admitting.{Admits, AsMany}
-use Rattle.lalrpop_printed.specs.Printed.{AreNamed}
 
 -- the forms, counted
 abbrev pub tree_form : Tree → ℕ

@@ -1,9 +1,8 @@
 -- The text of a tree doesn't show where its leaves stand; for prints_tell_trees_apart.
-use Rattle.std.proofs.Common.{◌≡◌, List, [], ◌∷◌, ◌++◌, refl, ap, ◌∙◌, map}
+use Rattle.std.proofs.Common.{◌≡◌, ◌∷◌, ◌++◌, refl, ap, ◌∙◌, map}
 use Rattle.std.specs.Prelude.{codes}
-use Rattle.lalrpop_symbols.specs.Symbols.{Text}
 use Rattle.lalrpop_symbols.specs.Texts.{symbol_text}
-use Rattle.lalrpop_grammar.specs.Trees.{Token, Tree, Trees, node, list, absent, present, together, leaf, look, no_tree, tree_and}
+use Rattle.lalrpop_grammar.specs.Trees.{Tree, Trees, node, list, absent, present, together, leaf, look, no_tree, tree_and}
 use Rattle.lalrpop_formats.specs.Printing.{tree_text, tree_texts, head_text, row_text}
 use Rattle.lalrpop_printed.specs.Printed.{unplaced, unplaced_all}
 

@@ -1,18 +1,16 @@
 -- The text of an admitted tree tells the tree up to spans, and where its text ends; for prints_tell_trees_apart.
-use Rattle.std.proofs.Common.{◌≡◌, ℕ, ◌<◌, ◌^◌, List, [], ◌∷◌, ◌++◌, refl, ap, sym, ◌∙◌, arith, subst, inl, inr, ◌⊎◌, append_assoc, map}
-use Rattle.std.specs.Prelude.{codes, flat_map, IsTrue}
+use Rattle.std.proofs.Common.{◌≡◌, ℕ, ◌<◌, ◌^◌, List, [], ◌∷◌, ◌++◌, refl, ap, sym, ◌∙◌, arith, subst, append_assoc, map}
+use Rattle.std.specs.Prelude.{codes, flat_map}
 use Rattle.std.specs.Fmt.{decimal}
 use Rattle.std.proofs.lemmas.List.{append_cancel_left}
-use Rattle.json.specs.Print.{quoted}
-use Rattle.lalrpop_symbols.specs.Symbols.{Text, Argument, Op, star, plus, question, Closed, Closeds, closed_list, literal, call, many, row}
+use Rattle.lalrpop_symbols.specs.Symbols.{Text, Argument, question, Closed, Closeds, closed_list, literal, call, many, row}
 use Rattle.lalrpop_symbols.specs.Texts.{symbol_text, joined}
-use Rattle.lalrpop_grammar.specs.Written.{Origin, alternative}
+use Rattle.lalrpop_grammar.specs.Written.{alternative}
 use Rattle.lalrpop_grammar.specs.Trees.{Token, Tree, Trees, node, list, absent, present, together, leaf, look, no_tree, tree_and}
-use Rattle.lalrpop_values.specs.Scalars.{is_name}
 use Rattle.lalrpop_formats.specs.Printing.{tree_text, tree_texts, arguments_text, head_text, row_text}
-use Rattle.lalrpop_written.specs.Enabled.{Rules, EnabledRule, Choice}
+use Rattle.lalrpop_written.specs.Enabled.{Rules, EnabledRule}
 use Rattle.lalrpop_written.specs.Closing.{right_side, inner}
-use Rattle.lalrpop_written.specs.Admitting.{Admits, AdmitsAll, AdmitsEach, IsNode, Fits, binding, argument_list}
+use Rattle.lalrpop_written.specs.Admitting.{Admits, AdmitsAll, AdmitsEach, Fits, binding, argument_list}
 use Rattle.lalrpop_written.proofs.Places.{PlacesApart}
 use Rattle.lalrpop_printed.specs.Printed.{AreNamed, PlacesFit, AllPlacesFit, unplaced, unplaced_all, without_span}
 use Rattle.lalrpop_printed.proofs.FormLemmas.{Begins, begins_name_of, same_form}

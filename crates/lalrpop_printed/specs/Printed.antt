@@ -1,12 +1,12 @@
 -- That printed trees tell trees apart: what is compared, of which grammars and trees, and what is said.
-use Rattle.std.specs.Prelude.{◌≡◌, ◌↔◌, ◌<◌, ◌^◌, ℕ, Bool, List, Option, IsTrue}
-use Rattle.lalrpop_symbols.specs.Symbols.{Text, Closed}
+use Rattle.std.specs.Prelude.{◌≡◌, ◌↔◌, ◌<◌, ◌^◌, Bool, List, Option, IsTrue}
+use Rattle.lalrpop_symbols.specs.Symbols.{Text}
 use Rattle.lalrpop_grammar.specs.Written.{Grammar}
 use Rattle.lalrpop_grammar.specs.Trees.{Token, Tree, Trees, node, list, absent, present, together, leaf, look, no_tree, tree_and}
 use Rattle.lalrpop_values.specs.Scalars.{is_name}
 use Rattle.lalrpop_formats.specs.Printing.{tree_text}
 use Rattle.lalrpop_written.specs.Enabled.{Rules, EnabledRule, IsRule, enabled}
-use Rattle.lalrpop_written.specs.Admitting.{Admits, AdmitsStart, AdmitsFrom}
+use Rattle.lalrpop_written.specs.Admitting.{AdmitsFrom}
 
 -- the token without its place
 abbrev pub without_span : Token → Token

@@ -1,12 +1,10 @@
-use Rattle.std.proofs.Common.{◌≡◌, List, [], ◌∷◌, ◌++◌, ap, sym, ◌∙◌, subst}
+use Rattle.std.proofs.Common.{◌≡◌, [], ◌∷◌, ◌++◌, ap, sym, ◌∙◌, subst}
 use Rattle.lalrpop_symbols.specs.Symbols.{call, end}
-use Rattle.lalrpop_grammar.specs.Trees.{Tree}
 use Rattle.lalrpop_formats.specs.Printing.{tree_text}
-use Rattle.lalrpop_written.specs.Enabled.{EnabledRule, enabled}
+use Rattle.lalrpop_written.specs.Enabled.{enabled}
 use Rattle.lalrpop_written.specs.Levels.{loosest}
 use Rattle.lalrpop_written.specs.Admitting.{Admits}
 use Rattle.lalrpop_written.proofs.Places.{places_apart}
-use Rattle.lalrpop_printed.specs.Printed.{unplaced}
 use Rattle.lalrpop_printed.proofs.SpanLemmas.{text_of_unplaced}
 use Rattle.lalrpop_printed.proofs.TreeLemmas.{same}
 use Rattle.lalrpop_printed.proofs.prints_tell_trees_apart.Goals as goal
