@@ -1,7 +1,6 @@
 //! Faults in alternatives, their actions and their conditions.
 
-use crate::places::Place;
-use crate::reading::{Change, faults, reads};
+use lalrpop_placed::{Change, Place, faults, reads};
 use std::test::Fail;
 
 /// The empty alternative.
@@ -61,7 +60,7 @@ static KEYS: [Change; 12] = [
 
 #[test]
 fn keys_of_alternatives(rt: HostRuntime) -> Result<(), Fail> {
-    faults(&rt, rt.alloc(), Place::Alternative, empty(), &KEYS)
+    faults(rt.alloc(), Place::Alternative, empty(), &KEYS)
 }
 
 static VALUES: [Change; 12] = [
@@ -126,7 +125,7 @@ static VALUES: [Change; 12] = [
 
 #[test]
 fn values_in_alternatives(rt: HostRuntime) -> Result<(), Fail> {
-    faults(&rt, rt.alloc(), Place::Alternative, empty(), &VALUES)
+    faults(rt.alloc(), Place::Alternative, empty(), &VALUES)
 }
 
 static ACTIONS: [Change; 14] = [
@@ -218,7 +217,7 @@ static ACTIONS: [Change; 14] = [
 
 #[test]
 fn actions(rt: HostRuntime) -> Result<(), Fail> {
-    faults(&rt, rt.alloc(), Place::Alternative, empty(), &ACTIONS)
+    faults(rt.alloc(), Place::Alternative, empty(), &ACTIONS)
 }
 
 /// The empty alternative under a condition.
@@ -259,13 +258,7 @@ static CONDITIONS: [Change; 13] = [
 
 #[test]
 fn conditions(rt: HostRuntime) -> Result<(), Fail> {
-    faults(
-        &rt,
-        rt.alloc(),
-        Place::Alternative,
-        conditional(),
-        &CONDITIONS,
-    )
+    faults(rt.alloc(), Place::Alternative, conditional(), &CONDITIONS)
 }
 
 /// Alternatives with each action and each comparison.
@@ -280,5 +273,5 @@ static ALTERNATIVES: [&str; 6] = [
 
 #[test]
 fn alternatives_that_are_read(rt: HostRuntime) -> Result<(), Fail> {
-    reads(&rt, rt.alloc(), Place::Alternative, &ALTERNATIVES)
+    reads(rt.alloc(), Place::Alternative, &ALTERNATIVES)
 }

@@ -1,7 +1,6 @@
 //! Faults in attributes.
 
-use crate::places::Place;
-use crate::reading::{Change, faults};
+use lalrpop_placed::{Change, Place, faults};
 use std::test::Fail;
 
 /// `LALR`
@@ -38,7 +37,7 @@ static BARE: [Change; 14] = [
 
 #[test]
 fn attributes_without_an_argument(rt: HostRuntime) -> Result<(), Fail> {
-    faults(&rt, rt.alloc(), Place::Attribute, bare(), &BARE)
+    faults(rt.alloc(), Place::Attribute, bare(), &BARE)
 }
 
 /// `level = "1"`
@@ -61,7 +60,7 @@ static EQUAL: [Change; 5] = [
 
 #[test]
 fn attributes_with_a_text(rt: HostRuntime) -> Result<(), Fail> {
-    faults(&rt, rt.alloc(), Place::Attribute, equal(), &EQUAL)
+    faults(rt.alloc(), Place::Attribute, equal(), &EQUAL)
 }
 
 /// `cfg(a, not(b = "c"))`
@@ -119,7 +118,7 @@ static PAREN: [Change; 10] = [
 
 #[test]
 fn attributes_with_others_inside(rt: HostRuntime) -> Result<(), Fail> {
-    faults(&rt, rt.alloc(), Place::Attribute, paren(), &PAREN)
+    faults(rt.alloc(), Place::Attribute, paren(), &PAREN)
 }
 
 /// `inline()`
@@ -135,11 +134,5 @@ static EMPTY_PAREN: [Change; 3] = [
 
 #[test]
 fn attributes_with_nothing_inside(rt: HostRuntime) -> Result<(), Fail> {
-    faults(
-        &rt,
-        rt.alloc(),
-        Place::Attribute,
-        empty_paren(),
-        &EMPTY_PAREN,
-    )
+    faults(rt.alloc(), Place::Attribute, empty_paren(), &EMPTY_PAREN)
 }

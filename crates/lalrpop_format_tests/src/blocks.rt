@@ -1,7 +1,6 @@
 //! Faults in extern blocks.
 
-use crate::places::Place;
-use crate::reading::{Change, faults};
+use lalrpop_placed::{Change, Place, faults};
 use std::test::Fail;
 
 /// An extern block with nothing in it.
@@ -63,7 +62,7 @@ static EMPTY: [Change; 14] = [
 
 #[test]
 fn extern_blocks(rt: HostRuntime) -> Result<(), Fail> {
-    faults(&rt, rt.alloc(), Place::Item, empty(), &EMPTY)
+    faults(rt.alloc(), Place::Item, empty(), &EMPTY)
 }
 
 /// An extern block with two associated types.
@@ -108,7 +107,7 @@ static ASSOCIATED: [Change; 7] = [
 
 #[test]
 fn associated_types(rt: HostRuntime) -> Result<(), Fail> {
-    faults(&rt, rt.alloc(), Place::Item, associated(), &ASSOCIATED)
+    faults(rt.alloc(), Place::Item, associated(), &ASSOCIATED)
 }
 
 /// An extern block with the user's own tokens.
@@ -200,7 +199,7 @@ static TOKENS: [Change; 14] = [
 
 #[test]
 fn tokens_of_the_user(rt: HostRuntime) -> Result<(), Fail> {
-    faults(&rt, rt.alloc(), Place::Item, tokens(), &TOKENS)
+    faults(rt.alloc(), Place::Item, tokens(), &TOKENS)
 }
 
 /// An extern block whose tokens have no conversions.
@@ -237,11 +236,5 @@ static NO_CONVERSIONS: [Change; 4] = [
 
 #[test]
 fn tokens_without_conversions(rt: HostRuntime) -> Result<(), Fail> {
-    faults(
-        &rt,
-        rt.alloc(),
-        Place::Item,
-        no_conversions(),
-        &NO_CONVERSIONS,
-    )
+    faults(rt.alloc(), Place::Item, no_conversions(), &NO_CONVERSIONS)
 }

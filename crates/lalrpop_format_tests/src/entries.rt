@@ -1,7 +1,6 @@
 //! Faults in match blocks and their entries.
 
-use crate::places::Place;
-use crate::reading::{Change, faults, reads};
+use lalrpop_placed::{Change, Place, faults, reads};
 use std::test::Fail;
 
 /// A match block of one group.
@@ -30,7 +29,7 @@ static BLOCK: [Change; 11] = [
 
 #[test]
 fn match_blocks(rt: HostRuntime) -> Result<(), Fail> {
-    faults(&rt, rt.alloc(), Place::Item, block(), &BLOCK)
+    faults(rt.alloc(), Place::Item, block(), &BLOCK)
 }
 
 /// `"a"`
@@ -95,7 +94,7 @@ static ENTRY: [Change; 12] = [
 
 #[test]
 fn entries_of_literals(rt: HostRuntime) -> Result<(), Fail> {
-    faults(&rt, rt.alloc(), Place::Entry, entry(), &ENTRY)
+    faults(rt.alloc(), Place::Entry, entry(), &ENTRY)
 }
 
 static LITERALS: [Change; 10] = [
@@ -148,7 +147,7 @@ static LITERALS: [Change; 10] = [
 
 #[test]
 fn literals_of_entries(rt: HostRuntime) -> Result<(), Fail> {
-    faults(&rt, rt.alloc(), Place::Entry, entry(), &LITERALS)
+    faults(rt.alloc(), Place::Entry, entry(), &LITERALS)
 }
 
 static MAPPINGS: [Change; 14] = [
@@ -215,7 +214,7 @@ static MAPPINGS: [Change; 14] = [
 
 #[test]
 fn mappings_of_entries(rt: HostRuntime) -> Result<(), Fail> {
-    faults(&rt, rt.alloc(), Place::Entry, entry(), &MAPPINGS)
+    faults(rt.alloc(), Place::Entry, entry(), &MAPPINGS)
 }
 
 /// `_`
@@ -244,7 +243,7 @@ static CATCH_ALL: [Change; 6] = [
 
 #[test]
 fn entries_for_all_others(rt: HostRuntime) -> Result<(), Fail> {
-    faults(&rt, rt.alloc(), Place::Entry, catch_all(), &CATCH_ALL)
+    faults(rt.alloc(), Place::Entry, catch_all(), &CATCH_ALL)
 }
 
 /// Entries of each literal and mapping.
@@ -258,5 +257,5 @@ static ENTRIES: [&str; 5] = [
 
 #[test]
 fn entries_that_are_read(rt: HostRuntime) -> Result<(), Fail> {
-    reads(&rt, rt.alloc(), Place::Entry, &ENTRIES)
+    reads(rt.alloc(), Place::Entry, &ENTRIES)
 }

@@ -1,7 +1,6 @@
 //! Faults in the keys of a grammar, and which of several is the first.
 
-use crate::places::Place;
-use crate::reading::{Change, faults, reads};
+use lalrpop_placed::{Change, Place, faults, reads};
 use std::test::Fail;
 
 /// A grammar of nothing.
@@ -53,7 +52,7 @@ static KEYS: [Change; 14] = [
 
 #[test]
 fn keys_of_grammars(rt: HostRuntime) -> Result<(), Fail> {
-    faults(&rt, rt.alloc(), Place::Grammar, grammar(), &KEYS)
+    faults(rt.alloc(), Place::Grammar, grammar(), &KEYS)
 }
 
 static VALUES: [Change; 14] = [
@@ -135,7 +134,7 @@ static VALUES: [Change; 14] = [
 
 #[test]
 fn values_in_grammars(rt: HostRuntime) -> Result<(), Fail> {
-    faults(&rt, rt.alloc(), Place::Grammar, grammar(), &VALUES)
+    faults(rt.alloc(), Place::Grammar, grammar(), &VALUES)
 }
 
 static WHOLE: [Change; 7] = [
@@ -185,7 +184,7 @@ static WHOLE: [Change; 7] = [
 
 #[test]
 fn values_that_are_no_grammar(rt: HostRuntime) -> Result<(), Fail> {
-    faults(&rt, rt.alloc(), Place::Grammar, grammar(), &WHOLE)
+    faults(rt.alloc(), Place::Grammar, grammar(), &WHOLE)
 }
 
 /// A grammar with each kind of item, its keys in another order and blanks between them.
@@ -199,5 +198,5 @@ fn with_items() -> &'static str {
 
 #[test]
 fn keys_in_any_order(rt: HostRuntime) -> Result<(), Fail> {
-    reads(&rt, rt.alloc(), Place::Grammar, &[with_items()])
+    reads(rt.alloc(), Place::Grammar, &[with_items()])
 }

@@ -1,5 +1,5 @@
-//! Tests of the format: for each form a value that is read, and values of it with one part replaced, each with its first
-//! fault and the path to it.
+//! Tests of the format of grammars and their items: for each form a value that is read, and values of it with one part
+//! replaced, each with its first fault and the path to it.
 #![tactic(auto)]
 
 #[cfg(test)]
@@ -13,16 +13,4 @@ mod entries;
 #[cfg(test)]
 mod grammars;
 #[cfg(test)]
-mod numbers;
-#[cfg(test)]
-mod places;
-#[cfg(test)]
-mod reading;
-#[cfg(test)]
 mod rules;
-#[cfg(test)]
-mod symbols;
-#[cfg(test)]
-mod trees;
-#[cfg(test)]
-mod types;

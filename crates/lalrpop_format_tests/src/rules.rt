@@ -1,7 +1,6 @@
 //! Faults in rules, and in items that tell no form.
 
-use crate::places::Place;
-use crate::reading::{Change, faults, reads};
+use lalrpop_placed::{Change, Place, faults, reads};
 use std::test::Fail;
 
 /// A rule without alternatives.
@@ -46,7 +45,7 @@ static KEYS: [Change; 12] = [
 
 #[test]
 fn keys_of_rules(rt: HostRuntime) -> Result<(), Fail> {
-    faults(&rt, rt.alloc(), Place::Item, rule(), &KEYS)
+    faults(rt.alloc(), Place::Item, rule(), &KEYS)
 }
 
 static VALUES: [Change; 14] = [
@@ -108,7 +107,7 @@ static VALUES: [Change; 14] = [
 
 #[test]
 fn values_in_rules(rt: HostRuntime) -> Result<(), Fail> {
-    faults(&rt, rt.alloc(), Place::Item, rule(), &VALUES)
+    faults(rt.alloc(), Place::Item, rule(), &VALUES)
 }
 
 static VISIBILITIES: [Change; 10] = [
@@ -141,7 +140,7 @@ static VISIBILITIES: [Change; 10] = [
 
 #[test]
 fn visibilities(rt: HostRuntime) -> Result<(), Fail> {
-    faults(&rt, rt.alloc(), Place::Item, rule(), &VISIBILITIES)
+    faults(rt.alloc(), Place::Item, rule(), &VISIBILITIES)
 }
 
 /// Rules of each visibility.
@@ -153,7 +152,7 @@ static RULES: [&str; 3] = [
 
 #[test]
 fn rules_that_are_read(rt: HostRuntime) -> Result<(), Fail> {
-    reads(&rt, rt.alloc(), Place::Item, &RULES)
+    reads(rt.alloc(), Place::Item, &RULES)
 }
 
 static KINDS: [Change; 8] = [
@@ -184,7 +183,7 @@ static KINDS: [Change; 8] = [
 
 #[test]
 fn kinds_of_items(rt: HostRuntime) -> Result<(), Fail> {
-    faults(&rt, rt.alloc(), Place::Item, rule(), &KINDS)
+    faults(rt.alloc(), Place::Item, rule(), &KINDS)
 }
 
 /// An import, to be replaced as a whole.
@@ -266,7 +265,7 @@ static NO_KIND: [Change; 14] = [
 
 #[test]
 fn items_without_a_kind(rt: HostRuntime) -> Result<(), Fail> {
-    faults(&rt, rt.alloc(), Place::Item, import(), &NO_KIND)
+    faults(rt.alloc(), Place::Item, import(), &NO_KIND)
 }
 
 static IMPORTS: [Change; 5] = [
@@ -279,5 +278,5 @@ static IMPORTS: [Change; 5] = [
 
 #[test]
 fn imports(rt: HostRuntime) -> Result<(), Fail> {
-    faults(&rt, rt.alloc(), Place::Item, import(), &IMPORTS)
+    faults(rt.alloc(), Place::Item, import(), &IMPORTS)
 }

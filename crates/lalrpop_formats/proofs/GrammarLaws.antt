@@ -16,7 +16,7 @@ use Rattle.lalrpop_values.specs.Lists.{list_at}
 use Rattle.lalrpop_values.specs.Objects.{field_at, keys_at}
 use Rattle.lalrpop_values.specs.Scalars.{span_at, text_at}
 use Rattle.lalrpop_values.specs.Spelled.{EachFrom, IsSpan, list_json, span_json}
-use Rattle.lalrpop_values.proofs.ScalarLaws.{span_takes, span_again, text_takes, text_again}
+use Rattle.lalrpop_values.proofs.ScalarLaws.{span_takes, span_again, text_takes}
 use Rattle.lalrpop_values.proofs.Steps.{part, ok_same, object_ok, Fields, filled}
 use Rattle.lalrpop_symbol_formats.specs.Attributes.{attribute_at}
 use Rattle.lalrpop_symbol_formats.specs.Readable.{AreReadableAttributes}

@@ -1,6 +1,6 @@
 -- Trees: what is read is spelled so, and what is spelled so is read.
-use Rattle.std.proofs.Common.{◌≡◌, ℕ, ◌+◌, ◌<◌, ◌^◌, List, [], ◌∷◌, map, Option, Some, None, Result, Ok, Err, Bool, true, false, is_some, refl, ap, sym, ◌∙◌, subst, IfOk}
-use Rattle.serde_json.specs.Data.{Data, null, string, array, object}
+use Rattle.std.proofs.Common.{◌≡◌, ℕ, ◌+◌, ◌<◌, ◌^◌, List, [], ◌∷◌, map, Option, Some, None, Result, Ok, Err, true, false, is_some, refl, ap, sym, ◌∙◌, subst, IfOk}
+use Rattle.serde_json.specs.Data.{Data, null}
 use Rattle.serde_json.specs.Find.{as_null}
 use Rattle.serde_json.specs.View.{items_of}
 use Rattle.lalrpop_symbols.specs.declared.span.Span.{Span}
@@ -15,26 +15,24 @@ use Rattle.lalrpop_values.specs.declared.fault.Step.TheVariants as step
 use Rattle.lalrpop_values.specs.declared.form.Form.{Form}
 use Rattle.lalrpop_values.specs.declared.form.Form.TheVariants as form
 use Rattle.lalrpop_values.specs.declared.key.Key.TheVariants as key
-use Rattle.lalrpop_values.specs.Forms.{told_by}
 use Rattle.lalrpop_values.specs.Gives.{Gives}
 use Rattle.lalrpop_values.specs.Key.{text_of}
 use Rattle.lalrpop_values.specs.Lists.{list_at, list_from}
 use Rattle.lalrpop_values.specs.Nested.{Reader}
 use Rattle.lalrpop_values.specs.Objects.{field_at, keys_at}
 use Rattle.lalrpop_values.specs.Scalars.{is_name, name_at, null_at, number_at, optional, span_at, text_at}
-use Rattle.lalrpop_values.specs.Spelled.{EachFrom, IfSome, IsSpan, list_json, number_json, option_json, span_json}
+use Rattle.lalrpop_values.specs.Spelled.{EachFrom, IfSome, IsSpan, list_json, option_json}
 use Rattle.lalrpop_values.proofs.ListLaws.{list_takes}
 use Rattle.lalrpop_values.proofs.Nesting.{nested_takes}
 use Rattle.lalrpop_values.proofs.ScalarLaws.{name_takes, name_again, null_takes, number_takes, number_again, optional_takes, span_takes, span_again, text_takes, text_again}
 use Rattle.lalrpop_values.proofs.Steps.{part, ok_same, object_ok}
 use Rattle.lalrpop_symbol_formats.specs.Literals.{terminal_at}
 use Rattle.lalrpop_symbol_formats.specs.Readable.{IsReadableTerminal, AreReadableSymbols}
-use Rattle.lalrpop_symbol_formats.specs.Spelling.{symbol_json, terminal_json}
 use Rattle.lalrpop_symbol_formats.specs.Symbols.{symbol_at}
 use Rattle.lalrpop_symbol_formats.proofs.LiteralLaws.{terminal_takes, terminal_again}
 use Rattle.lalrpop_symbol_formats.proofs.SymbolLaws.{symbols_take, symbols_again}
 use Rattle.lalrpop_formats.specs.Laws.{SpellsTree}
-use Rattle.lalrpop_formats.specs.ReadTrees.{form_of_tree, group_at, leaf_at, look_at, node_at, option_at, repeated_at, tree_at, tree_by, tree_form, tree_rows}
+use Rattle.lalrpop_formats.specs.ReadTrees.{form_of_tree, group_at, leaf_at, look_at, node_at, option_at, repeated_at, tree_at, tree_by, tree_form}
 use Rattle.lalrpop_formats.specs.ReadableTrees.{IsReadableTree, node, repeated, absent, present, grouped, leaf, look, AreReadableTrees, none, more}
 use Rattle.lalrpop_formats.specs.SpelledTrees.{group_json, leaf_json, look_json, node_json, option_tree_json, repeated_json, tree_spelling, tree_step}
 use Rattle.lalrpop_formats.proofs.TreeNesting.{tree_opened}

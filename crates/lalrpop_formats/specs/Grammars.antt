@@ -1,9 +1,8 @@
 -- How grammars are read.
-use Rattle.std.specs.Prelude.{List, [], ◌∷◌, Result, Ok}
+use Rattle.std.specs.Prelude.{[], ◌∷◌, Result, Ok}
 use Rattle.serde_json.specs.Data.{Data}
 use Rattle.lalrpop_grammar.specs.declared.grammar.Grammar.{Grammar}
 use Rattle.lalrpop_values.specs.declared.fault.Fault.{Fault}
-use Rattle.lalrpop_values.specs.declared.key.Key.{Key}
 use Rattle.lalrpop_values.specs.declared.key.Key.TheVariants as key
 use Rattle.lalrpop_values.specs.Gives.{◌>>=◌}
 use Rattle.lalrpop_values.specs.Lists.{list_at}

@@ -1,5 +1,5 @@
 -- How written trees are read.
-use Rattle.std.specs.Prelude.{List, [], ◌∷◌, Result, Ok, Err, Option, Some, None}
+use Rattle.std.specs.Prelude.{List, [], ◌∷◌, Result, Ok, Err, Option, Some}
 use Rattle.serde_json.specs.Data.{Data}
 use Rattle.lalrpop_grammar.specs.declared.tree.WrittenTree.{WrittenTree}
 use Rattle.lalrpop_grammar.specs.declared.tree.WrittenTree.TheVariants as tree

@@ -1,5 +1,4 @@
 -- Which grammars have a spelling: those that are read.
-use Rattle.std.specs.Prelude.{List, [], ◌∷◌}
 use Rattle.lalrpop_grammar.specs.declared.grammar.Grammar.{Grammar}
 use Rattle.lalrpop_values.specs.Spelled.{EachFrom, IsSpan}
 use Rattle.lalrpop_symbol_formats.specs.Readable.{AreReadableAttributes}

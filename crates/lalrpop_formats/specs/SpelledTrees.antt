@@ -1,5 +1,5 @@
 -- The one JSON value of a written tree.
-use Rattle.std.specs.Prelude.{ℕ, List, [], ◌∷◌, Option, Some, None}
+use Rattle.std.specs.Prelude.{ℕ, List, [], ◌∷◌}
 use Rattle.serde_json.specs.Data.{Data, null, string, array}
 use Rattle.serde_json.specs.View.{items_of}
 use Rattle.lalrpop_symbols.specs.declared.span.Span.{Span}

@@ -1,7 +1,6 @@
 //! Faults in trees.
 
-use crate::places::Place;
-use crate::reading::{Change, faults, reads};
+use lalrpop_placed::{Change, Place, faults, reads};
 use std::test::Fail;
 
 /// `S#0()`
@@ -63,7 +62,7 @@ static KEYS: [Change; 14] = [
 
 #[test]
 fn keys_of_nodes(rt: HostRuntime) -> Result<(), Fail> {
-    faults(&rt, rt.alloc(), Place::Tree, node(), &KEYS)
+    faults(rt.alloc(), Place::Tree, node(), &KEYS)
 }
 
 static VALUES: [Change; 14] = [
@@ -115,7 +114,7 @@ static VALUES: [Change; 14] = [
 
 #[test]
 fn values_in_nodes(rt: HostRuntime) -> Result<(), Fail> {
-    faults(&rt, rt.alloc(), Place::Child, node(), &VALUES)
+    faults(rt.alloc(), Place::Child, node(), &VALUES)
 }
 
 /// The token `a`
@@ -172,7 +171,7 @@ static LEAF: [Change; 14] = [
 
 #[test]
 fn leaves(rt: HostRuntime) -> Result<(), Fail> {
-    faults(&rt, rt.alloc(), Place::Child, leaf(), &LEAF)
+    faults(rt.alloc(), Place::Child, leaf(), &LEAF)
 }
 
 /// `[@, S#0()]`
@@ -202,7 +201,7 @@ static LIST: [Change; 7] = [
 
 #[test]
 fn lists(rt: HostRuntime) -> Result<(), Fail> {
-    faults(&rt, rt.alloc(), Place::Child, list(), &LIST)
+    faults(rt.alloc(), Place::Child, list(), &LIST)
 }
 
 /// `?((@))`
@@ -234,7 +233,7 @@ static OPTION: [Change; 9] = [
 
 #[test]
 fn options(rt: HostRuntime) -> Result<(), Fail> {
-    faults(&rt, rt.alloc(), Place::Child, option(), &OPTION)
+    faults(rt.alloc(), Place::Child, option(), &OPTION)
 }
 
 /// `@`
@@ -253,7 +252,7 @@ static LOOK: [Change; 6] = [
 
 #[test]
 fn looks(rt: HostRuntime) -> Result<(), Fail> {
-    faults(&rt, rt.alloc(), Place::Child, look(), &LOOK)
+    faults(rt.alloc(), Place::Child, look(), &LOOK)
 }
 
 /// `(@)`
@@ -272,7 +271,7 @@ static GROUP: [Change; 6] = [
 
 #[test]
 fn groups(rt: HostRuntime) -> Result<(), Fail> {
-    faults(&rt, rt.alloc(), Place::Child, group(), &GROUP)
+    faults(rt.alloc(), Place::Child, group(), &GROUP)
 }
 
 /// Trees of each form that no test above reads.
@@ -289,5 +288,5 @@ static TREES: [&str; 8] = [
 
 #[test]
 fn trees_that_are_read(rt: HostRuntime) -> Result<(), Fail> {
-    reads(&rt, rt.alloc(), Place::Tree, &TREES)
+    reads(rt.alloc(), Place::Tree, &TREES)
 }

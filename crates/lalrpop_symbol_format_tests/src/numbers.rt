@@ -1,7 +1,6 @@
 //! Numbers and names.
 
-use crate::places::Place;
-use crate::reading::{Change, faults, reads};
+use lalrpop_placed::{Change, Place, faults, reads};
 use std::test::Fail;
 
 /// The place of the last token, as a symbol.
@@ -28,7 +27,7 @@ static ENDS: [Change; 14] = [
 
 #[test]
 fn numbers_of_spans(rt: HostRuntime) -> Result<(), Fail> {
-    faults(&rt, rt.alloc(), Place::Symbol, look(), &ENDS)
+    faults(rt.alloc(), Place::Symbol, look(), &ENDS)
 }
 
 static SHAPES: [Change; 11] = [
@@ -47,7 +46,7 @@ static SHAPES: [Change; 11] = [
 
 #[test]
 fn shapes_of_spans(rt: HostRuntime) -> Result<(), Fail> {
-    faults(&rt, rt.alloc(), Place::Symbol, look(), &SHAPES)
+    faults(rt.alloc(), Place::Symbol, look(), &SHAPES)
 }
 
 /// Spans that are as long as can be, at the end, and before blanks.
@@ -59,7 +58,7 @@ static SPANS: [&str; 3] = [
 
 #[test]
 fn spans_that_are_read(rt: HostRuntime) -> Result<(), Fail> {
-    reads(&rt, rt.alloc(), Place::Symbol, &SPANS)
+    reads(rt.alloc(), Place::Symbol, &SPANS)
 }
 
 /// The name `A`, as a symbol.
@@ -86,7 +85,7 @@ static NAMES: [Change; 14] = [
 
 #[test]
 fn names_of_symbols(rt: HostRuntime) -> Result<(), Fail> {
-    faults(&rt, rt.alloc(), Place::Symbol, named(), &NAMES)
+    faults(rt.alloc(), Place::Symbol, named(), &NAMES)
 }
 
 /// Names of all that a name may have.
@@ -99,5 +98,5 @@ static GOOD_NAMES: [&str; 4] = [
 
 #[test]
 fn names_that_are_read(rt: HostRuntime) -> Result<(), Fail> {
-    reads(&rt, rt.alloc(), Place::Symbol, &GOOD_NAMES)
+    reads(rt.alloc(), Place::Symbol, &GOOD_NAMES)
 }

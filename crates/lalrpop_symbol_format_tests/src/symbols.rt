@@ -1,7 +1,6 @@
 //! Faults in symbols.
 
-use crate::places::Place;
-use crate::reading::{Change, faults, reads};
+use lalrpop_placed::{Change, Place, faults, reads};
 use std::test::Fail;
 
 /// `A`
@@ -33,7 +32,7 @@ static NAME: [Change; 14] = [
 
 #[test]
 fn names(rt: HostRuntime) -> Result<(), Fail> {
-    faults(&rt, rt.alloc(), Place::Symbol, name(), &NAME)
+    faults(rt.alloc(), Place::Symbol, name(), &NAME)
 }
 
 static NO_KIND: [Change; 14] = [
@@ -125,7 +124,7 @@ static NO_KIND: [Change; 14] = [
 
 #[test]
 fn symbols_without_a_kind(rt: HostRuntime) -> Result<(), Fail> {
-    faults(&rt, rt.alloc(), Place::Symbol, name(), &NO_KIND)
+    faults(rt.alloc(), Place::Symbol, name(), &NO_KIND)
 }
 
 /// `"a"`
@@ -192,7 +191,7 @@ static LITERAL: [Change; 14] = [
 
 #[test]
 fn literals(rt: HostRuntime) -> Result<(), Fail> {
-    faults(&rt, rt.alloc(), Place::Symbol, literal(), &LITERAL)
+    faults(rt.alloc(), Place::Symbol, literal(), &LITERAL)
 }
 
 /// `(A)`
@@ -240,7 +239,7 @@ static GROUP: [Change; 10] = [
 
 #[test]
 fn groups(rt: HostRuntime) -> Result<(), Fail> {
-    faults(&rt, rt.alloc(), Place::Symbol, group(), &GROUP)
+    faults(rt.alloc(), Place::Symbol, group(), &GROUP)
 }
 
 /// `M<A, "b">`
@@ -269,7 +268,7 @@ static CALL: [Change; 11] = [
 
 #[test]
 fn calls(rt: HostRuntime) -> Result<(), Fail> {
-    faults(&rt, rt.alloc(), Place::Symbol, call(), &CALL)
+    faults(rt.alloc(), Place::Symbol, call(), &CALL)
 }
 
 /// `M<>`
@@ -291,7 +290,7 @@ static EMPTY_CALL: [Change; 4] = [
 
 #[test]
 fn calls_without_arguments(rt: HostRuntime) -> Result<(), Fail> {
-    faults(&rt, rt.alloc(), Place::Symbol, empty_call(), &EMPTY_CALL)
+    faults(rt.alloc(), Place::Symbol, empty_call(), &EMPTY_CALL)
 }
 
 /// `(A)*`
@@ -348,7 +347,7 @@ static REPEAT: [Change; 14] = [
 
 #[test]
 fn repeats(rt: HostRuntime) -> Result<(), Fail> {
-    faults(&rt, rt.alloc(), Place::Symbol, repeat(), &REPEAT)
+    faults(rt.alloc(), Place::Symbol, repeat(), &REPEAT)
 }
 
 /// `<A>`
@@ -395,7 +394,7 @@ static CHOICE: [Change; 9] = [
 
 #[test]
 fn choices(rt: HostRuntime) -> Result<(), Fail> {
-    faults(&rt, rt.alloc(), Place::Symbol, choice(), &CHOICE)
+    faults(rt.alloc(), Place::Symbol, choice(), &CHOICE)
 }
 
 /// `<mut n:@L>`
@@ -431,7 +430,7 @@ static NAMED: [Change; 13] = [
 
 #[test]
 fn named_symbols(rt: HostRuntime) -> Result<(), Fail> {
-    faults(&rt, rt.alloc(), Place::Symbol, named(), &NAMED)
+    faults(rt.alloc(), Place::Symbol, named(), &NAMED)
 }
 
 /// `!`
@@ -466,7 +465,7 @@ static RECOVERY: [Change; 7] = [
 
 #[test]
 fn symbols_without_parts(rt: HostRuntime) -> Result<(), Fail> {
-    faults(&rt, rt.alloc(), Place::Symbol, recovery(), &RECOVERY)
+    faults(rt.alloc(), Place::Symbol, recovery(), &RECOVERY)
 }
 
 /// Symbols of each kind that no test above reads.
@@ -483,5 +482,5 @@ static SYMBOLS: [&str; 8] = [
 
 #[test]
 fn symbols_that_are_read(rt: HostRuntime) -> Result<(), Fail> {
-    reads(&rt, rt.alloc(), Place::Symbol, &SYMBOLS)
+    reads(rt.alloc(), Place::Symbol, &SYMBOLS)
 }

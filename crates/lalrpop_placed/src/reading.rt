@@ -4,12 +4,11 @@ use crate::places::Place;
 use lalrpop_formats::{ReadError, fault_text, read_grammar, read_tree};
 use serde_json::Value;
 use std::alloc::{AllocError, Global};
-use std::process::Abort;
 use std::test::Fail;
 
 /// A change of a value and the fault that it brings: the part that is replaced, what stands there then, the kind of the
 /// fault, and the path to it from the place of the value.
-pub(crate) type Change = (&'static str, &'static str, &'static str, &'static str);
+pub type Change = (&'static str, &'static str, &'static str, &'static str);
 
 /// The text with the first of those parts replaced.
 fn replaced(alloc: Global, text: &str, old: &str, new: &str) -> Result<String, AllocError> {
@@ -72,34 +71,37 @@ fn fault_at(alloc: Global, kind: &str, front: &str, path: &str) -> Result<String
     Ok(text)
 }
 
-/// That these values are read in their place.
-pub(crate) fn reads(
-    rt: &impl Abort,
-    alloc: Global,
-    place: Place,
-    texts: &[&str],
-) -> Result<(), Fail> {
+/// That the answer to the text is the wanted one; else a failure that says both.
+fn same(alloc: Global, text: &str, found: &str, wanted: &str) -> Result<(), Fail> {
+    if found == wanted {
+        return Ok(());
+    }
+    let mut message = String::from_str(alloc, found)?;
+    message.push_str(", not ")?;
+    message.push_str(wanted)?;
+    message.push_str(", to ")?;
+    message.push_str(text)?;
+    Err(Fail::from(message))
+}
+
+/// That these values are read in their place; else a failure that tells the first that isn't.
+pub fn reads(alloc: Global, place: Place, texts: &[&str]) -> Result<(), Fail> {
     for text in texts {
         let found = answer(alloc, place, text)?;
-        assert_eq!(rt; found.as_str(), "read", "of {text}");
+        same(alloc, text, found.as_str(), "read")?;
     }
     Ok(())
 }
 
-/// That a value is read in its place, and that each of these changes brings its fault.
-pub(crate) fn faults(
-    rt: &impl Abort,
-    alloc: Global,
-    place: Place,
-    text: &str,
-    changes: &[Change],
-) -> Result<(), Fail> {
-    reads(rt, alloc, place, &[text])?;
+/// That a value is read in its place, and that each of these changes brings its fault; else a failure that tells the
+/// first that doesn't.
+pub fn faults(alloc: Global, place: Place, text: &str, changes: &[Change]) -> Result<(), Fail> {
+    reads(alloc, place, &[text])?;
     for (old, new, kind, path) in changes {
         let changed = replaced(alloc, text, old, new)?;
         let found = answer(alloc, place, changed.as_str())?;
         let wanted = fault_at(alloc, kind, place.path(), path)?;
-        assert_eq!(rt; found.as_str(), wanted.as_str(), "with {new}");
+        same(alloc, new, found.as_str(), wanted.as_str())?;
     }
     Ok(())
 }

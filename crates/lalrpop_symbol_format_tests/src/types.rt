@@ -1,7 +1,6 @@
 //! Faults in declared types.
 
-use crate::places::Place;
-use crate::reading::{Change, faults, reads};
+use lalrpop_placed::{Change, Place, faults, reads};
 use std::test::Fail;
 
 /// `T`
@@ -30,7 +29,7 @@ static PARAMETER: [Change; 11] = [
 
 #[test]
 fn parameters(rt: HostRuntime) -> Result<(), Fail> {
-    faults(&rt, rt.alloc(), Place::Type, parameter(), &PARAMETER)
+    faults(rt.alloc(), Place::Type, parameter(), &PARAMETER)
 }
 
 /// `(T, (U,))`
@@ -76,7 +75,7 @@ static TUPLE: [Change; 8] = [
 
 #[test]
 fn tuples(rt: HostRuntime) -> Result<(), Fail> {
-    faults(&rt, rt.alloc(), Place::Type, tuple(), &TUPLE)
+    faults(rt.alloc(), Place::Type, tuple(), &TUPLE)
 }
 
 /// `a::Vec<T>`
@@ -103,7 +102,7 @@ static NOMINAL: [Change; 9] = [
 
 #[test]
 fn types_with_a_path(rt: HostRuntime) -> Result<(), Fail> {
-    faults(&rt, rt.alloc(), Place::Type, nominal(), &NOMINAL)
+    faults(rt.alloc(), Place::Type, nominal(), &NOMINAL)
 }
 
 /// `&'a mut T`
@@ -139,7 +138,7 @@ static REFERENCE: [Change; 13] = [
 
 #[test]
 fn references(rt: HostRuntime) -> Result<(), Fail> {
-    faults(&rt, rt.alloc(), Place::Type, reference(), &REFERENCE)
+    faults(rt.alloc(), Place::Type, reference(), &REFERENCE)
 }
 
 /// The type of `A+`
@@ -163,7 +162,7 @@ static OF_SYMBOL: [Change; 6] = [
 
 #[test]
 fn types_of_symbols(rt: HostRuntime) -> Result<(), Fail> {
-    faults(&rt, rt.alloc(), Place::Type, of_symbol(), &OF_SYMBOL)
+    faults(rt.alloc(), Place::Type, of_symbol(), &OF_SYMBOL)
 }
 
 /// `dyn A`
@@ -191,7 +190,7 @@ static OPAQUE: [Change; 5] = [
 
 #[test]
 fn types_as_text(rt: HostRuntime) -> Result<(), Fail> {
-    faults(&rt, rt.alloc(), Place::Type, opaque(), &OPAQUE)
+    faults(rt.alloc(), Place::Type, opaque(), &OPAQUE)
 }
 
 /// Types of each form that no test above reads.
@@ -206,5 +205,5 @@ static TYPES: [&str; 6] = [
 
 #[test]
 fn types_that_are_read(rt: HostRuntime) -> Result<(), Fail> {
-    reads(&rt, rt.alloc(), Place::Type, &TYPES)
+    reads(rt.alloc(), Place::Type, &TYPES)
 }

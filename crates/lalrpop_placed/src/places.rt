@@ -2,7 +2,7 @@
 
 /// Where a value stands.
 #[derive(Clone, Copy, Debug, PartialEq, Eq)]
-pub(crate) enum Place {
+pub enum Place {
     /// It is the grammar.
     Grammar,
     /// It is an attribute of the grammar.
@@ -25,7 +25,7 @@ pub(crate) enum Place {
 
 impl Place {
     /// The text in front of the value.
-    pub(crate) fn front(self) -> &'static str {
+    pub fn front(self) -> &'static str {
         match self {
             Place::Grammar => "",
             Place::Attribute => r#"{"attributes":["#,
@@ -44,7 +44,7 @@ impl Place {
     }
 
     /// The text behind the value.
-    pub(crate) fn back(self) -> &'static str {
+    pub fn back(self) -> &'static str {
         match self {
             Place::Grammar => "",
             Place::Attribute => {
@@ -71,7 +71,7 @@ impl Place {
     }
 
     /// The path to the value.
-    pub(crate) fn path(self) -> &'static str {
+    pub fn path(self) -> &'static str {
         match self {
             Place::Grammar => "",
             Place::Attribute => "/attributes/0",
@@ -86,7 +86,7 @@ impl Place {
     }
 
     /// Whether it is a place of a tree, and not of a grammar.
-    pub(crate) fn is_in_tree(self) -> bool {
+    pub fn is_in_tree(self) -> bool {
         match self {
             Place::Tree | Place::Child => true,
             _ => false,
