@@ -1,6 +1,9 @@
 //! A program to be timed: the tokens of the text on standard input, under the grammar in a file.
 //!
 //! It answers as `lalrpop_run tokens` does, whose text is a word and so no longer than a word may be.
+//!
+//! The gate runs a program on its own folder `data/` alone, so `data/lists.json` is a copy of `examples/lists.grammar.json`;
+//! `.ci/run` compares the two.
 #![tactic(auto)]
 
 use lalrpop_run::{Options, options, run};
