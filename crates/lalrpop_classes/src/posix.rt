@@ -1,6 +1,6 @@
 ghost use Rattle.std.specs.Prelude.{◌≡◌, ℕ, ◌<◌, ◌≤◌, length, not, position, IfSome, option_map};
 ghost use Rattle.std.specs.Char.{is_ascii_alphabetic};
-ghost use Rattle.lalrpop_classes.specs.Posix.{caret_at, posix_name_at, posix_at, posix_ranges};
+ghost use Rattle.lalrpop_classes.specs.Posix.{caret_at, other_ranges, posix_name_at, posix_at, posix_ranges, word_ranges};
 
 use crate::text::{after, first};
 use lalrpop_pattern::Range;
@@ -214,38 +214,25 @@ static XDIGIT: [Range; 3] = [
 pub(crate) fn posix_ranges(name: &[char]) -> Option<&'static [Range]>
     ensures { option_map (λ ranges. ranges.now) result ≡ posix_ranges name.now }
 {
+    word_ranges(name).or_else(|| other_ranges(name))
+}
+
+/// The ranges of a class of letters, digits and the underscore.
+#[tactic(auto, unfolding(crate::specs::Posix::word_ranges))]
+fn word_ranges(name: &[char]) -> Option<&'static [Range]>
+    ensures { option_map (λ ranges. ranges.now) result ≡ word_ranges name.now }
+{
     if name == ['a', 'l', 'n', 'u', 'm'].as_slice() {
         return Some(&ALNUM);
     }
     if name == ['a', 'l', 'p', 'h', 'a'].as_slice() {
         return Some(&ALPHA);
     }
-    if name == ['a', 's', 'c', 'i', 'i'].as_slice() {
-        return Some(&ASCII);
-    }
-    if name == ['b', 'l', 'a', 'n', 'k'].as_slice() {
-        return Some(&BLANK);
-    }
-    if name == ['c', 'n', 't', 'r', 'l'].as_slice() {
-        return Some(&CNTRL);
-    }
     if name == ['d', 'i', 'g', 'i', 't'].as_slice() {
         return Some(&DIGIT);
     }
-    if name == ['g', 'r', 'a', 'p', 'h'].as_slice() {
-        return Some(&GRAPH);
-    }
     if name == ['l', 'o', 'w', 'e', 'r'].as_slice() {
         return Some(&LOWER);
-    }
-    if name == ['p', 'r', 'i', 'n', 't'].as_slice() {
-        return Some(&PRINT);
-    }
-    if name == ['p', 'u', 'n', 'c', 't'].as_slice() {
-        return Some(&PUNCT);
-    }
-    if name == ['s', 'p', 'a', 'c', 'e'].as_slice() {
-        return Some(&SPACE);
     }
     if name == ['u', 'p', 'p', 'e', 'r'].as_slice() {
         return Some(&UPPER);
@@ -255,6 +242,35 @@ pub(crate) fn posix_ranges(name: &[char]) -> Option<&'static [Range]>
     }
     if name == ['x', 'd', 'i', 'g', 'i', 't'].as_slice() {
         return Some(&XDIGIT);
+    }
+    None
+}
+
+/// The ranges of a class that has other characters.
+#[tactic(auto, unfolding(crate::specs::Posix::other_ranges))]
+fn other_ranges(name: &[char]) -> Option<&'static [Range]>
+    ensures { option_map (λ ranges. ranges.now) result ≡ other_ranges name.now }
+{
+    if name == ['a', 's', 'c', 'i', 'i'].as_slice() {
+        return Some(&ASCII);
+    }
+    if name == ['b', 'l', 'a', 'n', 'k'].as_slice() {
+        return Some(&BLANK);
+    }
+    if name == ['c', 'n', 't', 'r', 'l'].as_slice() {
+        return Some(&CNTRL);
+    }
+    if name == ['g', 'r', 'a', 'p', 'h'].as_slice() {
+        return Some(&GRAPH);
+    }
+    if name == ['p', 'r', 'i', 'n', 't'].as_slice() {
+        return Some(&PRINT);
+    }
+    if name == ['p', 'u', 'n', 'c', 't'].as_slice() {
+        return Some(&PUNCT);
+    }
+    if name == ['s', 'p', 'a', 'c', 'e'].as_slice() {
+        return Some(&SPACE);
     }
     None
 }

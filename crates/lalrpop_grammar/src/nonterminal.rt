@@ -78,11 +78,11 @@ impl NonterminalData {
         Ok(NonterminalData {
             visibility: self.visibility.try_clone()?,
             name: self.name.try_clone()?,
-            attributes: clone_attributes(alloc, self.attributes.as_slice())?,
             span: self.span,
             args: clone_names(alloc, self.args.as_slice())?,
-            type_decl: clone_type(alloc, &self.type_decl)?,
+            attributes: clone_attributes(alloc, self.attributes.as_slice())?,
             alternatives: clone_alternatives(alloc, self.alternatives.as_slice())?,
+            type_decl: clone_type(alloc, &self.type_decl)?,
         })
     }
 }

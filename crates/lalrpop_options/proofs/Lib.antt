@@ -1,3 +1,4 @@
+mod AddedLemmas
 mod NumberLemmas
 mod FoundLemmas
 mod RuleLemmas

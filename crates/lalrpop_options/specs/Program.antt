@@ -1,10 +1,11 @@
 -- The command line of the program, as `clap` reads it.
-use Rattle.std.specs.Prelude.{◌≡◌, ℕ, Bool, List, [], ◌∷◌, Some, pos, codes, true, false}
+use Rattle.std.specs.Prelude.{◌≡◌, ℕ, Bool, List, [], ◌∷◌, ◌++◌, Some, pos, codes, true, false}
 use Rattle.std.specs.Borrow.{Bor}
-use Rattle.clap.specs.Built.{IsPlainArg}
+use Rattle.clap.specs.Built.{IsPlain, IsPlainArg}
 use Rattle.clap.specs.Walk.{Rule, Text, rule_of, texts}
 use Rattle.clap.specs.declared.builder.arg.Arg.{Arg}
-use Rattle.clap.specs.Simple.{App, new_rule, new_shape}
+use Rattle.clap.specs.declared.builder.command.Command.{Command}
+use Rattle.clap.specs.Simple.{App, app_of, new_app, new_rule, new_shape, with_rule}
 use Rattle.clap.specs.declared.builder.action.ArgAction.TheVariants.{Set}
 use Rattle.clap.specs.declared.builder.value_parser.ValueParser.{ValueParser}
 use Rattle.clap.specs.declared.builder.value_parser.ValueParser.TheVariants as vp
@@ -49,11 +50,17 @@ macro_limit_rule = record (option_rule (codes "macro-limit")) { parser = Some pa
 abbrev pub limit_rule : Rule
 limit_rule = record (option_rule (codes "limit")) { parser = Some parser_of_u64 }
 
--- COMMAND --start NAME [--text TEXT] [--tree JSON] [--features LIST] [--macro-limit N] [--limit N]
+-- --start NAME [--text TEXT] [--tree JSON]
+abbrev pub input_rules : Bool → List Rule
+input_rules is_plain = start_rule ∷ value_rule is_plain (codes "text") ∷ value_rule is_plain (codes "tree") ∷ []
+
+-- [--features LIST] [--macro-limit N] [--limit N]
+abbrev pub limit_rules : List Rule
+limit_rules = option_rule (codes "features") ∷ macro_limit_rule ∷ limit_rule ∷ []
+
+-- COMMAND, and then the options
 abbrev pub rules_of_program : Bool → WordList → List Rule
-rules_of_program is_plain tasks = task_rule tasks ∷ start_rule ∷ value_rule is_plain (codes "text")
-    ∷ value_rule is_plain (codes "tree") ∷ option_rule (codes "features") ∷ macro_limit_rule
-    ∷ limit_rule ∷ []
+rules_of_program is_plain tasks = task_rule tasks ∷ input_rules is_plain ++ limit_rules
 
 -- the command line with these rules; `tasks` has the words of the tasks
 unfoldable pub program : Bool → WordList → App
@@ -77,3 +84,18 @@ IsTaskArgument argument =
 abbrev pub IsProgram : Bool → App → Type 0
 IsProgram is_plain app =
     (tasks : WordList) × (texts tasks.now ≡ task_words) × (app ≡ program is_plain tasks)
+
+-- the command line with arguments by these rules after its own
+abbrev pub with_rules : List Rule → App → App
+with_rules [] app = app
+with_rules (rule ∷ rules) app = with_rules rules (with_rule app rule)
+
+-- the new command has arguments by these rules after the old one's, none of which excludes another
+pub record AddsRules (rules : List Rule) (old new : Command) : Type 0 where
+  pub shape : app_of new ≡ with_rules rules (app_of old)
+  pub plain : IsPlain old → IsPlain new
+
+-- the command has one argument, the word of a task
+abbrev pub IsTaskCommand : Command → Type 0
+IsTaskCommand command = (tasks : WordList) × (texts tasks.now ≡ task_words)
+    × (app_of command ≡ with_rule (new_app (codes "lalrpop_run")) (task_rule tasks)) × IsPlain command

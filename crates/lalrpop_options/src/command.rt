@@ -2,13 +2,27 @@
 ghost use Rattle.std.specs.Prelude.{IfOk, codes, not};
 ghost use Rattle.clap.specs.Built.{IsPlain};
 ghost use Rattle.clap.specs.Simple.{app_of};
-ghost use Rattle.lalrpop_options.specs.Program.{IsArgument, IsProgram, IsTaskArgument};
-ghost use Rattle.lalrpop_options.specs.Program.{limit_rule, macro_limit_rule, option_rule};
+ghost use Rattle.lalrpop_options.specs.Program.{AddsRules, IsArgument, IsProgram, IsTaskArgument, IsTaskCommand};
+ghost use Rattle.lalrpop_options.specs.Program.{input_rules, limit_rule, limit_rules, macro_limit_rule, option_rule};
 ghost use Rattle.lalrpop_options.specs.Program.{start_rule, value_rule};
 
 use crate::task::TASK_WORDS;
 use clap::{Arg, ArgAction, Command};
 use std::alloc::{AllocError, Global};
+
+/// What the help says below the options: each task with an example, and what the statuses are.
+const TASKS_AND_STATUSES: &str = "\
+Commands, each with an example:
+  judge   whether the grammar admits a tree: lalrpop_run judge --start S --tree \"$(cat examples/lists.tree.json)\" < examples/lists.grammar.json
+  tokens  the tokens of a text: lalrpop_run tokens --start S --text 'a b' < examples/lists.grammar.json
+
+Status:
+  0  an answer
+  1  the answer no, or a place without a token
+  3  the grammar is refused
+  4  wrong words, or a value that can't be read
+  5  out of memory
+  6  a read or a write failed";
 
 /// The command line of the program. With `dashes`, `--text` and `--tree` take values that begin
 /// with `-`.
@@ -16,13 +30,41 @@ pub(crate) fn command<'a>(alloc: Global, dashes: bool) -> Result<Command<'a>, Al
     ensures program { IfOk result (λ c. IsProgram (not dashes) (app_of c)) }
     ensures plain { IfOk result IsPlain }
 {
+    let command = with_task(alloc)?;
+    let command = with_inputs(alloc, command, dashes)?;
+    with_limits(alloc, command)
+}
+
+/// The program's name and what it is for, with the word that names the task.
+fn with_task<'a>(alloc: Global) -> Result<Command<'a>, AllocError>
+    ensures { IfOk result IsTaskCommand }
+{
     Command::new(alloc, "lalrpop_run")
         .bin_name("lalrpop_run")?
         .about("Answers for a grammar, which is read as JSON from standard input")
-        .arg(task(alloc))?
+        .after_help(TASKS_AND_STATUSES)
+        .arg(task(alloc))
+}
+
+/// The command with `--start`, `--text` and `--tree`.
+fn with_inputs<'a>(
+    alloc: Global,
+    command: Command<'a>,
+    dashes: bool,
+) -> Result<Command<'a>, AllocError>
+    ensures { IfOk result (AddsRules (input_rules (not dashes)) command.entry) }
+{
+    command
         .arg(start(alloc))?
         .arg(value(alloc, "text", "TEXT", "The text to read", dashes))?
-        .arg(value(alloc, "tree", "JSON", "The tree to judge", dashes))?
+        .arg(value(alloc, "tree", "JSON", "The tree to judge", dashes))
+}
+
+/// The command with `--features`, `--macro-limit` and `--limit`.
+fn with_limits<'a>(alloc: Global, command: Command<'a>) -> Result<Command<'a>, AllocError>
+    ensures { IfOk result (AddsRules limit_rules command.entry) }
+{
+    command
         .arg(features(alloc))?
         .arg(macro_limit(alloc))?
         .arg(limit(alloc))

@@ -4,3 +4,4 @@ pub mod SetLemmas
 pub mod FoldLemmas
 pub mod PairLemmas
 pub mod MemberLemmas
+mod CopyLemmas

@@ -30,10 +30,17 @@ impl CharacterSet {
 
 impl Hir {
     /// A copy with the same contents, and so of the same meaning. Fails for want of memory alone.
-    #[cycle(try_clone)]
     pub fn try_clone(&self, alloc: Global) -> Result<Hir, AllocError>
         ensures same { IfOk result (λ copy. tree copy ≡ tree self.now) }
         ensures meaning { IfOk result (λ copy. meaning copy ≡ meaning self.now) }
+    {
+        self.copy(alloc)
+    }
+
+    /// A copy with the same contents.
+    #[cycle(copy)]
+    fn copy(&self, alloc: Global) -> Result<Hir, AllocError>
+        ensures { IfOk result (λ copy. tree copy ≡ tree self.now) }
     {
         match self {
             Hir::Empty => Ok(Hir::Empty),
@@ -42,14 +49,14 @@ impl Hir {
             Hir::Look(look) => Ok(Hir::Look(*look)),
             Hir::Capture { name, sub } => {
                 let name = clone_name(alloc, name)?;
-                let sub = sub.try_clone(alloc)?;
+                let sub = sub.copy(alloc)?;
                 Ok(Hir::Capture {
                     name,
                     sub: Box::new(alloc, sub)?,
                 })
             }
             Hir::Repetition { repeats, sub } => {
-                let sub = sub.try_clone(alloc)?;
+                let sub = sub.copy(alloc)?;
                 Ok(Hir::Repetition {
                     repeats: *repeats,
                     sub: Box::new(alloc, sub)?,
@@ -72,14 +79,13 @@ fn clone_name(alloc: Global, name: &Option<String>) -> Result<Option<String>, Al
 }
 
 /// Copies of some trees, in their order.
-#[cycle(try_clone)]
+#[cycle(copy)]
 fn clone_all(alloc: Global, subs: &[Hir]) -> Result<Vec<Hir>, AllocError>
-    ensures same { IfOk result (λ copies. map tree copies.items ≡ map tree subs.now) }
-    ensures meaning { IfOk result (λ copies. map meaning copies.items ≡ map meaning subs.now) }
+    ensures { IfOk result (λ copies. map tree copies.items ≡ map tree subs.now) }
 {
     let mut copies = Vec::new(alloc);
     for sub in subs {
-        let copy = sub.try_clone(alloc)?;
+        let copy = sub.copy(alloc)?;
         copies.push(copy)?;
     }
     Ok(copies)

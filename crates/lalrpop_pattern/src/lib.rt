@@ -12,8 +12,6 @@ mod refusal;
 mod set;
 mod set_algebra;
 mod set_named;
-#[cfg(test)]
-mod tests;
 mod tree;
 
 pub use class::{Class, Range};

@@ -1,10 +1,8 @@
--- How many items a list has, for spans and for lists that have to be empty.
-use Rattle.std.proofs.Common.{◌≡◌, List, [], ◌∷◌, ◌<◌, ◌≤◌, length, None, Err, arith, refl}
+-- How many items a list has, for spans.
+use Rattle.std.proofs.Common.{◌≡◌, List, [], ◌∷◌, ◌<◌, ◌≤◌, length, None, arith, refl}
 use Rattle.serde_json.specs.declared.value.Value.{Value}
 use Rattle.serde_json.specs.View.{items_view}
-use Rattle.lalrpop_values.specs.declared.fault.FaultKind.TheVariants.{WrongShape}
-use Rattle.lalrpop_values.specs.Gives.{here}
-use Rattle.lalrpop_values.specs.Scalars.{empty, pair_of}
+use Rattle.lalrpop_values.specs.Scalars.{pair_of}
 
 -- only a list of two is a pair
 pub pair_short : (vs : List Value) → length vs < 2 → pair_of (items_view vs) ≡ None
@@ -18,8 +16,4 @@ pair_long (a ∷ []) h = absurd (omega arith)
 pair_long (a ∷ b ∷ []) h = absurd (omega arith)
 pair_long (a ∷ b ∷ c ∷ vs) h = refl
 
-pub some_left : {A : Type 0} (vs : List Value) → 1 ≤ length vs → empty {A = A} (items_view vs) ≡ Err (here WrongShape)
-some_left [] h = absurd (omega arith)
-some_left (v ∷ vs) h = refl
-
-pub ruleset pairs = (pair_short, pair_long, some_left)
+pub ruleset pairs = (pair_short, pair_long)

@@ -11,7 +11,7 @@ use Rattle.lalrpop_values.specs.declared.fault.FaultKind.TheVariants.{BadNumber}
 use Rattle.lalrpop_values.specs.declared.fault.Step.TheVariants.{Index}
 use Rattle.lalrpop_values.specs.declared.word.Word.{Word}
 use Rattle.lalrpop_values.specs.Gives.{here, required}
-use Rattle.lalrpop_values.specs.Scalars.{empty, empty_list_at, flag_at, null_at, as_some, optional, is_name, is_word, name_at, number_at, ordered, pair_of, span_at, text_at, word_at}
+use Rattle.lalrpop_values.specs.Scalars.{flag_at, null_at, as_some, optional, is_name, is_word, name_at, number_at, ordered, pair_of, span_at, text_at, word_at}
 use Rattle.lalrpop_values.specs.Word.{word_text}
 use Rattle.lalrpop_values.proofs.Steps.{bind_ok, part_ok, guard_ok, ok_same}
 use Rattle.lalrpop_values.specs.Spelled.{IsSpan, IfSome, option_json, number_json, span_json, word_json}
@@ -161,22 +161,3 @@ pub optional_text_again : (o : Option (List ℕ)) → optional text_at (option_j
 unfolding text_at
 optional_text_again None = refl
 optional_text_again (Some t) = refl
-
--- ---- empty lists
-
-pub empty_takes : {A : Type 0} (ds : Items) (xs : List A) → empty ds ≡ Ok xs → (ds ≡ no_items) × (xs ≡ [])
-empty_takes no_items xs e = (refl, cc)
-empty_takes (item d ds) xs e = absurd (cc)
-
-pub empty_list_takes : {A : Type 0} (d : Data) (xs : List A) → empty_list_at d ≡ Ok xs → (d ≡ array no_items) × (xs ≡ [])
-unfolding empty_list_at
-empty_list_takes null xs e = absurd (cc)
-empty_list_takes (boolean b) xs e = absurd (cc)
-empty_list_takes (number n) xs e = absurd (cc)
-empty_list_takes (string s) xs e = absurd (cc)
-empty_list_takes (array ds) xs e = let h = empty_takes ds xs e in (ap array h.0, h.1)
-empty_list_takes (object ms) xs e = absurd (cc)
-
-pub empty_list_again : {A : Type 0} → ◌≡◌ {A = Result (List A) Fault} (empty_list_at (array no_items)) (Ok [])
-unfolding empty_list_at
-empty_list_again = refl

@@ -90,14 +90,3 @@ as_some read = read >>= λ x. Ok (Some x)
 -- `null`, or what is read
 abbrev pub optional : {A : Type 0} → (Data → Result A Fault) → Data → Result (Option A) Fault
 optional read d = if is_some (as_null d) then Ok None else as_some (read d)
-
--- ---- lists with nothing in them
-
-abbrev pub empty : {A : Type 0} → Items → Result (List A) Fault
-empty no_items = Ok []
-empty (item d ds) = Err (here fault.WrongShape)
-
-unfoldable pub empty_list_at : {A : Type 0} → Data → Result (List A) Fault
-empty_list_at d = do
-  ds ← required (as_array d)
-  empty ds

@@ -19,9 +19,9 @@ pub use json::json_string;
 pub use key::Key;
 pub use object::{at_index, at_key, here, keys, member, outside};
 pub use scalar::{
-    empty_list_field, empty_list_of, flag_field, flag_of, is_name, name_field, name_of, null_field,
-    null_of, number_field, number_of, optional_text_field, optional_text_of, span_field, span_of,
-    text_field, text_of, word_field, word_of,
+    flag_field, flag_of, is_name, name_field, name_of, null_field, null_of, number_field,
+    number_of, optional_text_field, optional_text_of, span_field, span_of, text_field, text_of,
+    word_field, word_of,
 };
 pub use telling::{fault_text, kind_text, path_text};
 pub use word::Word;

@@ -5,13 +5,13 @@ ghost use Rattle.std.specs.List.{list_all};
 ghost use Rattle.serde_json.specs.View.{view};
 ghost use Rattle.lalrpop_values.specs.Gives.{Gives};
 ghost use Rattle.lalrpop_values.specs.Objects.{field_at};
-ghost use Rattle.lalrpop_values.specs.Scalars.{number_at, span_at, text_at, flag_at, null_at, optional, name_at, word_at, empty_list_at, begins_name, continues_name, is_name};
+ghost use Rattle.lalrpop_values.specs.Scalars.{number_at, span_at, text_at, flag_at, null_at, optional, name_at, word_at, begins_name, continues_name, is_name};
 
 use crate::fault::{FaultKind, ReadError};
 use crate::key::Key;
 use crate::object::{at_index, at_key, here, member};
 use crate::word::Word;
-use lalrpop_symbols::{Atom, List, Span};
+use lalrpop_symbols::{Atom, Span};
 use serde_json::Value;
 use std::alloc::Global;
 
@@ -147,20 +147,6 @@ pub fn optional_text_of(alloc: Global, value: &Value) -> Result<Option<Atom>, Re
     Ok(Some(text))
 }
 
-/// A list with nothing in it.
-#[tactic(auto, using(crate::proofs::Pairs::pairs), unfolding(crate::specs::Scalars::empty_list_at))]
-pub fn empty_list_of<T>(alloc: Global, value: &Value) -> Result<List<T>, ReadError>
-    ensures { Gives result (empty_list_at (view value.now)) }
-{
-    let Some(items) = value.as_array() else {
-        return Err(here(alloc, FaultKind::WrongShape));
-    };
-    let [] = items.as_slice() else {
-        return Err(here(alloc, FaultKind::WrongShape));
-    };
-    Ok(List::new(alloc))
-}
-
 /// The span at a key.
 #[tactic(auto, unfolding(crate::specs::Objects::field_at, crate::specs::Objects::member_at))]
 pub fn span_field(alloc: Global, value: &Value, key: Key) -> Result<Span, ReadError>
@@ -204,19 +190,6 @@ pub fn word_field(alloc: Global, value: &Value, key: Key, word: Word) -> Result<
 {
     let found = member(alloc, value, key)?;
     Ok(at_key(word_of(alloc, found, word), key)?)
-}
-
-/// The list at a key, with nothing in it.
-#[tactic(auto, unfolding(crate::specs::Objects::field_at, crate::specs::Objects::member_at))]
-pub fn empty_list_field<T: Drop>(
-    alloc: Global,
-    value: &Value,
-    key: Key,
-) -> Result<List<T>, ReadError>
-    ensures { Gives result (field_at key empty_list_at (view value.now)) }
-{
-    let found = member(alloc, value, key)?;
-    Ok(at_key(empty_list_of(alloc, found), key)?)
 }
 
 /// The `true` or `false` at a key.
