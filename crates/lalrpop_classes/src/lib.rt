@@ -29,8 +29,6 @@ mod numbers;
 mod posix;
 mod property;
 mod set_escape;
-#[cfg(test)]
-mod tests;
 mod text;
 
 pub use bracket::class;

@@ -19,6 +19,4 @@ mod pieces;
 pub mod re;
 mod state;
 mod states;
-#[cfg(test)]
-mod tests;
 mod whole;

@@ -17,8 +17,6 @@ mod reach;
 mod state;
 mod state_set;
 mod test;
-#[cfg(test)]
-mod tests;
 
 pub use automaton::{ACCEPT, FIRST_ACCEPT, Nfa, REJECT, START};
 pub use edge::{Edge, NfaStateIndex, Noop, Other};

@@ -11,8 +11,6 @@ mod piece;
 mod reading;
 mod scan;
 mod scanner;
-#[cfg(test)]
-mod tests;
 
 pub use fault::{ScanError, TokensFault};
 pub use laws::{cuts_are_unique, tokens_fill_their_text};

@@ -39,8 +39,6 @@ mod laws;
 mod pattern;
 mod regex;
 mod repeat;
-#[cfg(test)]
-mod tests;
 
 pub use error::RegexError;
 pub use laws::escapes_are_read_back;

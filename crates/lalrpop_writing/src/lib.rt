@@ -15,8 +15,6 @@ mod match_block;
 mod rule;
 mod scalar;
 mod symbol;
-#[cfg(test)]
-mod tests;
 mod type_ref;
 
 pub use fault::WriteError;

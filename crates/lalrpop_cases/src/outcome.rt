@@ -1,0 +1,125 @@
+//! One run of the program over readers and a writer in memory.
+
+ghost use Rattle.std.specs.Prelude.{◌≡◌, ◌↔◌, IfSome, IsTrue, string_bytes};
+
+use crate::case::Case;
+use anyhow::Result;
+use lalrpop_run::{Answer, Options, OptionsError, ReadError, answer, options, read_grammar, run};
+use lalrpop_streams::Watched;
+use serde_json::Value;
+use std::alloc::{AllocError, Global};
+use std::str;
+
+/// The status where the words are wrong or call for help.
+const WRONG_WORDS: u8 = 4;
+
+/// What came of a case.
+#[derive(Drop)]
+pub(crate) struct Outcome {
+    /// What the run wrote.
+    pub(crate) text: String,
+    /// The status that it ended with.
+    pub(crate) status: u8,
+    /// The kind of `clap`'s fault, where it refuses the words.
+    pub(crate) fault: String,
+    /// What the call over the values answers, where there are a grammar and a text.
+    pub(crate) called: Option<Answer>,
+}
+
+impl Outcome {
+    /// Whether the case wants this outcome of its run.
+    pub(crate) fn is_wanted(&self, case: &Case) -> bool
+        ensures { IsTrue result ↔ ((string_bytes self.now.text ≡ string_bytes case.now.output)
+            × (self.now.status ≡ case.now.status)
+            × (string_bytes self.now.fault ≡ string_bytes case.now.fault)) }
+    {
+        self.text.as_str() == case.output.as_str()
+            && self.status == case.status
+            && self.fault.as_str() == case.fault.as_str()
+    }
+
+    /// Whether the call over the values answers what the run does, where it was made.
+    pub(crate) fn is_confirmed(&self) -> bool
+        ensures { IsTrue result ↔ IfSome self.now.called (λ answer.
+            (string_bytes answer.text ≡ string_bytes self.now.text) × (answer.status ≡ self.now.status)) }
+    {
+        match &self.called {
+            Some(answer) => {
+                answer.text.as_str() == self.text.as_str() && answer.status == self.status
+            }
+            None => true,
+        }
+    }
+}
+
+/// The outcome of the case.
+pub(crate) fn outcome_of(alloc: Global, case: &Case) -> Result<Outcome> {
+    let tree = case.tree_text(alloc)?;
+    let words = case.all_words(alloc, tree.as_deref())?;
+    match options(alloc, words.as_slice()) {
+        Ok(options) => outcome_under(alloc, &options, case),
+        Err(OptionsError::Words(error)) => Ok(Outcome {
+            text: String::new(alloc),
+            status: WRONG_WORDS,
+            fault: format!(in alloc; "{:?}", error.kind())?,
+            called: None,
+        }),
+        Err(OptionsError::Memory) => Err(AllocError.into()),
+    }
+}
+
+/// The outcome of the options over the case's grammar and text.
+fn outcome_under(alloc: Global, options: &Options<'_>, case: &Case) -> Result<Outcome> {
+    let grammar = case.grammar_bytes(alloc)?;
+    let text = case.text_bytes(alloc, options.text)?;
+    let mut written = Vec::new(alloc);
+    let status = written_by(
+        alloc,
+        options,
+        grammar.as_slice(),
+        text.as_slice(),
+        &mut written,
+    );
+    Ok(Outcome {
+        text: String::from_utf8(written)?,
+        status,
+        fault: String::new(alloc),
+        called: called(alloc, options, grammar.as_slice(), text.as_slice())?,
+    })
+}
+
+/// The status of the run, whose bytes are added to those written.
+fn written_by(
+    alloc: Global,
+    options: &Options<'_>,
+    grammar: &[u8],
+    text: &[u8],
+    written: &mut Vec<u8>,
+) -> u8 {
+    let mut grammar = Watched::new(grammar);
+    let mut text = Watched::new(text);
+    let mut out = Watched::new(written);
+    run(alloc, options, &mut grammar, &mut text, &mut out)
+}
+
+/// What the call over the values answers, where the bytes give a grammar and a text.
+fn called(
+    alloc: Global,
+    options: &Options<'_>,
+    grammar: &[u8],
+    text: &[u8],
+) -> Result<Option<Answer>> {
+    let (Ok(json), Ok(text)) = (str::from_utf8(grammar), str::from_utf8(text)) else {
+        return Ok(None);
+    };
+    let value = match Value::from_str(alloc, json) {
+        Ok(value) => value,
+        Err(error) if error.is_memory() => return Err(AllocError.into()),
+        Err(_) => return Ok(None),
+    };
+    match read_grammar(alloc, &value) {
+        Ok(grammar) => Ok(Some(answer(alloc, options, grammar, text)?)),
+        Err(ReadError::Shape(_)) => Ok(None),
+        Err(ReadError::Memory) => Err(AllocError.into()),
+    }
+}

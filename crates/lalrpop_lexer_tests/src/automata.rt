@@ -1,0 +1,76 @@
+//! Automata, asked state by state.
+
+use lalrpop_lexer::dfa::{DfaStateIndex, Kind, NfaIndex, Precedence, build_dfa};
+use lalrpop_lexer::nfa::{
+    ACCEPT, Nfa, NfaConstructionError, Noop, Other, REJECT, START, StateKind, Test,
+};
+use lalrpop_lexer::re::parse_literal;
+use lalrpop_nfa::{FIRST_ACCEPT, StateSet};
+use lalrpop_syntax::parse_regex;
+use std::test::Fail;
+
+#[test]
+fn states_and_edges_of_one_character(rt: HostRuntime) -> Result<(), Fail> {
+    let nfa = Nfa::from_re(rt.alloc(), &parse_literal(rt.alloc(), "a")?)?;
+    assert_eq!(rt; nfa.kind(START), StateKind::Neither);
+    assert!(rt; nfa.is_accepting_state(ACCEPT) && !nfa.is_accepting_state(START));
+    assert!(rt; nfa.is_rejecting_state(REJECT) && !nfa.is_rejecting_state(START));
+    assert_eq!(rt; nfa.edges::<Test>(START).count(), 0);
+    assert_eq!(rt; nfa.edges::<Other>(START).count(), 0);
+    let first = nfa.edges::<Noop>(START).next().ok_or("no edge")?;
+    assert!(rt; first.to.0 < nfa.state_count());
+    let mut read = nfa.edges::<Test>(first.to);
+    let edge = read.next().ok_or("no edge that reads")?;
+    assert_eq!(rt; (edge.label, edge.to), (Test::char('a'), ACCEPT));
+    assert!(rt; read.next().is_none());
+    Ok(())
+}
+
+/// Two patterns at once: what `b` leads to from the start.
+#[test]
+fn one_automaton_for_several(rt: HostRuntime) -> Result<(), Fail> {
+    let alloc = rt.alloc();
+    let patterns = vec![in alloc; parse_literal(alloc, "a")?, parse_literal(alloc, "b")?]?;
+    let nfa = Nfa::from_all(alloc, &patterns)?;
+    let mut set = StateSet::new(alloc, nfa.state_count())?;
+    let mut next = StateSet::new(alloc, nfa.state_count())?;
+    set.insert(START.0)?;
+    nfa.close(&mut set)?;
+    assert_eq!(rt; set.members().len(), 3);
+    nfa.step(&set, 98, &mut next)?;
+    assert!(rt; next.contains(FIRST_ACCEPT + 1) && !next.contains(FIRST_ACCEPT));
+    next.clear();
+    assert_eq!(rt; next.members().len(), 0);
+    Ok(())
+}
+
+#[test]
+fn refused_patterns(rt: HostRuntime) -> Result<(), Fail> {
+    for (pattern, error) in [
+        ("\\b", NfaConstructionError::LookAround),
+        ("a+?", NfaConstructionError::NonGreedy),
+        ("(?<n>a)", NfaConstructionError::NamedCaptures),
+    ] {
+        let tree = parse_regex(rt.alloc(), pattern)?;
+        assert_eq!(rt;
+            Nfa::from_re(rt.alloc(), &tree).err(),
+            Some(error),
+            "{pattern}"
+        );
+    }
+    Ok(())
+}
+
+#[test]
+fn kinds_of_the_states_of_one_text(rt: HostRuntime) -> Result<(), Fail> {
+    let patterns = [parse_literal(rt.alloc(), "ab")?];
+    let dfa = build_dfa(rt.alloc(), &patterns, &[Precedence(7)])?;
+    assert!(rt; dfa.state_count() == 3);
+    assert_eq!(rt; dfa.kind(DfaStateIndex(0)), Kind::Neither);
+    assert_eq!(rt; dfa.kind(DfaStateIndex(2)), Kind::Accepts(NfaIndex(0)));
+    assert_eq!(rt; (DfaStateIndex(4).index(), NfaIndex(5).index()), (4, 5));
+    let nothing = build_dfa(rt.alloc(), &[], &[])?;
+    assert!(rt; nothing.state_count() == 1);
+    assert_eq!(rt; nothing.kind(DfaStateIndex(0)), Kind::Reject);
+    Ok(())
+}

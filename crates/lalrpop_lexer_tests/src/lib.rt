@@ -1,0 +1,9 @@
+//! Tests of the lexer's layer that no table can hold: calls at concrete types, small questions, copies and laws.
+#![tactic(auto)]
+
+#[cfg(test)]
+mod automata;
+#[cfg(test)]
+mod patterns;
+#[cfg(test)]
+mod ranges;

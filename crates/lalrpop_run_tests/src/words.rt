@@ -1,0 +1,101 @@
+//! What the words ask for, on worked lines.
+
+use lalrpop_run::{OptionsError, Task, options};
+use std::alloc::{AllocError, Global};
+use std::test::Fail;
+
+/// The words of a line, which stand between single blanks.
+fn words(alloc: Global, line: &str) -> Result<Vec<&str>, AllocError> {
+    line.split(' ').collect(alloc)
+}
+
+// Between the commas of a list stand no features.
+#[test]
+fn what_is_not_given_has_its_usual_value(rt: HostRuntime) -> Result<(), Fail> {
+    for line in [
+        "lalrpop_run judge --start S",
+        "r judge --start S --features ,,",
+    ] {
+        let words = words(rt.alloc(), line)?;
+        let found = options(rt.alloc(), words.as_slice())?;
+        assert_eq!(rt; found.task, Task::Judge);
+        assert_eq!(rt; found.start, "S");
+        assert_eq!(rt; found.text, "");
+        assert_eq!(rt; found.tree, None);
+        assert_eq!(rt; found.features.len(), 0);
+        assert_eq!(rt; found.macro_limit, 200);
+        assert_eq!(rt; found.limit, 1_000_000);
+    }
+    Ok(())
+}
+
+#[test]
+fn each_option_is_read(rt: HostRuntime) -> Result<(), Fail> {
+    let line = "lalrpop_run --limit=18446744073709551615 --tree {} --macro-limit 65535 judge \
+        --features a,,b --text 1+2 --start=Expr";
+    let words = words(rt.alloc(), line)?;
+    let found = options(rt.alloc(), words.as_slice())?;
+    assert_eq!(rt; found.task.word(), "judge");
+    assert_eq!(rt; found.start, "Expr");
+    assert_eq!(rt; found.text, "1+2");
+    assert_eq!(rt; found.tree, Some("{}"));
+    assert_eq!(rt; found.features.as_slice(), ["a", "b"].as_slice());
+    assert_eq!(rt; found.macro_limit, 65_535);
+    assert_eq!(rt; found.limit, 18_446_744_073_709_551_615);
+    Ok(())
+}
+
+#[test]
+fn texts_and_trees_may_begin_with_dashes(rt: HostRuntime) -> Result<(), Fail> {
+    let cases = [
+        (
+            "r judge --text --tree --start S --tree -1",
+            "S",
+            "--tree",
+            Some("-1"),
+        ),
+        (
+            "r --text=-x --start S --tree=-- judge",
+            "S",
+            "-x",
+            Some("--"),
+        ),
+        ("r judge --start  --text --", "", "--", None),
+    ];
+    for (line, start, text, tree) in cases {
+        let words = words(rt.alloc(), line)?;
+        let found = options(rt.alloc(), words.as_slice())?;
+        assert_eq!(rt;
+            (found.start, found.text, found.tree),
+            (start, text, tree),
+            "{line}"
+        );
+    }
+    Ok(())
+}
+
+#[test]
+fn faults_are_worded_by_clap(rt: HostRuntime) -> Result<(), Fail> {
+    let alloc = rt.alloc();
+    let cases = [
+        (
+            "r judge --start S --limit x",
+            "error: invalid value 'x' for '--limit <N>': invalid digit found in string\n",
+        ),
+        (
+            "r judge",
+            "error: the following required arguments were not provided:\n  --start <NAME>\n\n\
+                Usage: lalrpop_run --start <NAME> <COMMAND>\n",
+        ),
+    ];
+    for (line, wanted) in cases {
+        let words = words(alloc, line)?;
+        let Err(OptionsError::Words(error)) = options(alloc, words.as_slice()) else {
+            return Err(Fail::from("no fault"));
+        };
+        let text = format!(in alloc; "{error}")?;
+        let whole = format!(in alloc; "{wanted}\nFor more information, try '--help'.\n")?;
+        assert_eq!(rt; text.as_str(), whole.as_str());
+    }
+    Ok(())
+}
