@@ -16,27 +16,28 @@ fn nested(alloc: Global) -> Result<WrittenTree, Fail> {
     Ok(tree)
 }
 
+fn is_bare(terminal: &TerminalString, name: &str) -> bool {
+    match terminal {
+        TerminalString::Bare(found) => found.as_str() == name,
+        _ => false,
+    }
+}
+
+/// Whether there is a leaf of this bare name, with this text, there.
+fn is_leaf(leaf: Option<Leaf<'_>>, name: &str, text: &str, span: Span) -> bool {
+    match leaf {
+        Some(leaf) => is_bare(leaf.terminal, name) && leaf.text == text && leaf.span == span,
+        None => false,
+    }
+}
+
 #[test]
 fn leaves_from_left_to_right(rt: HostRuntime) -> Result<(), Fail> {
-    let alloc = rt.alloc();
-    let tree = nested(alloc)?;
-    let mut leaves = tree.leaves(alloc)?;
-    let first = leaves.next().ok_or("no first leaf")?;
-    assert_eq!(rt; first.text, "1");
-    assert_eq!(rt; first.span, Span(0, 1));
-    assert_eq!(rt;
-        *first.terminal,
-        TerminalString::Bare(Atom::new(alloc, "A")?)
-    );
-    let second = leaves.next().ok_or("no second leaf")?;
-    assert_eq!(rt; second.text, "2");
-    assert_eq!(rt;
-        *second.terminal,
-        TerminalString::Bare(Atom::new(alloc, "B")?)
-    );
-    let third = leaves.next().ok_or("no third leaf")?;
-    assert_eq!(rt; third.text, "3");
-    assert_eq!(rt; third.span, Span(5, 6));
+    let tree = nested(rt.alloc())?;
+    let mut leaves = tree.leaves(rt.alloc())?;
+    assert!(rt; is_leaf(leaves.next(), "A", "1", Span(0, 1)));
+    assert!(rt; is_leaf(leaves.next(), "B", "2", Span(2, 3)));
+    assert!(rt; is_leaf(leaves.next(), "A", "3", Span(5, 6)));
     assert!(rt; leaves.next().is_none());
     assert!(rt; leaves.next().is_none());
     Ok(())

@@ -1,12 +1,15 @@
 //! Grammars that no value spells.
 
+use lalrpop_formats::read_grammar;
 use lalrpop_grammar::{
     ActionKind, Alternative, Atom, Grammar, GrammarItem, InternToken, List, MatchContents,
     MatchItem, MatchMapping, MatchToken, NonterminalData, NonterminalString, Origin, Span, Symbol,
     SymbolKind, TerminalLiteral, TerminalString, Visibility,
 };
 use lalrpop_writing::{WriteError, write_grammar};
+use serde_json::Value;
 use std::alloc::{AllocError, Global};
+use std::process::Abort;
 use std::test::Fail;
 
 fn one<T: Drop>(alloc: Global, item: T) -> Result<List<T>, AllocError> {
@@ -46,26 +49,29 @@ fn rule(alloc: Global, called: &str, only: Alternative) -> Result<GrammarItem, A
     }))
 }
 
+/// A grammar without items.
+const EMPTY: &str =
+    r#"{"attributes":[],"items":[],"parameters":"","span":[0,0],"type_parameters":"","where_clauses":""}"#;
+
+fn empty(alloc: Global) -> Result<Grammar, Fail> {
+    let value = Value::from_str(alloc, EMPTY)?;
+    Ok(read_grammar(alloc, &value)?)
+}
+
 /// A grammar of one item.
-fn grammar(alloc: Global, item: GrammarItem) -> Result<Grammar, AllocError> {
-    Ok(Grammar {
-        prefix: Atom::new(alloc, "__")?,
-        span: Span(0, 0),
-        parameters: Atom::new(alloc, "")?,
-        type_parameters: Atom::new(alloc, "")?,
-        where_clauses: Atom::new(alloc, "")?,
-        attributes: List::new(alloc),
-        items: one(alloc, item)?,
-    })
+fn grammar(alloc: Global, item: GrammarItem) -> Result<Grammar, Fail> {
+    let mut grammar = empty(alloc)?;
+    grammar.items.push(item)?;
+    Ok(grammar)
 }
 
 /// Whether a grammar of this item is written.
-fn is_written(alloc: Global, item: GrammarItem) -> Result<bool, WriteError> {
+fn is_written(alloc: Global, item: GrammarItem) -> Result<bool, Fail> {
     let grammar = grammar(alloc, item)?;
     match write_grammar(alloc, &grammar) {
         Ok(_) => Ok(true),
         Err(WriteError::NotWritten) => Ok(false),
-        Err(WriteError::Memory) => Err(WriteError::Memory),
+        Err(WriteError::Memory) => Err(AllocError.into()),
     }
 }
 
@@ -86,49 +92,88 @@ fn symbols_without_a_spelling(rt: HostRuntime) -> Result<(), Fail> {
     Ok(())
 }
 
-/// Actions for a place, origins elsewhere, and spans that are none.
+/// That a grammar whose rule `S` has this alternative isn't written.
+fn refuses(rt: &impl Abort, alloc: Global, only: Alternative) -> Result<(), Fail> {
+    let item = rule(alloc, "S", only)?;
+    assert!(rt; !is_written(alloc, item)?);
+    Ok(())
+}
+
 #[test]
-fn alternatives_without_a_spelling(rt: HostRuntime) -> Result<(), Fail> {
+fn an_action_for_the_place_before(rt: HostRuntime) -> Result<(), Fail> {
+    let mut only = alternative(rt.alloc(), SymbolKind::Error)?;
+    only.action = Some(ActionKind::Lookahead);
+    refuses(&rt, rt.alloc(), only)
+}
+
+#[test]
+fn an_action_for_the_place_behind(rt: HostRuntime) -> Result<(), Fail> {
+    let mut only = alternative(rt.alloc(), SymbolKind::Error)?;
+    only.action = Some(ActionKind::Lookbehind);
+    refuses(&rt, rt.alloc(), only)
+}
+
+#[test]
+fn an_origin_that_is_no_alternative(rt: HostRuntime) -> Result<(), Fail> {
+    let mut only = alternative(rt.alloc(), SymbolKind::Error)?;
+    only.origin = Origin::PassDown;
+    refuses(&rt, rt.alloc(), only)
+}
+
+#[test]
+fn an_origin_at_another_place(rt: HostRuntime) -> Result<(), Fail> {
     let alloc = rt.alloc();
-    let mut ahead = alternative(alloc, SymbolKind::Error)?;
-    ahead.action = Some(ActionKind::Lookahead);
-    let mut behind = alternative(alloc, SymbolKind::Error)?;
-    behind.action = Some(ActionKind::Lookbehind);
-    let mut passed = alternative(alloc, SymbolKind::Error)?;
-    passed.origin = Origin::PassDown;
-    let mut second = alternative(alloc, SymbolKind::Error)?;
-    second.origin = Origin::Alternative {
+    let mut only = alternative(alloc, SymbolKind::Error)?;
+    only.origin = Origin::Alternative {
         rule: name(alloc, "S")?,
         args: List::new(alloc),
         place: 1,
     };
-    let mut turned = alternative(alloc, SymbolKind::Error)?;
-    turned.span = Span(2, 1);
-    let mut beyond = alternative(alloc, SymbolKind::Error)?;
-    beyond.span = Span(0, 4_294_967_296);
-    for only in [ahead, behind, passed, second, turned, beyond] {
-        let item = rule(alloc, "S", only)?;
+    refuses(&rt, alloc, only)
+}
+
+#[test]
+fn a_span_that_ends_before_it_begins(rt: HostRuntime) -> Result<(), Fail> {
+    let mut only = alternative(rt.alloc(), SymbolKind::Error)?;
+    only.span = Span(2, 1);
+    refuses(&rt, rt.alloc(), only)
+}
+
+#[test]
+fn a_span_beyond_the_limit(rt: HostRuntime) -> Result<(), Fail> {
+    let mut only = alternative(rt.alloc(), SymbolKind::Error)?;
+    only.span = Span(0, 4_294_967_296);
+    refuses(&rt, rt.alloc(), only)
+}
+
+/// A name that is none, and an origin in another rule.
+#[test]
+fn names_of_rules_without_a_spelling(rt: HostRuntime) -> Result<(), Fail> {
+    let alloc = rt.alloc();
+    for called in ["1S", "Other"] {
+        let item = rule(alloc, called, alternative(alloc, SymbolKind::Error)?)?;
         assert!(rt; !is_written(alloc, item)?);
     }
     Ok(())
 }
 
-/// Names that are none, an origin in another rule, a tokenizer's entries, and an entry that is mapped to error recovery.
 #[test]
-fn items_without_a_spelling(rt: HostRuntime) -> Result<(), Fail> {
-    let alloc = rt.alloc();
-    let unnamed = rule(alloc, "1S", alternative(alloc, SymbolKind::Error)?)?;
-    let other = rule(alloc, "Other", alternative(alloc, SymbolKind::Error)?)?;
-    let tokens = GrammarItem::InternToken(InternToken {
-        match_entries: List::new(alloc),
+fn entries_of_a_tokenizer(rt: HostRuntime) -> Result<(), Fail> {
+    let item = GrammarItem::InternToken(InternToken {
+        match_entries: List::new(rt.alloc()),
     });
+    assert!(rt; !is_written(rt.alloc(), item)?);
+    Ok(())
+}
+
+#[test]
+fn an_entry_mapped_to_error_recovery(rt: HostRuntime) -> Result<(), Fail> {
+    let alloc = rt.alloc();
     let literal = TerminalLiteral::Quoted(Atom::new(alloc, "a")?);
     let mapping = MatchMapping::Terminal(TerminalString::Error);
     let items = one(alloc, MatchItem::Mapped(literal, mapping, Span(0, 0)))?;
     let block = MatchToken::new(alloc, MatchContents { items }, Span(0, 0))?;
-    for item in [unnamed, other, tokens, GrammarItem::MatchToken(block)] {
-        assert!(rt; !is_written(alloc, item)?);
-    }
+    assert!(rt; !is_written(alloc, GrammarItem::MatchToken(block))?);
     Ok(())
 }
 

@@ -7,6 +7,7 @@ use lalrpop_lexer::nfa::{
 use lalrpop_lexer::re::parse_literal;
 use lalrpop_nfa::{FIRST_ACCEPT, StateSet};
 use lalrpop_syntax::parse_regex;
+use std::alloc::Global;
 use std::test::Fail;
 
 #[test]
@@ -44,20 +45,21 @@ fn one_automaton_for_several(rt: HostRuntime) -> Result<(), Fail> {
     Ok(())
 }
 
+/// Whether the automaton of the pattern is refused for this.
+fn is_refused(alloc: Global, pattern: &str, why: &NfaConstructionError) -> Result<bool, Fail> {
+    let tree = parse_regex(alloc, pattern)?;
+    match Nfa::from_re(alloc, &tree) {
+        Err(error) => Ok(error == *why),
+        Ok(_) => Ok(false),
+    }
+}
+
 #[test]
 fn refused_patterns(rt: HostRuntime) -> Result<(), Fail> {
-    for (pattern, error) in [
-        ("\\b", NfaConstructionError::LookAround),
-        ("a+?", NfaConstructionError::NonGreedy),
-        ("(?<n>a)", NfaConstructionError::NamedCaptures),
-    ] {
-        let tree = parse_regex(rt.alloc(), pattern)?;
-        assert_eq!(rt;
-            Nfa::from_re(rt.alloc(), &tree).err(),
-            Some(error),
-            "{pattern}"
-        );
-    }
+    let alloc = rt.alloc();
+    assert!(rt; is_refused(alloc, "\\b", &NfaConstructionError::LookAround)?);
+    assert!(rt; is_refused(alloc, "a+?", &NfaConstructionError::NonGreedy)?);
+    assert!(rt; is_refused(alloc, "(?<n>a)", &NfaConstructionError::NamedCaptures)?);
     Ok(())
 }
 
@@ -68,9 +70,14 @@ fn kinds_of_the_states_of_one_text(rt: HostRuntime) -> Result<(), Fail> {
     assert!(rt; dfa.state_count() == 3);
     assert_eq!(rt; dfa.kind(DfaStateIndex(0)), Kind::Neither);
     assert_eq!(rt; dfa.kind(DfaStateIndex(2)), Kind::Accepts(NfaIndex(0)));
+    Ok(())
+}
+
+#[test]
+fn no_pattern_is_rejected_at_once(rt: HostRuntime) -> Result<(), Fail> {
+    let dfa = build_dfa(rt.alloc(), &[], &[])?;
+    assert!(rt; dfa.state_count() == 1);
+    assert_eq!(rt; dfa.kind(DfaStateIndex(0)), Kind::Reject);
     assert_eq!(rt; (DfaStateIndex(4).index(), NfaIndex(5).index()), (4, 5));
-    let nothing = build_dfa(rt.alloc(), &[], &[])?;
-    assert!(rt; nothing.state_count() == 1);
-    assert_eq!(rt; nothing.kind(DfaStateIndex(0)), Kind::Reject);
     Ok(())
 }

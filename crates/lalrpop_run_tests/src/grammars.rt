@@ -5,21 +5,9 @@
 pub(crate) const LISTS: &str =
     r#"{"attributes":[],"items":[{"alternatives":[{"action":{"user":"()"},"attributes":[],"condition":null,"expr":[{"kind":"terminal","span":[0,0],"terminal":{"quoted":"a"}},{"kind":"id","name":"S","span":[0,0]}],"span":[0,0]},{"action":{"user":"()"},"attributes":[],"condition":null,"expr":[{"kind":"terminal","span":[0,0],"terminal":{"quoted":"b"}}],"span":[0,0]}],"args":[],"attributes":[],"kind":"rule","name":"S","span":[0,0],"type":{"tuple":[]},"visibility":"pub"}],"parameters":"","span":[0,0],"type_parameters":"","where_clauses":""}"#;
 
-/// `pub S = { E<"all">, "x" E<"some"> }; E<K> = { "n", "if" if K ~~ "(" }`
-pub(crate) const NO_PATTERN: &str =
-    r#"{"attributes":[],"items":[{"alternatives":[{"action":{"user":"()"},"attributes":[],"condition":null,"expr":[{"args":[{"kind":"terminal","span":[0,0],"terminal":{"quoted":"all"}}],"kind":"macro","name":"E","span":[0,0]}],"span":[0,0]},{"action":{"user":"()"},"attributes":[],"condition":null,"expr":[{"kind":"terminal","span":[0,0],"terminal":{"quoted":"x"}},{"args":[{"kind":"terminal","span":[0,0],"terminal":{"quoted":"some"}}],"kind":"macro","name":"E","span":[0,0]}],"span":[0,0]}],"args":[],"attributes":[],"kind":"rule","name":"S","span":[0,0],"type":{"tuple":[]},"visibility":"pub"},{"alternatives":[{"action":{"user":"()"},"attributes":[],"condition":null,"expr":[{"kind":"terminal","span":[0,0],"terminal":{"quoted":"n"}}],"span":[0,0]},{"action":{"user":"()"},"attributes":[],"condition":{"lhs":"K","op":"~~","rhs":"(","span":[0,0]},"expr":[{"kind":"terminal","span":[0,0],"terminal":{"quoted":"if"}}],"span":[0,0]}],"args":["K"],"attributes":[],"kind":"rule","name":"E","span":[0,0],"type":{"tuple":[]},"visibility":"priv"}],"parameters":"","span":[0,0],"type_parameters":"","where_clauses":""}"#;
-
 /// `S#0("a", S#1("b"))`
 pub(crate) const ONE_STEP: &str =
     r#"{"args":[],"children":[{"span":[0,1],"terminal":{"quoted":"a"},"text":"a"},{"args":[],"children":[{"span":[1,2],"terminal":{"quoted":"b"},"text":"b"}],"place":1,"rule":"S"}],"place":0,"rule":"S"}"#;
-
-/// `S#1("a")`
-pub(crate) const WRONG_LITERAL: &str =
-    r#"{"args":[],"children":[{"span":[0,1],"terminal":{"quoted":"a"},"text":"a"}],"place":1,"rule":"S"}"#;
-
-/// `S#0(E<"all">#1("if"))`
-pub(crate) const OF_ALL: &str =
-    r#"{"args":[],"children":[{"args":[{"kind":"terminal","span":[0,0],"terminal":{"quoted":"all"}}],"children":[{"span":[0,1],"terminal":{"quoted":"if"},"text":"if"}],"place":1,"rule":"E"}],"place":0,"rule":"S"}"#;
 
 /// `pub S = r"a$"`, whose literal is refused.
 pub(crate) const REFUSED: &str =
