@@ -75,20 +75,30 @@ fn is_written(alloc: Global, item: GrammarItem) -> Result<bool, Fail> {
     }
 }
 
+/// Whether a grammar with this symbol is written.
+fn is_symbol_written(alloc: Global, kind: SymbolKind) -> Result<bool, Fail> {
+    let item = rule(alloc, "S", alternative(alloc, kind)?)?;
+    is_written(alloc, item)
+}
+
 #[test]
-fn symbols_without_a_spelling(rt: HostRuntime) -> Result<(), Fail> {
+fn terminals_without_a_spelling(rt: HostRuntime) -> Result<(), Fail> {
     let alloc = rt.alloc();
+    assert!(rt; is_symbol_written(alloc, SymbolKind::Error)?);
     let bare = TerminalString::Bare(Atom::new(alloc, "NUM")?);
-    for (kind, wanted) in [
-        (SymbolKind::Error, true),
-        (SymbolKind::Nonterminal(name(alloc, "S")?), false),
-        (SymbolKind::Terminal(bare), false),
-        (SymbolKind::Terminal(TerminalString::Error), false),
-        (SymbolKind::AmbiguousId(Atom::new(alloc, "a-b")?), false),
-    ] {
-        let item = rule(alloc, "S", alternative(alloc, kind)?)?;
-        assert!(rt; is_written(alloc, item)? == wanted);
-    }
+    assert!(rt; !is_symbol_written(alloc, SymbolKind::Terminal(bare))?);
+    let recovery = SymbolKind::Terminal(TerminalString::Error);
+    assert!(rt; !is_symbol_written(alloc, recovery)?);
+    Ok(())
+}
+
+#[test]
+fn names_without_a_spelling(rt: HostRuntime) -> Result<(), Fail> {
+    let alloc = rt.alloc();
+    let resolved = SymbolKind::Nonterminal(name(alloc, "S")?);
+    assert!(rt; !is_symbol_written(alloc, resolved)?);
+    let dashed = SymbolKind::AmbiguousId(Atom::new(alloc, "a-b")?);
+    assert!(rt; !is_symbol_written(alloc, dashed)?);
     Ok(())
 }
 
