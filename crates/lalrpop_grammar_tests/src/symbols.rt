@@ -58,18 +58,52 @@ fn texts_of_parts_of_symbols(rt: HostRuntime) -> Result<(), Fail> {
 }
 
 #[test]
-fn questions_of_symbols(rt: HostRuntime) -> Result<(), Fail> {
-    let alloc = rt.alloc();
-    let literal = TerminalLiteral::Quoted(Atom::new(alloc, "a")?);
+fn a_terminal_may_hold_a_literal(rt: HostRuntime) -> Result<(), Fail> {
+    let literal = TerminalLiteral::Quoted(Atom::new(rt.alloc(), "a")?);
     let terminal = TerminalString::Literal(literal.try_clone()?);
     assert!(rt; terminal.as_literal() == Some(&literal));
     assert!(rt; TerminalString::Error.as_literal().is_none());
-    assert!(rt; Symbol::new(Span(0, 0), SymbolKind::Terminal(terminal)).is_terminal());
-    assert!(rt; !named(alloc, "a")?.is_terminal());
-    assert!(rt; Name::immut(Atom::new(alloc, "n")?) == Name::new(false, Atom::new(alloc, "n")?));
-    assert!(rt; named(alloc, "a")? < named(alloc, "b")?);
-    assert!(rt; Boxed::new(alloc, named(alloc, "a")?)?.into_inner() == named(alloc, "a")?);
-    let symbols = List::from_vec(vec![in alloc; named(alloc, "a")?, named(alloc, "b")?]?);
-    assert_eq!(rt; symbols.into_vec().len(), 2);
+    Ok(())
+}
+
+#[test]
+fn a_symbol_may_be_a_terminal(rt: HostRuntime) -> Result<(), Fail> {
+    let terminal = TerminalString::quoted(Atom::new(rt.alloc(), "a")?);
+    let symbol = Symbol::new(Span(0, 0), SymbolKind::Terminal(terminal));
+    assert!(rt; symbol.is_terminal());
+    let other = named(rt.alloc(), "a")?;
+    assert!(rt; !other.is_terminal());
+    Ok(())
+}
+
+#[test]
+fn a_name_is_immutable_unless_it_says_mut(rt: HostRuntime) -> Result<(), Fail> {
+    let name = Name::immut(Atom::new(rt.alloc(), "n")?);
+    let same = Name::new(false, Atom::new(rt.alloc(), "n")?);
+    assert!(rt; name == same);
+    Ok(())
+}
+
+#[test]
+fn symbols_go_by_their_names(rt: HostRuntime) -> Result<(), Fail> {
+    let first = named(rt.alloc(), "a")?;
+    let second = named(rt.alloc(), "b")?;
+    assert!(rt; first < second);
+    Ok(())
+}
+
+#[test]
+fn a_box_gives_back_what_it_holds(rt: HostRuntime) -> Result<(), Fail> {
+    let boxed = Boxed::new(rt.alloc(), named(rt.alloc(), "a")?)?;
+    let wanted = named(rt.alloc(), "a")?;
+    assert!(rt; boxed.into_inner() == wanted);
+    Ok(())
+}
+
+#[test]
+fn a_list_gives_back_its_items(rt: HostRuntime) -> Result<(), Fail> {
+    let mut symbols = List::new(rt.alloc());
+    symbols.push(named(rt.alloc(), "a")?)?;
+    assert_eq!(rt; symbols.into_vec().len(), 1);
     Ok(())
 }

@@ -13,7 +13,9 @@ use std::process::Abort;
 use std::test::Fail;
 
 fn one<T: Drop>(alloc: Global, item: T) -> Result<List<T>, AllocError> {
-    Ok(List::from_vec(vec![in alloc; item]?))
+    let mut items = List::new(alloc);
+    items.push(item)?;
+    Ok(items)
 }
 
 fn name(alloc: Global, text: &str) -> Result<NonterminalString, AllocError> {
