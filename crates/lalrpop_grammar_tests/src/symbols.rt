@@ -28,32 +28,55 @@ fn texts_of_terminals(rt: HostRuntime) -> Result<(), Fail> {
     Ok(())
 }
 
-/// A group, a call of a macro with it, and a repeat of the call.
 #[test]
-fn texts_of_parts_of_symbols(rt: HostRuntime) -> Result<(), Fail> {
+fn the_text_of_a_group(rt: HostRuntime) -> Result<(), Fail> {
     let alloc = rt.alloc();
-    let rule = NonterminalString(Atom::new(alloc, "Num")?);
-    assert_eq!(rt; rule.len(), 3);
-    let rule = Symbol::new(Span(0, 0), SymbolKind::Nonterminal(rule));
-    let symbols = List::from_vec(vec![in alloc; named(alloc, "a")?, rule]?);
+    let mut symbols = List::new(alloc);
+    symbols.push(named(alloc, "a")?)?;
+    symbols.push(named(alloc, "b")?)?;
     let group = ExprSymbol { symbols };
-    assert_eq!(rt; group.canonical_form(alloc)?.as_str(), "(a Num)");
-    let group = Symbol::new(Span(0, 0), SymbolKind::Expr(group));
-    let call = MacroSymbol {
-        name: NonterminalString(Atom::new(alloc, "M")?),
-        args: List::from_vec(vec![in alloc; group, named(alloc, "c")?]?),
-    };
-    assert_eq!(rt; call.canonical_form(alloc)?.as_str(), "M<(a Num), c>");
-    let repeat = RepeatSymbol {
-        op: RepeatOp::Plus,
-        symbol: Symbol::new(Span(0, 0), SymbolKind::Macro(call)),
-    };
-    assert_eq!(rt; repeat.canonical_form(alloc)?.as_str(), "M<(a Num), c>+");
-    let repeat = Symbol::new(Span(0, 0), SymbolKind::Repeat(Boxed::new(alloc, repeat)?));
-    let mut out = String::from_str(alloc, "= ")?;
-    repeat.write_text(alloc, &mut out)?;
-    assert_eq!(rt; out.as_str(), "= M<(a Num), c>+");
-    assert!(rt; repeat.try_clone(alloc)? == repeat);
+    let text = group.canonical_form(alloc)?;
+    assert_eq!(rt; text.as_str(), "(a b)");
+    Ok(())
+}
+
+#[test]
+fn the_text_of_a_call(rt: HostRuntime) -> Result<(), Fail> {
+    let alloc = rt.alloc();
+    let name = NonterminalString(Atom::new(alloc, "Comma")?);
+    assert_eq!(rt; name.len(), 5);
+    let mut args = List::new(alloc);
+    args.push(named(alloc, "c")?)?;
+    let call = MacroSymbol { name, args };
+    let text = call.canonical_form(alloc)?;
+    assert_eq!(rt; text.as_str(), "Comma<c>");
+    Ok(())
+}
+
+#[test]
+fn the_text_of_a_repeat(rt: HostRuntime) -> Result<(), Fail> {
+    let symbol = named(rt.alloc(), "a")?;
+    let op = RepeatOp::Plus;
+    let repeat = RepeatSymbol { op, symbol };
+    let text = repeat.canonical_form(rt.alloc())?;
+    assert_eq!(rt; text.as_str(), "a+");
+    Ok(())
+}
+
+#[test]
+fn the_text_of_a_name_behind_another(rt: HostRuntime) -> Result<(), Fail> {
+    let mut out = String::from_str(rt.alloc(), "= ")?;
+    let symbol = named(rt.alloc(), "a")?;
+    symbol.write_text(rt.alloc(), &mut out)?;
+    assert_eq!(rt; out.as_str(), "= a");
+    Ok(())
+}
+
+#[test]
+fn a_copy_of_a_symbol_equals_it(rt: HostRuntime) -> Result<(), Fail> {
+    let symbol = named(rt.alloc(), "a")?;
+    let copy = symbol.try_clone(rt.alloc())?;
+    assert!(rt; copy == symbol);
     Ok(())
 }
 
