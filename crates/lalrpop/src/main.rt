@@ -2,8 +2,8 @@
 //! error.
 #![tactic(auto)]
 
-use lalrpop_run::{Options, OptionsError, options, run};
-use lalrpop_streams::Watched;
+use lalrpop_grammar_streams::Watched;
+use lalrpop_run::{Options, OptionsError, options, run_words};
 use std::alloc::{AllocError, Global};
 use std::process::ExitCode;
 use std::rt::Env;
@@ -27,11 +27,28 @@ fn main(rt: HostRuntime) -> ExitCode {
 
 /// Reads the words and answers them.
 fn respond<R: Env + Alloc<A = Global> + Input + Print + Eprint>(rt: &R) -> io::Result<u8> {
+    match env::args(rt) {
+        Ok(arguments) => {
+            let arguments: Vec<String> = arguments.collect(rt.alloc())?;
+            answer_arguments(rt, arguments.as_slice())
+        }
+        Err(error) if error.kind() == io::ErrorKind::InvalidData => {
+            rt.eprint("error: a word isn't UTF-8\n")?;
+            Ok(WRONG_WORDS)
+        }
+        Err(error) => Err(error),
+    }
+}
+
+/// Answers the words, or says what is wrong with them.
+fn answer_arguments<R: Alloc<A = Global> + Input + Print + Eprint>(
+    rt: &R,
+    arguments: &[String],
+) -> io::Result<u8> {
     let alloc = rt.alloc();
-    let arguments: Vec<String> = env::args(rt)?.collect(alloc)?;
-    let words = texts(alloc, arguments.as_slice())?;
+    let words = texts(alloc, arguments)?;
     match options(alloc, words.as_slice()) {
-        Ok(found) => Ok(answered(rt, &found)),
+        Ok(found) => Ok(answer_words(rt, &found)),
         Err(OptionsError::Words(error)) => {
             rt.eprint(&error)?;
             Ok(WRONG_WORDS)
@@ -40,12 +57,11 @@ fn respond<R: Env + Alloc<A = Global> + Input + Print + Eprint>(rt: &R) -> io::R
     }
 }
 
-/// Answers over standard input and the text that the words give.
-fn answered<R: Alloc<A = Global> + Input + Print>(rt: &R, options: &Options<'_>) -> u8 {
+/// Answers over standard input and standard output.
+fn answer_words<R: Alloc<A = Global> + Input + Print>(rt: &R, options: &Options<'_>) -> u8 {
     let mut grammar = Watched::new(rt.reader());
-    let mut text = Watched::new(options.text.as_bytes());
     let mut out = Watched::new(io::writer(rt));
-    run(rt.alloc(), options, &mut grammar, &mut text, &mut out)
+    run_words(rt.alloc(), options, &mut grammar, &mut out)
 }
 
 fn texts(alloc: Global, words: &[String]) -> Result<Vec<&str>, AllocError> {

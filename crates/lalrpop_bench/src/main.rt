@@ -6,8 +6,8 @@
 //! `.ci/run` compares the two.
 #![tactic(auto)]
 
+use lalrpop_grammar_streams::Watched;
 use lalrpop_run::{Options, options, run};
-use lalrpop_streams::Watched;
 use std::alloc::Global;
 use std::process::ExitCode;
 use std::rt::{Env, Files};
@@ -37,13 +37,13 @@ fn respond<R: Env + Alloc<A = Global> + Files + Input + Print>(rt: &R) -> io::Re
     let grammar = fs::read_to_string(rt, arguments[2].as_str())?;
     let words = ["lalrpop_bench", "tokens", "--start", arguments[1].as_str()];
     match options(alloc, &words) {
-        Ok(found) => Ok(answered(rt, &found, grammar.as_str())),
+        Ok(found) => Ok(answer_words(rt, &found, grammar.as_str())),
         Err(_) => Ok(WRONG_WORDS),
     }
 }
 
 /// Answers over the grammar's JSON and standard input.
-fn answered<R: Alloc<A = Global> + Input + Print>(
+fn answer_words<R: Alloc<A = Global> + Input + Print>(
     rt: &R,
     options: &Options<'_>,
     grammar: &str,

@@ -4,7 +4,7 @@ use anyhow::{Result, bail};
 use lalrpop_lexer::dfa::{Dfa, DfaConstructionError, Precedence, build_dfa, remove_overlap};
 use lalrpop_lexer::nfa::{Nfa, Test};
 use lalrpop_lexer::{dfa, nfa};
-use lalrpop_syntax::parse_regex;
+use lalrpop_lexer_regex::parse_regex;
 use serde_json::{Value, json};
 use std::alloc::{AllocError, Global};
 use std::collections::BTreeSet;

@@ -1,11 +1,11 @@
 //! Symbols, grammars and trees: their texts, what they are written as, and the tokens of a text.
 
 use anyhow::{Result, bail};
-use lalrpop_formats::{print_tree, read_grammar, read_tree};
 use lalrpop_grammar::{Grammar, ScanToken};
-use lalrpop_scan::{ScanError, Scanner};
-use lalrpop_symbol_formats::{symbol_of, terminal_of};
-use lalrpop_writing::write_grammar;
+use lalrpop_json_grammar::{print_tree, read_grammar, read_tree};
+use lalrpop_json_symbols::{symbol_of, terminal_of};
+use lalrpop_json_writer::write_grammar;
+use lalrpop_lexer_scan::{ScanError, Scanner};
 use serde_json::{Value, json};
 use std::alloc::{AllocError, Global};
 

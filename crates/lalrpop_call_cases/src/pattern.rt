@@ -1,7 +1,7 @@
 //! Patterns as they are read, and their faults.
 
-use lalrpop_pattern::{Hir, Range};
-use lalrpop_syntax::{RegexError, parse_regex};
+use lalrpop_lexer_pattern::{Hir, Range};
+use lalrpop_lexer_regex::{RegexError, parse_regex};
 use serde_json::{Value, json};
 use std::alloc::{AllocError, Global};
 

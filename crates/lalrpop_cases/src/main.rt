@@ -29,7 +29,7 @@ fn respond<R: Alloc<A = Global> + Env + Files + Print>(rt: &R) -> Result<usize> 
     let mut failed = 0usize;
     for file in words.iter().skip(1) {
         let cases = read_cases(rt, file.as_str())?;
-        let differing = told(rt, cases.as_slice())?;
+        let differing = tell_differing(rt, cases.as_slice())?;
         passed = passed.saturating_add(cases.len() - differing);
         failed = failed.saturating_add(differing);
     }
@@ -45,7 +45,7 @@ fn read_cases<R: Alloc<A = Global> + Files>(rt: &R, file: &str) -> Result<Vec<Ca
 }
 
 /// How many cases differ, each of which is told.
-fn told<R: Alloc<A = Global> + Print>(rt: &R, cases: &[Case]) -> Result<usize>
+fn tell_differing<R: Alloc<A = Global> + Print>(rt: &R, cases: &[Case]) -> Result<usize>
     ensures { IfOk result (λ failed. failed ≤ length cases.now) }
 {
     let mut failed = 0;

@@ -4,8 +4,8 @@ ghost use Rattle.std.specs.Prelude.{◌≡◌, ◌↔◌, IfSome, IsTrue, string
 
 use crate::case::Case;
 use anyhow::Result;
+use lalrpop_grammar_streams::Watched;
 use lalrpop_run::{Answer, Options, OptionsError, ReadError, answer, options, read_grammar, run};
-use lalrpop_streams::Watched;
 use serde_json::Value;
 use std::alloc::{AllocError, Global};
 use std::str;
@@ -84,7 +84,7 @@ fn outcome_under(alloc: Global, options: &Options<'_>, case: &Case) -> Result<Ou
         text: String::from_utf8(written)?,
         status,
         fault: String::new(alloc),
-        called: called(alloc, options, grammar.as_slice(), text.as_slice())?,
+        called: answer_of_call(alloc, options, grammar.as_slice(), text.as_slice())?,
     })
 }
 
@@ -103,7 +103,7 @@ fn written_by(
 }
 
 /// What the call over the values answers, where the bytes give a grammar and a text.
-fn called(
+fn answer_of_call(
     alloc: Global,
     options: &Options<'_>,
     grammar: &[u8],

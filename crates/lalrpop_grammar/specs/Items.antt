@@ -1,7 +1,8 @@
 -- What the small questions about a grammar's parts answer.
 use Rattle.std.specs.Prelude.{◌≢◌, List, [], ◌∷◌, Option, Some, None, if◌then◌else◌}
-use Rattle.lalrpop_symbols.specs.declared.span.Span.{Span}
-use Rattle.lalrpop_symbols.specs.Symbols.{Text}
+use Rattle.std.specs.Str.{bytes_eq}
+use Rattle.lalrpop_grammar_symbols.specs.declared.span.Span.{Span}
+use Rattle.lalrpop_grammar_symbols.specs.Symbols.{Text}
 use Rattle.lalrpop_grammar.specs.declared.extern_token.AssociatedType.{AssociatedType}
 use Rattle.lalrpop_grammar.specs.declared.extern_token.EnumToken.{EnumToken}
 use Rattle.lalrpop_grammar.specs.declared.extern_token.ExternToken.{ExternToken}
@@ -12,13 +13,13 @@ use Rattle.lalrpop_grammar.specs.declared.match_token.MatchItem.{MatchItem}
 use Rattle.lalrpop_grammar.specs.declared.match_token.MatchItem.TheVariants as entries
 use Rattle.lalrpop_grammar.specs.declared.match_token.MatchToken.{MatchToken}
 use Rattle.lalrpop_grammar.specs.declared.nonterminal.NonterminalData.{NonterminalData}
-use Rattle.lalrpop_grammar.specs.Written.{Attr, plain, paren, equal, same_text}
+use Rattle.lalrpop_grammar.specs.WrittenGrammar.{Attr}
 
 -- the name and the text of an attribute `name = "text"`
 abbrev pub equal_of : Attr → Option (Text × Text)
-equal_of (plain place id) = None
-equal_of (paren place id parts) = None
-equal_of (equal place id text) = Some (id, text)
+equal_of (Attr.empty place id) = None
+equal_of (Attr.paren place id parts) = None
+equal_of (Attr.equal place id text) = Some (id, text)
 
 abbrev pub span_of : MatchItem → Span
 span_of (entries.CatchAll span) = span
@@ -76,6 +77,6 @@ enum_in None = None
 enum_in (Some block) = block.enum_token
 
 -- the first type of that name
-abbrev pub type_named : Text → List AssociatedType → Option AssociatedType
-type_named n [] = None
-type_named n (x ∷ xs) = if same_text x.name n then Some x else type_named n xs
+abbrev pub type_of_name : Text → List AssociatedType → Option AssociatedType
+type_of_name n [] = None
+type_of_name n (x ∷ xs) = if bytes_eq x.name n then Some x else type_of_name n xs

@@ -4,4 +4,4 @@ pub mod Trees
 pub mod Views
 pub mod WalkViews
 pub mod Walks
-pub mod Written
+pub mod WrittenGrammar

@@ -1,10 +1,10 @@
 -- What definitions see of the program's grammars, trees and tokens.
 use Rattle.std.specs.Prelude.{Bool, true, false, List, [], ◌∷◌, Option, Some, None, option_map, map}
 use Rattle.std.specs.Borrow.{Bor}
-use Rattle.lalrpop_symbols.specs.Symbols.{Text, Place}
-use Rattle.lalrpop_symbols.specs.Views.{place, literal_term, term_of, symbol, unmarked}
-use Rattle.lalrpop_symbols.specs.declared.span.Span.{Span}
-use Rattle.lalrpop_symbols.specs.declared.terminal.TerminalLiteral.{TerminalLiteral}
+use Rattle.lalrpop_grammar_symbols.specs.Symbols.{Text, TextSpan}
+use Rattle.lalrpop_grammar_symbols.specs.Views.{span_view, literal_view, terminal_view, symbol_view, without_marks}
+use Rattle.lalrpop_grammar_symbols.specs.declared.span.Span.{Span}
+use Rattle.lalrpop_grammar_symbols.specs.declared.terminal.TerminalLiteral.{TerminalLiteral}
 use Rattle.lalrpop_grammar.specs.declared.origin.Origin.{Origin}
 use Rattle.lalrpop_grammar.specs.declared.origin.Origin.TheVariants as origins
 use Rattle.lalrpop_grammar.specs.declared.condition.ConditionOp.{ConditionOp}
@@ -32,81 +32,81 @@ use Rattle.lalrpop_grammar.specs.declared.token.ScanToken.{ScanToken}
 use Rattle.lalrpop_grammar.specs.declared.tree.WrittenTree as written_trees
 use Rattle.lalrpop_grammar.specs.declared.tree.WrittenTree.TheOpen as tree_layer
 use Rattle.lalrpop_grammar.specs.Trees as pure_trees
-use Rattle.lalrpop_grammar.specs.Written as pure
-use Rattle.lalrpop_grammar.specs.Written.{Attr, Attrs, plain, paren, equal, done, and_attr}
+use Rattle.lalrpop_grammar.specs.WrittenGrammar as pure
+use Rattle.lalrpop_grammar.specs.WrittenGrammar.{Attr, Attrs}
 
 -- a pair of texts behind references
-abbrev pub texts_of : Bor Text × Bor Text → Text × Text
-texts_of p = (p.0.now, p.1.now)
+abbrev pub text_pair_view : Bor Text × Bor Text → Text × Text
+text_pair_view p = (p.0.now, p.1.now)
 
 abbrev pub attrs : List Attr → Attrs
-attrs [] = done
-attrs (a ∷ as_) = and_attr a (attrs as_)
+attrs [] = Attrs.none
+attrs (a ∷ as_) = Attrs.more a (attrs as_)
 
-abbrev pub arg_step : attr_layer.AttributeArg-F (Place → Text → Attr) Attr → Place → Text → Attr
-arg_step attr_layer.Empty p id = plain p id
-arg_step (attr_layer.Paren parts) p id = paren p id (attrs parts)
-arg_step (attr_layer.Equal t) p id = equal p id t
+abbrev pub arg_step : attr_layer.AttributeArg-F (TextSpan → Text → Attr) Attr → TextSpan → Text → Attr
+arg_step attr_layer.Empty p id = Attr.empty p id
+arg_step (attr_layer.Paren parts) p id = Attr.paren p id (attrs parts)
+arg_step (attr_layer.Equal t) p id = Attr.equal p id t
 
-abbrev pub attribute_step : attr_layer.Attribute-F (Place → Text → Attr) Attr → Attr
-attribute_step a = a.arg (place a.span) a.id
+abbrev pub attribute_step : attr_layer.Attribute-F (TextSpan → Text → Attr) Attr → Attr
+attribute_step a = a.arg (span_view a.span) a.id
 
-abbrev pub attribute : attributes.Attribute → Attr
-attribute = attr_folds.fold-Attribute (Place → Text → Attr) Attr arg_step attribute_step
+abbrev pub attribute_view : attributes.Attribute → Attr
+attribute_view = attr_folds.fold-Attribute (TextSpan → Text → Attr) Attr arg_step attribute_step
 
 abbrev pub tys : List pure.Ty → pure.Tys
-tys [] = pure.no_ty
-tys (t ∷ ts) = pure.ty_and t (tys ts)
+tys [] = pure.Tys.none
+tys (t ∷ ts) = pure.Tys.more t (tys ts)
 
 abbrev pub type_step : type_layer.TypeRef-F pure.Ty → pure.Ty
-type_step (type_layer.Tuple ts) = pure.tuple (tys ts)
-type_step (type_layer.Nominal path ts) = pure.nominal path (tys ts)
-type_step (type_layer.Id n) = pure.parameter n
-type_step (type_layer.OfSymbol s) = pure.of_symbol (symbol s)
-type_step (type_layer.Ref lifetime mutable t) = pure.reference lifetime mutable t
-type_step (type_layer.Opaque text) = pure.opaque text
+type_step (type_layer.Tuple ts) = pure.Ty.tuple (tys ts)
+type_step (type_layer.Nominal path ts) = pure.Ty.nominal path (tys ts)
+type_step (type_layer.Id n) = pure.Ty.id n
+type_step (type_layer.OfSymbol s) = pure.Ty.of_symbol (symbol_view s)
+type_step (type_layer.Ref lifetime mutable t) = pure.Ty.ref lifetime mutable t
+type_step (type_layer.Opaque text) = pure.Ty.opaque text
 
 -- the type as definitions see it
-abbrev pub type_ref : types.TypeRef → pure.Ty
-type_ref = types.fold-TypeRef pure.Ty type_step
+abbrev pub type_view : types.TypeRef → pure.Ty
+type_view = types.fold-TypeRef pure.Ty type_step
 
-abbrev pub origin : Origin → pure.Origin
-origin origins.Start = pure.start
-origin (origins.Alternative n args at) = pure.alternative n.0 (map (λ s. unmarked (symbol s)) args) at
-origin origins.PassDown = pure.pass_down
-origin origins.PlusOne = pure.plus_one
-origin origins.PlusMore = pure.plus_more
-origin origins.StarNone = pure.star_none
-origin origins.StarSome = pure.star_some
-origin origins.OptNone = pure.opt_none
-origin origins.OptSome = pure.opt_some
-origin origins.Group = pure.as_group
-origin origins.Look = pure.as_look
+abbrev pub origin_view : Origin → pure.Origin
+origin_view origins.Start = pure.Origin.start
+origin_view (origins.Alternative n args at) = pure.Origin.alternative n.0 (map (λ s. without_marks (symbol_view s)) args) at
+origin_view origins.PassDown = pure.Origin.pass_down
+origin_view origins.PlusOne = pure.Origin.plus_one
+origin_view origins.PlusMore = pure.Origin.plus_more
+origin_view origins.StarNone = pure.Origin.star_none
+origin_view origins.StarSome = pure.Origin.star_some
+origin_view origins.OptNone = pure.Origin.opt_none
+origin_view origins.OptSome = pure.Origin.opt_some
+origin_view origins.Group = pure.Origin.group
+origin_view origins.Look = pure.Origin.look
 
-abbrev pub test : ConditionOp → pure.Test
-test tests.Equals = pure.equals
-test tests.NotEquals = pure.differs
-test tests.Match = pure.found
-test tests.NotMatch = pure.missing
+abbrev pub condition_op_view : ConditionOp → pure.ConditionTest
+condition_op_view tests.Equals = pure.ConditionTest.equals
+condition_op_view tests.NotEquals = pure.ConditionTest.not_equals
+condition_op_view tests.Match = pure.ConditionTest.matches
+condition_op_view tests.NotMatch = pure.ConditionTest.not_matches
 
-abbrev pub condition : Condition → pure.Condition
-condition c = record { place = place c.span; parameter = c.lhs.0; test = test c.op; against = c.rhs }
+abbrev pub condition_view : Condition → pure.Condition
+condition_view c = record { place = span_view c.span; parameter = c.lhs.0; test = condition_op_view c.op; against = c.rhs }
 
-abbrev pub action : Option ActionKind → pure.Action
-action None = pure.default
-action (Some (actions.User t)) = pure.user t
-action (Some (actions.Fallible t)) = pure.fallible t
-action (Some actions.Lookahead) = pure.looks_ahead
-action (Some actions.Lookbehind) = pure.looks_behind
+abbrev pub action_view : Option ActionKind → pure.Action
+action_view None = pure.Action.default
+action_view (Some (actions.User t)) = pure.Action.user t
+action_view (Some (actions.Fallible t)) = pure.Action.fallible t
+action_view (Some actions.Lookahead) = pure.Action.lookahead
+action_view (Some actions.Lookbehind) = pure.Action.lookbehind
 
-abbrev pub alternative : Alternative → pure.Alternative
-alternative a = record {
-  span = place a.span;
-  expr = map symbol a.expr;
-  condition = option_map condition a.condition;
-  action = action a.action;
-  attributes = map attribute a.attributes;
-  origin = origin a.origin;
+abbrev pub alternative_view : Alternative → pure.Alternative
+alternative_view a = record {
+  span = span_view a.span;
+  expr = map symbol_view a.expr;
+  condition = option_map condition_view a.condition;
+  action = action_view a.action;
+  attributes = map attribute_view a.attributes;
+  origin = origin_view a.origin;
 }
 
 abbrev pub is_public : Visibility → Bool
@@ -114,56 +114,58 @@ is_public visible.Pub = true
 is_public (visible.PubIn t) = true
 is_public visible.Priv = false
 
-abbrev pub a_nonterminal : NonterminalData → pure.Rule
-a_nonterminal d = record {
+abbrev pub nonterminal_view : NonterminalData → pure.Rule
+nonterminal_view d = record {
   public = is_public d.visibility;
   name = d.name.0;
-  attributes = map attribute d.attributes;
-  span = place d.span;
+  attributes = map attribute_view d.attributes;
+  span = span_view d.span;
   parameters = map (λ n. n.0) d.args;
-  declared = option_map type_ref d.type_decl;
-  alternatives = map alternative d.alternatives;
+  declared = option_map type_view d.type_decl;
+  alternatives = map alternative_view d.alternatives;
 }
 
-abbrev pub mapping : TerminalLiteral → MatchMapping → Span → pure.Entry
-mapping l (maps.Terminal t) p = pure.mapped (literal_term l) (term_of t) (place p)
-mapping l maps.Skip p = pure.skipped (literal_term l) (place p)
+abbrev pub mapping_view : TerminalLiteral → MatchMapping → Span → pure.WrittenEntry
+mapping_view l (maps.Terminal t) p = pure.WrittenEntry.mapped (literal_view l) (terminal_view t) (span_view p)
+mapping_view l maps.Skip p = pure.WrittenEntry.skip (literal_view l) (span_view p)
 
-abbrev pub entry : MatchItem → pure.Entry
-entry (entries.CatchAll p) = pure.others (place p)
-entry (entries.Unmapped l p) = pure.unmapped (literal_term l) (place p)
-entry (entries.Mapped l m p) = mapping l m p
+abbrev pub match_item_view : MatchItem → pure.WrittenEntry
+match_item_view (entries.CatchAll p) = pure.WrittenEntry.catch_all (span_view p)
+match_item_view (entries.Unmapped l p) = pure.WrittenEntry.unmapped (literal_view l) (span_view p)
+match_item_view (entries.Mapped l m p) = mapping_view l m p
 
-abbrev pub item : GrammarItem → pure.Item
-item (items.MatchToken m) = pure.match_block (map (λ c. map entry c.items) m.contents) (place m.span)
-item (items.ExternToken e) = pure.extern_block (place e.span)
-item (items.InternToken e) = pure.intern_block
-item (items.Use t) = pure.import t
-item (items.Nonterminal d) = pure.a_rule (a_nonterminal d)
+abbrev pub item_view : GrammarItem → pure.WrittenItem
+item_view (items.MatchToken m) = pure.WrittenItem.match_token (map (λ c. map match_item_view c.items) m.contents) (span_view m.span)
+item_view (items.ExternToken e) = pure.WrittenItem.extern_token (span_view e.span)
+item_view (items.InternToken e) = pure.WrittenItem.intern_token
+item_view (items.Use t) = pure.WrittenItem.import t
+item_view (items.Nonterminal d) = pure.WrittenItem.nonterminal (nonterminal_view d)
 
-abbrev pub grammar : Grammar → pure.Grammar
-grammar g = record {
+abbrev pub grammar_view : Grammar → pure.Grammar
+grammar_view g = record {
   prefix = g.prefix;
-  span = place g.span;
-  attributes = map attribute g.attributes;
-  items = map item g.items;
+  span = span_view g.span;
+  attributes = map attribute_view g.attributes;
+  items = map item_view g.items;
 }
 
-abbrev pub token : ScanToken → pure_trees.Token
-token t = record { terminal = term_of t.terminal; text = t.text.now; span = place t.span }
+abbrev pub token_view : ScanToken → pure_trees.Token
+token_view t = record { terminal = terminal_view t.terminal; text = t.text.now; span = span_view t.span }
 
-abbrev pub option_tree : Option pure_trees.Tree → pure_trees.Tree
-option_tree None = pure_trees.absent
-option_tree (Some t) = pure_trees.present t
+abbrev pub opt_view : Option pure_trees.Tree → pure_trees.Tree
+opt_view None = pure_trees.Tree.opt_none
+opt_view (Some t) = pure_trees.Tree.opt_some t
 
 abbrev pub tree_step : tree_layer.WrittenTree-F pure_trees.Tree → pure_trees.Tree
-tree_step (tree_layer.Rule n args at children) = pure_trees.node n.0 (map (λ s. unmarked (symbol s)) args) at (pure_trees.trees children)
-tree_step (tree_layer.List ts) = pure_trees.list (pure_trees.trees ts)
-tree_step (tree_layer.Opt t) = option_tree t
-tree_step (tree_layer.Group ts) = pure_trees.together (pure_trees.trees ts)
-tree_step (tree_layer.Terminal t text span) = pure_trees.leaf (record { terminal = term_of t; text = text; span = place span })
-tree_step tree_layer.Look = pure_trees.look
+tree_step (tree_layer.Rule n args at children) =
+    pure_trees.Tree.rule n.0 (map (λ s. without_marks (symbol_view s)) args) at (pure_trees.trees children)
+tree_step (tree_layer.List ts) = pure_trees.Tree.list (pure_trees.trees ts)
+tree_step (tree_layer.Opt t) = opt_view t
+tree_step (tree_layer.Group ts) = pure_trees.Tree.group (pure_trees.trees ts)
+tree_step (tree_layer.Terminal t text span) =
+    pure_trees.Tree.terminal (record { terminal = terminal_view t; text = text; span = span_view span })
+tree_step tree_layer.Look = pure_trees.Tree.look
 
 -- the tree as definitions see it
-abbrev pub tree : written_trees.WrittenTree → pure_trees.Tree
-tree = written_trees.fold-WrittenTree pure_trees.Tree tree_step
+abbrev pub tree_view : written_trees.WrittenTree → pure_trees.Tree
+tree_view = written_trees.fold-WrittenTree pure_trees.Tree tree_step

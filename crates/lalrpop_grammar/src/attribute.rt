@@ -2,7 +2,7 @@
 
 ghost use Rattle.std.specs.Prelude.{◌≡◌, IfOk};
 
-use lalrpop_symbols::{Atom, List, Span};
+use lalrpop_grammar_symbols::{Atom, List, Span};
 use std::alloc::{AllocError, Global};
 
 /// An attribute of a grammar, a rule or an alternative.
@@ -32,11 +32,11 @@ pub enum AttributeArg {
 impl Attribute {
     ghost use Rattle.std.specs.Option.{option_map};
     ghost use Rattle.lalrpop_grammar.specs.Items.{equal_of};
-    ghost use Rattle.lalrpop_grammar.specs.Views.{attribute as seen, texts_of};
+    ghost use Rattle.lalrpop_grammar.specs.Views.{attribute_view, text_pair_view};
 
     /// The name and the text of `name = "text"`, where it has that shape.
     pub fn get_arg_equal(&self) -> Option<(&Atom, &Atom)>
-        ensures { option_map texts_of result ≡ equal_of (seen self.now) }
+        ensures { option_map text_pair_view result ≡ equal_of (attribute_view self.now) }
     {
         match &self.arg {
             AttributeArg::Equal(text) => Some((&self.id, text)),

@@ -2,7 +2,7 @@
 
 ghost use Rattle.std.specs.Prelude.{◌≡◌, IfOk};
 
-use lalrpop_symbols::{Atom, NonterminalString, Span};
+use lalrpop_grammar_symbols::{Atom, NonterminalString, Span};
 use std::alloc::AllocError;
 
 /// How a condition compares.

@@ -1,9 +1,9 @@
 //! Extern blocks, which say how tokens of the user's own are seen.
 
 ghost use Rattle.std.specs.Prelude.{◌≡◌, IfOk};
-ghost use Rattle.lalrpop_grammar.specs.Written.{same_text};
+ghost use Rattle.std.specs.Str.{bytes_eq};
 
-use lalrpop_symbols::{Atom, List, Span, TerminalString};
+use lalrpop_grammar_symbols::{Atom, List, Span, TerminalString};
 use std::alloc::{AllocError, Global};
 
 /// `type Location = usize;` in an extern block.
@@ -86,11 +86,11 @@ impl EnumToken {
 
 impl ExternToken {
     ghost use Rattle.std.specs.Option.{option_copied};
-    ghost use Rattle.lalrpop_grammar.specs.Items.{type_named};
+    ghost use Rattle.lalrpop_grammar.specs.Items.{type_of_name};
 
     /// The first associated type of that name, where there is one.
     pub fn associated_type(&self, name: &Atom) -> Option<&AssociatedType>
-        ensures { option_copied result ≡ type_named name.now self.now.associated_types }
+        ensures { option_copied result ≡ type_of_name name.now self.now.associated_types }
     {
         for associated in self.associated_types.as_slice() {
             if is_named(associated, name) {
@@ -113,15 +113,9 @@ impl ExternToken {
 }
 
 fn is_named(associated: &AssociatedType, name: &Atom) -> bool
-    ensures { result ≡ same_text associated.now.name name.now }
+    ensures { result ≡ bytes_eq associated.now.name name.now }
 {
-    is_same(associated.name.as_str(), name.as_str())
-}
-
-fn is_same(a: &str, b: &str) -> bool
-    ensures { result ≡ same_text a.now b.now }
-{
-    a == b
+    associated.name.as_str() == name.as_str()
 }
 
 fn clone_associated(

@@ -7,7 +7,7 @@ use crate::extern_token::{EnumToken, ExternToken};
 use crate::intern_token::InternToken;
 use crate::match_token::MatchToken;
 use crate::nonterminal::NonterminalData;
-use lalrpop_symbols::{Atom, List, Span};
+use lalrpop_grammar_symbols::{Atom, List, Span};
 use std::alloc::{AllocError, Global};
 
 /// One item of a grammar.

@@ -3,7 +3,7 @@
 ghost use Rattle.std.specs.Prelude.{◌≡◌, IfOk};
 
 use crate::match_token::MatchMapping;
-use lalrpop_symbols::{List, TerminalLiteral};
+use lalrpop_grammar_symbols::{List, TerminalLiteral};
 use std::alloc::{AllocError, Global};
 
 /// One entry of a tokenizer.

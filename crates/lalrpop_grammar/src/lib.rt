@@ -25,10 +25,10 @@ pub use condition::{Condition, ConditionOp};
 pub use extern_token::{AssociatedType, Conversion, EnumToken, ExternToken};
 pub use grammar::{Grammar, GrammarItem};
 pub use intern_token::{InternToken, MatchEntry};
-pub use lalrpop_streams::{
-    MAX_BYTES, MAX_CALLS, Sink, Source, Unread, Watched, read_all, write_all,
+pub use lalrpop_grammar_streams::{
+    MAX_BYTES, MAX_CALLS, Sink, Source, SourceError, Watched, read_all, write_all,
 };
-pub use lalrpop_symbols::{
+pub use lalrpop_grammar_symbols::{
     Atom, Boxed, ExprSymbol, List, MacroSymbol, MatchSymbol, Name, NonterminalString, RepeatOp,
     RepeatSymbol, Span, Symbol, SymbolKind, TerminalLiteral, TerminalString,
 };

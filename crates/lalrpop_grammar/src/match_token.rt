@@ -2,7 +2,7 @@
 
 ghost use Rattle.std.specs.Prelude.{◌≡◌, ◌∷◌, ◌++◌, [], IfOk, OnOk, OnErr};
 
-use lalrpop_symbols::{List, Span, TerminalLiteral, TerminalString};
+use lalrpop_grammar_symbols::{List, Span, TerminalLiteral, TerminalString};
 use std::alloc::{AllocError, Global};
 
 /// What an entry's matches become.

@@ -5,7 +5,7 @@ ghost use Rattle.std.specs.Prelude.{◌≡◌, ◌≢◌, ◌↔◌, [], IfOk, I
 use crate::alternative::Alternative;
 use crate::attribute::{Attribute, clone_attributes};
 use crate::type_ref::TypeRef;
-use lalrpop_symbols::{Atom, List, NonterminalString, Span};
+use lalrpop_grammar_symbols::{Atom, List, NonterminalString, Span};
 use std::alloc::{AllocError, Global};
 
 /// Who may use a rule as a start.

@@ -2,7 +2,7 @@
 
 ghost use Rattle.std.specs.Prelude.{◌≡◌, IfOk};
 
-use lalrpop_symbols::{List, NonterminalString, Symbol, clone_symbols};
+use lalrpop_grammar_symbols::{List, NonterminalString, Symbol, clone_symbols};
 use std::alloc::{AllocError, Global};
 
 /// The written choice that an alternative or a production stands for.

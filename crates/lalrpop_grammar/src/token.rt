@@ -2,7 +2,7 @@
 
 ghost use Rattle.std.specs.Prelude.{◌≡◌, IfOk};
 
-use lalrpop_symbols::{Span, TerminalString};
+use lalrpop_grammar_symbols::{Span, TerminalString};
 use std::alloc::AllocError;
 
 /// A token of a text.

@@ -2,7 +2,7 @@
 
 ghost use Rattle.std.specs.Prelude.{◌≡◌, IfOk};
 
-use lalrpop_symbols::{
+use lalrpop_grammar_symbols::{
     Atom, Boxed, List, NonterminalString, Span, Symbol, TerminalString, clone_symbols,
 };
 use std::alloc::{AllocError, Global};

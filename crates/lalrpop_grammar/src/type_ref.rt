@@ -2,7 +2,7 @@
 
 ghost use Rattle.std.specs.Prelude.{◌≡◌, IfOk};
 
-use lalrpop_symbols::{Atom, Boxed, List, Symbol};
+use lalrpop_grammar_symbols::{Atom, Boxed, List, Symbol};
 use std::alloc::{AllocError, Global};
 
 /// A type as it is written.

@@ -2,9 +2,9 @@
 
 ghost use Rattle.std.specs.Prelude.{◌≡◌, ◌<◌, ◌≤◌, ◌++◌, [], ◌∷◌, MatchOption, min, map, option_map, vec_len, vec_capacity};
 ghost use Rattle.lalrpop_grammar.specs.Trees.{trees};
-ghost use Rattle.lalrpop_grammar.specs.Views.{tree};
+ghost use Rattle.lalrpop_grammar.specs.Views.{tree_view};
 ghost use Rattle.lalrpop_grammar.specs.Walks.{children, open_in, open_through, to_come, token_at};
-ghost use Rattle.lalrpop_grammar.specs.WalkViews.{leaf_token, lists_seen};
+ghost use Rattle.lalrpop_grammar.specs.WalkViews.{leaf_view, lists_view};
 
 use crate::leaves::Leaf;
 use crate::tree::WrittenTree;
@@ -23,11 +23,11 @@ fn open_list<'t>(pending: &mut Vec<&'t [WrittenTree]>, list: &'t [WrittenTree])
 
 /// The next leaf of a walk: it takes it off the lists that are open.
 pub(crate) fn next_leaf<'t>(pending: &mut Vec<&'t [WrittenTree]>) -> Option<Leaf<'t>>
-    requires { open_through (lists_seen pending.old.items) ≤ vec_capacity pending.old }
-    ensures room { open_through (lists_seen pending.new.items) ≤ vec_capacity pending.new }
-    ensures gives { let before = to_come (lists_seen pending.old.items) in
-        let after = to_come (lists_seen pending.new.items) in
-        MatchOption result ((before ≡ []) × (after ≡ [])) (λ x. before ≡ leaf_token x ∷ after) }
+    requires { open_through (lists_view pending.old.items) ≤ vec_capacity pending.old }
+    ensures room { open_through (lists_view pending.new.items) ≤ vec_capacity pending.new }
+    ensures gives { let before = to_come (lists_view pending.old.items) in
+        let after = to_come (lists_view pending.new.items) in
+        MatchOption result ((before ≡ []) × (after ≡ [])) (λ x. before ≡ leaf_view x ∷ after) }
 {
     while let Some(list) = pending.pop() {
         if let Some((first, others)) = list.split_first() {
@@ -43,7 +43,7 @@ pub(crate) fn next_leaf<'t>(pending: &mut Vec<&'t [WrittenTree]>) -> Option<Leaf
 
 /// How many lists of trees are open at once on a walk through these trees, or `usize::MAX` where they are more.
 pub(crate) fn lists_open(list: &[WrittenTree]) -> usize
-    ensures { result ≡ min (open_in (trees (map tree list.now))) usize.MAX }
+    ensures { result ≡ min (open_in (trees (map tree_view list.now))) usize.MAX }
 {
     let mut most = 1usize;
     for tree in list {
@@ -58,7 +58,7 @@ pub(crate) fn lists_open(list: &[WrittenTree]) -> usize
 impl WrittenTree {
     /// The token, where the tree is a leaf.
     fn as_leaf(&self) -> Option<Leaf<'_>>
-        ensures { option_map leaf_token result ≡ token_at (tree self.now) }
+        ensures { option_map leaf_view result ≡ token_at (tree_view self.now) }
     {
         match self {
             WrittenTree::Terminal {
@@ -80,7 +80,7 @@ impl WrittenTree {
 
     /// The trees right below.
     fn children(&self) -> &[WrittenTree]
-        ensures { trees (map tree result.now) ≡ children (tree self.now) }
+        ensures { trees (map tree_view result.now) ≡ children (tree_view self.now) }
     {
         match self {
             WrittenTree::Rule { children, .. } => children.as_slice(),

@@ -1,12 +1,12 @@
 //! Grammars with each kind of part: copies and small questions.
 
-use lalrpop_formats::read_grammar;
 use lalrpop_grammar::{
     ActionKind, Atom, Attribute, Grammar, GrammarItem, InternToken, List, MatchContents,
     MatchEntry, MatchItem, MatchMapping, MatchToken, NonterminalString, Origin, Span,
     TerminalLiteral, TerminalString, Visibility,
 };
-use lalrpop_written::{tokens_are_leaves, trees_correspond};
+use lalrpop_grammar_language::{tokens_are_leaves, trees_correspond};
+use lalrpop_json_grammar::read_grammar;
 use serde_json::Value;
 use std::alloc::{AllocError, Global};
 use std::test::Fail;

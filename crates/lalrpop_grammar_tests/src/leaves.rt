@@ -1,7 +1,7 @@
 //! Leaves and tokens of trees.
 
-use lalrpop_formats::read_tree;
 use lalrpop_grammar::{Atom, Leaf, ScanToken, Span, TerminalString, WrittenTree};
+use lalrpop_json_grammar::read_tree;
 use serde_json::Value;
 use std::alloc::Global;
 use std::test::Fail;

@@ -7,7 +7,7 @@ use lalrpop_grammar::{
 use std::alloc::{AllocError, Global};
 use std::test::Fail;
 
-fn named(alloc: Global, name: &str) -> Result<Symbol, AllocError> {
+fn symbol_of_name(alloc: Global, name: &str) -> Result<Symbol, AllocError> {
     let kind = SymbolKind::AmbiguousId(Atom::new(alloc, name)?);
     Ok(Symbol::new(Span(0, 0), kind))
 }
@@ -32,8 +32,8 @@ fn texts_of_terminals(rt: HostRuntime) -> Result<(), Fail> {
 fn the_text_of_a_group(rt: HostRuntime) -> Result<(), Fail> {
     let alloc = rt.alloc();
     let mut symbols = List::new(alloc);
-    symbols.push(named(alloc, "a")?)?;
-    symbols.push(named(alloc, "b")?)?;
+    symbols.push(symbol_of_name(alloc, "a")?)?;
+    symbols.push(symbol_of_name(alloc, "b")?)?;
     let group = ExprSymbol { symbols };
     let text = group.canonical_form(alloc)?;
     assert_eq!(rt; text.as_str(), "(a b)");
@@ -46,7 +46,7 @@ fn the_text_of_a_call(rt: HostRuntime) -> Result<(), Fail> {
     let name = NonterminalString(Atom::new(alloc, "Comma")?);
     assert_eq!(rt; name.len(), 5);
     let mut args = List::new(alloc);
-    args.push(named(alloc, "c")?)?;
+    args.push(symbol_of_name(alloc, "c")?)?;
     let call = MacroSymbol { name, args };
     let text = call.canonical_form(alloc)?;
     assert_eq!(rt; text.as_str(), "Comma<c>");
@@ -55,7 +55,7 @@ fn the_text_of_a_call(rt: HostRuntime) -> Result<(), Fail> {
 
 #[test]
 fn the_text_of_a_repeat(rt: HostRuntime) -> Result<(), Fail> {
-    let symbol = named(rt.alloc(), "a")?;
+    let symbol = symbol_of_name(rt.alloc(), "a")?;
     let op = RepeatOp::Plus;
     let repeat = RepeatSymbol { op, symbol };
     let text = repeat.canonical_form(rt.alloc())?;
@@ -66,7 +66,7 @@ fn the_text_of_a_repeat(rt: HostRuntime) -> Result<(), Fail> {
 #[test]
 fn the_text_of_a_name_behind_another(rt: HostRuntime) -> Result<(), Fail> {
     let mut out = String::from_str(rt.alloc(), "= ")?;
-    let symbol = named(rt.alloc(), "a")?;
+    let symbol = symbol_of_name(rt.alloc(), "a")?;
     symbol.write_text(rt.alloc(), &mut out)?;
     assert_eq!(rt; out.as_str(), "= a");
     Ok(())
@@ -74,7 +74,7 @@ fn the_text_of_a_name_behind_another(rt: HostRuntime) -> Result<(), Fail> {
 
 #[test]
 fn a_copy_of_a_symbol_equals_it(rt: HostRuntime) -> Result<(), Fail> {
-    let symbol = named(rt.alloc(), "a")?;
+    let symbol = symbol_of_name(rt.alloc(), "a")?;
     let copy = symbol.try_clone(rt.alloc())?;
     assert!(rt; copy == symbol);
     Ok(())
@@ -94,7 +94,7 @@ fn a_symbol_may_be_a_terminal(rt: HostRuntime) -> Result<(), Fail> {
     let terminal = TerminalString::quoted(Atom::new(rt.alloc(), "a")?);
     let symbol = Symbol::new(Span(0, 0), SymbolKind::Terminal(terminal));
     assert!(rt; symbol.is_terminal());
-    let other = named(rt.alloc(), "a")?;
+    let other = symbol_of_name(rt.alloc(), "a")?;
     assert!(rt; !other.is_terminal());
     Ok(())
 }
@@ -109,16 +109,16 @@ fn a_name_is_immutable_unless_it_says_mut(rt: HostRuntime) -> Result<(), Fail> {
 
 #[test]
 fn symbols_go_by_their_names(rt: HostRuntime) -> Result<(), Fail> {
-    let first = named(rt.alloc(), "a")?;
-    let second = named(rt.alloc(), "b")?;
+    let first = symbol_of_name(rt.alloc(), "a")?;
+    let second = symbol_of_name(rt.alloc(), "b")?;
     assert!(rt; first < second);
     Ok(())
 }
 
 #[test]
 fn a_box_gives_back_what_it_holds(rt: HostRuntime) -> Result<(), Fail> {
-    let boxed = Boxed::new(rt.alloc(), named(rt.alloc(), "a")?)?;
-    let wanted = named(rt.alloc(), "a")?;
+    let boxed = Boxed::new(rt.alloc(), symbol_of_name(rt.alloc(), "a")?)?;
+    let wanted = symbol_of_name(rt.alloc(), "a")?;
     assert!(rt; boxed.into_inner() == wanted);
     Ok(())
 }
@@ -126,7 +126,7 @@ fn a_box_gives_back_what_it_holds(rt: HostRuntime) -> Result<(), Fail> {
 #[test]
 fn a_list_gives_back_its_items(rt: HostRuntime) -> Result<(), Fail> {
     let mut symbols = List::new(rt.alloc());
-    symbols.push(named(rt.alloc(), "a")?)?;
+    symbols.push(symbol_of_name(rt.alloc(), "a")?)?;
     assert_eq!(rt; symbols.into_vec().len(), 1);
     Ok(())
 }

@@ -1,12 +1,12 @@
 //! Grammars that no value spells.
 
-use lalrpop_formats::read_grammar;
 use lalrpop_grammar::{
     ActionKind, Alternative, Atom, Grammar, GrammarItem, InternToken, List, MatchContents,
     MatchItem, MatchMapping, MatchToken, NonterminalData, NonterminalString, Origin, Span, Symbol,
     SymbolKind, TerminalLiteral, TerminalString, Visibility,
 };
-use lalrpop_writing::{WriteError, write_grammar};
+use lalrpop_json_grammar::read_grammar;
+use lalrpop_json_writer::{WriteError, write_grammar};
 use serde_json::Value;
 use std::alloc::{AllocError, Global};
 use std::process::Abort;

@@ -1,8 +1,8 @@
-pub mod Placing
-pub mod Searching
-pub mod Seeing
-pub mod Sizes
-pub mod Standing
-pub mod Starting
-pub mod Taking
-pub mod Walking
+pub mod PlaceLemmas
+pub mod SearchLemmas
+pub mod ViewLemmas
+pub mod SizeLemmas
+pub mod ChoiceLemmas
+pub mod StartLemmas
+pub mod LeafLemmas
+pub mod WalkLemmas

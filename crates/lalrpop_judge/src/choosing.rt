@@ -1,20 +1,20 @@
 //! The alternative that a node names, and what it asks of the node's children.
 
 ghost use Rattle.std.specs.Prelude.{◌≡◌, ◌↔◌, IfErr, IfNone, IfOk, IfSome, IsTrue, List, map, option_map};
-ghost use Rattle.lalrpop_symbols.specs.Symbols.{Closed};
-ghost use Rattle.lalrpop_written.specs.Admitting.{AtMost, Fits, binding, rank_level};
-ghost use Rattle.lalrpop_written.specs.Closing.{right_side as right_side_of};
-ghost use Rattle.lalrpop_rules.specs.Table.{IsTable, rules_with};
-ghost use Rattle.lalrpop_rules.specs.Ranks.{rank as rank_seen};
-ghost use Rattle.lalrpop_closed.specs.Views.{closed, closeds};
+ghost use Rattle.lalrpop_grammar_symbols.specs.Symbols.{Closed};
+ghost use Rattle.lalrpop_grammar_language.specs.Admitting.{AtMost, Fits, bind, rank_level};
+ghost use Rattle.lalrpop_grammar_language.specs.Closing.{right_side as right_side_of};
+ghost use Rattle.lalrpop_grammar_rules.specs.RuleTable.{IsTable, rules_with};
+ghost use Rattle.lalrpop_grammar_rules.specs.Ranks.{rank_view};
+ghost use Rattle.lalrpop_grammar_closed.specs.Views.{closed_view, closeds};
 ghost use Rattle.lalrpop_judge.specs.Admitted.{IsSide};
 ghost use Rattle.lalrpop_judge.specs.Faults.{NamesSearch, OnlyWhere};
-ghost use Rattle.lalrpop_judge.specs.Placed.{IsChoiceAt, IsPlace, IsPlaced, choice_seen, rule_in};
+ghost use Rattle.lalrpop_judge.specs.Placed.{IsChoiceAt, IsPlacedAt, IsPlaced, placed_view, rule_in};
 
 use crate::error::JudgeError;
-use lalrpop_closed::{Binding, ClosedSymbol, Finder, holds, right_side};
 use lalrpop_grammar::{Atom, List};
-use lalrpop_rules::{Choice, EnabledRule, Rank, Rules};
+use lalrpop_grammar_closed::{Binding, ClosedSymbol, Finder, holds, right_side};
+use lalrpop_grammar_rules::{Choice, EnabledRule, Rank, Rules};
 use std::alloc::Global;
 
 /// An enabled alternative, with its rule.
@@ -36,9 +36,9 @@ pub(crate) fn chosen_side<F: Finder>(
 ) -> Result<Option<List<ClosedSymbol>>, JudgeError>
     requires { IsTable rules.now }
     ensures some { IfOk result (λ found. IfSome found (λ side.
-        IsSide (rules_with (F.finds finder.now) rules.now) name.now (closeds (map closed given.now)) level place (map closed side))) }
+        IsSide (rules_with (F.finds finder.now) rules.now) name.now (closeds (map closed_view given.now)) level place (map closed_view side))) }
     ensures none { IfOk result (λ found. IfNone found ((side : List Closed) →
-        IsSide (rules_with (F.finds finder.now) rules.now) name.now (closeds (map closed given.now)) level place side → ⊥)) }
+        IsSide (rules_with (F.finds finder.now) rules.now) name.now (closeds (map closed_view given.now)) level place side → ⊥)) }
     ensures fault { IfErr result (OnlyWhere (NamesSearch (rules_with (F.finds finder.now) rules.now) name.now place)) }
 {
     let Some(placed) = placed_at(rules, name, place) else {
@@ -54,7 +54,7 @@ pub(crate) fn chosen_side<F: Finder>(
 /// The enabled alternative at that place of the rule that the name stands for.
 fn placed_at<'r, 'g>(rules: &'r Rules<'g>, name: &Atom, place: u32) -> Option<Placed<'r, 'g>>
     requires { IsTable rules.now }
-    ensures { IsPlace rules.now name.now place result }
+    ensures { IsPlacedAt rules.now name.now place result }
 {
     let Some(rule) = rules.find(name) else {
         return None;
@@ -92,9 +92,9 @@ fn may_stand<F: Finder>(
 ) -> Result<bool, JudgeError>
     requires { IsPlaced rules.now name.now place placed }
     ensures exact { IfOk result (λ yes. IsTrue yes
-        ↔ (Fits (rules_with (F.finds finder.now) rules.now) name.now (closeds (map closed given.now))
-        (rule_in rules.now placed.entry) (choice_seen name.now place placed.entry)
-        × AtMost (rank_level (option_map rank_seen placed.entry.choice.now.rank)) level)) }
+        ↔ (Fits (rules_with (F.finds finder.now) rules.now) name.now (closeds (map closed_view given.now))
+        (rule_in rules.now placed.entry) (placed_view name.now place placed.entry)
+        × AtMost (rank_level (option_map rank_view placed.entry.choice.now.rank)) level)) }
     ensures fault { IfErr result (OnlyWhere (NamesSearch (rules_with (F.finds finder.now) rules.now) name.now place)) }
 {
     let parameters = placed.rule.written.args.as_slice();
@@ -123,7 +123,7 @@ fn may_stand<F: Finder>(
 
 /// Whether the rank's level is at most that one; there is none where the rule has no levels.
 fn at_most(rank: Option<Rank>, level: Option<u32>) -> bool
-    ensures { IsTrue result ↔ AtMost (rank_level (option_map rank_seen rank)) level }
+    ensures { IsTrue result ↔ AtMost (rank_level (option_map rank_view rank)) level }
 {
     match (rank, level) {
         (Some(rank), Some(level)) => rank.level <= level,

@@ -1,9 +1,9 @@
-//! Why there is no answer.
+//! Why the judge has no answer.
 
 ghost use Rattle.std.specs.Prelude.{◌≡◌};
 ghost use Rattle.lalrpop_judge.specs.declared.error.JudgeError.TheVariants.{Memory};
 
-use lalrpop_closed::ConditionFault;
+use lalrpop_grammar_closed::ConditionFault;
 use std::alloc::{AllocError, AllocFailed};
 use std::error::Error;
 use std::fmt;

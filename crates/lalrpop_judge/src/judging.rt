@@ -1,21 +1,21 @@
-//! The judge.
+//! The judge: whether a grammar admits a tree from a start, with exactly these tokens.
 
 ghost use Rattle.std.specs.Prelude.{◌≡◌, ◌↔◌, IfErr, IfOk, IsTrue, map};
 ghost use Rattle.lalrpop_grammar.specs.Trees.{leaves};
-ghost use Rattle.lalrpop_grammar.specs.Views.{grammar as grammar_seen, token as token_seen, tree as tree_seen};
-ghost use Rattle.lalrpop_written.specs.Admitting.{AdmitsFrom, AdmitsStart};
-ghost use Rattle.lalrpop_written.specs.Enabled.{enabled};
-ghost use Rattle.lalrpop_rules.specs.Table.{IsTable, rules_with};
-ghost use Rattle.lalrpop_finder.specs.Search.{finds};
+ghost use Rattle.lalrpop_grammar.specs.Views.{grammar_view, token_view, tree_view};
+ghost use Rattle.lalrpop_grammar_language.specs.Admitting.{AdmitsFrom, AdmitsStart};
+ghost use Rattle.lalrpop_grammar_language.specs.Enabled.{enabled_grammar};
+ghost use Rattle.lalrpop_grammar_rules.specs.RuleTable.{IsTable, rules_with};
+ghost use Rattle.lalrpop_judge_search.specs.Search.{finds};
 ghost use Rattle.lalrpop_judge.specs.Faults.{HasSearch, OnlyWhere};
 
 use crate::error::JudgeError;
 use crate::leaves::are_leaves;
 use crate::walk::admits;
-use lalrpop_closed::ClosedSymbol;
-use lalrpop_finder::PatternFinder;
 use lalrpop_grammar::{Atom, Grammar, List, ScanToken, WrittenTree};
-use lalrpop_rules::Rules;
+use lalrpop_grammar_closed::ClosedSymbol;
+use lalrpop_grammar_rules::Rules;
+use lalrpop_judge_search::PatternFinder;
 use std::alloc::Global;
 
 /// Whether the grammar that the features enable admits the tree from the start, with exactly these tokens.
@@ -42,10 +42,10 @@ pub fn judge(
     tokens: &[ScanToken<'_>],
 ) -> Result<bool, JudgeError>
     ensures exact { IfOk result (λ yes. IsTrue yes
-        ↔ AdmitsFrom finds features.now (grammar_seen grammar.now) start.now (tree_seen tree.now)
-        (map token_seen tokens.now)) }
+        ↔ AdmitsFrom finds features.now (grammar_view grammar.now) start.now (tree_view tree.now)
+        (map token_view tokens.now)) }
     ensures condition { IfErr result (OnlyWhere
-        (HasSearch (enabled finds features.now (grammar_seen grammar.now)) (tree_seen tree.now))) }
+        (HasSearch (enabled_grammar finds features.now (grammar_view grammar.now)) (tree_view tree.now))) }
 {
     if !are_leaves(tree, tokens) {
         return Ok(false);
@@ -64,8 +64,8 @@ fn admits_start(
 ) -> Result<bool, JudgeError>
     requires { IsTable rules.now }
     ensures exact { IfOk result (λ yes. IsTrue yes
-        ↔ AdmitsStart (rules_with finds rules.now) start.now (tree_seen tree.now) (leaves (tree_seen tree.now))) }
-    ensures fault { IfErr result (OnlyWhere (HasSearch (rules_with finds rules.now) (tree_seen tree.now))) }
+        ↔ AdmitsStart (rules_with finds rules.now) start.now (tree_view tree.now) (leaves (tree_view tree.now))) }
+    ensures fault { IfErr result (OnlyWhere (HasSearch (rules_with finds rules.now) (tree_view tree.now))) }
 {
     let Some(rule) = rules.find(start) else {
         return Ok(false);

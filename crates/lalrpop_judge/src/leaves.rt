@@ -1,17 +1,17 @@
-//! Tokens against the leaves of a tree.
+//! Whether tokens are those at the leaves of a tree.
 
 ghost use Rattle.std.specs.Prelude.{◌≡◌, ◌↔◌, [], ◌∷◌, IsTrue, map};
-ghost use Rattle.lalrpop_symbols.specs.Views.{place, term_of};
+ghost use Rattle.lalrpop_grammar_symbols.specs.Views.{span_view, terminal_view};
 ghost use Rattle.lalrpop_grammar.specs.Trees.{leaves, leaves_of, trees as tree_list};
-ghost use Rattle.lalrpop_grammar.specs.Views.{token as token_seen, tree as tree_seen};
+ghost use Rattle.lalrpop_grammar.specs.Views.{token_view, tree_view};
 ghost use Rattle.lalrpop_judge.specs.Ends.{EndsAt};
 
-use lalrpop_closed::same_terminal;
 use lalrpop_grammar::{Atom, ScanToken, Span, TerminalString, WrittenTree};
+use lalrpop_grammar_closed::same_terminal;
 
 /// Whether the tokens are those at the leaves of the tree, from left to right.
 pub(crate) fn are_leaves(tree: &WrittenTree, tokens: &[ScanToken<'_>]) -> bool
-    ensures { IsTrue result ↔ (map token_seen tokens.now ≡ leaves (tree_seen tree.now)) }
+    ensures { IsTrue result ↔ (map token_view tokens.now ≡ leaves (tree_view tree.now)) }
 {
     match end_of(tree, tokens, 0) {
         Some(end) => tokens.len() <= end,
@@ -22,7 +22,7 @@ pub(crate) fn are_leaves(tree: &WrittenTree, tokens: &[ScanToken<'_>]) -> bool
 /// The place behind the leaves of the tree, where the tokens have them from the start on.
 #[cycle(leaves)]
 fn end_of(tree: &WrittenTree, tokens: &[ScanToken<'_>], start: usize) -> Option<usize>
-    ensures { EndsAt (map token_seen tokens.now) start (leaves (tree_seen tree.now)) result }
+    ensures { EndsAt (map token_view tokens.now) start (leaves (tree_view tree.now)) result }
 {
     match tree {
         WrittenTree::Rule { children, .. } => end_of_all(children.as_slice(), tokens, start),
@@ -44,8 +44,8 @@ fn end_of(tree: &WrittenTree, tokens: &[ScanToken<'_>], start: usize) -> Option<
 /// The place behind the leaves of the trees, where the tokens have them from the start on.
 #[cycle(leaves)]
 fn end_of_all(trees: &[WrittenTree], tokens: &[ScanToken<'_>], start: usize) -> Option<usize>
-    ensures { EndsAt (map token_seen tokens.now) start
-        (leaves_of (tree_list (map tree_seen trees.now))) result }
+    ensures { EndsAt (map token_view tokens.now) start
+        (leaves_of (tree_list (map tree_view trees.now))) result }
 {
     let mut place = start;
     for tree in trees {
@@ -62,8 +62,8 @@ fn end_of_leaf(
     tokens: &[ScanToken<'_>],
     start: usize,
 ) -> Option<usize>
-    ensures { EndsAt (map token_seen tokens.now) start
-        (record { terminal = term_of terminal.now; text = text.now; span = place span } ∷ [])
+    ensures { EndsAt (map token_view tokens.now) start
+        (record { terminal = terminal_view terminal.now; text = text.now; span = span_view span } ∷ [])
         result }
 {
     if start >= tokens.len() {
@@ -77,22 +77,16 @@ fn end_of_leaf(
 }
 
 fn is_token(token: &ScanToken<'_>, terminal: &TerminalString, text: &Atom, span: Span) -> bool
-    ensures { IsTrue result ↔ (token_seen token.now
-        ≡ record { terminal = term_of terminal.now; text = text.now; span = place span }) }
+    ensures { IsTrue result ↔ (token_view token.now
+        ≡ record { terminal = terminal_view terminal.now; text = text.now; span = span_view span }) }
 {
     same_terminal(&token.terminal, terminal)
-        && same_text(token.text, text.as_str())
+        && token.text == text.as_str()
         && same_span(token.span, span)
 }
 
-fn same_text(a: &str, b: &str) -> bool
-    ensures { IsTrue result ↔ (a.now ≡ b.now) }
-{
-    a == b
-}
-
 fn same_span(a: Span, b: Span) -> bool
-    ensures { IsTrue result ↔ (place a ≡ place b) }
+    ensures { IsTrue result ↔ (span_view a ≡ span_view b) }
 {
     a == b
 }

@@ -1,20 +1,20 @@
 //! Whether a closed symbol admits a tree over the tree's own leaves.
 
 ghost use Rattle.std.specs.Prelude.{◌≡◌, ◌↔◌, IfErr, IfOk, IsTrue, map};
-ghost use Rattle.lalrpop_symbols.specs.Views.{symbol as symbol_seen, unmarked};
-ghost use Rattle.lalrpop_grammar.specs.Trees.{list, node, together, trees as tree_list};
-ghost use Rattle.lalrpop_grammar.specs.Views.{tree as tree_seen};
-ghost use Rattle.lalrpop_rules.specs.Table.{IsTable, rules_with};
-ghost use Rattle.lalrpop_closed.specs.Views.{closed};
+ghost use Rattle.lalrpop_grammar_symbols.specs.Views.{symbol_view, without_marks};
+ghost use Rattle.lalrpop_grammar.specs.Trees.{trees as tree_list, Tree};
+ghost use Rattle.lalrpop_grammar.specs.Views.{tree_view};
+ghost use Rattle.lalrpop_grammar_rules.specs.RuleTable.{IsTable, rules_with};
+ghost use Rattle.lalrpop_grammar_closed.specs.Views.{closed_view};
 ghost use Rattle.lalrpop_judge.specs.Admitted.{Admitted, AdmittedAll, AdmittedEach};
 ghost use Rattle.lalrpop_judge.specs.Faults.{HasSearch, HaveSearch, OnlyWhere};
 
-use crate::asking::{call_of, grouped, is_literal, is_look, optional, repeated};
+use crate::asking::{call_of, is_literal, is_look, optional, repeated_symbol, symbols_of_group};
 use crate::choosing::chosen_side;
 use crate::error::JudgeError;
-use lalrpop_closed::{ClosedSymbol, Finder, same_name, show_as};
 use lalrpop_grammar::{Atom, Symbol, WrittenTree};
-use lalrpop_rules::Rules;
+use lalrpop_grammar_closed::{ClosedSymbol, Finder, same_name, show_as};
+use lalrpop_grammar_rules::Rules;
 use std::alloc::Global;
 
 /// Whether the symbol admits the tree over its own leaves.
@@ -28,9 +28,9 @@ pub(crate) fn admits<F: Finder>(
 ) -> Result<bool, JudgeError>
     requires { IsTable rules.now }
     ensures exact { IfOk result (λ yes. IsTrue yes
-        ↔ Admitted (rules_with (F.finds finder.now) rules.now) (closed symbol.now) (tree_seen tree.now)) }
+        ↔ Admitted (rules_with (F.finds finder.now) rules.now) (closed_view symbol.now) (tree_view tree.now)) }
     ensures fault { IfErr result (OnlyWhere
-        (HasSearch (rules_with (F.finds finder.now) rules.now) (tree_seen tree.now))) }
+        (HasSearch (rules_with (F.finds finder.now) rules.now) (tree_view tree.now))) }
 {
     match tree {
         WrittenTree::Rule {
@@ -78,10 +78,10 @@ fn admits_node<F: Finder>(
 ) -> Result<bool, JudgeError>
     requires { IsTable rules.now }
     ensures exact { IfOk result (λ yes. IsTrue yes
-        ↔ Admitted (rules_with (F.finds finder.now) rules.now) (closed symbol.now)
-        (node rule.now (map (λ s. unmarked (symbol_seen s)) args.now) place (tree_list (map tree_seen trees.now)))) }
+        ↔ Admitted (rules_with (F.finds finder.now) rules.now) (closed_view symbol.now)
+        (Tree.rule rule.now (map (λ s. without_marks (symbol_view s)) args.now) place (tree_list (map tree_view trees.now)))) }
     ensures fault { IfErr result (OnlyWhere (HasSearch (rules_with (F.finds finder.now) rules.now)
-        (node rule.now (map (λ s. unmarked (symbol_seen s)) args.now) place (tree_list (map tree_seen trees.now))))) }
+        (Tree.rule rule.now (map (λ s. without_marks (symbol_view s)) args.now) place (tree_list (map tree_view trees.now))))) }
 {
     let Some(call) = call_of(symbol) else {
         return Ok(false);
@@ -109,12 +109,12 @@ fn admits_list<F: Finder>(
 ) -> Result<bool, JudgeError>
     requires { IsTable rules.now }
     ensures exact { IfOk result (λ yes. IsTrue yes
-        ↔ Admitted (rules_with (F.finds finder.now) rules.now) (closed symbol.now)
-        (list (tree_list (map tree_seen trees.now)))) }
+        ↔ Admitted (rules_with (F.finds finder.now) rules.now) (closed_view symbol.now)
+        (Tree.list (tree_list (map tree_view trees.now)))) }
     ensures fault { IfErr result (OnlyWhere (HaveSearch (rules_with (F.finds finder.now) rules.now)
-        (tree_list (map tree_seen trees.now)))) }
+        (tree_list (map tree_view trees.now)))) }
 {
-    let Some(item) = repeated(symbol, trees.is_empty()) else {
+    let Some(item) = repeated_symbol(symbol, trees.is_empty()) else {
         return Ok(false);
     };
     admits_each(alloc, rules, finder, trees, item)
@@ -131,12 +131,12 @@ fn admits_group<F: Finder>(
 ) -> Result<bool, JudgeError>
     requires { IsTable rules.now }
     ensures exact { IfOk result (λ yes. IsTrue yes
-        ↔ Admitted (rules_with (F.finds finder.now) rules.now) (closed symbol.now)
-        (together (tree_list (map tree_seen trees.now)))) }
+        ↔ Admitted (rules_with (F.finds finder.now) rules.now) (closed_view symbol.now)
+        (Tree.group (tree_list (map tree_view trees.now)))) }
     ensures fault { IfErr result (OnlyWhere (HaveSearch (rules_with (F.finds finder.now) rules.now)
-        (tree_list (map tree_seen trees.now)))) }
+        (tree_list (map tree_view trees.now)))) }
 {
-    let Some(symbols) = grouped(symbol) else {
+    let Some(symbols) = symbols_of_group(symbol) else {
         return Ok(false);
     };
     admits_all(alloc, rules, finder, trees, symbols)
@@ -153,10 +153,10 @@ fn admits_all<F: Finder>(
 ) -> Result<bool, JudgeError>
     requires { IsTable rules.now }
     ensures exact { IfOk result (λ yes. IsTrue yes
-        ↔ AdmittedAll (rules_with (F.finds finder.now) rules.now) (map closed symbols.now)
-        (tree_list (map tree_seen trees.now))) }
+        ↔ AdmittedAll (rules_with (F.finds finder.now) rules.now) (map closed_view symbols.now)
+        (tree_list (map tree_view trees.now))) }
     ensures fault { IfErr result (OnlyWhere (HaveSearch (rules_with (F.finds finder.now) rules.now)
-        (tree_list (map tree_seen trees.now)))) }
+        (tree_list (map tree_view trees.now)))) }
 {
     let mut left = symbols;
     for tree in trees {
@@ -182,10 +182,10 @@ fn admits_each<F: Finder>(
 ) -> Result<bool, JudgeError>
     requires { IsTable rules.now }
     ensures exact { IfOk result (λ yes. IsTrue yes
-        ↔ AdmittedEach (rules_with (F.finds finder.now) rules.now) (closed symbol.now)
-        (tree_list (map tree_seen trees.now))) }
+        ↔ AdmittedEach (rules_with (F.finds finder.now) rules.now) (closed_view symbol.now)
+        (tree_list (map tree_view trees.now))) }
     ensures fault { IfErr result (OnlyWhere (HaveSearch (rules_with (F.finds finder.now) rules.now)
-        (tree_list (map tree_seen trees.now)))) }
+        (tree_list (map tree_view trees.now)))) }
 {
     for tree in trees {
         if !admits(alloc, rules, finder, tree, symbol)? {

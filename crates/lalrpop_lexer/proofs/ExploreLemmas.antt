@@ -1,26 +1,30 @@
--- One more edge of the state under way. For the loop that gives a state its edges.
-use Rattle.std.proofs.Common.{◌≡◌, ℕ, ◌+◌, ◌<◌, ◌≤◌, ◌⊎◌, List, [], ◌∷◌, ◌++◌, length, get_or, Contains, Vec, Global, Bool, true, false, cond, eqb, eq-eqb, inl, inr, ⊎_elim, sym, ap, ◌∙◌, refl, subst, arith, length-append, append-nil, append_assoc}
+-- One more transition of the state under way. For the loop that gives a state its transitions.
+use Rattle.std.proofs.Common.{◌≡◌, ℕ, ◌+◌, ◌<◌, ◌≤◌, ◌⊎◌, List, [], ◌∷◌, ◌++◌, length, get_or}
+use Rattle.std.proofs.Common.{Contains, Vec, Global, Bool, true, false, cond, eqb, eq-eqb, inl, inr, ⊎_elim, sym, ap, ◌∙◌, refl}
+use Rattle.std.proofs.Common.{subst, arith, length-append, append-nil, append_assoc}
 use Rattle.std.proofs.Math.Seq.{get_or-append_seam}
 use Rattle.std.proofs.lemmas.Bool.{cases_lt, cases_eq, eqb-true}
 use Rattle.std.proofs.lemmas.List.{get_or_append_left, length_push, length-map, map-append}
-use Rattle.lalrpop_nfa.specs.declared.test.Test.{Test}
-use Rattle.lalrpop_nfa.specs.Paths.{Table}
-use Rattle.lalrpop_nfa.specs.Sets.{IsClosed, IsStep}
-use Rattle.lalrpop_lexer.specs.Runs.{Edge, edge_at}
-use Rattle.lalrpop_lexer.specs.Moves.{lists, items_at, start_at, AreMoves}
-use Rattle.lalrpop_lexer.specs.Machine.{AreApart}
-use Rattle.lalrpop_lexer.specs.States.{IsFound}
-use Rattle.lalrpop_lexer.specs.Explore.{end_at, ArePieces, IsGrowing, Explores}
+use Rattle.lalrpop_lexer_nfa.specs.declared.test.Test.{Test}
+use Rattle.lalrpop_lexer_nfa.specs.Paths.{Graph}
+use Rattle.lalrpop_lexer_nfa.specs.Sets.{IsEpsilonClosure, IsSubsetStep}
+use Rattle.lalrpop_lexer.specs.Numbering.{EdgeView, edge_at}
+use Rattle.lalrpop_lexer.specs.Targets.{items_lists, items_at, start_at, AreTargets}
+use Rattle.lalrpop_lexer.specs.Simulation.{AreApart}
+use Rattle.lalrpop_lexer.specs.States.{IsInterned}
+use Rattle.lalrpop_lexer.specs.Explore.{end_at, AreClassesOf, IsGrowing, Explores}
 use Rattle.lalrpop_lexer.proofs.GrowLemmas.{grow_known, grow_new}
 
 -- sets that were there stay
 pub items_at-extends : (old more : List (Vec ℕ Global)) (i : ℕ) → i < length old → items_at (old ++ more) i ≡ items_at old i
 items_at-extends old more i l =
-    ap (λ ls. get_or ls i []) (map-append (λ (v : Vec ℕ Global). v.items) old more) ∙ get_or_append_left (lists old) (lists more) [] i (omega (arith, length-map old (λ (v : Vec ℕ Global). v.items)))
+    ap (λ ls. get_or ls i []) (map-append (λ (v : Vec ℕ Global). v.items) old more)
+    ∙ get_or_append_left (items_lists old) (items_lists more) [] i (omega (arith, length-map old (λ (v : Vec ℕ Global). v.items)))
 
 -- a step by any number of a piece is one by its start
-pub step_of_piece : (t : Table) (pieces : List Test) (targets : List (Vec ℕ Global)) (set new : List ℕ) (i c : ℕ) → ArePieces t pieces → AreMoves t set pieces targets → i < length pieces →
-    start_at pieces i ≤ c → c ≤ end_at pieces i → IsClosed t (items_at targets i) new → IsStep t set c new
+pub step_of_piece : (t : Graph) (pieces : List Test) (targets : List (Vec ℕ Global)) (set new : List ℕ) (i c : ℕ)
+    → AreClassesOf t pieces → AreTargets t set pieces targets → i < length pieces →
+    start_at pieces i ≤ c → c ≤ end_at pieces i → IsEpsilonClosure t (items_at targets i) new → IsSubsetStep t set c new
 step_of_piece t pieces targets set new i c p moves l low high closed = record {
   only = λ y h.
       let x = closed.only y h in
@@ -31,34 +35,41 @@ step_of_piece t pieces targets set new i c p moves l low high closed = record {
 }
 
 -- the edges of the first pieces
-pub record ExploresSome (t : Table) (pieces : List Test) (targets : List (Vec ℕ Global)) (done cur : ℕ) (old new : List (Vec ℕ Global)) (out : List Edge) : Type 0 where
+pub record ExploresSome (t : Graph) (pieces : List Test) (targets : List (Vec ℕ Global)) (done cur : ℕ)
+    (old new : List (Vec ℕ Global)) (out : List EdgeView) : Type 0 where
   pub extends : (more : List (Vec ℕ Global)) × (new ≡ old ++ more)
-  pub grows : (edges more : ℕ → List Edge) (parent place : ℕ → ℕ) → ((s : ℕ) → (s ≡ cur → ⊥) → more s ≡ edges s) → edges cur ≡ [] → more cur ≡ out →
+  pub grows : (edges more : ℕ → List EdgeView) (parent place : ℕ → ℕ)
+      → ((s : ℕ) → (s ≡ cur → ⊥) → more s ≡ edges s) → edges cur ≡ [] → more cur ≡ out →
       IsGrowing edges (length old) parent place cur → (parents places : ℕ → ℕ) × IsGrowing more (length new) parents places cur
   pub inside : (k : ℕ) → k < length out → (edge_at out k).2 < length new
-  pub fits : (k c : ℕ) → k < length out → (edge_at out k).0 ≤ c → c ≤ (edge_at out k).1 → IsStep t (items_at old cur) c (items_at new (edge_at out k).2)
-  pub below : (k : ℕ) → k < length out → (j : ℕ) × (j < done) × ((edge_at out k).0 ≡ start_at pieces j) × ((edge_at out k).1 ≡ end_at pieces j)
+  pub fits : (k c : ℕ) → k < length out → (edge_at out k).0 ≤ c → c ≤ (edge_at out k).1
+      → IsSubsetStep t (items_at old cur) c (items_at new (edge_at out k).2)
+  pub below : (k : ℕ) → k < length out → (j : ℕ) × (j < done) × ((edge_at out k).0 ≡ start_at pieces j)
+      × ((edge_at out k).1 ≡ end_at pieces j)
   pub apart : (j k : ℕ) → j < k → k < length out → (edge_at out j).1 < (edge_at out k).0
-  pub covers : (j x : ℕ) → j < done → Contains (items_at targets j) x → (k : ℕ) × (k < length out) × ((edge_at out k).0 ≡ start_at pieces j) × ((edge_at out k).1 ≡ end_at pieces j)
+  pub covers : (j x : ℕ) → j < done → Contains (items_at targets j) x → (k : ℕ) × (k < length out)
+      × ((edge_at out k).0 ≡ start_at pieces j) × ((edge_at out k).1 ≡ end_at pieces j)
 
 -- a list of edges with another in one place
-abbrev put : (ℕ → List Edge) → ℕ → List Edge → ℕ → List Edge
+abbrev put : (ℕ → List EdgeView) → ℕ → List EdgeView → ℕ → List EdgeView
 put edges cur out s = cond (eqb s cur) out (edges s)
 
-put_same : (edges : ℕ → List Edge) (cur : ℕ) (out : List Edge) → put edges cur out cur ≡ out
+put_same : (edges : ℕ → List EdgeView) (cur : ℕ) (out : List EdgeView) → put edges cur out cur ≡ out
 put_same edges cur out = rw (eq-eqb cur cur refl) refl
 
-put_other : (edges : ℕ → List Edge) (cur : ℕ) (out : List Edge) (s : ℕ) → (s ≡ cur → ⊥) → put edges cur out s ≡ edges s
+put_other : (edges : ℕ → List EdgeView) (cur : ℕ) (out : List EdgeView) (s : ℕ) → (s ≡ cur → ⊥)
+    → put edges cur out s ≡ edges s
 put_other edges cur out s apart = go (eqb s cur) refl
   where
     go : (b : Bool) → eqb s cur ≡ b → cond b out (edges s) ≡ edges s
     go true e = absurd (apart (eqb-true s cur e))
     go false e = refl
 
-module _ (t : Table) (pieces : List Test) (targets : List (Vec ℕ Global)) (done cur : ℕ) (old mid new : List (Vec ℕ Global)) (out : List Edge) (to : ℕ)
-    (p : ArePieces t pieces) (moves : AreMoves t (items_at old cur) pieces targets) (l : done < length pieces)
-    (before : ExploresSome t pieces targets done cur old mid out) (found : IsFound t (items_at targets done) mid new to) where
-  abbrev pub e : Edge
+module _ (t : Graph) (pieces : List Test) (targets : List (Vec ℕ Global)) (done cur : ℕ) (old mid new : List (Vec ℕ Global))
+    (out : List EdgeView) (to : ℕ)
+    (p : AreClassesOf t pieces) (moves : AreTargets t (items_at old cur) pieces targets) (l : done < length pieces)
+    (before : ExploresSome t pieces targets done cur old mid out) (found : IsInterned t (items_at targets done) mid new to) where
+  abbrev pub e : EdgeView
   e = (start_at pieces done, end_at pieces done, to)
 
   extended : (more : List (Vec ℕ Global)) × (new ≡ mid ++ more)
@@ -70,26 +81,39 @@ module _ (t : Table) (pieces : List Test) (targets : List (Vec ℕ Global)) (don
   to_inside : to < length new
   to_inside = ⊎_elim (λ h. omega (arith, h.0, longer)) (λ h. omega (arith, h.0, ap length h.1.1, length_push mid h.1.0)) found.place
 
-  edge_cases : (k : ℕ) → k < length (out ++ e ∷ []) → ((k < length out) × (edge_at (out ++ e ∷ []) k ≡ edge_at out k)) ⊎ ((k ≡ length out) × (edge_at (out ++ e ∷ []) k ≡ e))
+  edge_cases : (k : ℕ) → k < length (out ++ e ∷ []) → ((k < length out) × (edge_at (out ++ e ∷ []) k ≡ edge_at out k))
+      ⊎ ((k ≡ length out) × (edge_at (out ++ e ∷ []) k ≡ e))
   edge_cases k h =
       ⊎_elim (λ (less : k < length out). inl (less, get_or_append_left out (e ∷ []) (0, 0, 0) k less))
-      (λ (more : length out ≤ k). let at : k ≡ length out = omega (arith, length_push out e) in inr (at, ap (λ i. edge_at (out ++ e ∷ []) i) at ∙ get_or-append_seam out e [] (0, 0, 0)))
+      (λ (more : length out ≤ k). let at : k ≡ length out = omega (arith, length_push out e) in
+      inr (at, ap (λ i. edge_at (out ++ e ∷ []) i) at ∙ get_or-append_seam out e [] (0, 0, 0)))
       (cases_lt k (length out))
 
   above : (j : ℕ) → j < length out → (edge_at out j).0 < start_at pieces done
-  above j h = let b = before.below j h in let up = p.ascending b.0 done b.1 l in let f = p.filled b.0 (omega (arith, b.1)) in omega (arith, b.2)
+  above j h = let b = before.below j h in let up = p.ascending b.0 done b.1 l in let f = p.filled b.0 (omega (arith, b.1)) in
+      omega (arith, b.2)
 
+  -- one more alphabet class with targets: a transition to the state that was found for them
   pub explore_more : ExploresSome t pieces targets (done + 1) cur old new (out ++ e ∷ [])
   explore_more = record {
-    extends = (before.extends.0 ++ extended.0, extended.1 ∙ ap (λ xs. xs ++ extended.0) before.extends.1 ∙ append_assoc old before.extends.0 extended.0);
+    extends = (
+      before.extends.0 ++ extended.0,
+      extended.1 ∙ ap (λ xs. xs ++ extended.0) before.extends.1
+          ∙ append_assoc old before.extends.0 extended.0,
+    );
     grows = λ edges more parent place same empty grown growing.
-        let middle : ℕ → List Edge = put more cur out in
-        let g = before.grows edges middle parent place (λ s apart. put_other more cur out s apart ∙ same s apart) empty (put_same more cur out) growing in
+        let middle : ℕ → List EdgeView = put more cur out in
+        let g = before.grows edges middle parent place (λ s apart. put_other more cur out s apart ∙ same s apart) empty
+        (put_same more cur out) growing in
         let same' : (s : ℕ) → (s ≡ cur → ⊥) → more s ≡ middle s = λ s apart. sym (put_other more cur out s apart) in
         let grown' : more cur ≡ middle cur ++ e ∷ [] = grown ∙ ap (λ xs. xs ++ e ∷ []) (sym (put_same more cur out)) in
         let above' : (j : ℕ) → j < length (middle cur) → (edge_at (middle cur) j).0 < e.0 = rw (put_same more cur out) above in
         ⊎_elim
-        (λ known. rw known.1 (g.0, g.1, grow_known middle more cur e same' grown' (length mid) g.0 g.1 g.2 (p.filled done l) above' known.0))
+        (λ known. rw known.1 (
+          g.0,
+          g.1,
+          grow_known middle more cur e same' grown' (length mid) g.0 g.1 g.2 (p.filled done l) above' known.0,
+        ))
         (λ fresh.
         let n = length mid in
         let parent' : ℕ → ℕ = λ s. cond (eqb s n) cur (g.0 s) in
@@ -99,40 +123,48 @@ module _ (t : Table) (pieces : List Test) (targets : List (Vec ℕ Global)) (don
           parent',
           place',
           grow_new middle more cur e same' grown' n g.0 g.1 g.2 (p.filled done l) above' parent' place' fresh.0
-              (λ s less. old_one n cur (g.0 s) s less) (λ s less. old_one n (length (middle cur)) (g.1 s) s less) (new_one n cur (g.0 n)) (new_one n (length (middle cur)) (g.1 n)),
+              (λ s less. old_one n cur (g.0 s) s less) (λ s less. old_one n (length (middle cur)) (g.1 s) s less) (new_one n cur (g.0 n))
+              (new_one n (length (middle cur)) (g.1 n)),
         ))
         found.place;
     inside = λ k h. ⊎_elim (λ k. rw k.1 (omega (arith, before.inside _ k.0, longer))) (λ k. rw k.1 to_inside) (edge_cases k h);
     fits = λ k c h.
         ⊎_elim
         (λ x. rw x.1 (λ low high.
-        let stays = ap (λ vs. items_at vs (edge_at out k).2) extended.1 ∙ items_at-extends mid extended.0 (edge_at out k).2 (before.inside k x.0) in
+        let stays = ap (λ vs. items_at vs (edge_at out k).2) extended.1
+        ∙ items_at-extends mid extended.0 (edge_at out k).2 (before.inside k x.0) in
         rw stays (before.fits k c x.0 low high)))
-        (λ x. rw x.1 (λ low high. step_of_piece t pieces targets (items_at old cur) (items_at new to) done c p moves l low high found.closed))
+        (λ x. rw x.1 (λ low high. step_of_piece t pieces targets (items_at old cur) (items_at new to) done c p moves l low high
+        found.closed))
         (edge_cases k h);
     below = λ k h.
-        ⊎_elim (λ x. let b = before.below k x.0 in (b.0, omega (arith, b.1), ap (λ (f : Edge). f.0) x.1 ∙ b.2, ap (λ (f : Edge). f.1) x.1 ∙ b.3))
-        (λ x. (done, omega arith, ap (λ (f : Edge). f.0) x.1, ap (λ (f : Edge). f.1) x.1)) (edge_cases k h);
+        ⊎_elim (λ x. let b = before.below k x.0 in
+        (b.0, omega (arith, b.1), ap (λ (f : EdgeView). f.0) x.1 ∙ b.2, ap (λ (f : EdgeView). f.1) x.1 ∙ b.3))
+        (λ x. (done, omega arith, ap (λ (f : EdgeView). f.0) x.1, ap (λ (f : EdgeView). f.1) x.1)) (edge_cases k h);
     apart = λ j k order h.
         ⊎_elim
         (λ x. let first = get_or_append_left out (e ∷ []) (0, 0, 0) j (omega (arith, x.0)) in
-        omega (arith, before.apart j k order x.0, ap (λ (f : Edge). f.1) first, ap (λ (f : Edge). f.0) x.1))
+        omega (arith, before.apart j k order x.0, ap (λ (f : EdgeView). f.1) first, ap (λ (f : EdgeView). f.0) x.1))
         (λ x.
         let inside : j < length out = omega (arith, x.0) in
         let first = get_or_append_left out (e ∷ []) (0, 0, 0) j inside in
         let b = before.below j inside in
-        omega (arith, p.ascending b.0 done b.1 l, b.3, ap (λ (f : Edge). f.1) first, ap (λ (f : Edge). f.0) x.1))
+        omega (arith, p.ascending b.0 done b.1 l, b.3, ap (λ (f : EdgeView). f.1) first, ap (λ (f : EdgeView). f.0) x.1))
         (edge_cases k h);
     covers = λ j x h among.
         ⊎_elim
         (λ (less : j < done).
         let b = before.covers j x less among in
         let stays = get_or_append_left out (e ∷ []) (0, 0, 0) b.0 b.1 in
-        (b.0, omega (arith, b.1, length_push out e), ap (λ (f : Edge). f.0) stays ∙ b.2, ap (λ (f : Edge). f.1) stays ∙ b.3))
+        (b.0, omega (arith, b.1, length_push out e), ap (λ (f : EdgeView). f.0) stays ∙ b.2, ap (λ (f : EdgeView). f.1) stays ∙ b.3))
         (λ (more : done ≤ j).
         let at : j ≡ done = omega arith in
-        let last = get_or-append_seam out e [] (0, 0, 0) in
-        (length out, omega (arith, length_push out e), ap (λ (f : Edge). f.0) last ∙ ap (start_at pieces) (sym at), ap (λ (f : Edge). f.1) last ∙ ap (end_at pieces) (sym at)))
+        let last = get_or-append_seam out e [] (0, 0, 0) in (
+          length out,
+          omega (arith, length_push out e),
+          ap (λ (f : EdgeView). f.0) last ∙ ap (start_at pieces) (sym at),
+          ap (λ (f : EdgeView). f.1) last ∙ ap (end_at pieces) (sym at),
+        ))
         (cases_lt j done);
   }
     where
@@ -146,7 +178,9 @@ module _ (t : Table) (pieces : List Test) (targets : List (Vec ℕ Global)) (don
       new_one : (n a b : ℕ) → cond (eqb n n) a b ≡ a
       new_one n a b = rw (eq-eqb n n refl) refl
 
-pub explore_skip : (t : Table) (pieces : List Test) (targets : List (Vec ℕ Global)) (done cur : ℕ) (old new : List (Vec ℕ Global)) (out : List Edge) → ((x : ℕ) → Contains (items_at targets done) x → ⊥) →
+-- one more alphabet class without targets: no transition
+pub explore_skip : (t : Graph) (pieces : List Test) (targets : List (Vec ℕ Global)) (done cur : ℕ) (old new : List (Vec ℕ Global))
+    (out : List EdgeView) → ((x : ℕ) → Contains (items_at targets done) x → ⊥) →
     ExploresSome t pieces targets done cur old new out → ExploresSome t pieces targets (done + 1) cur old new out
 explore_skip t pieces targets done cur old new out none before = record {
   extends = before.extends;
@@ -157,7 +191,9 @@ explore_skip t pieces targets done cur old new out none before = record {
   apart = before.apart;
   covers = λ j x h among.
       ⊎_elim (λ (less : j < done). before.covers j x less among)
-      (λ (more : done ≤ j). absurd (none x (let P : ℕ → Type 0 = λ i. Contains (items_at targets i) x in subst P (let at : j ≡ done = omega arith in at) among)))
+      (λ (more : done ≤ j). absurd
+      (none x (let P : ℕ → Type 0 = λ i. Contains (items_at targets i) x in
+      subst P (let at : j ≡ done = omega arith in at) among)))
       (cases_lt j done);
 }
 
@@ -165,12 +201,16 @@ explore_skip t pieces targets done cur old new out none before = record {
 pub funext : {A B : Type 0} (f g : A → B) → ((x : A) → f x ≡ g x) → f ≡ g
 funext f g h = λ i x. h x i
 
-pub explore_start : (t : Table) (pieces : List Test) (targets : List (Vec ℕ Global)) (cur : ℕ) (old : List (Vec ℕ Global)) → ExploresSome t pieces targets 0 cur old old []
+-- before the first alphabet class, the state has no transitions, and no state is new
+pub explore_start : (t : Graph) (pieces : List Test) (targets : List (Vec ℕ Global)) (cur : ℕ) (old : List (Vec ℕ Global))
+    → ExploresSome t pieces targets 0 cur old old []
 explore_start t pieces targets cur old = record {
   extends = ([], sym (append-nil old));
   grows = λ edges more parent place same empty grown growing.
-      let all : (s : ℕ) → edges s ≡ more s = λ s. ⊎_elim (λ (at : s ≡ cur). ap edges at ∙ empty ∙ sym grown ∙ ap more (sym at)) (λ (apart : s ≡ cur → ⊥). sym (same s apart)) (cases_eq s cur) in
-      let P : (ℕ → List Edge) → Type 0 = λ f. IsGrowing f (length old) parent place cur in
+      let all : (s : ℕ) → edges s ≡ more s =
+      λ s. ⊎_elim (λ (at : s ≡ cur). ap edges at ∙ empty ∙ sym grown ∙ ap more (sym at))
+      (λ (apart : s ≡ cur → ⊥). sym (same s apart)) (cases_eq s cur) in
+      let P : (ℕ → List EdgeView) → Type 0 = λ f. IsGrowing f (length old) parent place cur in
       (parent, place, subst P (funext edges more all) growing);
   inside = λ k h. absurd (omega arith);
   fits = λ k c h. absurd (omega arith);
@@ -179,7 +219,9 @@ explore_start t pieces targets cur old = record {
   covers = λ j x h. absurd (omega arith);
 }
 
-pub explore_end : (t : Table) (pieces : List Test) (targets : List (Vec ℕ Global)) (done cur : ℕ) (old new : List (Vec ℕ Global)) (out : List Edge) → ArePieces t pieces → AreMoves t (items_at old cur) pieces targets →
+-- after the last alphabet class, the state has all of its transitions
+pub explore_end : (t : Graph) (pieces : List Test) (targets : List (Vec ℕ Global)) (done cur : ℕ) (old new : List (Vec ℕ Global))
+    (out : List EdgeView) → AreClassesOf t pieces → AreTargets t (items_at old cur) pieces targets →
     length pieces ≤ done → cur < length old → ExploresSome t pieces targets done cur old new out → Explores t cur old new out
 explore_end t pieces targets done cur old new out p moves over inside h = record {
   extends = h.extends;
@@ -195,7 +237,8 @@ explore_end t pieces targets done cur old new out p moves over inside h = record
 }
 
 -- the edges are as far apart as the pieces
-pub explore_apart : (t : Table) (pieces : List Test) (targets : List (Vec ℕ Global)) (done cur : ℕ) (old new : List (Vec ℕ Global)) (out : List Edge) → ArePieces t pieces → done ≤ length pieces →
+pub explore_apart : (t : Graph) (pieces : List Test) (targets : List (Vec ℕ Global)) (done cur : ℕ) (old new : List (Vec ℕ Global))
+    (out : List EdgeView) → AreClassesOf t pieces → done ≤ length pieces →
     ExploresSome t pieces targets done cur old new out → AreApart out
 explore_apart t pieces targets done cur old new out p inside h = record {
   filled = λ k l. let b = h.below k l in omega (arith, p.filled b.0 (omega (arith, b.1)), b.2, b.3);

@@ -1,5 +1,6 @@
 -- Sets of states by the numbers that they were given. For the states of an automaton under way.
-use Rattle.std.proofs.Common.{◌≡◌, ℕ, ◌+◌, ◌<◌, ◌↔◌, List, [], ◌∷◌, ◌++◌, length, get_or, take, Contains, All, Vec, Global, Bool, true, false, Some, ⊎_elim, sym, ap, ◌∙◌, refl, subst, arith}
+use Rattle.std.proofs.Common.{◌≡◌, ℕ, ◌+◌, ◌<◌, ◌↔◌, List, [], ◌∷◌, ◌++◌, length, get_or, take, Contains}
+use Rattle.std.proofs.Common.{All, Vec, Global, Bool, true, false, Some, ⊎_elim, sym, ap, ◌∙◌, refl, subst, arith}
 use Rattle.std.specs.Map.{lookup}
 use Rattle.std.specs.Ordering.{match_ordering, is_eq, nat_cmp}
 use Rattle.std.specs.Cmp.Lexicographic.{slice_cmp}
@@ -9,25 +10,29 @@ use Rattle.std.specs.declared.cmp.Ordering.TheVariants.{Less, Equal, Greater}
 use Rattle.std.specs.BTreeMap.{insert_entry}
 use Rattle.std.proofs.lemmas.List.{get_or_append_left, map_push, length-map, get_or_push, take_more, length_push}
 use Rattle.std.proofs.lemmas.List.Elements.{Contains-push, Contains-push_cases, Contains-append_left, All-head, All-tail, All-cons, All-nil}
-use Rattle.lalrpop_nfa.specs.Paths.{Table}
-use Rattle.lalrpop_nfa.specs.Sets.{IsClosed, Inserts}
-use Rattle.lalrpop_nfa.proofs.SetLemmas.{Inserts-old, Inserts-new, Inserts-cases}
-use Rattle.lalrpop_lexer.specs.Moves.{lists, items_at}
+use Rattle.lalrpop_lexer_nfa.specs.Paths.{Graph}
+use Rattle.lalrpop_lexer_nfa.specs.Sets.{IsEpsilonClosure, Inserts}
+use Rattle.lalrpop_lexer_nfa.proofs.SetLemmas.{Inserts-old, Inserts-new, Inserts-cases}
+use Rattle.lalrpop_lexer.specs.Targets.{items_lists, items_at}
 use Rattle.lalrpop_lexer.specs.States.{AreNumbered}
 
 -- the same members give the same closed set
-pub IsClosed-along : (t : Table) (old other new : List ℕ) → ((x : ℕ) → Contains old x → Contains other x) → ((x : ℕ) → Contains other x → Contains old x) → IsClosed t old new → IsClosed t other new
-IsClosed-along t old other new to from h = record {
+pub IsEpsilonClosure-along : (t : Graph) (old other new : List ℕ) → ((x : ℕ) → Contains old x → Contains other x)
+    → ((x : ℕ) → Contains other x → Contains old x) → IsEpsilonClosure t old new → IsEpsilonClosure t other new
+IsEpsilonClosure-along t old other new to from h = record {
   only = λ y k. let x = h.only y k in (x.0, to x.0 x.1, x.2);
   all = λ x y k. h.all x y (from x k);
 }
 
 -- what a look-up finds is an entry of a key that passes
-pub found_entry : {K : Type 0} (P : K → ℕ → Type 0) (test : K → Bool) (es : List (K × ℕ)) (n : ℕ) → All (λ (e : K × ℕ). P e.0 e.1) es → lookup test es ≡ Some n → (k : K) × (test k ≡ true) × P k n
+pub found_entry : {K : Type 0} (P : K → ℕ → Type 0) (test : K → Bool) (es : List (K × ℕ)) (n : ℕ)
+    → All (λ (e : K × ℕ). P e.0 e.1) es → lookup test es ≡ Some n → (k : K) × (test k ≡ true) × P k n
 found_entry P test [] n all found = cc
-found_entry {K} P test ((k, m) ∷ es) n all found = go (test k) refl (found_entry P test es n (All-tail (λ (e : K × ℕ). P e.0 e.1) (k, m) es all))
+found_entry {K} P test ((k, m) ∷ es) n all found =
+    go (test k) refl (found_entry P test es n (All-tail (λ (e : K × ℕ). P e.0 e.1) (k, m) es all))
   where
-    go : (b : Bool) → test k ≡ b → (lookup test es ≡ Some n → (k : K) × (test k ≡ true) × P k n) → (k : K) × (test k ≡ true) × P k n
+    go : (b : Bool) → test k ≡ b → (lookup test es ≡ Some n → (k : K) × (test k ≡ true) × P k n) → (k : K)
+        × (test k ≡ true) × P k n
     go true e more =
         let first : Some m ≡ Some n = rw e at found in
         let same : m ≡ n = cc in
@@ -35,39 +40,51 @@ found_entry {K} P test ((k, m) ∷ es) n all found = go (test k) refl (found_ent
     go false e more = more (rw e at found)
 
 -- one more set
-pub items_at-old : (sets : List (Vec ℕ Global)) (v : Vec ℕ Global) (i : ℕ) → i < length sets → items_at (sets ++ v ∷ []) i ≡ items_at sets i
+pub items_at-old : (sets : List (Vec ℕ Global)) (v : Vec ℕ Global) (i : ℕ) → i < length sets
+    → items_at (sets ++ v ∷ []) i ≡ items_at sets i
 items_at-old sets v i l =
-    ap (λ ls. get_or ls i []) (map_push (λ (v : Vec ℕ Global). v.items) sets v) ∙ get_or_append_left (lists sets) (v.items ∷ []) [] i (omega (arith, length-map sets (λ (v : Vec ℕ Global). v.items)))
+    ap (λ ls. get_or ls i []) (map_push (λ (v : Vec ℕ Global). v.items) sets v)
+    ∙ get_or_append_left (items_lists sets) (v.items ∷ []) [] i (omega (arith, length-map sets (λ (v : Vec ℕ Global). v.items)))
 
+-- behind the old sets stands the new one
 pub items_at-new : (sets : List (Vec ℕ Global)) (v : Vec ℕ Global) → items_at (sets ++ v ∷ []) (length sets) ≡ v.items
 items_at-new sets v =
-    ap (λ ls. get_or ls (length sets) []) (map_push (λ (v : Vec ℕ Global). v.items) sets v) ∙ get_or_push (lists sets) v.items [] (length sets) (length-map sets (λ (v : Vec ℕ Global). v.items))
+    ap (λ ls. get_or ls (length sets) []) (map_push (λ (v : Vec ℕ Global). v.items) sets v)
+    ∙ get_or_push (items_lists sets) v.items [] (length sets) (length-map sets (λ (v : Vec ℕ Global). v.items))
 
-pub numbered_push : (t : Table) (sets : List (Vec ℕ Global)) (v : Vec ℕ Global) (es : List (Vec ℕ Global × ℕ)) → AreNumbered t sets es → AreNumbered t (sets ++ v ∷ []) es
+-- sets that have numbers keep them where one more set is added
+pub numbered_push : (t : Graph) (sets : List (Vec ℕ Global)) (v : Vec ℕ Global) (es : List (Vec ℕ Global × ℕ))
+    → AreNumbered t sets es → AreNumbered t (sets ++ v ∷ []) es
 numbered_push t sets v es h k d l =
     let x = h k d l in
     (omega (arith, length_push sets v, x.0), rw (items_at-old sets v (get_or es k d).1 x.0) x.1)
 
 -- loops that put the members of a list into a set
-pub same_members_more : (old new : List ℕ) (xs : List ℕ) (i : ℕ) → i < length xs → ((x : ℕ) → Contains old x ↔ Contains (take i xs) x) → Inserts old (get_or xs i 0) new →
+pub same_members_more : (old new : List ℕ) (xs : List ℕ) (i : ℕ) → i < length xs
+    → ((x : ℕ) → Contains old x ↔ Contains (take i xs) x) → Inserts old (get_or xs i 0) new →
     (x : ℕ) → Contains new x ↔ Contains (take (i + 1) xs) x
 same_members_more old new xs i l same one x =
     rw (take_more xs i 0 l) (
-      λ h. ⊎_elim (λ there. Contains-append_left (take i xs) (get_or xs i 0 ∷ []) x ((same x).0 there)) (λ at. rw (← at) (Contains-push (take i xs) (get_or xs i 0))) (Inserts-cases old new (get_or xs i 0) x one h),
-      λ h. ⊎_elim (λ there. Inserts-old old new (get_or xs i 0) x one ((same x).1 there)) (λ at. rw (← at) (Inserts-new old new (get_or xs i 0) one)) (Contains-push_cases (take i xs) (get_or xs i 0) x h),
+      λ h. ⊎_elim (λ there. Contains-append_left (take i xs) (get_or xs i 0 ∷ []) x ((same x).0 there))
+          (λ at. rw (← at) (Contains-push (take i xs) (get_or xs i 0))) (Inserts-cases old new (get_or xs i 0) x one h),
+      λ h. ⊎_elim (λ there. Inserts-old old new (get_or xs i 0) x one ((same x).1 there))
+          (λ at. rw (← at) (Inserts-new old new (get_or xs i 0) one)) (Contains-push_cases (take i xs) (get_or xs i 0) x h),
     )
 
 -- what holds of each entry holds after one more
-pub All-insert_entry : {K : Type 0} (P : K → ℕ → Type 0) (cmp : K → K → Ordering) (k : K) (v : ℕ) (es : List (K × ℕ)) → ((q : K) → cmp k q ≡ Equal → P q v) → P k v →
+pub All-insert_entry : {K : Type 0} (P : K → ℕ → Type 0) (cmp : K → K → Ordering) (k : K) (v : ℕ) (es : List (K × ℕ))
+    → ((q : K) → cmp k q ≡ Equal → P q v) → P k v →
     All (λ (e : K × ℕ). P e.0 e.1) es → All (λ (e : K × ℕ). P e.0 e.1) (insert_entry cmp es k v)
-All-insert_entry {K} P cmp k v [] same one all = All-cons (λ (e : K × ℕ). P e.0 e.1) (k, v) [] one (All-nil (λ (e : K × ℕ). P e.0 e.1))
+All-insert_entry {K} P cmp k v [] same one all =
+    All-cons (λ (e : K × ℕ). P e.0 e.1) (k, v) [] one (All-nil (λ (e : K × ℕ). P e.0 e.1))
 All-insert_entry {K} P cmp k v (e ∷ es) same one all =
     go (cmp k e.0) refl (All-insert_entry P cmp k v es same one (All-tail Q e es all))
   where
     Q : K × ℕ → Type 0
     Q f = P f.0 f.1
 
-    go : (o : Ordering) → cmp k e.0 ≡ o → All Q (insert_entry cmp es k v) → All Q (match_ordering o ((k, v) ∷ e ∷ es) ((e.0, v) ∷ es) (e ∷ insert_entry cmp es k v))
+    go : (o : Ordering) → cmp k e.0 ≡ o → All Q (insert_entry cmp es k v)
+        → All Q (match_ordering o ((k, v) ∷ e ∷ es) ((e.0, v) ∷ es) (e ∷ insert_entry cmp es k v))
     go Less is rest = All-cons Q (k, v) (e ∷ es) one all
     go Equal is rest = All-cons Q (e.0, v) es (same e.0 is) (All-tail Q e es all)
     go Greater is rest = All-cons Q e (insert_entry cmp es k v) (All-head Q e es all) rest
@@ -78,16 +95,25 @@ equal_from Equal e = refl
 equal_from Greater e = cc
 
 -- what is found by a key is the key, closed
-pub found_key : (t : Table) (sets : List (Vec ℕ Global)) (es : List (Vec ℕ Global × ℕ)) (key : List ℕ) (n : ℕ) → AreNumbered t sets es →
-    lookup (λ (k : Vec ℕ Global). is_eq (slice_cmp nat_cmp key k.items)) es ≡ Some n → (n < length sets) × IsClosed t key (items_at sets n)
+pub found_key : (t : Graph) (sets : List (Vec ℕ Global)) (es : List (Vec ℕ Global × ℕ)) (key : List ℕ) (n : ℕ)
+    → AreNumbered t sets es →
+    lookup (λ (k : Vec ℕ Global). is_eq (slice_cmp nat_cmp key k.items)) es ≡ Some n → (n < length sets)
+    × IsEpsilonClosure t key (items_at sets n)
 found_key t sets es key n all found =
-    let x = found_entry (λ (k : Vec ℕ Global) m. (m < length sets) × IsClosed t k.items (items_at sets m)) (λ (k : Vec ℕ Global). is_eq (slice_cmp nat_cmp key k.items)) es n all found in
+    let x = found_entry (λ (k : Vec ℕ Global) m. (m < length sets) × IsEpsilonClosure t k.items (items_at sets m))
+    (λ (k : Vec ℕ Global). is_eq (slice_cmp nat_cmp key k.items)) es n all found in
     let same : key ≡ x.0.items = exact_bytes key x.0.items (equal_from (slice_cmp nat_cmp key x.0.items) x.1) in
-    (x.2.0, let P : List ℕ → Type 0 = λ k. IsClosed t k (items_at sets n) in subst P (sym same) x.2.1)
+    (x.2.0, let P : List ℕ → Type 0 = λ k. IsEpsilonClosure t k (items_at sets n) in subst P (sym same) x.2.1)
 
 -- one more number
-pub numbered_insert : (t : Table) (sets : List (Vec ℕ Global)) (es : List (Vec ℕ Global × ℕ)) (key : Vec ℕ Global) (n : ℕ) → n < length sets → IsClosed t key.items (items_at sets n) → AreNumbered t sets es →
+pub numbered_insert : (t : Graph) (sets : List (Vec ℕ Global)) (es : List (Vec ℕ Global × ℕ)) (key : Vec ℕ Global) (n : ℕ)
+    → n < length sets → IsEpsilonClosure t key.items (items_at sets n) → AreNumbered t sets es →
     AreNumbered t sets (insert_entry (λ (x y : Vec ℕ Global). slice_cmp nat_cmp x.items y.items) es key n)
 numbered_insert t sets es key n inside closed all =
-    All-insert_entry (λ (k : Vec ℕ Global) m. (m < length sets) × IsClosed t k.items (items_at sets m)) (λ (x y : Vec ℕ Global). slice_cmp nat_cmp x.items y.items) key n es
-    (λ q e. (inside, let P : List ℕ → Type 0 = λ k. IsClosed t k (items_at sets n) in subst P (exact_bytes key.items q.items e) closed)) (inside, closed) all
+    All-insert_entry (λ (k : Vec ℕ Global) m. (m < length sets) × IsEpsilonClosure t k.items (items_at sets m))
+    (λ (x y : Vec ℕ Global). slice_cmp nat_cmp x.items y.items) key n es
+    (λ q e. (
+      inside,
+      let P : List ℕ → Type 0 = λ k. IsEpsilonClosure t k (items_at sets n) in
+          subst P (exact_bytes key.items q.items e) closed,
+    )) (inside, closed) all

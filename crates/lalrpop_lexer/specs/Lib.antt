@@ -1,12 +1,12 @@
-pub mod Runs
-pub mod Machine
-pub mod Sets
-pub mod Moves
+pub mod Numbering
+pub mod Simulation
+pub mod Subsets
+pub mod Targets
 pub mod States
 pub mod Explore
 pub mod Outcome
 pub mod Automaton
 pub mod Build
-pub mod Nodes
+pub mod StateViews
 pub mod Ties
 pub mod Answer

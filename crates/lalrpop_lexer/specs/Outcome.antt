@@ -23,7 +23,8 @@ pub record IsLastTie (M : ℕ → Type 0) (precedences : List ℕ) (n e f : ℕ)
   pub second : M f
   pub same : slice_index precedences e ≡ slice_index precedences f
   pub greatest : (g : ℕ) → g < n → M g → slice_index precedences g ≤ slice_index precedences e
-  pub last : (g h : ℕ) → g < h → h < n → M g → M h → slice_index precedences g ≡ slice_index precedences h → slice_index precedences h ≡ slice_index precedences e → (h ≤ f) × (h ≡ f → g ≤ e)
+  pub last : (g h : ℕ) → g < h → h < n → M g → M h → slice_index precedences g ≡ slice_index precedences h
+      → slice_index precedences h ≡ slice_index precedences e → (h ≤ f) × (h ≡ f → g ≤ e)
 
 -- what holds of the patterns below n
 abbrev pub IsOutcome : (ℕ → Type 0) → List ℕ → ℕ → Outcome → Type 0
@@ -37,13 +38,15 @@ IsAccepted M precedences n None = (k : ℕ) → k < n → M k → ⊥
 IsAccepted M precedences n (Some e) = IsBest M precedences n e
 
 -- the outcome's patterns are below n
-abbrev pub IsWithin : ℕ → Outcome → Type 0
-IsWithin n Nothing = Unit {0}
-IsWithin n (Wins e) = e < n
-IsWithin n (Ties e f) = f < n
+abbrev pub IsOutcomeBelow : ℕ → Outcome → Type 0
+IsOutcomeBelow n Nothing = Unit {0}
+IsOutcomeBelow n (Wins e) = e < n
+IsOutcomeBelow n (Ties e f) = f < n
 
 -- what the outcome becomes where the pattern n matches as well
-abbrev pub joined : List ℕ → Outcome → ℕ → Outcome
-joined precedences Nothing n = Wins n
-joined precedences (Wins e) n = match_ordering (nat_cmp (slice_index precedences n) (slice_index precedences e)) (Wins e) (Ties e n) (Wins n)
-joined precedences (Ties e f) n = match_ordering (nat_cmp (slice_index precedences n) (slice_index precedences f)) (Ties e f) (Ties f n) (Wins n)
+abbrev pub outcome_with : List ℕ → Outcome → ℕ → Outcome
+outcome_with precedences Nothing n = Wins n
+outcome_with precedences (Wins e) n =
+    match_ordering (nat_cmp (slice_index precedences n) (slice_index precedences e)) (Wins e) (Ties e n) (Wins n)
+outcome_with precedences (Ties e f) n =
+    match_ordering (nat_cmp (slice_index precedences n) (slice_index precedences f)) (Ties e f) (Ties f n) (Wins n)

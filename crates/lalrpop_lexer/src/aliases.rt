@@ -3,7 +3,7 @@
 use crate::automaton::Dfa;
 use crate::error::DfaConstructionError;
 use crate::kind::{DfaStateIndex, NfaIndex};
-use lalrpop_nfa::{Nfa, NfaConstructionError, NfaStateIndex};
+use lalrpop_lexer_nfa::{Nfa, NfaConstructionError, NfaStateIndex};
 
 /// An automaton that tells which of several patterns a text begins with.
 pub type DFA = Dfa;

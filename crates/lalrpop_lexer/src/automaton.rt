@@ -1,6 +1,8 @@
+//! The automaton that tells which of several patterns a text begins with.
+
 ghost use Rattle.std.specs.Prelude.{◌≡◌, ◌<◌, List, [], length, map, slice_index_or};
-ghost use Rattle.lalrpop_lexer.specs.Machine.{Node};
-ghost use Rattle.lalrpop_lexer.specs.Nodes.{node_of, kind_of};
+ghost use Rattle.lalrpop_lexer.specs.Simulation.{StateView};
+ghost use Rattle.lalrpop_lexer.specs.StateViews.{state_view, kind_of};
 
 use crate::kind::{DfaStateIndex, Kind};
 use crate::state::State;
@@ -13,9 +15,9 @@ pub struct Dfa {
 }
 
 impl Model for Dfa {
-    ghost Value = { List Node };
+    ghost Value = { List StateView };
 
-    ghost view = { λ dfa. map node_of dfa.states.items };
+    ghost view = { λ dfa. map state_view dfa.states.items };
 }
 
 impl Dfa {

@@ -1,8 +1,10 @@
+//! The automaton of several patterns, or why there is none.
+
 ghost use Rattle.std.specs.Prelude.{◌≡◌, ℕ, length, map, IfErr, IfOk, MatchOption};
-ghost use Rattle.lalrpop_pattern.specs.Meaning.{meaning};
-ghost use Rattle.lalrpop_pattern.specs.Wins.{HasNoTie};
-ghost use Rattle.lalrpop_lexer.specs.Build.{AreAccepted, IsFirstRefused, Explains};
-ghost use Rattle.lalrpop_lexer.specs.Machine.{Decides};
+ghost use Rattle.lalrpop_lexer_pattern.specs.Meaning.{meaning};
+ghost use Rattle.lalrpop_lexer_pattern.specs.Wins.{HasNoTie};
+ghost use Rattle.lalrpop_lexer.specs.Build.{AreSupported, IsFirstUnsupported, IsDfaFault};
+ghost use Rattle.lalrpop_lexer.specs.Simulation.{Decides};
 ghost use Rattle.lalrpop_lexer.specs.Outcome.{numbers};
 
 use crate::automaton::Dfa;
@@ -11,13 +13,13 @@ use crate::error::DfaConstructionError;
 use crate::kind::NfaIndex;
 use crate::outcome::Precedence;
 use crate::whole::{Whole, all_states};
-use lalrpop_nfa::{Nfa, NfaConstructionError};
-use lalrpop_pattern::{Refusal, Regex};
+use lalrpop_lexer_nfa::{Nfa, NfaConstructionError};
+use lalrpop_lexer_pattern::{Refusal, Regex};
 use std::alloc::Global;
 
 /// The first of the patterns that no automaton can be made for, and why, if there is such a pattern.
 fn first_refused(patterns: &[Regex]) -> Option<(usize, Refusal)>
-    ensures { MatchOption result (AreAccepted (map meaning patterns.now)) (λ found. IsFirstRefused (map meaning patterns.now) found.0 found.1) }
+    ensures { MatchOption result (AreSupported (map meaning patterns.now)) (λ found. IsFirstUnsupported (map meaning patterns.now) found.0 found.1) }
 {
     for i in 0..patterns.len() {
         if let Some(refusal) = patterns[i].refusal() {
@@ -40,9 +42,9 @@ pub fn build_dfa(
 ) -> Result<Dfa, DfaConstructionError>
     requires { length patterns.now ≡ length precedences.now }
     ensures decides { IfOk result (λ dfa. Decides dfa (map meaning patterns.now) (numbers precedences.now)) }
-    ensures accepted { IfOk result (λ _. AreAccepted (map meaning patterns.now)) }
+    ensures accepted { IfOk result (λ _. AreSupported (map meaning patterns.now)) }
     ensures unambiguous { IfOk result (λ _. HasNoTie (map meaning patterns.now) (numbers precedences.now)) }
-    ensures refused { IfErr result (Explains (map meaning patterns.now) (numbers precedences.now)) }
+    ensures refused { IfErr result (IsDfaFault (map meaning patterns.now) (numbers precedences.now)) }
 {
     if let Some((index, refusal)) = first_refused(patterns) {
         return Err(DfaConstructionError::NfaConstructionError {

@@ -1,9 +1,11 @@
+//! Which pattern each state accepts, or the first state in which two tie.
+
 ghost use Rattle.std.specs.Prelude.{◌≡◌, ℕ, ◌<◌, length, map, IfErr, OnOk};
-ghost use Rattle.lalrpop_lexer.specs.Moves.{lists};
-ghost use Rattle.lalrpop_lexer.specs.Explore.{edges_of};
-ghost use Rattle.lalrpop_lexer.specs.Nodes.{edges_in, accepted_in};
+ghost use Rattle.lalrpop_lexer.specs.Targets.{items_lists};
+ghost use Rattle.lalrpop_lexer.specs.Explore.{edges_view};
+ghost use Rattle.lalrpop_lexer.specs.StateViews.{edges_in, accepted_in};
 ghost use Rattle.lalrpop_lexer.specs.Outcome.{numbers, IsAccepted};
-ghost use Rattle.lalrpop_lexer.specs.Ties.{Holds, TellsTie};
+ghost use Rattle.lalrpop_lexer.specs.Ties.{AcceptsPattern, TellsTie};
 
 use crate::error::DfaConstructionError;
 use crate::kind::NfaIndex;
@@ -23,8 +25,8 @@ pub(crate) fn decide(
 ) -> Result<(), DfaConstructionError>
     requires { length states.old ≡ length sets.now }
     ensures edges { (s : ℕ) → edges_in states.new s ≡ edges_in states.old s }
-    ensures accepted { OnOk result ((s : ℕ) → s < length sets.now → IsAccepted (Holds (lists sets.now) s) (numbers precedences.now) (length (numbers precedences.now)) (accepted_in states.new s)) }
-    ensures refused { IfErr result (TellsTie (lists sets.now) (numbers precedences.now)) }
+    ensures accepted { OnOk result ((s : ℕ) → s < length sets.now → IsAccepted (AcceptsPattern (items_lists sets.now) s) (numbers precedences.now) (length (numbers precedences.now)) (accepted_in states.new s)) }
+    ensures refused { IfErr result (TellsTie (items_lists sets.now) (numbers precedences.now)) }
 {
     for i in 0..sets.len() {
         match outcome_of(alloc, &sets[i], precedences)? {

@@ -7,4 +7,4 @@ pub use crate::interpreter::interpret;
 pub use crate::kind::{DfaStateIndex, Kind, NfaIndex};
 pub use crate::outcome::Precedence;
 pub use crate::state::State;
-pub use lalrpop_nfa::remove_overlap;
+pub use lalrpop_lexer_nfa::remove_overlap;

@@ -1,5 +1,7 @@
+//! The transitions of an automaton's states.
+
 use crate::kind::DfaStateIndex;
-use lalrpop_nfa::Test;
+use lalrpop_lexer_nfa::Test;
 
 /// An edge of a state: the characters that it reads, and the state that it leads to.
 #[derive(Clone, Copy, Debug)]

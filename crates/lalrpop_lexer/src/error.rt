@@ -1,7 +1,9 @@
+//! Why no automaton is made for some patterns.
+
 ghost use Rattle.std.specs.Prelude.{◌≡◌};
 
 use crate::kind::NfaIndex;
-use lalrpop_nfa::NfaConstructionError;
+use lalrpop_lexer_nfa::NfaConstructionError;
 use std::alloc::{AllocError, AllocFailed};
 use thiserror::Error;
 

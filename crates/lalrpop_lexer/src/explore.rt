@@ -1,14 +1,16 @@
+//! The transitions of one state of the automaton under way.
+
 ghost use Rattle.std.specs.Prelude.{◌≡◌, ℕ, ◌<◌, length, All, IfOk, OnOk, vec_len};
-ghost use Rattle.lalrpop_nfa.specs.Paths.{table_of};
+ghost use Rattle.lalrpop_lexer_nfa.specs.Paths.{nfa_view};
 ghost use Rattle.lalrpop_lexer.specs.States.{AreNumbered, AreInside};
-ghost use Rattle.lalrpop_lexer.specs.Machine.{AreApart};
-ghost use Rattle.lalrpop_lexer.specs.Explore.{ArePieces, Explores, edges_of};
+ghost use Rattle.lalrpop_lexer.specs.Simulation.{AreApart};
+ghost use Rattle.lalrpop_lexer.specs.Explore.{AreClassesOf, Explores, edges_view};
 
 use crate::edge::DfaEdge;
 use crate::kind::DfaStateIndex;
 use crate::moves::moves;
 use crate::states::States;
-use lalrpop_nfa::{Nfa, StateSet, Test};
+use lalrpop_lexer_nfa::{Nfa, StateSet, Test};
 use std::alloc::{AllocError, Global};
 
 impl States {
@@ -23,14 +25,14 @@ impl States {
         scratch: &mut StateSet,
     ) -> Result<Vec<DfaEdge>, AllocError>
         requires state { state < vec_len self.old.sets }
-        requires pieces { ArePieces (table_of nfa.now) pieces.now }
+        requires pieces { AreClassesOf (nfa_view nfa.now) pieces.now }
         requires bound { vec_len scratch.old.places ≡ vec_len nfa.now.states }
         requires sets { AreInside (vec_len nfa.now.states) self.old.sets.items }
-        requires numbered { AreNumbered (table_of nfa.now) self.old.sets.items self.old.numbers.entries }
-        ensures explored { IfOk result (λ out. Explores (table_of nfa.now) state self.old.sets.items self.new.sets.items (edges_of out.items)) }
-        ensures apart { IfOk result (λ out. AreApart (edges_of out.items)) }
+        requires numbered { AreNumbered (nfa_view nfa.now) self.old.sets.items self.old.numbers.entries }
+        ensures explored { IfOk result (λ out. Explores (nfa_view nfa.now) state self.old.sets.items self.new.sets.items (edges_view out.items)) }
+        ensures apart { IfOk result (λ out. AreApart (edges_view out.items)) }
         ensures sets { OnOk result (AreInside (vec_len nfa.now.states) self.new.sets.items) }
-        ensures numbered { OnOk result (AreNumbered (table_of nfa.now) self.new.sets.items self.new.numbers.entries) }
+        ensures numbered { OnOk result (AreNumbered (nfa_view nfa.now) self.new.sets.items self.new.numbers.entries) }
         ensures bound { vec_len scratch.new.places ≡ vec_len scratch.old.places }
     {
         let targets = moves(alloc, nfa, &self.sets[state], pieces)?;

@@ -1,9 +1,11 @@
+//! The longest match at the front of a text.
+
 ghost use Rattle.std.specs.Prelude.{◌≡◌, ℕ, List, ◌++◌, None, map, MatchOption};
 ghost use Rattle.std.specs.Option.{option_map};
 ghost use Rattle.std.specs.Str.{chars};
-ghost use Rattle.lalrpop_lexer.specs.Explore.{edges_of};
-ghost use Rattle.lalrpop_lexer.specs.Machine.{step_of, next_node, answer_of};
-ghost use Rattle.lalrpop_lexer.specs.Nodes.{node_of};
+ghost use Rattle.lalrpop_lexer.specs.Explore.{edges_view};
+ghost use Rattle.lalrpop_lexer.specs.Simulation.{target_of, next_state_view, answer_of};
+ghost use Rattle.lalrpop_lexer.specs.StateViews.{state_view};
 ghost use Rattle.lalrpop_lexer.specs.Answer.{IsAnswerFront};
 
 use crate::automaton::Dfa;
@@ -13,7 +15,7 @@ use crate::state::State;
 impl State {
     /// The number of the state that the edge leads to which reads the character, if there is one.
     fn target(&self, character: u32) -> Option<usize>
-        ensures { result ≡ step_of (edges_of self.now.edges.items) character }
+        ensures { result ≡ target_of (edges_view self.now.edges.items) character }
     {
         let mut low = 0;
         let mut high = self.edges.len();
@@ -42,7 +44,7 @@ fn before<'t>(text: &'t str, rest: &str) -> &'t str
 
 /// The state that the character leads to, if there is one.
 fn next_state<'s>(states: &'s [State], state: &State, character: u32) -> Option<&'s State>
-    ensures { option_map (λ s. node_of s.now) result ≡ next_node (map node_of states.now) (node_of state.now) character }
+    ensures { option_map (λ s. state_view s.now) result ≡ next_state_view (map state_view states.now) (state_view state.now) character }
 {
     let number = state.target(character)?;
     states.get(number)
@@ -51,7 +53,7 @@ fn next_state<'s>(states: &'s [State], state: &State, character: u32) -> Option<
 /// The longest nonempty part at the text's front that leads from the first state to one that accepts, with the pattern
 /// that the last such state accepts.
 fn follow<'t>(states: &[State], text: &'t str) -> Option<(NfaIndex, &'t str)>
-    ensures { MatchOption result (answer_of (map node_of states.now) (chars text.now) ≡ None) (λ found. IsAnswerFront (map node_of states.now) text.now found.0.0 found.1.now) }
+    ensures { MatchOption result (answer_of (map state_view states.now) (chars text.now) ≡ None) (λ found. IsAnswerFront (map state_view states.now) text.now found.0.0 found.1.now) }
 {
     let mut state = states.first()?;
     let mut found = None;

@@ -1,3 +1,5 @@
+//! The numbers of patterns and of states, and what a state says of the words that lead to it.
+
 ghost use Rattle.std.specs.Prelude.{◌≡◌};
 
 /// A pattern's number among those of an automaton.

@@ -1,14 +1,16 @@
-ghost use Rattle.std.specs.Prelude.{◌≡◌, ◌==◌, ℕ, ◌+◌, ◌<◌, ◌≤◌, ◌⊎◌, ◌↔◌, List, [], length, map, filter, All, Contains, IfOk, OnOk, vec_len, slice_index_or};
-ghost use Rattle.lalrpop_nfa.specs.Paths.{Reads, table_of};
-ghost use Rattle.lalrpop_nfa.specs.Ranges.{Holds};
-ghost use Rattle.lalrpop_lexer.specs.Moves.{items_at, start_at, IsAscending, GoesOn, AreMoves};
+//! Where the transitions from some states lead, for each of the alphabet classes.
 
-use lalrpop_nfa::{Edge, Nfa, NfaStateIndex, Test};
+ghost use Rattle.std.specs.Prelude.{◌≡◌, ◌==◌, ℕ, ◌+◌, ◌<◌, ◌≤◌, ◌⊎◌, ◌↔◌, List, [], length, map, filter, All, Contains, IfOk, OnOk, vec_len, slice_index_or};
+ghost use Rattle.lalrpop_lexer_nfa.specs.Paths.{HasTransition, nfa_view};
+ghost use Rattle.lalrpop_lexer_nfa.specs.Ranges.{TestHolds};
+ghost use Rattle.lalrpop_lexer.specs.Targets.{items_at, start_at, StartsAscend, AddsTargets, AreTargets};
+
+use lalrpop_lexer_nfa::{Edge, Nfa, NfaStateIndex, Test};
 use std::alloc::{AllocError, Global};
 
 /// The place of the first piece that begins at the number or above it.
 fn first_from(pieces: &[Test], number: u32) -> usize
-    requires { IsAscending pieces.now }
+    requires { StartsAscend pieces.now }
     ensures within { result ≤ length pieces.now }
     ensures below { (i : ℕ) → i < result → start_at pieces.now i < number }
     ensures above { (i : ℕ) → result ≤ i → i < length pieces.now → number ≤ start_at pieces.now i }
@@ -33,8 +35,8 @@ fn add_edge(
     targets: &mut [Vec<usize>],
 ) -> Result<(), AllocError>
     requires size { length targets.old ≡ length pieces.now }
-    requires pieces { IsAscending pieces.now }
-    ensures { OnOk result (GoesOn edge.now pieces.now (length pieces.now) targets.old targets.new) }
+    requires pieces { StartsAscend pieces.now }
+    ensures { OnOk result (AddsTargets edge.now pieces.now (length pieces.now) targets.old targets.new) }
 {
     for i in first_from(pieces, edge.label.start())..pieces.len() {
         if edge.label.end() < pieces[i].start() {
@@ -53,8 +55,8 @@ pub(crate) fn moves(
     pieces: &[Test],
 ) -> Result<Vec<Vec<usize>>, AllocError>
     requires set { All (λ q. q < vec_len nfa.now.states) set.now }
-    requires pieces { IsAscending pieces.now }
-    ensures { IfOk result (λ targets. AreMoves (table_of nfa.now) set.now pieces.now targets.items) }
+    requires pieces { StartsAscend pieces.now }
+    ensures { IfOk result (λ targets. AreTargets (nfa_view nfa.now) set.now pieces.now targets.items) }
 {
     let mut targets = Vec::new(alloc);
     for made in 0..pieces.len() {

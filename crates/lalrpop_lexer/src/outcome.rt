@@ -1,3 +1,5 @@
+//! The precedences of patterns, and what a choice among patterns comes to.
+
 /// Which pattern wins where several match the same word: the one with the greater number.
 #[derive(Clone, Copy, Debug, PartialEq, Eq, PartialOrd, Ord)]
 pub struct Precedence(pub usize);

@@ -1,9 +1,11 @@
+//! The choice among the patterns that match a state's words.
+
 ghost use Rattle.std.specs.Prelude.{◌≡◌, ℕ, ◌+◌, ◌<◌, Contains, length, IfOk};
 ghost use Rattle.std.specs.List.Sorted.{IsNonDecreasing};
-ghost use Rattle.lalrpop_lexer.specs.Outcome.{numbers, joined, IsWithin, IsOutcome};
+ghost use Rattle.lalrpop_lexer.specs.Outcome.{numbers, outcome_with, IsOutcomeBelow, IsOutcome};
 
 use crate::outcome::{Outcome, Precedence};
-use lalrpop_nfa::FIRST_ACCEPT;
+use lalrpop_lexer_nfa::FIRST_ACCEPT;
 use std::alloc::{AllocError, Global};
 use std::cmp::Ordering;
 
@@ -26,8 +28,8 @@ fn patterns_in(alloc: Global, set: &[usize]) -> Result<Vec<usize>, AllocError>
 /// What the outcome becomes when a later pattern matches as well.
 fn join(outcome: Outcome, pattern: usize, precedences: &[Precedence]) -> Outcome
     requires pattern { pattern < length precedences.now }
-    requires outcome { IsWithin (length precedences.now) outcome }
-    ensures { result ≡ joined (numbers precedences.now) outcome pattern }
+    requires outcome { IsOutcomeBelow (length precedences.now) outcome }
+    ensures { result ≡ outcome_with (numbers precedences.now) outcome pattern }
 {
     let best = match outcome {
         Outcome::Nothing => return Outcome::Wins(pattern),

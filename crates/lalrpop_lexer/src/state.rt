@@ -1,5 +1,7 @@
-ghost use Rattle.lalrpop_lexer.specs.Machine.{AreApart};
-ghost use Rattle.lalrpop_lexer.specs.Explore.{edges_of};
+//! The states of an automaton.
+
+ghost use Rattle.lalrpop_lexer.specs.Simulation.{AreApart};
+ghost use Rattle.lalrpop_lexer.specs.Explore.{edges_view};
 
 use crate::edge::DfaEdge;
 use crate::kind::NfaIndex;
@@ -9,5 +11,5 @@ use crate::kind::NfaIndex;
 pub struct State {
     pub(crate) accepts: Option<NfaIndex>,
     pub(crate) edges: Vec<DfaEdge>,
-    pub ghost apart: { AreApart (edges_of edges.items) },
+    pub ghost apart: { AreApart (edges_view edges.items) },
 }

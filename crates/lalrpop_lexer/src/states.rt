@@ -1,9 +1,11 @@
-ghost use Rattle.std.specs.Prelude.{◌≡◌, ℕ, ◌<◌, length, All, IfOk, OnOk, vec_len};
-ghost use Rattle.lalrpop_nfa.specs.Paths.{table_of};
-ghost use Rattle.lalrpop_nfa.specs.Sets.{IsClosed};
-ghost use Rattle.lalrpop_lexer.specs.States.{AreNumbered, IsFound, AreInside};
+//! The states of the automaton under way, and the numbers by which they are found again.
 
-use lalrpop_nfa::{Nfa, StateSet};
+ghost use Rattle.std.specs.Prelude.{◌≡◌, ℕ, ◌<◌, length, All, IfOk, OnOk, vec_len};
+ghost use Rattle.lalrpop_lexer_nfa.specs.Paths.{nfa_view};
+ghost use Rattle.lalrpop_lexer_nfa.specs.Sets.{IsEpsilonClosure};
+ghost use Rattle.lalrpop_lexer.specs.States.{AreNumbered, IsInterned, AreInside};
+
+use lalrpop_lexer_nfa::{Nfa, StateSet};
 use std::alloc::{AllocError, Global};
 use std::collections::BTreeMap;
 
@@ -25,7 +27,7 @@ fn closed_set(
 ) -> Result<Vec<usize>, AllocError>
     requires bound { vec_len scratch.old.places ≡ vec_len nfa.now.states }
     requires inside { All (λ q. q < vec_len nfa.now.states) kernel.now }
-    ensures closed { IfOk result (λ set. IsClosed (table_of nfa.now) kernel.now set.items) }
+    ensures closed { IfOk result (λ set. IsEpsilonClosure (nfa_view nfa.now) kernel.now set.items) }
     ensures inside { IfOk result (λ set. All (λ q. q < vec_len nfa.now.states) set.items) }
     ensures bound { vec_len scratch.new.places ≡ vec_len scratch.old.places }
 {
@@ -50,10 +52,10 @@ impl States {
         requires bound { vec_len scratch.old.places ≡ vec_len nfa.now.states }
         requires inside { All (λ q. q < vec_len nfa.now.states) kernel.now }
         requires sets { AreInside (vec_len nfa.now.states) self.old.sets.items }
-        requires numbered { AreNumbered (table_of nfa.now) self.old.sets.items self.old.numbers.entries }
-        ensures found { IfOk result (λ n. IsFound (table_of nfa.now) kernel.now self.old.sets.items self.new.sets.items n) }
+        requires numbered { AreNumbered (nfa_view nfa.now) self.old.sets.items self.old.numbers.entries }
+        ensures found { IfOk result (λ n. IsInterned (nfa_view nfa.now) kernel.now self.old.sets.items self.new.sets.items n) }
         ensures sets { OnOk result (AreInside (vec_len nfa.now.states) self.new.sets.items) }
-        ensures numbered { OnOk result (AreNumbered (table_of nfa.now) self.new.sets.items self.new.numbers.entries) }
+        ensures numbered { OnOk result (AreNumbered (nfa_view nfa.now) self.new.sets.items self.new.numbers.entries) }
         ensures bound { vec_len scratch.new.places ≡ vec_len scratch.old.places }
     {
         let mut key = Vec::from_slice(alloc, kernel)?;

@@ -1,13 +1,15 @@
+//! All states of the automaton with their transitions: the subset construction.
+
 ghost use Rattle.std.specs.Prelude.{◌≡◌, length, IfOk};
-ghost use Rattle.lalrpop_nfa.specs.Paths.{table_of};
-ghost use Rattle.lalrpop_lexer.specs.Moves.{lists};
-ghost use Rattle.lalrpop_lexer.specs.Nodes.{edges_in};
+ghost use Rattle.lalrpop_lexer_nfa.specs.Paths.{nfa_view};
+ghost use Rattle.lalrpop_lexer.specs.Targets.{items_lists};
+ghost use Rattle.lalrpop_lexer.specs.StateViews.{edges_in};
 ghost use Rattle.lalrpop_lexer.specs.Automaton.{IsAutomaton};
 
 use crate::pieces::pieces_of;
 use crate::state::State;
 use crate::states::States;
-use lalrpop_nfa::{Nfa, START, StateSet};
+use lalrpop_lexer_nfa::{Nfa, START, StateSet};
 use std::alloc::{AllocError, Global};
 use std::collections::BTreeMap;
 
@@ -22,7 +24,7 @@ pub(crate) struct Whole {
 
 /// The states that the automaton's words lead to, numbered as they are first seen.
 pub(crate) fn all_states(alloc: Global, nfa: &Nfa) -> Result<Whole, AllocError>
-    ensures states { IfOk result (λ whole. IsAutomaton (table_of nfa.now) START.0 (lists whole.sets.items) (edges_in whole.states.items) (length whole.sets.items)) }
+    ensures states { IfOk result (λ whole. IsAutomaton (nfa_view nfa.now) START.0 (items_lists whole.sets.items) (edges_in whole.states.items) (length whole.sets.items)) }
     ensures count { IfOk result (λ whole. length whole.states.items ≡ length whole.sets.items) }
 {
     let pieces = pieces_of(alloc, nfa)?;

@@ -5,8 +5,8 @@ use lalrpop_lexer::nfa::{
     ACCEPT, Nfa, NfaConstructionError, Noop, Other, REJECT, START, StateKind, Test,
 };
 use lalrpop_lexer::re::parse_literal;
-use lalrpop_nfa::{FIRST_ACCEPT, StateSet};
-use lalrpop_syntax::parse_regex;
+use lalrpop_lexer_nfa::{FIRST_ACCEPT, StateSet};
+use lalrpop_lexer_regex::parse_regex;
 use std::alloc::Global;
 use std::test::Fail;
 

@@ -1,9 +1,9 @@
 //! Patterns and sets of characters: copies, printed faults and laws.
 
 use lalrpop_lexer::re::{CharacterSet, Range};
-use lalrpop_pattern::sets_are_their_members;
-use lalrpop_scan::{cuts_are_unique, tokens_fill_their_text};
-use lalrpop_syntax::{RegexError, escapes_are_read_back, parse_regex};
+use lalrpop_lexer_pattern::sets_are_their_members;
+use lalrpop_lexer_regex::{RegexError, escapes_are_read_back, parse_regex};
+use lalrpop_lexer_scan::{cuts_are_unique, tokens_fill_their_text};
 use std::test::Fail;
 
 #[test]

@@ -1,11 +1,11 @@
 -- Values inside a value, told by their paths, and the first of them.
 use Rattle.std.specs.Prelude.{◌≡◌, ℕ, ◌+◌, List, [], ◌∷◌, ◌++◌, ⊤, Result, Ok, Err, map}
-use Rattle.lalrpop_values.specs.declared.fault.Fault.{Fault}
-use Rattle.lalrpop_values.specs.declared.fault.FaultKind.TheVariants as fault
-use Rattle.lalrpop_values.specs.declared.fault.ReadError.{ReadError}
-use Rattle.lalrpop_values.specs.declared.fault.ReadError.TheVariants as errors
-use Rattle.lalrpop_values.specs.declared.fault.Step.{Step}
-use Rattle.lalrpop_values.specs.declared.fault.Step.TheVariants as step
+use Rattle.lalrpop_json_values.specs.declared.fault.Fault.{Fault}
+use Rattle.lalrpop_json_values.specs.declared.fault.FaultKind.TheVariants as fault
+use Rattle.lalrpop_json_values.specs.declared.fault.ReadError.{ReadError}
+use Rattle.lalrpop_json_values.specs.declared.fault.ReadError.TheVariants as errors
+use Rattle.lalrpop_json_values.specs.declared.fault.Step.{Step}
+use Rattle.lalrpop_json_values.specs.declared.fault.Step.TheVariants as step
 
 abbrev pub Path : Type 0
 Path = List Step

@@ -4,7 +4,7 @@ ghost use Rattle.std.specs.Prelude.{◌≡◌, List, if◌then◌else◌, []};
 ghost use Rattle.lalrpop_plain.specs.Paths.{FailsAt, TellsFirst, Path, under};
 ghost use Rattle.lalrpop_plain.specs.Plain.{itself};
 
-use lalrpop_values::{FaultKind, ReadError, Step, here, outside};
+use lalrpop_json_values::{FaultKind, ReadError, Step, here, outside};
 use std::alloc::Global;
 
 /// The value itself is of wrong shape.

@@ -1,20 +1,20 @@
 //! Calls of macros inside declared types.
 
 ghost use Rattle.std.specs.Prelude.{◌≡◌, map, option_map};
-ghost use Rattle.lalrpop_grammar.specs.Views.{type_ref as seen, tys};
-ghost use Rattle.lalrpop_values.specs.declared.key.Key.TheVariants as key;
+ghost use Rattle.lalrpop_grammar.specs.Views.{type_view, tys};
+ghost use Rattle.lalrpop_json_values.specs.declared.key.Key.TheVariants as key;
 ghost use Rattle.lalrpop_plain.specs.Paths.{TellsFirst, each};
 ghost use Rattle.lalrpop_plain.specs.Plain.{at, in_type, in_types, in_declared};
 
 use crate::symbol::check_inner;
 use crate::telling::within;
 use lalrpop_grammar::TypeRef;
-use lalrpop_values::{Key, ReadError, Step};
+use lalrpop_json_values::{Key, ReadError, Step};
 use std::alloc::Global;
 
 /// That no macro is called in the type of a rule, where one is declared.
 pub(crate) fn check_declared(alloc: Global, declared: &Option<TypeRef>) -> Result<(), ReadError>
-    ensures { TellsFirst (in_declared (option_map seen declared.now)) result }
+    ensures { TellsFirst (in_declared (option_map type_view declared.now)) result }
 {
     match declared {
         Some(type_ref) => check_type(alloc, type_ref),
@@ -25,7 +25,7 @@ pub(crate) fn check_declared(alloc: Global, declared: &Option<TypeRef>) -> Resul
 /// That no macro is called in the type.
 #[cycle(types)]
 fn check_type(alloc: Global, type_ref: &TypeRef) -> Result<(), ReadError>
-    ensures { TellsFirst (in_type (seen type_ref.now)) result }
+    ensures { TellsFirst (in_type (type_view type_ref.now)) result }
 {
     match type_ref {
         TypeRef::Tuple(types) => check_parts(alloc, types.as_slice(), Key::Tuple),
@@ -42,7 +42,7 @@ fn check_type(alloc: Global, type_ref: &TypeRef) -> Result<(), ReadError>
 
 #[cycle(types)]
 fn check_referent(alloc: Global, referent: &TypeRef) -> Result<(), ReadError>
-    ensures { TellsFirst (at key.Ref (in_type (seen referent.now))) result }
+    ensures { TellsFirst (at key.Ref (in_type (type_view referent.now))) result }
 {
     let inner = check_type(alloc, referent);
     within(inner, Step::Key(Key::Ref))
@@ -51,7 +51,7 @@ fn check_referent(alloc: Global, referent: &TypeRef) -> Result<(), ReadError>
 /// That no macro is called in the types that stand at a key of another type.
 #[cycle(types)]
 fn check_parts(alloc: Global, types: &[TypeRef], key: Key) -> Result<(), ReadError>
-    ensures { TellsFirst (at key (in_types 0 (tys (map seen types.now)))) result }
+    ensures { TellsFirst (at key (in_types 0 (tys (map type_view types.now)))) result }
 {
     let parts = check_types(alloc, types);
     within(parts, Step::Key(key))
@@ -59,7 +59,7 @@ fn check_parts(alloc: Global, types: &[TypeRef], key: Key) -> Result<(), ReadErr
 
 #[cycle(types)]
 fn check_types(alloc: Global, types: &[TypeRef]) -> Result<(), ReadError>
-    ensures { TellsFirst (each (λ t. in_type (seen t)) 0 types.now) result }
+    ensures { TellsFirst (each (λ t. in_type (type_view t)) 0 types.now) result }
 {
     for (index, type_ref) in types.iter().enumerate() {
         within(check_type(alloc, type_ref), Step::Index(index))?;

@@ -1,3 +1,3 @@
 pub mod ListLemmas
-pub mod Nesting
+pub mod NestingLemmas
 pub mod OrderLemmas

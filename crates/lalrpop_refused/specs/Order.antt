@@ -5,16 +5,16 @@ use Rattle.std.specs.Ordering.{nat_cmp, match_ordering}
 use Rattle.std.specs.declared.cmp.Ordering.{Ordering}
 use Rattle.std.specs.declared.cmp.Ordering.TheVariants.{Less, Greater}
 use Rattle.std.specs.Cmp.Lexicographic.{slice_cmp}
-use Rattle.lalrpop_values.specs.declared.fault.Fault.{Fault}
-use Rattle.lalrpop_values.specs.declared.fault.ReadError.{ReadError}
-use Rattle.lalrpop_values.specs.declared.fault.ReadError.TheVariants as errors
-use Rattle.lalrpop_values.specs.declared.fault.Step.{Step}
-use Rattle.lalrpop_values.specs.declared.fault.Step.TheVariants as step
-use Rattle.lalrpop_values.specs.Key.{text_of}
+use Rattle.lalrpop_json_values.specs.declared.fault.Fault.{Fault}
+use Rattle.lalrpop_json_values.specs.declared.fault.ReadError.{ReadError}
+use Rattle.lalrpop_json_values.specs.declared.fault.ReadError.TheVariants as errors
+use Rattle.lalrpop_json_values.specs.declared.fault.Step.{Step}
+use Rattle.lalrpop_json_values.specs.declared.fault.Step.TheVariants as step
+use Rattle.lalrpop_json_values.specs.Key.{key_text}
 
 -- a value has members or items, not both
 abbrev pub step_order : Step → Step → Ordering
-step_order (step.Key k) (step.Key l) = slice_cmp nat_cmp (text_of k) (text_of l)
+step_order (step.Key k) (step.Key l) = slice_cmp nat_cmp (key_text k) (key_text l)
 step_order (step.Key k) (step.Index j) = Less
 step_order (step.Index i) (step.Key l) = Greater
 step_order (step.Index i) (step.Index j) = nat_cmp i j

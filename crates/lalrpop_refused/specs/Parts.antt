@@ -2,20 +2,20 @@
 use Rattle.std.specs.Prelude.{ℕ, ◌+◌, List, Bool, false, ⊤, Result, Ok, Err, Option, Some, None, is_some, if◌then◌else◌}
 use Rattle.serde_json.specs.Data.{Data, Items, no_items, item}
 use Rattle.serde_json.specs.Find.{at, get, as_array, as_str}
-use Rattle.lalrpop_values.specs.declared.fault.Fault.{Fault}
-use Rattle.lalrpop_values.specs.declared.fault.FaultKind.TheVariants as fault
-use Rattle.lalrpop_values.specs.declared.fault.Step.TheVariants as step
-use Rattle.lalrpop_values.specs.declared.key.Key.{Key}
-use Rattle.lalrpop_values.specs.declared.key.Key.TheVariants as key
-use Rattle.lalrpop_values.specs.declared.word.Word.{Word}
-use Rattle.lalrpop_values.specs.Gives.{◌>>=◌, here, within}
-use Rattle.lalrpop_values.specs.Key.{text_of}
-use Rattle.lalrpop_values.specs.Nested.{Reader}
-use Rattle.lalrpop_values.specs.Scalars.{is_word}
+use Rattle.lalrpop_json_values.specs.declared.fault.Fault.{Fault}
+use Rattle.lalrpop_json_values.specs.declared.fault.FaultKind.TheVariants as fault
+use Rattle.lalrpop_json_values.specs.declared.fault.Step.TheVariants as step
+use Rattle.lalrpop_json_values.specs.declared.key.Key.{Key}
+use Rattle.lalrpop_json_values.specs.declared.key.Key.TheVariants as key
+use Rattle.lalrpop_json_values.specs.declared.word.Word.{Word}
+use Rattle.lalrpop_json_values.specs.Gives.{◌>>=◌, here, within}
+use Rattle.lalrpop_json_values.specs.Key.{key_text}
+use Rattle.lalrpop_json_values.specs.Nested.{Reader}
+use Rattle.lalrpop_json_values.specs.Scalars.{is_word}
 
 -- the value itself is refused
-abbrev pub refused : Result ⊤ Fault
-refused = Err (here fault.WrongShape)
+abbrev pub refused_value : Result ⊤ Fault
+refused_value = Err (here fault.WrongShape)
 
 abbrev pub in_found : Key → Reader ⊤ → Option Data → Result ⊤ Fault
 in_found k look None = Ok tt
@@ -23,7 +23,7 @@ in_found k look (Some e) = within (step.Key k) (look e)
 
 -- in what stands at a key
 unfoldable pub in_key : Key → Reader ⊤ → Reader ⊤
-in_key k look d = in_found k look (get (text_of k) d)
+in_key k look d = in_found k look (get (key_text k) d)
 
 -- in each item in turn, from a place on
 abbrev pub in_each : Reader ⊤ → ℕ → Items → Result ⊤ Fault
@@ -40,7 +40,7 @@ in_list look d = in_items look (as_array d)
 
 -- a list that isn't empty
 unfoldable pub in_filled : Reader ⊤
-in_filled d = if is_some (at 0 d) then refused else Ok tt
+in_filled d = if is_some (at 0 d) then refused_value else Ok tt
 
 abbrev pub is_text : Word → Option (List ℕ) → Bool
 is_text w None = false
@@ -52,4 +52,4 @@ is_at w (Some e) = is_text w (as_str e)
 
 -- the value's `kind` is this word
 unfoldable pub is_kind : Word → Data → Bool
-is_kind w d = is_at w (get (text_of key.Kind) d)
+is_kind w d = is_at w (get (key_text key.Kind) d)

@@ -6,7 +6,7 @@ ghost use Rattle.lalrpop_refused.specs.Order.{Tells, comes_first, earlier, step_
 ghost use Rattle.lalrpop_refused.specs.Refused.{in_value};
 
 use crate::grammar::check_grammar;
-use lalrpop_values::{Fault, ReadError, Step};
+use lalrpop_json_values::{Fault, ReadError, Step};
 use serde_json::Value;
 use std::alloc::Global;
 use std::cmp::Ordering;

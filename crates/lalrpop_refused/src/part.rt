@@ -2,10 +2,10 @@
 
 ghost use Rattle.std.specs.Prelude.{◌≡◌};
 ghost use Rattle.serde_json.specs.View.{view};
-ghost use Rattle.lalrpop_values.specs.Gives.{Gives};
+ghost use Rattle.lalrpop_json_values.specs.Gives.{Gives};
 ghost use Rattle.lalrpop_refused.specs.Parts.{in_filled, in_key, is_kind};
 
-use lalrpop_values::{FaultKind, Key, ReadError, Word, at_key, here};
+use lalrpop_json_values::{FaultKind, Key, ReadError, Word, at_key, here};
 use serde_json::Value;
 use std::alloc::Global;
 

@@ -2,21 +2,21 @@
 
 ghost use Rattle.std.specs.Prelude.{◌≡◌};
 ghost use Rattle.serde_json.specs.View.{view};
-ghost use Rattle.lalrpop_values.specs.Gives.{Gives, within};
-ghost use Rattle.lalrpop_values.specs.declared.fault.Step.TheVariants as step;
+ghost use Rattle.lalrpop_json_values.specs.Gives.{Gives, within};
+ghost use Rattle.lalrpop_json_values.specs.declared.fault.Step.TheVariants as step;
 ghost use Rattle.lalrpop_refused.specs.Parts.{in_key, in_list};
-ghost use Rattle.lalrpop_refused.specs.Refused.{in_type};
+ghost use Rattle.lalrpop_refused.specs.Refused.{refused_in_type};
 
 use crate::symbol::check_symbol_at;
-use lalrpop_values::{Key, ReadError, Step, at_key, outside};
+use lalrpop_json_values::{Key, ReadError, Step, at_key, outside};
 use serde_json::Value;
 use std::alloc::Global;
 
 /// That no symbol in the type calls a macro.
 #[cycle(types)]
-#[tactic(auto, using(crate::proofs::Nesting::type_nesting), unfolding(crate::specs::Refused::type_form))]
+#[tactic(auto, using(crate::proofs::NestingLemmas::type_nesting), unfolding(crate::specs::Refused::type_form))]
 fn check_type(alloc: Global, value: &Value) -> Result<(), ReadError>
-    ensures { Gives result (in_type (view value.now)) }
+    ensures { Gives result (refused_in_type (view value.now)) }
 {
     check_types_at(alloc, value, Key::Args)?;
     check_type_at(alloc, value, Key::Ref)?;
@@ -26,7 +26,7 @@ fn check_type(alloc: Global, value: &Value) -> Result<(), ReadError>
 
 #[cycle(types)]
 fn check_type_in(alloc: Global, value: &Value, index: usize) -> Result<(), ReadError>
-    ensures { Gives result (within (step.Index index) (in_type (view value.now))) }
+    ensures { Gives result (within (step.Index index) (refused_in_type (view value.now))) }
 {
     match check_type(alloc, value) {
         Ok(()) => Ok(()),
@@ -36,9 +36,9 @@ fn check_type_in(alloc: Global, value: &Value, index: usize) -> Result<(), ReadE
 
 /// That no symbol in the types of a list calls a macro.
 #[cycle(types)]
-#[tactic(auto, using(crate::proofs::Nesting::type_nesting, crate::proofs::ListLemmas::lists), unfolding(crate::specs::Parts::in_list))]
+#[tactic(auto, using(crate::proofs::NestingLemmas::type_nesting, crate::proofs::ListLemmas::lists), unfolding(crate::specs::Parts::in_list))]
 fn check_types(alloc: Global, value: &Value) -> Result<(), ReadError>
-    ensures { Gives result (in_list in_type (view value.now)) }
+    ensures { Gives result (in_list refused_in_type (view value.now)) }
 {
     let Some(values) = value.as_array() else {
         return Ok(());
@@ -51,9 +51,9 @@ fn check_types(alloc: Global, value: &Value) -> Result<(), ReadError>
 
 /// That no symbol in the type at a key calls a macro.
 #[cycle(types)]
-#[tactic(auto, using(crate::proofs::Nesting::type_nesting), unfolding(crate::specs::Parts::in_key))]
+#[tactic(auto, using(crate::proofs::NestingLemmas::type_nesting), unfolding(crate::specs::Parts::in_key))]
 pub(crate) fn check_type_at(alloc: Global, value: &Value, key: Key) -> Result<(), ReadError>
-    ensures { Gives result (in_key key in_type (view value.now)) }
+    ensures { Gives result (in_key key refused_in_type (view value.now)) }
 {
     let Some(found) = value.get(key.text()) else {
         return Ok(());
@@ -64,9 +64,9 @@ pub(crate) fn check_type_at(alloc: Global, value: &Value, key: Key) -> Result<()
 
 /// That no symbol in the types of the list at a key calls a macro.
 #[cycle(types)]
-#[tactic(auto, using(crate::proofs::Nesting::type_nesting), unfolding(crate::specs::Parts::in_key))]
+#[tactic(auto, using(crate::proofs::NestingLemmas::type_nesting), unfolding(crate::specs::Parts::in_key))]
 fn check_types_at(alloc: Global, value: &Value, key: Key) -> Result<(), ReadError>
-    ensures { Gives result (in_key key (in_list in_type) (view value.now)) }
+    ensures { Gives result (in_key key (in_list refused_in_type) (view value.now)) }
 {
     let Some(found) = value.get(key.text()) else {
         return Ok(());

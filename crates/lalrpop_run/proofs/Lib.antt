@@ -1,4 +1,2 @@
-pub mod OverLemmas
 pub mod PlainLemmas
 pub mod QuotingLemmas
-pub mod StartLemmas

@@ -1,10 +1,9 @@
-pub mod Answering
-pub mod Json
-pub mod Judging
+pub mod Inputs
+pub mod Judge
+pub mod Plain
 pub mod Questions
 pub mod Quoting
-pub mod Reading
 pub mod Replies
+pub mod ReplyTexts
 pub mod Runs
-pub mod Starts
 pub mod Tokens

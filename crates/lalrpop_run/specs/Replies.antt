@@ -1,61 +1,41 @@
--- What the program writes for what it has to say, and the status that it ends with. Each line ends with a line feed.
-use Rattle.std.specs.Prelude.{ℕ, true, false, List, [], ◌∷◌, ◌++◌, codes, decimal}
-use Rattle.lalrpop_symbols.specs.Texts.{terminal_text}
-use Rattle.lalrpop_values.specs.FaultText.{fault_text}
-use Rattle.lalrpop_values.specs.JsonText.{json_text}
-use Rattle.lalrpop_grammar.specs.declared.token.ScanToken.{ScanToken}
-use Rattle.lalrpop_grammar.specs.Trees.{Token}
-use Rattle.lalrpop_grammar.specs.Views.{token}
-use Rattle.lalrpop_scan.specs.Faults as literals
+-- What there is to reply to a question: to a grammar and a text, and to what the readers give.
+use Rattle.std.specs.Prelude.{◌≡◌, ℕ, Bool, true, false, List, [], Option, Result, Ok, Err, IsUtf8}
+use Rattle.serde_json.specs.Data.{Data}
+use Rattle.lalrpop_grammar.specs.declared.grammar.Grammar.{Grammar}
+use Rattle.lalrpop_grammar_streams.specs.Streams.{ReadsAll}
+use Rattle.lalrpop_grammar_symbols.specs.Symbols.{Text}
+use Rattle.lalrpop_json_values.specs.declared.fault.Fault.{Fault}
+use Rattle.lalrpop_run_options.specs.declared.task.Task.{Task}
+use Rattle.lalrpop_run_options.specs.declared.task.Task.TheVariants as tasks
+use Rattle.lalrpop_run.specs.Inputs.{IsJsonOf, IsNoJson}
+use Rattle.lalrpop_run.specs.Judge.{IsJudgeReply}
+use Rattle.lalrpop_run.specs.Questions.{Question, grammar_for, reads_text}
+use Rattle.lalrpop_run.specs.Tokens.{IsTokensReply}
 use Rattle.lalrpop_run.specs.declared.reply.Reply.{Reply}
 use Rattle.lalrpop_run.specs.declared.reply.Reply.TheVariants as replies
 
-abbrev pub line : List ℕ → List ℕ
-line text = text ++ 10 ∷ []
+abbrev pub IsTaskReply : Task → Question → Grammar → Text → Reply → Type 0
+IsTaskReply tasks.Judge q g text reply = IsJudgeReply q g reply
+IsTaskReply tasks.Tokens q g text reply = IsTokensReply q g text reply
 
--- from which byte to which byte it stands, its terminal, and its text as a JSON string
-abbrev pub token_text : Token → List ℕ
-token_text t = decimal t.span.0 ++ codes ".." ++ decimal t.span.1 ++ codes " " ++ terminal_text t.terminal ++ codes " " ++ json_text t.text
+-- to a grammar and a text, by the task
+abbrev pub IsReplyTo : Question → Grammar → Text → Reply → Type 0
+IsReplyTo q g text reply = IsTaskReply q.task q g text reply
 
--- a line each
-abbrev pub tokens_text : List ScanToken → List ℕ
-tokens_text [] = []
-tokens_text (t ∷ ts) = line (token_text (token t)) ++ tokens_text ts
+-- what the grammar's bytes give to the question
+abbrev pub GivesGrammar : Question → List ℕ → Result Grammar Fault → Type 0
+GivesGrammar q bytes given = (d : Data) × (IsJsonOf bytes d × (grammar_for q.task d ≡ given))
 
-abbrev pub text_of : Reply → List ℕ
-text_of (replies.Judged true) = line (codes "yes")
-text_of (replies.Judged false) = line (codes "no")
-text_of replies.WantsTree = line (codes "judge needs --tree")
-text_of replies.NotJson = line (codes "not JSON")
-text_of (replies.GrammarFault fault) = line (codes "grammar value: " ++ fault_text fault)
-text_of (replies.TreeFault fault) = line (codes "tree value: " ++ fault_text fault)
-text_of replies.ConditionLimit = line (codes "condition limit")
-text_of replies.NotUtf8 = line (codes "text isn't UTF-8")
-text_of (replies.Literals fault) = line (literals.fault_text fault)
-text_of (replies.UnknownStart name) = line (codes "unknown start: " ++ name)
-text_of (replies.PrivateStart name) = line (codes "private start: " ++ name)
-text_of (replies.Tokens tokens) = tokens_text tokens.items
-text_of (replies.NoToken at) = line (codes "no token at byte " ++ decimal at)
+-- the text, where it is read: all that its reader has left
+abbrev pub IsTextIn : Bool → Option (List ℕ) → List ℕ → Type 0
+IsTextIn true known text = ReadsAll known text × IsUtf8 text
+IsTextIn false known text = text ≡ []
 
-abbrev pub status_of : Reply → ℕ
-status_of (replies.Judged true) = 0
-status_of (replies.Judged false) = 1
-status_of replies.WantsTree = 4
-status_of replies.NotJson = 4
-status_of (replies.GrammarFault fault) = 4
-status_of (replies.TreeFault fault) = 4
-status_of replies.ConditionLimit = 3
-status_of replies.NotUtf8 = 4
-status_of (replies.Literals fault) = 3
-status_of (replies.UnknownStart name) = 3
-status_of (replies.PrivateStart name) = 3
-status_of (replies.Tokens tokens) = 0
-status_of (replies.NoToken at) = 1
-
--- where a growth was refused
-abbrev pub memory_text : List ℕ
-memory_text = line (codes "out of memory")
-
--- where a reader has failed
-abbrev pub fault_line : List ℕ
-fault_line = line (codes "read fault")
+-- To the grammar's bytes and what the text's reader has left. The text is read once there is a grammar, where it is needed.
+pub data IsRunReply (q : Question) (bytes : List ℕ) (known : Option (List ℕ)) (reply : Reply) : Type 0 where
+  no_json : IsNoJson bytes → reply ≡ replies.NotJson → IsRunReply q bytes known reply
+  no_grammar : (fault : Fault) → GivesGrammar q bytes (Err fault) → reply ≡ replies.GrammarFault fault → IsRunReply q bytes known reply
+  no_text : (g : Grammar) (text : List ℕ) → GivesGrammar q bytes (Ok g) → reads_text q ≡ true → ReadsAll known text
+      → (IsUtf8 text → ⊥) → reply ≡ replies.NotUtf8 → IsRunReply q bytes known reply
+  replied : (g : Grammar) (text : List ℕ) → GivesGrammar q bytes (Ok g) → IsTextIn (reads_text q) known text
+      → IsReplyTo q g text reply → IsRunReply q bytes known reply

@@ -1,80 +1,71 @@
--- What a run writes, and its status.
-use Rattle.std.specs.Prelude.{◌≡◌, ◌⊎◌, ℕ, Bool, true, false, List, Option, Some, None}
+-- The main theorem: what a run writes, and its status.
+use Rattle.std.specs.Prelude.{◌≡◌, ◌⊎◌, ℕ, Bool, true, false, List, Option, Some, None, Ok, string_bytes}
 use Rattle.lalrpop_grammar.specs.declared.grammar.Grammar.{Grammar}
-use Rattle.lalrpop_options.specs.declared.settings.Options.{Options}
-use Rattle.lalrpop_options.specs.declared.task.Task.{Task}
-use Rattle.lalrpop_options.specs.declared.task.Task.TheVariants as tasks
-use Rattle.lalrpop_streams.specs.Streams.{ReadsAll, Writes}
-use Rattle.lalrpop_streams.specs.declared.whole.Unread.{Unread}
-use Rattle.lalrpop_streams.specs.declared.whole.Unread.TheVariants as unread
+use Rattle.lalrpop_grammar_streams.specs.Streams.{ReadsAll, Writes}
+use Rattle.lalrpop_run.specs.Questions.{Question, reads_grammar, reads_text}
+use Rattle.lalrpop_run.specs.Replies.{GivesGrammar, IsRunReply}
+use Rattle.lalrpop_run.specs.ReplyTexts.{reply_text, reply_status, memory_text, fault_line}
 use Rattle.lalrpop_run.specs.declared.reply.Answer.{Answer}
-use Rattle.lalrpop_run.specs.Answering.{IsAnswerText}
-use Rattle.lalrpop_run.specs.Judging.{IsReply}
-use Rattle.lalrpop_run.specs.Questions.{features_of, tree_of}
-use Rattle.lalrpop_run.specs.Replies.{text_of, status_of, memory_text, fault_line}
-use Rattle.lalrpop_run.specs.Tokens.{IsPlainOf, IsReplyOver}
 use Rattle.lalrpop_run.specs.declared.reply.Reply.{Reply}
 use Rattle.lalrpop_run.specs.declared.reply.Reply.TheVariants as replies
 
--- the text and the status of what there is to say
-abbrev pub Says : Reply → List ℕ → ℕ → Type 0
-Says reply text status = (text ≡ text_of reply) × (status ≡ status_of reply)
+-- what is to be written, and the status
+pub record Output : Type 0 where
+  pub text : List ℕ
+  pub status : ℕ
 
--- The text and the status: the answer to all bytes that the grammar's reader had; or that memory was wanting; or that
--- a reader has failed, and only where one has.
-abbrev pub AnswersAll : (List ℕ → Reply → Type 0) → Option (List ℕ) → Type 0 → List ℕ → ℕ → Type 0
-AnswersAll IsReplyTo known HasFailed text status =
-    ((bytes : List ℕ) × (ReadsAll known bytes × ((reply : Reply) × (IsReplyTo bytes reply × Says reply text status))))
-    ⊎ (((text ≡ memory_text) × (status ≡ 5))
-    ⊎ ((text ≡ fault_line) × (status ≡ 6) × HasFailed))
+abbrev pub answer_view : Answer → Output
+answer_view answer = record { text = string_bytes answer.text; status = answer.status }
 
--- of `judge`, by the tree that the words give, or don't
-abbrev pub AnswersJudge : List (List ℕ) → List ℕ → Option (List ℕ) → Option (List ℕ) → Bool → List ℕ → ℕ → Type 0
-AnswersJudge features start None known failed text status = Says replies.WantsTree text status ⊎ ((text ≡ memory_text) × (status ≡ 5))
-AnswersJudge features start (Some tree) known failed text status = AnswersAll (IsReply features start tree) known (failed ≡ true) text status
+abbrev pub reply_output : Reply → Output
+reply_output reply = record { text = reply_text reply; status = reply_status reply }
 
--- what the grammar's reader has left spells a plain grammar: only then the text is read
-abbrev pub IsTextRead : Option (List ℕ) → Type 0
-IsTextRead known = (bytes : List ℕ) × (ReadsAll known bytes × ((g : Grammar) × IsPlainOf bytes g))
+abbrev pub out_of_memory : Output
+out_of_memory = record { text = memory_text; status = 5 }
 
--- one of the readers of `tokens` has failed
-pub data HasFailed (known : Option (List ℕ)) (grammar_failed text_failed : Bool) : Type 0 where
-  of_grammar : grammar_failed ≡ true → HasFailed known grammar_failed text_failed
-  of_text : IsTextRead known → text_failed ≡ true → HasFailed known grammar_failed text_failed
+abbrev pub read_fault : Output
+read_fault = record { text = fault_line; status = 6 }
 
--- of `tokens`, by what both readers have left
-abbrev pub AnswersTokens : List (List ℕ) → List ℕ → Option (List ℕ) → Bool → Option (List ℕ) → Bool → List ℕ → ℕ → Type 0
-AnswersTokens features start known grammar_failed known_text text_failed text status =
-    AnswersAll (IsReplyOver features start known_text) known (HasFailed known grammar_failed text_failed) text status
+-- a reader of a run: what it had left before, where it tells that, whether it had ended, and whether it has failed or ended since
+pub record RunReader : Type 0 where
+  pub known : Option (List ℕ)
+  pub had_ended : Bool
+  pub has_failed : Bool
+  pub has_ended : Bool
 
--- by the task
-abbrev pub AnswersTask : Task → Options → Option (List ℕ) → Bool → Option (List ℕ) → Bool → List ℕ → ℕ → Type 0
-AnswersTask tasks.Judge options known grammar_failed known_text text_failed text status =
-    AnswersJudge (features_of options) options.start.now (tree_of options) known grammar_failed text status
-AnswersTask tasks.Tokens options known grammar_failed known_text text_failed text status =
-    AnswersTokens (features_of options) options.start.now known grammar_failed known_text text_failed text status
+-- it failed, or passed a bound, before it ended
+abbrev pub HasFailed : RunReader → Type 0
+HasFailed r = (r.has_failed ≡ true) × (r.had_ended ≡ false → r.has_ended ≡ false)
 
--- All of the text is written and the status is its own; or a front of the text is written, the writer has failed, and
--- the status is 6.
-abbrev pub IsWritten : Option (List ℕ) → Option (List ℕ) → Bool → List ℕ → ℕ → ℕ → Type 0
-IsWritten old new failed text status result =
-    (Writes old new text false × (result ≡ status)) ⊎ (Writes old new text true × (failed ≡ true) × (result ≡ 6))
+-- the writer of a run: what it held before and holds now, where it tells that, and whether it has failed
+pub record RunWriter : Type 0 where
+  pub before : Option (List ℕ)
+  pub after : Option (List ℕ)
+  pub has_failed : Bool
 
-abbrev pub IsRun : (List ℕ → ℕ → Type 0) → Option (List ℕ) → Option (List ℕ) → Bool → ℕ → Type 0
-IsRun IsAnswer old new failed result =
-    (text : List ℕ) × (status : ℕ) × (IsAnswer text status × IsWritten old new failed text status result)
+-- the grammar's reader had bytes that give a grammar: only then the text is read
+abbrev pub HasGrammar : Question → Option (List ℕ) → Type 0
+HasGrammar q known = (bytes : List ℕ) × (ReadsAll known bytes × ((g : Grammar) × GivesGrammar q bytes (Ok g)))
 
--- the answer to what a reader has left
-abbrev pub IsAnswerOf : (List ℕ → Reply → Type 0) → Option (List ℕ) → Answer → Type 0
-IsAnswerOf IsReplyTo known answer =
-    (bytes : List ℕ) × (ReadsAll known bytes × ((reply : Reply) × (IsReplyTo bytes reply × IsAnswerText reply answer)))
+-- The right answer to what the readers give: a reply; or that memory was wanting; or that a reader has failed that was read.
+pub data IsRightAnswer (q : Question) (grammar text : RunReader) (output : Output) : Type 0 where
+  unread : reads_grammar q ≡ false → output ≡ reply_output replies.WantsTree → IsRightAnswer q grammar text output
+  replied : (bytes : List ℕ) (reply : Reply) → reads_grammar q ≡ true → ReadsAll grammar.known bytes
+      → IsRunReply q bytes text.known reply → output ≡ reply_output reply → IsRightAnswer q grammar text output
+  wants_memory : output ≡ out_of_memory → IsRightAnswer q grammar text output
+  no_grammar : reads_grammar q ≡ true → HasFailed grammar → output ≡ read_fault → IsRightAnswer q grammar text output
+  no_text : reads_text q ≡ true → HasGrammar q grammar.known → HasFailed text → output ≡ read_fault
+      → IsRightAnswer q grammar text output
 
--- the answer of `judge` to what the grammar's reader has left
-abbrev pub IsJudgeAnswer : List (List ℕ) → List ℕ → Option (List ℕ) → Option (List ℕ) → Answer → Type 0
-IsJudgeAnswer features start None known answer = IsAnswerText replies.WantsTree answer
-IsJudgeAnswer features start (Some tree) known answer = IsAnswerOf (IsReply features start tree) known answer
+-- All of it is written and the status is its own; or a front of it, the writer has failed, and the status is 6.
+abbrev pub IsWritten : Output → RunWriter → ℕ → Type 0
+IsWritten output w status =
+    (Writes w.before w.after output.text false × (status ≡ output.status))
+    ⊎ (Writes w.before w.after output.text true × (w.has_failed ≡ true) × (status ≡ 6))
 
--- why there is none
-abbrev pub IsJudgeFault : Option (List ℕ) → Bool → Unread → Type 0
-IsJudgeFault None failed e = e ≡ unread.Memory
-IsJudgeFault (Some tree) failed e = e ≡ unread.Fault → failed ≡ true
+-- The main theorem: what is written is the text of the right answer to what the readers give, or a front of it where the
+-- writer failed; and the status is its own, or 6.
+pub record IsRightRun (q : Question) (grammar text : RunReader) (out : RunWriter) (status : ℕ) : Type 0 where
+  pub output : Output
+  pub right : IsRightAnswer q grammar text output
+  pub written : IsWritten output out status

@@ -1,15 +1,17 @@
 //! The answer once grammar and text are read.
 
-ghost use Rattle.std.specs.Prelude.{IfOk};
-ghost use Rattle.lalrpop_run.specs.Answering.{IsAnswerText, IsReplyOf};
+ghost use Rattle.std.specs.Prelude.{◌≡◌, IfOk};
+ghost use Rattle.lalrpop_run.specs.Questions.{question_of, question_view};
+ghost use Rattle.lalrpop_run.specs.Replies.{IsReplyTo};
+ghost use Rattle.lalrpop_run.specs.Runs.{answer_view, reply_output};
 
 use crate::judging::judge_reply;
 use crate::putting::put;
-use crate::question::question_of;
+use crate::question::{Question, question_of};
 use crate::reply::{Answer, Reply};
-use crate::tokens::plain_reply;
+use crate::tokens::tokens_reply;
 use lalrpop_grammar::Grammar;
-use lalrpop_options::{Options, Task};
+use lalrpop_run_options::{Options, Task};
 use std::alloc::{AllocError, Global};
 
 /// The answer once the grammar and the text are read. `judge` has no use for the text.
@@ -20,30 +22,30 @@ pub fn answer(
     text: &str,
 ) -> Result<Answer, AllocError>
     ensures { IfOk result (λ answer. (reply : Reply)
-        × (IsReplyOf options.now.task options.now grammar text.now reply × IsAnswerText reply answer)) }
+        × (IsReplyTo (question_of options.now) grammar text.now reply × (answer_view answer ≡ reply_output reply))) }
 {
-    let reply = reply_about(alloc, options, &grammar, text)?;
+    let question = question_of(alloc, options)?;
+    let reply = reply_to(alloc, &question, &grammar, text)?;
     let said = put(alloc, reply)?;
     Ok(said)
 }
 
-/// The reply to the task.
-fn reply_about<'t>(
+/// The reply to a grammar and a text, by the task.
+fn reply_to<'t>(
     alloc: Global,
-    options: &Options<'_>,
+    question: &Question<'_>,
     grammar: &Grammar,
     text: &'t str,
 ) -> Result<Reply<'t>, AllocError>
-    ensures { IfOk result (IsReplyOf options.now.task options.now grammar.now text.now) }
+    ensures { IfOk result (IsReplyTo (question_view question.now) grammar.now text.now) }
 {
-    let question = question_of(alloc, options)?;
-    match options.task {
+    match question.task {
         Task::Judge => {
-            let reply = judge_reply(alloc, &question, grammar, options.tree)?;
+            let reply = judge_reply(alloc, question, grammar)?;
             Ok(reply)
         }
         Task::Tokens => {
-            let reply = plain_reply(alloc, &question, grammar, text)?;
+            let reply = tokens_reply(alloc, question, grammar, text)?;
             Ok(reply)
         }
     }

@@ -2,26 +2,25 @@
 #![tactic(auto)]
 
 mod answering;
+mod input;
 mod json_value;
-mod judge_run;
 mod judging;
 mod putting;
 mod question;
 mod quoting;
-mod reading;
 mod reply;
 mod running;
-mod standing;
 mod texts;
 mod tokens;
-mod tokens_run;
+mod words;
 
 pub use answering::answer;
-pub use lalrpop_formats::{
+pub use lalrpop_json_grammar::{
     Fault, FaultKind, Key, ReadError, Step, print_tree, read_grammar, read_tree,
 };
-pub use lalrpop_options::{Options, OptionsError, Task, options};
-pub use lalrpop_scan::TokensFault;
-pub use lalrpop_writing::{WriteError, write_grammar};
+pub use lalrpop_json_writer::{WriteError, write_grammar};
+pub use lalrpop_lexer_scan::TokensFault;
+pub use lalrpop_run_options::{Options, OptionsError, Task, options};
 pub use reply::{Answer, Reply};
 pub use running::run;
+pub use words::run_words;

@@ -1,8 +1,8 @@
 //! Replies as answers: texts with the status that the program ends with.
 
 ghost use Rattle.std.specs.Prelude.{◌≡◌, IfOk};
-ghost use Rattle.lalrpop_run.specs.Answering.{IsAnswerText};
-ghost use Rattle.lalrpop_run.specs.Replies.{status_of};
+ghost use Rattle.lalrpop_run.specs.ReplyTexts.{reply_status};
+ghost use Rattle.lalrpop_run.specs.Runs.{answer_view, reply_output};
 
 use crate::reply::{Answer, Reply};
 use crate::texts::text_of_reply;
@@ -10,14 +10,14 @@ use std::alloc::{AllocError, Global};
 
 /// The answer that says it.
 pub(crate) fn put(alloc: Global, reply: Reply<'_>) -> Result<Answer, AllocError>
-    ensures { IfOk result (IsAnswerText reply.entry) }
+    ensures { IfOk result (λ answer. answer_view answer ≡ reply_output reply.entry) }
 {
     let answer = answer_to(alloc, &reply)?;
     Ok(answer)
 }
 
 fn answer_to(alloc: Global, reply: &Reply<'_>) -> Result<Answer, AllocError>
-    ensures { IfOk result (IsAnswerText reply.now) }
+    ensures { IfOk result (λ answer. answer_view answer ≡ reply_output reply.now) }
 {
     let text = text_of_reply(alloc, reply)?;
     Ok(Answer {
@@ -28,7 +28,7 @@ fn answer_to(alloc: Global, reply: &Reply<'_>) -> Result<Answer, AllocError>
 
 /// The exit status of a reply.
 fn status(reply: &Reply<'_>) -> u8
-    ensures { result ≡ status_of reply.now }
+    ensures { result ≡ reply_status reply.now }
 {
     match reply {
         Reply::Judged(true) | Reply::Tokens(_) => 0,

@@ -1,27 +1,36 @@
 //! What the words ask of a grammar.
 
 ghost use Rattle.std.specs.Prelude.{◌≡◌, IfOk, map};
-ghost use Rattle.lalrpop_run.specs.Questions.{features_of};
+ghost use Rattle.lalrpop_run.specs.Questions.{question_of, question_view, reads_grammar};
 
 use lalrpop_grammar::Atom;
-use lalrpop_options::Options;
+use lalrpop_run_options::{Options, Task};
 use std::alloc::{AllocError, Global};
 
-/// The rule to start from and the features.
+/// What the words ask: the task, the rule to start from, the features, and the tree's JSON, where one was given.
 #[derive(Drop)]
-pub(crate) struct Question {
+pub(crate) struct Question<'a> {
+    pub(crate) task: Task,
     pub(crate) start: Atom,
     pub(crate) features: Vec<Atom>,
+    pub(crate) tree: Option<&'a str>,
 }
 
 /// The question that the words put.
-pub(crate) fn question_of(alloc: Global, options: &Options<'_>) -> Result<Question, AllocError>
-    ensures start { IfOk result (λ q. q.start ≡ options.now.start.now) }
-    ensures features { IfOk result (λ q. q.features.items ≡ features_of options.now) }
+pub(crate) fn question_of<'a>(
+    alloc: Global,
+    options: &Options<'a>,
+) -> Result<Question<'a>, AllocError>
+    ensures { IfOk result (λ q. question_view q ≡ question_of options.now) }
 {
     let start = Atom::new(alloc, options.start)?;
     let features = atoms(alloc, options.features.as_slice())?;
-    Ok(Question { start, features })
+    Ok(Question {
+        task: options.task,
+        start,
+        features,
+        tree: options.tree,
+    })
 }
 
 /// The texts, shared.
@@ -33,4 +42,14 @@ fn atoms(alloc: Global, texts: &[&str]) -> Result<Vec<Atom>, AllocError>
         shared.push(Atom::new(alloc, text)?)?;
     }
     Ok(shared)
+}
+
+/// Whether the grammar is read: `judge` has no use for it where no tree was given.
+pub(crate) fn reads_grammar(options: &Options<'_>) -> bool
+    ensures { result ≡ reads_grammar (question_of options.now) }
+{
+    match options.task {
+        Task::Judge => options.tree.is_some(),
+        Task::Tokens => true,
+    }
 }

@@ -3,9 +3,9 @@
 ghost use Rattle.std.specs.Prelude.{◌≡◌, [], ◌∷◌, ◌++◌, OnOk, string_bytes};
 ghost use Rattle.std.specs.List.{list_all};
 ghost use Rattle.lalrpop_run.specs.Quoting.{stands};
-ghost use Rattle.lalrpop_values.specs.JsonText.{json_text};
+ghost use Rattle.lalrpop_json_values.specs.JsonText.{json_text};
 
-use lalrpop_formats::json_string;
+use lalrpop_json_grammar::json_string;
 use std::alloc::{AllocError, Global};
 
 /// Whether no byte of the text has an escape in JSON.

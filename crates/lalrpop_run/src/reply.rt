@@ -1,8 +1,8 @@
 //! What the program has to say.
 
-use lalrpop_formats::Fault;
 use lalrpop_grammar::{Atom, ScanToken};
-use lalrpop_scan::TokensFault;
+use lalrpop_json_grammar::Fault;
+use lalrpop_lexer_scan::TokensFault;
 
 /// What the program has to say, before it is put into words.
 #[derive(Debug, Drop)]

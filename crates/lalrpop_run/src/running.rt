@@ -1,24 +1,30 @@
 //! The run of the program over its readers and its writer.
 
-ghost use Rattle.std.specs.Prelude.{◌≡◌, IfOk, IfErr, None, false, string_bytes};
-ghost use Rattle.lalrpop_run.specs.Questions.{tree_of};
-ghost use Rattle.lalrpop_run.specs.Replies.{fault_line};
-ghost use Rattle.lalrpop_run.specs.Runs.{AnswersTask, IsRun, IsTextRead, IsWritten};
+ghost use Rattle.std.specs.Prelude.{◌≡◌, ℕ, List, Option, IfOk, IfErr, Ok, true, false};
+ghost use Rattle.lalrpop_grammar_streams.specs.Streams.{ReadsAll};
+ghost use Rattle.lalrpop_run.specs.Inputs.{IsInput};
+ghost use Rattle.lalrpop_run.specs.Questions.{grammar_for, question_of, reads_grammar, reads_text};
+ghost use Rattle.lalrpop_run.specs.Replies.{GivesGrammar, IsRunReply};
+ghost use Rattle.lalrpop_run.specs.Runs.{answer_view, read_fault, reply_output, HasGrammar, IsRightAnswer, IsRightRun, IsWritten};
 
-use crate::judge_run::judge_answer;
-use crate::reply::Answer;
-use crate::tokens_run::tokens_answer;
-use lalrpop_options::{Options, Task};
-use lalrpop_streams::{Sink, Source, Unread, write_all};
-use std::alloc::Global;
+use crate::answering::answer;
+use crate::input::{Input, grammar_input};
+use crate::putting::put;
+use crate::question::reads_grammar;
+use crate::reply::{Answer, Reply};
+use lalrpop_grammar::Grammar;
+use lalrpop_grammar_streams::{Sink, Source, SourceError, read_all, write_all};
+use lalrpop_run_options::{Options, Task};
+use std::alloc::{AllocError, Global};
+use std::str;
 
 /// Answers the words over the grammar's JSON and, for `tokens`, over the text, and writes the answer; its own answer is
 /// the exit status.
 ///
 /// `grammar` is read to its end, but not where the words give `judge` no tree. `judge` never reads `text`; `tokens` reads
-/// it to its end, once the grammar's JSON has given a plain grammar, and not where it gives none. The answer's text is
-/// made whole before the first write. Where memory was wanting the status is 5, where a reader or the writer has failed
-/// it is 6.
+/// it to its end, once the grammar's JSON has given a grammar that it takes, and not where it gives none. The answer's
+/// text is made whole before the first write. Where memory was wanting the status is 5, where a reader or the writer has
+/// failed it is 6.
 pub fn run<R1: Source, R2: Source, W: Sink>(
     alloc: Global,
     options: &Options<'_>,
@@ -26,47 +32,175 @@ pub fn run<R1: Source, R2: Source, W: Sink>(
     text: &mut R2,
     out: &mut W,
 ) -> u8
-    ensures answers { W.has_failed out.old ≡ false → IsRun
-        (AnswersTask options.now.task options.now (R1.remaining grammar.old) (R1.has_failed grammar.new)
-        (R2.remaining text.old) (R2.has_failed text.new))
-        (W.contents out.old) (W.contents out.new) (W.has_failed out.new) result }
-    ensures text_unread { options.now.task ≡ Task.Judge → text.new ≡ text.old }
-    ensures text_unwanted { (IsTextRead (R1.remaining grammar.old) → ⊥) → text.new ≡ text.old }
-    ensures grammar_unread { options.now.task ≡ Task.Judge → tree_of options.now ≡ None
-        → grammar.new ≡ grammar.old }
+    ensures right { W.has_failed out.old ≡ false → IsRightRun (question_of options.now)
+        (record {
+          known = R1.remaining grammar.old;
+          had_ended = R1.ended grammar.old;
+          has_failed = R1.has_failed grammar.new;
+          has_ended = R1.ended grammar.new;
+        })
+        (record {
+          known = R2.remaining text.old;
+          had_ended = R2.ended text.old;
+          has_failed = R2.has_failed text.new;
+          has_ended = R2.ended text.new;
+        })
+        (record { before = W.contents out.old; after = W.contents out.new; has_failed = W.has_failed out.new })
+        result }
+    ensures grammar_unread { reads_grammar (question_of options.now) ≡ false → grammar.new ≡ grammar.old }
+    ensures text_unread { reads_text (question_of options.now) ≡ false → text.new ≡ text.old }
+    ensures text_unwanted { (HasGrammar (question_of options.now) (R1.remaining grammar.old) → ⊥)
+        → text.new ≡ text.old }
+    ensures grammar_uses { R1.ended grammar.old ≡ false → R1.misused grammar.new ≡ R1.misused grammar.old }
+    ensures text_uses { R2.ended text.old ≡ false → R2.misused text.new ≡ R2.misused text.old }
 {
-    match answer_of(alloc, options, grammar, text) {
+    match right_answer(alloc, options, grammar, text) {
         Ok(answer) => write(answer.text.as_bytes(), answer.status, out),
-        Err(Unread::Memory) => write(b"out of memory\n", 5, out),
-        Err(Unread::Fault) => write(b"read fault\n", 6, out),
+        Err(SourceError::Memory) => write(b"out of memory\n", 5, out),
+        Err(SourceError::Failed) => write(b"read fault\n", 6, out),
     }
 }
 
-/// The answer to the task, or why there is none.
-fn answer_of<R1: Source, R2: Source>(
+/// The answer to what the readers give, or why there is none.
+fn right_answer<R1: Source, R2: Source>(
     alloc: Global,
     options: &Options<'_>,
     grammar: &mut R1,
     text: &mut R2,
-) -> Result<Answer, Unread>
-    ensures answer { IfOk result (λ a. AnswersTask options.now.task options.now
-        (R1.remaining grammar.old) (R1.has_failed grammar.new)
-        (R2.remaining text.old) (R2.has_failed text.new) (string_bytes a.text) a.status) }
-    ensures fault { IfErr result (λ e. e ≡ Unread.Fault → AnswersTask options.now.task options.now
-        (R1.remaining grammar.old) (R1.has_failed grammar.new)
-        (R2.remaining text.old) (R2.has_failed text.new) fault_line 6) }
-    ensures text_unread { options.now.task ≡ Task.Judge → text.new ≡ text.old }
-    ensures text_unwanted { (IsTextRead (R1.remaining grammar.old) → ⊥) → text.new ≡ text.old }
-    ensures grammar_unread { options.now.task ≡ Task.Judge → tree_of options.now ≡ None
-        → grammar.new ≡ grammar.old }
+) -> Result<Answer, SourceError>
+    ensures answer { IfOk result (λ a. IsRightAnswer (question_of options.now)
+        (record {
+          known = R1.remaining grammar.old;
+          had_ended = R1.ended grammar.old;
+          has_failed = R1.has_failed grammar.new;
+          has_ended = R1.ended grammar.new;
+        })
+        (record {
+          known = R2.remaining text.old;
+          had_ended = R2.ended text.old;
+          has_failed = R2.has_failed text.new;
+          has_ended = R2.ended text.new;
+        })
+        (answer_view a)) }
+    ensures fault { IfErr result (λ e. e ≡ SourceError.Failed → IsRightAnswer (question_of options.now)
+        (record {
+          known = R1.remaining grammar.old;
+          had_ended = R1.ended grammar.old;
+          has_failed = R1.has_failed grammar.new;
+          has_ended = R1.ended grammar.new;
+        })
+        (record {
+          known = R2.remaining text.old;
+          had_ended = R2.ended text.old;
+          has_failed = R2.has_failed text.new;
+          has_ended = R2.ended text.new;
+        })
+        read_fault) }
+    ensures grammar_unread { reads_grammar (question_of options.now) ≡ false → grammar.new ≡ grammar.old }
+    ensures text_unread { reads_text (question_of options.now) ≡ false → text.new ≡ text.old }
+    ensures text_unwanted { (HasGrammar (question_of options.now) (R1.remaining grammar.old) → ⊥)
+        → text.new ≡ text.old }
+    ensures grammar_uses { R1.ended grammar.old ≡ false → R1.misused grammar.new ≡ R1.misused grammar.old }
+    ensures text_uses { R2.ended text.old ≡ false → R2.misused text.new ≡ R2.misused text.old }
+{
+    if !reads_grammar(options) {
+        let answer = reply_answer(alloc, Reply::WantsTree)?;
+        return Ok(answer);
+    }
+    match read_grammar(alloc, options, grammar)? {
+        Input::Value(grammar) => {
+            let answer = answer_over(alloc, options, grammar, text)?;
+            Ok(answer)
+        }
+        Input::NotJson => {
+            let answer = reply_answer(alloc, Reply::NotJson)?;
+            Ok(answer)
+        }
+        Input::Fault(fault) => {
+            let answer = reply_answer(alloc, Reply::GrammarFault(fault))?;
+            Ok(answer)
+        }
+    }
+}
+
+/// The answer that says it.
+fn reply_answer(alloc: Global, reply: Reply<'_>) -> Result<Answer, SourceError>
+    ensures answer { IfOk result (λ a. answer_view a ≡ reply_output reply.entry) }
+    ensures fault { IfErr result (λ e. e ≡ SourceError.Memory) }
+{
+    let answer = put(alloc, reply)?;
+    Ok(answer)
+}
+
+/// What all that the grammar's reader has left is read as.
+fn read_grammar<R: Source>(
+    alloc: Global,
+    options: &Options<'_>,
+    grammar: &mut R,
+) -> Result<Input<Grammar>, SourceError>
+    ensures read { IfOk result (λ input. (bytes : List ℕ)
+        × (ReadsAll (R.remaining grammar.old) bytes × IsInput (grammar_for options.now.task) bytes input)) }
+    ensures fault { IfErr result (λ e. e ≡ SourceError.Failed → R.has_failed grammar.new ≡ true) }
+    ensures before_the_end { IfErr result (λ e. e ≡ SourceError.Failed
+        → R.ended grammar.old ≡ false → R.ended grammar.new ≡ false) }
+    ensures uses { R.ended grammar.old ≡ false → R.misused grammar.new ≡ R.misused grammar.old }
+{
+    let bytes = read_all(alloc, grammar)?;
+    let input = grammar_input(alloc, options.task, bytes.as_slice())?;
+    Ok(input)
+}
+
+/// The answer over a grammar and, where the task needs it, all that the text's reader has left.
+fn answer_over<R: Source>(
+    alloc: Global,
+    options: &Options<'_>,
+    grammar: Grammar,
+    text: &mut R,
+) -> Result<Answer, SourceError>
+    ensures answer { IfOk result (λ a. (reply : Reply) × (((bytes : List ℕ)
+        → GivesGrammar (question_of options.now) bytes (Ok grammar)
+        → IsRunReply (question_of options.now) bytes (R.remaining text.old) reply)
+        × (answer_view a ≡ reply_output reply))) }
+    ensures needed { IfErr result (λ e. e ≡ SourceError.Failed → reads_text (question_of options.now) ≡ true) }
+    ensures fault { IfErr result (λ e. e ≡ SourceError.Failed → R.has_failed text.new ≡ true) }
+    ensures before_the_end { IfErr result (λ e. e ≡ SourceError.Failed
+        → R.ended text.old ≡ false → R.ended text.new ≡ false) }
+    ensures unread { reads_text (question_of options.now) ≡ false → text.new ≡ text.old }
+    ensures uses { R.ended text.old ≡ false → R.misused text.new ≡ R.misused text.old }
 {
     match options.task {
         Task::Judge => {
-            let answer = judge_answer(alloc, options, grammar)?;
+            let answer = answer(alloc, options, grammar, "")?;
             Ok(answer)
         }
         Task::Tokens => {
-            let answer = tokens_answer(alloc, options, grammar, text)?;
+            let bytes = read_all(alloc, text)?;
+            let answer = answer_over_bytes(alloc, options, grammar, bytes.as_slice())?;
+            Ok(answer)
+        }
+    }
+}
+
+/// The answer over a grammar and the text's bytes.
+fn answer_over_bytes(
+    alloc: Global,
+    options: &Options<'_>,
+    grammar: Grammar,
+    bytes: &[u8],
+) -> Result<Answer, AllocError>
+    ensures { IfOk result (λ a. (reply : Reply) × (((known : Option (List ℕ)) (json : List ℕ)
+        → reads_text (question_of options.now) ≡ true → ReadsAll known bytes.now
+        → GivesGrammar (question_of options.now) json (Ok grammar)
+        → IsRunReply (question_of options.now) json known reply)
+        × (answer_view a ≡ reply_output reply))) }
+{
+    match str::from_utf8(bytes) {
+        Ok(text) => {
+            let answer = answer(alloc, options, grammar, text)?;
+            Ok(answer)
+        }
+        Err(_) => {
+            let answer = put(alloc, Reply::NotUtf8)?;
             Ok(answer)
         }
     }
@@ -74,8 +208,9 @@ fn answer_of<R1: Source, R2: Source>(
 
 /// Writes the text and answers its status, or 6 where the writer has failed.
 fn write<W: Sink>(text: &[u8], status: u8, out: &mut W) -> u8
-    ensures { W.has_failed out.old ≡ false → IsWritten (W.contents out.old) (W.contents out.new)
-        (W.has_failed out.new) text.now status result }
+    ensures { W.has_failed out.old ≡ false → IsWritten (record { text = text.now; status = status })
+        (record { before = W.contents out.old; after = W.contents out.new; has_failed = W.has_failed out.new })
+        result }
 {
     if write_all(text, out) { status } else { 6 }
 }

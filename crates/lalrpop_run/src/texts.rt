@@ -1,21 +1,21 @@
 //! Replies in words.
 
 ghost use Rattle.std.specs.Prelude.{◌≡◌, ◌++◌, IfOk, OnOk, codes, decimal, string_bytes};
-ghost use Rattle.lalrpop_grammar.specs.Views.{token as token_seen};
-ghost use Rattle.lalrpop_run.specs.Replies.{text_of, line, token_text, tokens_text};
-ghost use Rattle.lalrpop_scan.specs.Faults as literals;
-ghost use Rattle.lalrpop_values.specs.FaultText.{fault_text as fault_words};
+ghost use Rattle.lalrpop_grammar.specs.Views.{token_view};
+ghost use Rattle.lalrpop_run.specs.ReplyTexts.{reply_text, line, token_text, tokens_text};
+ghost use Rattle.lalrpop_lexer_scan.specs.Faults as literals;
+ghost use Rattle.lalrpop_json_values.specs.FaultText.{fault_text as fault_words};
 
 use crate::quoting::push_json;
 use crate::reply::Reply;
-use lalrpop_formats::{Fault, fault_text};
 use lalrpop_grammar::ScanToken;
-use lalrpop_scan::TokensFault;
+use lalrpop_json_grammar::{Fault, fault_text};
+use lalrpop_lexer_scan::TokensFault;
 use std::alloc::{AllocError, Global};
 
 /// The text of a reply.
 pub(crate) fn text_of_reply(alloc: Global, reply: &Reply<'_>) -> Result<String, AllocError>
-    ensures { IfOk result (λ text. string_bytes text ≡ text_of reply.now) }
+    ensures { IfOk result (λ text. string_bytes text ≡ reply_text reply.now) }
 {
     match reply {
         Reply::Judged(true) => one_line(alloc, "yes"),
@@ -27,8 +27,8 @@ pub(crate) fn text_of_reply(alloc: Global, reply: &Reply<'_>) -> Result<String, 
         Reply::ConditionLimit => one_line(alloc, "condition limit"),
         Reply::NotUtf8 => one_line(alloc, "text isn't UTF-8"),
         Reply::Literals(fault) => of_literals(alloc, fault),
-        Reply::UnknownStart(name) => named(alloc, "unknown start: ", name.as_str()),
-        Reply::PrivateStart(name) => named(alloc, "private start: ", name.as_str()),
+        Reply::UnknownStart(name) => line_about(alloc, "unknown start: ", name.as_str()),
+        Reply::PrivateStart(name) => line_about(alloc, "private start: ", name.as_str()),
         Reply::Tokens(tokens) => lines(alloc, tokens.as_slice()),
         Reply::NoToken(at) => no_token(alloc, *at),
     }
@@ -44,7 +44,7 @@ fn one_line(alloc: Global, text: &str) -> Result<String, AllocError>
 }
 
 /// A line of what is said and a name.
-fn named(alloc: Global, said: &str, name: &str) -> Result<String, AllocError>
+fn line_about(alloc: Global, said: &str, name: &str) -> Result<String, AllocError>
     ensures { IfOk result (λ written. string_bytes written ≡ line (said.now ++ name.now)) }
 {
     let mut written = String::from_str(alloc, said)?;
@@ -58,13 +58,13 @@ fn about(alloc: Global, whose: &str, fault: &Fault) -> Result<String, AllocError
     ensures { IfOk result (λ written. string_bytes written ≡ line (whose.now ++ fault_words fault.now)) }
 {
     let words = fault_text(alloc, fault)?;
-    let written = named(alloc, whose, words.as_str())?;
+    let written = line_about(alloc, whose, words.as_str())?;
     Ok(written)
 }
 
 /// A line on a fault of literals.
 fn of_literals(alloc: Global, fault: &TokensFault) -> Result<String, AllocError>
-    ensures { IfOk result (λ written. string_bytes written ≡ line (literals.fault_text fault.now)) }
+    ensures { IfOk result (λ written. string_bytes written ≡ line (literals.tokens_fault_text fault.now)) }
 {
     let words = fault.message(alloc)?;
     let written = one_line(alloc, words.as_str())?;
@@ -76,7 +76,7 @@ fn no_token(alloc: Global, at: usize) -> Result<String, AllocError>
     ensures { IfOk result (λ written. string_bytes written ≡ line (codes "no token at byte " ++ decimal at)) }
 {
     let byte = at.to_string(alloc)?;
-    let written = named(alloc, "no token at byte ", byte.as_str())?;
+    let written = line_about(alloc, "no token at byte ", byte.as_str())?;
     Ok(written)
 }
 
@@ -94,7 +94,7 @@ fn lines(alloc: Global, tokens: &[ScanToken<'_>]) -> Result<String, AllocError>
 /// Appends from which byte to which byte a token stands, its terminal, and its text as a JSON string.
 fn push_line(alloc: Global, token: &ScanToken<'_>, written: &mut String) -> Result<(), AllocError>
     ensures { OnOk result (string_bytes written.new
-        ≡ string_bytes written.old ++ line (token_text (token_seen token.now))) }
+        ≡ string_bytes written.old ++ line (token_text (token_view token.now))) }
 {
     write!(written, "{}..{} ", token.span.0, token.span.1)?;
     token.terminal.write_text(alloc, written)?;

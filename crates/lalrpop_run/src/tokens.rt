@@ -1,34 +1,37 @@
-//! What `tokens` has to say.
+//! What `tokens` replies.
 
-ghost use Rattle.std.specs.Prelude.{◌≡◌, ◌≢◌, IfOk, List, true, false};
-ghost use Rattle.lalrpop_grammar.specs.Views.{grammar as seen};
-ghost use Rattle.lalrpop_scan.specs.Entries.{Entry};
-ghost use Rattle.lalrpop_scan.specs.Scanning.{IsScannerOf};
-ghost use Rattle.lalrpop_run.specs.Starts.{has_start};
-ghost use Rattle.lalrpop_run.specs.Tokens.{IsBytesReply, IsPlainReply, IsScanReply, IsStartReply, IsTextReply, plain};
+ghost use Rattle.std.specs.Prelude.{◌≡◌, ◌↔◌, IfOk, IsTrue, List, Ok, true, false};
+ghost use Rattle.lalrpop_grammar.specs.Views.{grammar_view};
+ghost use Rattle.lalrpop_grammar_language.specs.Starts.{has_start};
+ghost use Rattle.lalrpop_grammar_rules.specs.StartViews.{is_known, is_public_start};
+ghost use Rattle.lalrpop_lexer_scan.specs.Literals.{LiteralUse};
+ghost use Rattle.lalrpop_lexer_scan.specs.Patterns.{literal_entries};
+ghost use Rattle.lalrpop_lexer_scan.specs.Scanning.{IsScannerOf};
+ghost use Rattle.lalrpop_run.specs.Plain.{plain};
+ghost use Rattle.lalrpop_run.specs.Questions.{question_view};
+ghost use Rattle.lalrpop_run.specs.Tokens.{AreEntriesOf, IsScanReply, IsTokensReply, enabled_for};
 
 use crate::question::Question;
 use crate::reply::Reply;
-use crate::standing::has_start;
-use lalrpop_formats::ReadError;
 use lalrpop_grammar::Grammar;
+use lalrpop_grammar_rules::{Rules, Start};
+use lalrpop_json_grammar::ReadError;
+use lalrpop_lexer_scan::{ScanError, Scanner, TokensFault};
 use lalrpop_plain::check_plain;
-use lalrpop_scan::{ScanError, Scanner, TokensFault};
 use std::alloc::{AllocError, Global};
-use std::str;
 
-/// The reply to a grammar that may not be plain, and a text.
-pub(crate) fn plain_reply<'t>(
+/// The reply to a grammar, which may not be plain, and a text.
+pub(crate) fn tokens_reply<'t>(
     alloc: Global,
-    question: &Question,
+    question: &Question<'_>,
     grammar: &Grammar,
     text: &'t str,
 ) -> Result<Reply<'t>, AllocError>
-    ensures { IfOk result (IsPlainReply question.now.features.items question.now.start text.now (plain grammar.now)) }
+    ensures { IfOk result (IsTokensReply (question_view question.now) grammar.now text.now) }
 {
     match check_plain(alloc, grammar) {
         Ok(()) => {
-            let reply = text_reply(alloc, question, grammar, text)?;
+            let reply = plain_reply(alloc, question, grammar, text)?;
             Ok(reply)
         }
         Err(ReadError::Shape(fault)) => Ok(Reply::GrammarFault(fault)),
@@ -36,32 +39,15 @@ pub(crate) fn plain_reply<'t>(
     }
 }
 
-/// The reply to the text's bytes.
-pub(crate) fn bytes_reply<'t>(
+/// The reply to a plain grammar and a text.
+fn plain_reply<'t>(
     alloc: Global,
-    question: &Question,
-    grammar: &Grammar,
-    bytes: &'t [u8],
-) -> Result<Reply<'t>, AllocError>
-    ensures { IfOk result (IsBytesReply question.now.features.items question.now.start (seen grammar.now) bytes.now) }
-{
-    match str::from_utf8(bytes) {
-        Ok(text) => {
-            let reply = text_reply(alloc, question, grammar, text)?;
-            Ok(reply)
-        }
-        Err(_) => Ok(Reply::NotUtf8),
-    }
-}
-
-/// The reply to the text.
-fn text_reply<'t>(
-    alloc: Global,
-    question: &Question,
+    question: &Question<'_>,
     grammar: &Grammar,
     text: &'t str,
 ) -> Result<Reply<'t>, AllocError>
-    ensures { IfOk result (IsTextReply question.now.features.items question.now.start (seen grammar.now) text.now) }
+    ensures { IfOk result (λ reply. plain grammar.now ≡ Ok grammar.now
+        → IsTokensReply (question_view question.now) grammar.now text.now reply) }
 {
     match Scanner::new(alloc, grammar) {
         Ok(scanner) => {
@@ -69,86 +55,62 @@ fn text_reply<'t>(
             Ok(reply)
         }
         Err(fault) => {
-            let reply = literals_reply(fault)?;
-            Ok(reply)
+            if is_memory(&fault) {
+                return Err(AllocError);
+            }
+            Ok(Reply::Literals(fault))
         }
     }
 }
 
-/// The reply to a fault of the literals, which is another one than want of memory.
-fn literals_reply(fault: TokensFault) -> Result<Reply<'static>, AllocError>
-    ensures { IfOk result (λ reply. (reply ≡ Reply.Literals fault) × (fault ≢ TokensFault.Memory)) }
+/// Whether the fault is want of memory.
+fn is_memory(fault: &TokensFault) -> bool
+    ensures { IsTrue result ↔ (fault.now ≡ TokensFault.Memory) }
 {
     match fault {
-        TokensFault::Refused { literal, span } => {
-            Ok(Reply::Literals(TokensFault::Refused { literal, span }))
-        }
-        TokensFault::Ambiguous {
-            first,
-            second,
-            span,
-        } => Ok(Reply::Literals(TokensFault::Ambiguous {
-            first,
-            second,
-            span,
-        })),
-        TokensFault::Memory => Err(AllocError),
+        TokensFault::Memory => true,
+        TokensFault::Refused { .. } => false,
+        TokensFault::Ambiguous { .. } => false,
     }
-}
-
-/// Whether the start is a rule that can be one.
-fn is_known(question: &Question, grammar: &Grammar) -> bool
-    ensures { result ≡ has_start question.now.features.items question.now.start false (seen grammar.now) }
-{
-    let features = question.features.as_slice();
-    has_start(
-        features,
-        grammar.items.as_slice(),
-        question.start.as_str(),
-        false,
-    )
-}
-
-/// Whether it is a public one.
-fn is_public(question: &Question, grammar: &Grammar) -> bool
-    ensures { result ≡ has_start question.now.features.items question.now.start true (seen grammar.now) }
-{
-    let features = question.features.as_slice();
-    has_start(
-        features,
-        grammar.items.as_slice(),
-        question.start.as_str(),
-        true,
-    )
 }
 
 /// The reply where the literals give a scanner.
 fn start_reply<'t>(
     alloc: Global,
-    question: &Question,
+    question: &Question<'_>,
     grammar: &Grammar,
     scanner: &Scanner,
     text: &'t str,
 ) -> Result<Reply<'t>, AllocError>
-    ensures { IfOk result (λ reply. (entries : List Entry) → IsScannerOf scanner.now entries → IsStartReply
-        (has_start question.now.features.items question.now.start false (seen grammar.now))
-        (has_start question.now.features.items question.now.start true (seen grammar.now))
-        entries question.now.start text.now reply) }
+    ensures { IfOk result (λ reply. (literals : List LiteralUse) → plain grammar.now ≡ Ok grammar.now
+        → AreEntriesOf (grammar_view grammar.now) literals → IsScannerOf scanner.now (literal_entries literals)
+        → IsTokensReply (question_view question.now) grammar.now text.now reply) }
 {
-    if !is_known(question, grammar) {
-        return Ok(Reply::UnknownStart(question.start.try_clone()?));
+    match start_of(alloc, question, grammar)? {
+        Start::Unknown => Ok(Reply::UnknownStart(question.start.try_clone()?)),
+        Start::Private => Ok(Reply::PrivateStart(question.start.try_clone()?)),
+        Start::Public => {
+            let reply = scan_reply(alloc, scanner, text)?;
+            Ok(reply)
+        }
     }
-    if !is_public(question, grammar) {
-        return Ok(Reply::PrivateStart(question.start.try_clone()?));
-    }
-    let reply = scan_reply(alloc, scanner, text)?;
-    Ok(reply)
 }
 
-/// The reply where the start is a public rule.
+/// Whether the start of the question can be one.
+fn start_of(alloc: Global, question: &Question<'_>, grammar: &Grammar) -> Result<Start, AllocError>
+    ensures known { IfOk result (λ start. is_known start
+        ≡ has_start question.now.start false (enabled_for (question_view question.now) grammar.now)) }
+    ensures public { IfOk result (λ start. is_public_start start
+        ≡ has_start question.now.start true (enabled_for (question_view question.now) grammar.now)) }
+{
+    let rules = Rules::new(alloc, grammar, question.features.as_slice())?;
+    Ok(rules.start(question.start.as_str()))
+}
+
+/// The tokens of the text, or the first byte without one.
 fn scan_reply<'t>(alloc: Global, scanner: &Scanner, text: &'t str) -> Result<Reply<'t>, AllocError>
-    ensures { IfOk result (λ reply. (entries : List Entry) → IsScannerOf scanner.now entries
-        → IsScanReply entries text.now reply) }
+    ensures { IfOk result (λ reply. (literals : List LiteralUse) → IsScannerOf scanner.now (literal_entries literals)
+        → IsScanReply literals text.now reply) }
 {
     match scanner.scan(alloc, text) {
         Ok(tokens) => Ok(Reply::Tokens(tokens)),

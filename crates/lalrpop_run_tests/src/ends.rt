@@ -2,8 +2,8 @@
 
 use crate::grammars::{LISTS, ONE_STEP, REFUSED, UNPLAIN};
 use crate::streams::{Blanks, Pieces, Room};
+use lalrpop_grammar_streams::Watched;
 use lalrpop_run::{options, run};
-use lalrpop_streams::Watched;
 use std::io::Read;
 use std::process::Abort;
 use std::test::Fail;

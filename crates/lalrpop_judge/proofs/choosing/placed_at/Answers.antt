@@ -1,4 +1,4 @@
-use Rattle.lalrpop_judge.proofs.Placing.{is_placed, none_placed}
+use Rattle.lalrpop_judge.proofs.PlaceLemmas.{is_placed, none_placed}
 use Rattle.lalrpop_judge.proofs.choosing.placed_at.Goals as goal
 
 pub returns-in-Some-choice_at : goal.returns-in-Some-choice_at

@@ -1,9 +1,9 @@
 use Rattle.std.proofs.Common.{◌≡◌, ◌∷◌, ◌++◌, ◌+◌, ap, sym, ◌∙◌, map, drop}
 use Rattle.std.proofs.lemmas.List.{drop_more}
 use Rattle.lalrpop_grammar.specs.Trees.{trees, leaves_of}
-use Rattle.lalrpop_grammar.specs.Views.{token, tree}
-use Rattle.lalrpop_judge.proofs.Taking.{behind_tree}
-use Rattle.lalrpop_judge.proofs.Seeing.{seen-Rule, seen-List, seen-Group}
+use Rattle.lalrpop_grammar.specs.Views.{token_view, tree_view}
+use Rattle.lalrpop_judge.proofs.LeafLemmas.{behind_tree}
+use Rattle.lalrpop_judge.proofs.ViewLemmas.{seen-Rule, seen-List, seen-Group}
 use Rattle.lalrpop_judge.proofs.leaves.+leaves.Goals as goal
 
 pub end_of-returns-in-Rule : goal.end_of-returns-in-Rule
@@ -25,6 +25,7 @@ end_of_all-loop-tree-preserved t c =
     let i = c.loop-tree.tree-index in
     let here : drop i ts ≡ c.tree-item.result ∷ drop (i + 1) ts =
     drop_more ts i c.tree-item.result c.loop-tree-test.true ∙ ap (λ x. x ∷ drop (i + 1) ts) (sym c.tree-item.is) in
-    let tokens = map token c.args.tokens.now in
-    behind_tree (drop c.loop-tree.place tokens) (λ r. drop c.args.start tokens ≡ leaves_of (trees (map tree ts)) ++ r) ts i c.tree-item.result
+    let tokens = map token_view c.args.tokens.now in
+    behind_tree (drop c.loop-tree.place tokens) (λ r. drop c.args.start tokens ≡ leaves_of (trees (map tree_view ts)) ++ r) ts i
+    c.tree-item.result
     here c.loop-tree.invariant (drop c.in_ok-place.place tokens) c.in_ok-place.ensures

@@ -1,7 +1,7 @@
 use Rattle.std.proofs.Common.{◌≡◌, rules}
-use Rattle.lalrpop_symbols.specs.Views.{place, term_of}
-use Rattle.lalrpop_grammar.specs.Views.{token}
-use Rattle.lalrpop_judge.proofs.Taking.{at_place}
+use Rattle.lalrpop_grammar_symbols.specs.Views.{span_view, terminal_view}
+use Rattle.lalrpop_grammar.specs.Views.{token_view}
+use Rattle.lalrpop_judge.proofs.LeafLemmas.{at_place}
 use Rattle.lalrpop_judge.proofs.leaves.end_of_leaf.Goals as goal
 
 pub returns-then-is_token : goal.returns-then-is_token
@@ -12,5 +12,6 @@ returns-then-is_token c =
 pub returns-else-is_token : goal.returns-else-is_token
 returns-else-is_token c = λ rest e.
     let here = at_place c.args.tokens.now c.args.start c.index-tokens-start.result c.if-start-tokens.false c.index-tokens-start.is in
-    let same : token c.index-tokens-start.result ≡ record { terminal = term_of c.args.terminal.now; text = c.args.text.now; span = place c.args.span } = cc in
+    let same : token_view c.index-tokens-start.result
+    ≡ record { terminal = terminal_view c.args.terminal.now; text = c.args.text.now; span = span_view c.args.span } = cc in
     search (rules, same)

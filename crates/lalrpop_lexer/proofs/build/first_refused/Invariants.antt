@@ -1,7 +1,7 @@
 use Rattle.std.proofs.Common.{map}
-use Rattle.lalrpop_pattern.specs.Meaning.{meaning}
-use Rattle.lalrpop_lexer.specs.Build.{AreAcceptedBelow}
+use Rattle.lalrpop_lexer_pattern.specs.Meaning.{meaning}
+use Rattle.lalrpop_lexer.specs.Build.{AreSupportedBelow}
 use Rattle.lalrpop_lexer.proofs.build.first_refused.Given as goal
 
 abbrev pub invariant-loop-i : goal.invariant-loop-i
-invariant-loop-i l = AreAcceptedBelow (map meaning l.patterns) l.i
+invariant-loop-i l = AreSupportedBelow (map meaning l.patterns) l.i

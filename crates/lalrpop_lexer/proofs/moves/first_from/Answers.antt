@@ -1,5 +1,5 @@
 use Rattle.std.proofs.Common.{◌+◌, ◌-◌, ◌/◌, ◌<◌, arith, length}
-use Rattle.lalrpop_lexer.proofs.MovesLemmas.{start_is, starts_rise}
+use Rattle.lalrpop_lexer.proofs.TargetLemmas.{start_is, starts_rise}
 use Rattle.lalrpop_lexer.proofs.moves.first_from.Goals as goal
 
 pub loop-low-preserved-then-start-number : goal.loop-low-preserved-then-start-number
@@ -11,7 +11,8 @@ loop-low-preserved-then-start-number c =
     record {
       within = c.loop-low.invariant.within;
       order = omega (arith, c.loop-low-test.true);
-      below = λ i l. let up = starts_rise pieces i m c.requires (omega arith) inside in omega (arith, at, c.start.ensures, c.if-start-number.true, up);
+      below = λ i l. let up = starts_rise pieces i m c.requires (omega arith) inside in
+          omega (arith, at, c.start.ensures, c.if-start-number.true, up);
       above = c.loop-low.invariant.above;
     }
 

@@ -1,5 +1,5 @@
 use Rattle.std.proofs.Common.{ℕ, ◌-◌, ◌<◌, ◌≤◌, length}
-use Rattle.lalrpop_lexer.specs.Moves.{start_at}
+use Rattle.lalrpop_lexer.specs.Targets.{start_at}
 use Rattle.lalrpop_lexer.proofs.moves.first_from.Given as goal
 
 abbrev pub invariant-loop-low : goal.invariant-loop-low

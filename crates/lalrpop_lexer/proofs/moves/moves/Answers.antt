@@ -1,11 +1,11 @@
 use Rattle.std.proofs.Common.{arith, ◌∙◌, ap, refl, length, drop}
 use Rattle.std.proofs.lemmas.List.{take_more, take_at, take_all, length_push}
-use Rattle.lalrpop_nfa.specs.declared.test.Test.{Test}
-use Rattle.lalrpop_nfa.specs.declared.edges.EdgeIterator.{EdgeIterator}
-use Rattle.lalrpop_nfa.specs.Labels.{front_from}
-use Rattle.lalrpop_nfa.specs.Paths.{table_of}
-use Rattle.lalrpop_nfa.proofs.ListLemmas.{front_more, front_end}
-use Rattle.lalrpop_lexer.proofs.MovesLemmas.{gather_start, gather_more, gather_end, moves_none, items_at-push}
+use Rattle.lalrpop_lexer_nfa.specs.declared.test.Test.{Test}
+use Rattle.lalrpop_lexer_nfa.specs.declared.edges.EdgeIterator.{EdgeIterator}
+use Rattle.lalrpop_lexer_nfa.specs.Labels.{front_from}
+use Rattle.lalrpop_lexer_nfa.specs.Paths.{nfa_view}
+use Rattle.lalrpop_lexer_nfa.proofs.ListLemmas.{front_more, front_end}
+use Rattle.lalrpop_lexer.proofs.TargetLemmas.{gather_start, gather_more, gather_end, moves_none, items_at-push}
 use Rattle.lalrpop_lexer.proofs.moves.moves.Goals as goal
 
 pub loop-made-preserved : goal.loop-made-preserved
@@ -19,13 +19,15 @@ loop-i-init c = moves_none _ _ _ (omega (arith, c.loop-made.invariant.size)) c.l
 
 pub loop-edge-init : goal.loop-edge-init
 loop-edge-init c =
-    gather_start (table_of c.args.nfa.now) c.args.nfa.now.edges.test_edges.items refl _ _ _ _ _
-    (ap (λ (s : EdgeIterator Test). front_from s.from.0 s.edges.now) c.into_iter-edge-iterator.ensures.into_iter_gives ∙ c.edges-edge-items.ensures) c.loop-i.invariant
+    gather_start (nfa_view c.args.nfa.now) c.args.nfa.now.edges.test_edges.items refl _ _ _ _ _
+    (ap (λ (s : EdgeIterator Test). front_from s.from.0 s.edges.now) c.into_iter-edge-iterator.ensures.into_iter_gives
+    ∙ c.edges-edge-items.ensures) c.loop-i.invariant
 
 pub loop-edge-preserved : goal.loop-edge-preserved
 loop-edge-preserved c =
-    gather_more (table_of c.args.nfa.now) c.args.nfa.now.edges.test_edges.items refl _ _ _ _ _ _ _ c.in-Some.edge.now
-    (front_more (λ (s : EdgeIterator Test). front_from s.from.0 s.edges.now) c.loop-edge.edge-iterator c.next.new.self c.next.result c.in-Some.edge c.in-Some.is c.next.ensures.steps)
+    gather_more (nfa_view c.args.nfa.now) c.args.nfa.now.edges.test_edges.items refl _ _ _ _ _ _ _ c.in-Some.edge.now
+    (front_more (λ (s : EdgeIterator Test). front_from s.from.0 s.edges.now) c.loop-edge.edge-iterator c.next.new.self c.next.result
+    c.in-Some.edge c.in-Some.is c.next.ensures.steps)
     c.loop-edge.invariant
     (let h = c.in_ok-add_edge.ensures in
     let old = c.deref_mut.ensures.value in
@@ -36,8 +38,9 @@ loop-edge-preserved c =
 pub loop-i-preserved : goal.loop-i-preserved
 loop-i-preserved c =
     rw (take_more c.args.set.now c.loop-i.i 0 (omega arith))
-    (gather_end (table_of c.args.nfa.now) c.args.nfa.now.edges.test_edges.items refl _ _ _ _ _
-    (front_end (λ (s : EdgeIterator Test). front_from s.from.0 s.edges.now) c.loop-edge.edge-iterator c.next.new.self c.next.result c.in-None.is c.next.ensures.steps) c.loop-edge.invariant)
+    (gather_end (nfa_view c.args.nfa.now) c.args.nfa.now.edges.test_edges.items refl _ _ _ _ _
+    (front_end (λ (s : EdgeIterator Test). front_from s.from.0 s.edges.now) c.loop-edge.edge-iterator c.next.new.self c.next.result
+    c.in-None.is c.next.ensures.steps) c.loop-edge.invariant)
 
 pub returns : goal.returns
 returns c = rw (← take_all c.loop-i.i c.args.set.now (omega arith)) c.loop-i.invariant

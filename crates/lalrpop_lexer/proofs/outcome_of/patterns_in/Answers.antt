@@ -15,18 +15,23 @@ loop-i-preserved c =
     let more = take_more set c.loop-i.i 0 c.loop-i-test.true in
     elim c.if-set-i-ge-FIRST_ACCEPT.branch [
       | then-set-i-ge-FIRST_ACCEPT+in_ok-push w ↦
-          rw (more, w.patterns-is, w.in_ok-push.ensures.items) (patterns_more (take c.loop-i.i set) c.loop-i.patterns.items q (q - 3) (let over : 3 ≤ q = w.if-set-i-ge-FIRST_ACCEPT.true in omega arith) c.loop-i.invariant)
+          rw (more, w.patterns-is, w.in_ok-push.ensures.items)
+          (patterns_more (take c.loop-i.i set) c.loop-i.patterns.items q (q - 3)
+          (let over : 3 ≤ q = w.if-set-i-ge-FIRST_ACCEPT.true in omega arith) c.loop-i.invariant)
       | else-set-i-ge-FIRST_ACCEPT w ↦
-          rw (more, w.patterns-is) (patterns_skip (take c.loop-i.i set) c.loop-i.patterns.items q w.if-set-i-ge-FIRST_ACCEPT.false c.loop-i.invariant)
+          rw (more, w.patterns-is)
+          (patterns_skip (take c.loop-i.i set) c.loop-i.patterns.items q w.if-set-i-ge-FIRST_ACCEPT.false c.loop-i.invariant)
     ]
 
 pub returns-clause-only : goal.returns-clause-only
 returns-clause-only c k h =
-    rw (← take_all c.loop-i.i c.args.set.now (omega arith)) (c.loop-i.invariant.only k (Contains-permutation _ _ k (IsPermutation-sym _ _ c.sort_unstable.ensures.permutation) h))
+    rw (← take_all c.loop-i.i c.args.set.now (omega arith))
+    (c.loop-i.invariant.only k (Contains-permutation _ _ k (IsPermutation-sym _ _ c.sort_unstable.ensures.permutation) h))
 
 pub returns-clause-all : goal.returns-clause-all
 returns-clause-all c k h =
-    Contains-permutation _ _ k c.sort_unstable.ensures.permutation (c.loop-i.invariant.all k (rw (take_all c.loop-i.i c.args.set.now (omega arith)) h))
+    Contains-permutation _ _ k c.sort_unstable.ensures.permutation
+    (c.loop-i.invariant.all k (rw (take_all c.loop-i.i c.args.set.now (omega arith)) h))
 
 pub returns-clause-ascending : goal.returns-clause-ascending
 returns-clause-ascending c = IsNonDecreasingBy-from_sort (λ x. x) _ c.sort_unstable.ensures.sorted

@@ -1,15 +1,16 @@
 use Rattle.std.proofs.Common.{◌∙◌, arith, refl, sym, List, length, subst}
-use Rattle.lalrpop_nfa.specs.declared.automaton.TheConstants.{START}
-use Rattle.lalrpop_nfa.specs.Paths.{table_of}
+use Rattle.lalrpop_lexer_nfa.specs.declared.automaton.TheConstants.{START}
+use Rattle.lalrpop_lexer_nfa.specs.Paths.{nfa_view}
 use Rattle.lalrpop_lexer.specs.declared.state.State.{State}
-use Rattle.lalrpop_lexer.specs.Nodes.{edges_in}
+use Rattle.lalrpop_lexer.specs.StateViews.{edges_in}
 use Rattle.lalrpop_lexer.proofs.WholeLemmas.{IsExplored, explored_start, explored_end}
-use Rattle.lalrpop_lexer.proofs.NodeLemmas.{explored_push}
+use Rattle.lalrpop_lexer.proofs.StateViewLemmas.{explored_push}
 use Rattle.lalrpop_lexer.proofs.whole.all_states.Goals as goal
 
 pub states-init : goal.states-init
 states-init c = record {
-  explored = rw c.new-states.ensures.items (explored_start (table_of c.args.nfa.now) START.0 _ _ _ (λ s. refl) (rw c.new-2.ensures.items at c.in_ok-number_of.ensures.found));
+  explored = rw c.new-states.ensures.items
+      (explored_start (nfa_view c.args.nfa.now) START.0 _ _ _ (λ s. refl) (rw c.new-2.ensures.items at c.in_ok-number_of.ensures.found));
   sets = c.in_ok-number_of.ensures.sets;
   numbered = c.in_ok-number_of.ensures.numbered;
   bound = c.number_of.ensures.bound ∙ c.in_ok-scratch.ensures.bound ∙ c.state_count.ensures;
@@ -17,16 +18,21 @@ states-init c = record {
 
 pub states-preserved : goal.states-preserved
 states-preserved c =
-    let t = table_of c.args.nfa.now in
+    let t = nfa_view c.args.nfa.now in
     let P : List State → Type 0 = λ xs. IsExplored t START.0 (length xs) c.explore.new.self.sets.items (edges_in xs) in
     record {
-      explored = subst P (sym c.in_ok-push.ensures.items) (explored_push t START.0 _ c.states.states.items _ c.states.known.sets.items _ (omega (arith, c.len-in-states-2.ensures, c.states.states.ok.0))
-          (omega (arith, c.states-test.true, c.len.ensures, c.len-in-states.ensures, c.len-in-states-2.ensures, c.states.known.sets.ok.0)) c.states.invariant.explored c.in_ok-edges.ensures.explored);
+      explored = subst P (sym c.in_ok-push.ensures.items)
+          (explored_push t START.0 _ c.states.states.items _ c.states.known.sets.items _
+          (omega (arith, c.len-in-states-2.ensures, c.states.states.ok.0))
+          (omega (arith, c.states-test.true, c.len.ensures, c.len-in-states.ensures, c.len-in-states-2.ensures, c.states.known.sets.ok.0))
+          c.states.invariant.explored c.in_ok-edges.ensures.explored);
       sets = c.in_ok-edges.ensures.sets;
       numbered = c.in_ok-edges.ensures.numbered;
       bound = c.explore.ensures.bound ∙ c.states.invariant.bound;
     }
 
 pub returns-clause-states : goal.returns-clause-states
-returns-clause-states c = explored_end (table_of c.args.nfa.now) START.0 (length c.states.states.items) c.states.known.sets.items (edges_in c.states.states.items) c.states.invariant.explored
+returns-clause-states c =
+    explored_end (nfa_view c.args.nfa.now) START.0 (length c.states.states.items) c.states.known.sets.items (edges_in c.states.states.items)
+    c.states.invariant.explored
     (omega (arith, c.states-test.false, c.len.ensures, c.len-in-states.ensures, c.states.states.ok.0, c.states.known.sets.ok.0))

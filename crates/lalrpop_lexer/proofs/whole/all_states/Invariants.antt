@@ -1,16 +1,16 @@
 use Rattle.std.proofs.Common.{◌≡◌, ◌-◌, ◌^◌, length, vec_len}
-use Rattle.lalrpop_nfa.specs.declared.automaton.TheConstants.{START}
-use Rattle.lalrpop_nfa.specs.Paths.{table_of}
-use Rattle.lalrpop_lexer.specs.Nodes.{edges_in}
+use Rattle.lalrpop_lexer_nfa.specs.declared.automaton.TheConstants.{START}
+use Rattle.lalrpop_lexer_nfa.specs.Paths.{nfa_view}
+use Rattle.lalrpop_lexer.specs.StateViews.{edges_in}
 use Rattle.lalrpop_lexer.specs.States.{AreNumbered, AreInside}
 use Rattle.lalrpop_lexer.proofs.WholeLemmas.{IsExplored}
 use Rattle.lalrpop_lexer.proofs.whole.all_states.Given as goal
 
 abbrev pub invariant-states : goal.invariant-states
 invariant-states l = record {
-  explored : IsExplored (table_of l.nfa) START.0 (length l.states.items) l.known.sets.items (edges_in l.states.items);
+  explored : IsExplored (nfa_view l.nfa) START.0 (length l.states.items) l.known.sets.items (edges_in l.states.items);
   sets : AreInside (vec_len l.nfa.states) l.known.sets.items;
-  numbered : AreNumbered (table_of l.nfa) l.known.sets.items l.known.numbers.entries;
+  numbered : AreNumbered (nfa_view l.nfa) l.known.sets.items l.known.numbers.entries;
   bound : vec_len l.scratch.places ≡ vec_len l.nfa.states;
 }
 

@@ -1,7 +1,7 @@
 use Rattle.std.proofs.Common.{ap, sym, []}
 use Rattle.std.specs.Prelude.{if◌then◌else◌}
-use Rattle.lalrpop_symbols.specs.declared.names.NonterminalString.{NonterminalString}
-use Rattle.lalrpop_values.specs.declared.key.Key.TheVariants.{Args}
+use Rattle.lalrpop_grammar_symbols.specs.declared.names.NonterminalString.{NonterminalString}
+use Rattle.lalrpop_json_values.specs.declared.key.Key.TheVariants.{Args}
 use Rattle.lalrpop_plain.specs.Plain.{at, itself}
 use Rattle.lalrpop_plain.proofs.PathLemmas.{filled-by}
 use Rattle.lalrpop_plain.proofs.rule.check_parameters.Goals as goal

@@ -1,7 +1,7 @@
 use Rattle.std.proofs.Common.{◌<◌, rules, arith, ap, sym}
 use Rattle.serde_json.specs.Data.{depth, items_depth}
 use Rattle.serde_json.specs.View.{view, items_view}
-use Rattle.lalrpop_values.proofs.Nesting.{below_items, below_array}
+use Rattle.lalrpop_json_values.proofs.NestingLemmas.{below_items, below_array}
 use Rattle.lalrpop_refused.proofs.symbol.+symbols.Goals as goal
 
 pub check_symbols-check_symbol_in-requires : goal.check_symbols-check_symbol_in-requires

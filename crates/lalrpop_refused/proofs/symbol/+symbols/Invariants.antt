@@ -1,7 +1,7 @@
 use Rattle.std.proofs.Common.{◌+◌, ◌*◌}
 use Rattle.serde_json.specs.Data.{depth}
 use Rattle.serde_json.specs.View.{view}
-use Rattle.lalrpop_refused.specs.Refused.{in_symbol}
+use Rattle.lalrpop_refused.specs.Refused.{refused_in_symbol}
 use Rattle.lalrpop_refused.proofs.ListLemmas.{IsAt}
 use Rattle.lalrpop_refused.proofs.symbol.+symbols.Given as goal
 
@@ -24,4 +24,4 @@ abbrev pub decreases-check_symbols_at : goal.decreases-check_symbols_at
 decreases-check_symbols_at l = 4 * depth (view l.value.now)
 
 abbrev pub invariant-check_symbols-loop-index : goal.invariant-check_symbols-loop-index
-invariant-check_symbols-loop-index l = IsAt in_symbol l.value-items l.index
+invariant-check_symbols-loop-index l = IsAt refused_in_symbol l.value-items l.index

@@ -1,7 +1,7 @@
 use Rattle.std.proofs.Common.{◌+◌, ◌*◌}
 use Rattle.serde_json.specs.Data.{depth}
 use Rattle.serde_json.specs.View.{view}
-use Rattle.lalrpop_refused.specs.Refused.{in_type}
+use Rattle.lalrpop_refused.specs.Refused.{refused_in_type}
 use Rattle.lalrpop_refused.proofs.ListLemmas.{IsAt}
 use Rattle.lalrpop_refused.proofs.type_ref.+types.Given as goal
 
@@ -21,4 +21,4 @@ abbrev pub decreases-check_types_at : goal.decreases-check_types_at
 decreases-check_types_at l = 4 * depth (view l.value.now)
 
 abbrev pub invariant-check_types-loop-index : goal.invariant-check_types-loop-index
-invariant-check_types-loop-index l = IsAt in_type l.value-items l.index
+invariant-check_types-loop-index l = IsAt refused_in_type l.value-items l.index

@@ -1,5 +1,5 @@
 use Rattle.std.proofs.Common.{◌≡◌, ◌++◌, drop, string_bytes}
-use Rattle.lalrpop_run.specs.Replies.{tokens_text}
+use Rattle.lalrpop_run.specs.ReplyTexts.{tokens_text}
 use Rattle.lalrpop_run.proofs.texts.lines.Given as goal
 
 abbrev pub invariant-loop-token : goal.invariant-loop-token

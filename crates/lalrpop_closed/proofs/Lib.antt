@@ -1,4 +1,0 @@
-pub mod Sizes
-pub mod Arguments
-pub mod Alike
-pub mod Calls

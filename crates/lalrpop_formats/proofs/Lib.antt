@@ -1,4 +1,0 @@
-pub mod GrammarLaws
-pub mod PrintingLemmas
-pub mod TreeLaws
-pub mod TreeNesting

@@ -1,0 +1,4 @@
+pub mod SizeLemmas
+pub mod ArgumentLemmas
+pub mod ClosedListLemmas
+pub mod CallLemmas

@@ -1,0 +1,13 @@
+pub mod PlaceLemmas
+pub mod SoundnessLemmas
+pub mod CompletenessLemmas
+pub mod UniquenessLemmas
+pub mod StartLemmas
+pub mod ComparisonLemmas
+pub mod CheckLemmas
+pub mod WrittenTreeLemmas
+pub mod ExamplesOfLevels
+pub mod ExamplesOfMacros
+pub mod ExamplesOfSymbols
+pub mod LeafLemmas
+pub mod ExamplesOfExpansion

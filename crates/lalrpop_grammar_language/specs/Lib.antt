@@ -1,0 +1,11 @@
+pub mod Among
+pub mod Enabled
+pub mod Levels
+pub mod Closing
+pub mod Conditions
+pub mod Admitting
+pub mod Sentences
+pub mod Starts
+pub mod Expansion
+pub mod Derivations
+pub mod OneToOne

@@ -1,0 +1,5 @@
+pub mod DigitLemmas
+pub mod NameLemmas
+pub mod RankLemmas
+pub mod BareNameLemmas
+pub mod StartLemmas

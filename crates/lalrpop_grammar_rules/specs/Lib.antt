@@ -1,0 +1,4 @@
+pub mod Ranks
+pub mod Details
+pub mod RuleTable
+pub mod StartViews

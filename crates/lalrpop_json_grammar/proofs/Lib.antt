@@ -1,0 +1,4 @@
+pub mod GrammarLemmas
+pub mod PrintingLemmas
+pub mod TreeLemmas
+pub mod TreeNestingLemmas

@@ -1,0 +1,18 @@
+//! Grammars and parse trees as JSON: reading them, with the first fault of a value that spells none.
+//!
+//! What reading gives stands as definitions over the JSON value in `specs/`, beside the one JSON value that spells each
+//! grammar and each tree.
+#![tactic(auto)]
+
+mod grammar;
+mod laws;
+mod printing;
+mod tree;
+
+pub use grammar::read_grammar;
+pub use lalrpop_json_values::{
+    Fault, FaultKind, Key, ReadError, Step, fault_text, json_string, kind_text, path_text,
+};
+pub use laws::{grammar_laws, tree_laws};
+pub use printing::print_tree;
+pub use tree::read_tree;

@@ -1,0 +1,5 @@
+pub mod AlternativeLemmas
+pub mod ExternLemmas
+pub mod ItemLemmas
+pub mod MatchLemmas
+pub mod RuleLemmas

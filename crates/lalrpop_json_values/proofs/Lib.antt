@@ -1,0 +1,9 @@
+pub mod ListLawLemmas
+pub mod ListReadingLemmas
+pub mod MemberNameLemmas
+pub mod NestingLemmas
+pub mod PairLemmas
+pub mod PrefixRunLemmas
+pub mod ScalarLemmas
+pub mod StepLemmas
+pub mod StringRunLemmas

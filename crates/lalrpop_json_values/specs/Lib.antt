@@ -1,0 +1,13 @@
+pub mod FaultText
+pub mod Forms
+pub mod Gives
+pub mod JsonText
+pub mod Key
+pub mod Lists
+pub mod Nested
+pub mod Objects
+pub mod Prefix
+pub mod Scalars
+pub mod Spelled
+pub mod Strings
+pub mod Word

@@ -1,0 +1,23 @@
+//! Why a grammar isn't written.
+
+use std::alloc::AllocError;
+
+/// Why a grammar wasn't written.
+#[derive(Debug, PartialEq, Eq, Drop)]
+pub enum WriteError {
+    /// No value spells the grammar.
+    NotWritten,
+    /// There was no memory.
+    Memory,
+}
+
+impl From<AllocError> for WriteError {
+    ghost use Rattle.std.specs.Prelude.{◌≡◌};
+    ghost use Rattle.lalrpop_json_writer.specs.declared.fault.WriteError.TheVariants.{Memory};
+
+    ghost from_gives = { λ _ e. e ≡ Memory };
+
+    fn from(_: AllocError) -> WriteError {
+        WriteError::Memory
+    }
+}

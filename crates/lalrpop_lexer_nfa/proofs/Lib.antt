@@ -1,0 +1,16 @@
+pub mod ListLemmas
+pub mod BoundaryLemmas
+pub mod AlphabetClassLemmas
+pub mod EdgeListLemmas
+pub mod FrontLemmas
+pub mod GrowthLemmas
+pub mod FragmentLemmas
+pub mod LanguageLemmas
+pub mod GraphLemmas
+pub mod NfaLemmas
+pub mod WholeLemmas
+pub mod SetLemmas
+pub mod ReadLemmas
+pub mod TextLemmas
+pub mod ArrivalLemmas
+pub mod InterpretLemmas

@@ -1,0 +1,30 @@
+//! The finite automata of single patterns.
+//!
+//! A pattern's tree becomes an automaton by Thompson's construction: of transitions, which read one character of a
+//! range, and of epsilon edges, which read nothing.
+#![tactic(auto)]
+
+mod automaton;
+mod build;
+mod edge;
+mod edges;
+mod from_re;
+mod grow;
+mod interpreter;
+mod label;
+mod overlap;
+mod reach;
+mod state;
+mod state_set;
+mod test;
+
+pub use automaton::{ACCEPT, FIRST_ACCEPT, Nfa, REJECT, START};
+pub use edge::{Edge, NfaStateIndex, Noop, Other};
+pub use edges::EdgeIterator;
+pub use from_re::NfaConstructionError;
+pub use interpreter::interpret;
+pub use label::EdgeLabel;
+pub use overlap::remove_overlap;
+pub use state::{Edges, State, StateKind};
+pub use state_set::StateSet;
+pub use test::Test;

@@ -1,0 +1,7 @@
+pub mod Ranges
+pub mod Sets
+pub mod Matches
+pub mod Meaning
+pub mod PlainHirs
+pub mod Refused
+pub mod Wins

@@ -1,0 +1,94 @@
+//! Copies of classes, sets of characters and pattern trees.
+
+ghost use Rattle.std.specs.Prelude.{◌≡◌, IfOk, map, option_map};
+ghost use Rattle.std.specs.String.{string_bytes};
+ghost use Rattle.lalrpop_lexer_pattern.specs.Meaning.{meaning};
+ghost use Rattle.lalrpop_lexer_pattern.specs.PlainHirs.{hir_view};
+
+use crate::class::Class;
+use crate::set::CharacterSet;
+use crate::tree::Hir;
+use std::alloc::{AllocError, Global};
+
+impl Class {
+    /// A copy with the same ranges. Fails for want of memory alone.
+    pub fn try_clone(&self, alloc: Global) -> Result<Class, AllocError>
+        ensures { IfOk result (λ copy. copy.ranges.items ≡ self.now.ranges.items) }
+    {
+        let ranges = Vec::from_slice(alloc, &self.ranges)?;
+        Ok(Class { ranges })
+    }
+}
+
+impl CharacterSet {
+    /// A copy with the same ranges. Fails for want of memory alone.
+    pub fn try_clone(&self, alloc: Global) -> Result<CharacterSet, AllocError>
+        ensures { IfOk result (λ copy. copy.ranges.items ≡ self.now.ranges.items) }
+    {
+        let ranges = Vec::from_slice(alloc, &self.ranges)?;
+        Ok(CharacterSet { ranges })
+    }
+}
+
+impl Hir {
+    /// A copy with the same contents, and so of the same meaning. Fails for want of memory alone.
+    pub fn try_clone(&self, alloc: Global) -> Result<Hir, AllocError>
+        ensures same { IfOk result (λ copy. hir_view copy ≡ hir_view self.now) }
+        ensures meaning { IfOk result (λ copy. meaning copy ≡ meaning self.now) }
+    {
+        self.copy(alloc)
+    }
+
+    /// A copy with the same contents.
+    #[cycle(copy)]
+    fn copy(&self, alloc: Global) -> Result<Hir, AllocError>
+        ensures { IfOk result (λ copy. hir_view copy ≡ hir_view self.now) }
+    {
+        match self {
+            Hir::Empty => Ok(Hir::Empty),
+            Hir::Literal(characters) => Ok(Hir::Literal(Vec::from_slice(alloc, characters)?)),
+            Hir::Class(class) => Ok(Hir::Class(class.try_clone(alloc)?)),
+            Hir::Look(look) => Ok(Hir::Look(*look)),
+            Hir::Capture { name, sub } => {
+                let name = clone_name(alloc, name)?;
+                let sub = sub.copy(alloc)?;
+                Ok(Hir::Capture {
+                    name,
+                    sub: Box::new(alloc, sub)?,
+                })
+            }
+            Hir::Repetition { repeats, sub } => {
+                let sub = sub.copy(alloc)?;
+                Ok(Hir::Repetition {
+                    repeats: *repeats,
+                    sub: Box::new(alloc, sub)?,
+                })
+            }
+            Hir::Concat(subs) => Ok(Hir::Concat(clone_all(alloc, subs)?)),
+            Hir::Alternation(subs) => Ok(Hir::Alternation(clone_all(alloc, subs)?)),
+        }
+    }
+}
+
+/// A copy of a name, if there is one.
+fn clone_name(alloc: Global, name: &Option<String>) -> Result<Option<String>, AllocError>
+    ensures { IfOk result (λ copy. option_map string_bytes copy ≡ option_map string_bytes name.now) }
+{
+    match name {
+        None => Ok(None),
+        Some(text) => Ok(Some(String::from_str(alloc, text)?)),
+    }
+}
+
+/// Copies of some trees, in their order.
+#[cycle(copy)]
+fn clone_all(alloc: Global, subs: &[Hir]) -> Result<Vec<Hir>, AllocError>
+    ensures { IfOk result (λ copies. map hir_view copies.items ≡ map hir_view subs.now) }
+{
+    let mut copies = Vec::new(alloc);
+    for sub in subs {
+        let copy = sub.copy(alloc)?;
+        copies.push(copy)?;
+    }
+    Ok(copies)
+}

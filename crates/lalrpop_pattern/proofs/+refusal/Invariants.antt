@@ -1,8 +1,0 @@
-use Rattle.std.proofs.Common.{◌≡◌, map, drop}
-use Rattle.lalrpop_pattern.specs.Matches.{cat_all}
-use Rattle.lalrpop_pattern.specs.Meaning.{meaning}
-use Rattle.lalrpop_pattern.specs.Refused.{refusal}
-use Rattle.lalrpop_pattern.proofs.+refusal.Given as goal
-
-abbrev pub invariant-refusal::first_refusal-loop-i : goal.invariant-refusal::first_refusal-loop-i
-invariant-refusal::first_refusal-loop-i l = refusal (cat_all (map meaning l.subs)) ≡ refusal (cat_all (map meaning (drop l.i l.subs)))

@@ -1,2 +1,0 @@
-pub mod Prefix
-pub mod Strings

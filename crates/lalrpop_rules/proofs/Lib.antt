@@ -1,4 +1,0 @@
-pub mod Digits
-pub mod Naming
-pub mod Ranking
-pub mod Bares

@@ -1,6 +1,0 @@
-use Rattle.lalrpop_symbols.specs.declared.names.NonterminalString.{NonterminalString}
-use Rattle.lalrpop_run.proofs.StartLemmas.{none-by}
-use Rattle.lalrpop_run.proofs.standing.has_no_parameters.Goals as goal
-
-pub returns : goal.returns
-returns c = none-by (λ (n : NonterminalString). n.0) c.args.rule.now.args c.is_empty.result c.is_empty.ensures

@@ -1,0 +1,61 @@
+-- What the program writes for what it has to say, and the status that it ends with. Each line ends with a line feed.
+use Rattle.std.specs.Prelude.{ℕ, true, false, List, [], ◌∷◌, ◌++◌, codes, decimal}
+use Rattle.lalrpop_grammar_symbols.specs.Texts.{terminal_text}
+use Rattle.lalrpop_json_values.specs.FaultText.{fault_text}
+use Rattle.lalrpop_json_values.specs.JsonText.{json_text}
+use Rattle.lalrpop_grammar.specs.declared.token.ScanToken.{ScanToken}
+use Rattle.lalrpop_grammar.specs.Trees.{Token}
+use Rattle.lalrpop_grammar.specs.Views.{token_view}
+use Rattle.lalrpop_lexer_scan.specs.Faults as literals
+use Rattle.lalrpop_run.specs.declared.reply.Reply.{Reply}
+use Rattle.lalrpop_run.specs.declared.reply.Reply.TheVariants as replies
+
+abbrev pub line : List ℕ → List ℕ
+line text = text ++ 10 ∷ []
+
+-- from which byte to which byte it stands, its terminal, and its text as a JSON string
+abbrev pub token_text : Token → List ℕ
+token_text t = decimal t.span.0 ++ codes ".." ++ decimal t.span.1 ++ codes " " ++ terminal_text t.terminal ++ codes " " ++ json_text t.text
+
+-- a line each
+abbrev pub tokens_text : List ScanToken → List ℕ
+tokens_text [] = []
+tokens_text (t ∷ ts) = line (token_text (token_view t)) ++ tokens_text ts
+
+abbrev pub reply_text : Reply → List ℕ
+reply_text (replies.Judged true) = line (codes "yes")
+reply_text (replies.Judged false) = line (codes "no")
+reply_text replies.WantsTree = line (codes "judge needs --tree")
+reply_text replies.NotJson = line (codes "not JSON")
+reply_text (replies.GrammarFault fault) = line (codes "grammar value: " ++ fault_text fault)
+reply_text (replies.TreeFault fault) = line (codes "tree value: " ++ fault_text fault)
+reply_text replies.ConditionLimit = line (codes "condition limit")
+reply_text replies.NotUtf8 = line (codes "text isn't UTF-8")
+reply_text (replies.Literals fault) = line (literals.tokens_fault_text fault)
+reply_text (replies.UnknownStart name) = line (codes "unknown start: " ++ name)
+reply_text (replies.PrivateStart name) = line (codes "private start: " ++ name)
+reply_text (replies.Tokens tokens) = tokens_text tokens.items
+reply_text (replies.NoToken at) = line (codes "no token at byte " ++ decimal at)
+
+abbrev pub reply_status : Reply → ℕ
+reply_status (replies.Judged true) = 0
+reply_status (replies.Judged false) = 1
+reply_status replies.WantsTree = 4
+reply_status replies.NotJson = 4
+reply_status (replies.GrammarFault fault) = 4
+reply_status (replies.TreeFault fault) = 4
+reply_status replies.ConditionLimit = 3
+reply_status replies.NotUtf8 = 4
+reply_status (replies.Literals fault) = 3
+reply_status (replies.UnknownStart name) = 3
+reply_status (replies.PrivateStart name) = 3
+reply_status (replies.Tokens tokens) = 0
+reply_status (replies.NoToken at) = 1
+
+-- where a growth was refused
+abbrev pub memory_text : List ℕ
+memory_text = line (codes "out of memory")
+
+-- where a reader has failed
+abbrev pub fault_line : List ℕ
+fault_line = line (codes "read fault")

@@ -1,0 +1,6 @@
+use Rattle.lalrpop_run_options.proofs.AddedLemmas.{adds_three}
+use Rattle.lalrpop_run_options.proofs.command.with_limits.Goals as goal
+
+pub returns : goal.returns
+returns c = adds_three c.arg-3.result c.in_ok-arg.ensures c.features.ensures c.in_ok-arg-2.ensures c.macro_limit.ensures c.arg-3.ensures
+    c.limit.ensures

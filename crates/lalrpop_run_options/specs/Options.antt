@@ -1,0 +1,31 @@
+-- What the words ask for.
+use Rattle.std.specs.Prelude.{◌≡◌, ◌==◌, ℕ, not, List, [], Option, Some, None, codes, filter}
+use Rattle.std.specs.Prelude.{length, option_map, pos, unwrap_or}
+use Rattle.std.specs.List.{slice_split}
+use Rattle.std.specs.Str.Parse.{IsNumeral, signed_digits_value, without_leading_sign}
+use Rattle.clap.specs.Walk.{Row, Text, first_of, texts}
+use Rattle.lalrpop_run_options.specs.Task.{word_of}
+use Rattle.lalrpop_run_options.specs.declared.found.TheConstants.{USUAL_LIMIT, USUAL_MACRO_LIMIT}
+use Rattle.lalrpop_run_options.specs.declared.settings.Options.{Options}
+
+-- the names in a list: its parts between commas, but for empty ones
+abbrev pub features_in : Text → List Text
+features_in text = filter (λ part. not (length part == 0)) (slice_split (λ b. b == 44) text)
+
+-- n is the number that the text writes, and the usual one where none was given
+abbrev pub IsNumberOr : ℕ → Option Text → ℕ → Type 0
+IsNumberOr usual None n = n ≡ usual
+IsNumberOr usual (Some text) n =
+    IsNumeral 10 (without_leading_sign text) × (signed_digits_value 10 text ≡ pos n)
+
+-- the options are those that a parse found: what was given, and else the usual value
+pub record AreOptionsOf (rows : List Row) (options : Options) : Type 0 where
+  pub task : first_of (codes "command") rows ≡ Some (word_of options.task)
+  pub start : first_of (codes "start") rows ≡ Some options.start.now
+  pub text : options.text.now ≡ unwrap_or (first_of (codes "text") rows) []
+  pub tree : option_map (λ s. s.now) options.tree ≡ first_of (codes "tree") rows
+  pub features : texts options.features.items
+      ≡ features_in (unwrap_or (first_of (codes "features") rows) [])
+  pub macro_limit : IsNumberOr USUAL_MACRO_LIMIT (first_of (codes "macro-limit") rows)
+      options.macro_limit
+  pub limit : IsNumberOr USUAL_LIMIT (first_of (codes "limit") rows) options.limit

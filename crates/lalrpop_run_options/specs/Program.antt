@@ -1,0 +1,101 @@
+-- The command line of the program, as `clap` reads it.
+use Rattle.std.specs.Prelude.{◌≡◌, ℕ, Bool, List, [], ◌∷◌, ◌++◌, Some, pos, codes, true, false}
+use Rattle.std.specs.Borrow.{Bor}
+use Rattle.clap.specs.Built.{IsPlain, IsPlainArg}
+use Rattle.clap.specs.Walk.{Rule, Text, rule_of, texts}
+use Rattle.clap.specs.declared.builder.arg.Arg.{Arg}
+use Rattle.clap.specs.declared.builder.command.Command.{Command}
+use Rattle.clap.specs.Simple.{App, app_of, new_app, new_rule, new_shape, with_rule}
+use Rattle.clap.specs.declared.builder.action.ArgAction.TheVariants.{Set}
+use Rattle.clap.specs.declared.builder.value_parser.ValueParser.{ValueParser}
+use Rattle.clap.specs.declared.builder.value_parser.ValueParser.TheVariants as vp
+use Rattle.lalrpop_run_options.specs.Task.{task_words}
+
+-- a list of words
+abbrev pub WordList : Type 0
+WordList = Bor (List (Bor (List ℕ)))
+
+-- the word that names the task: the one positional
+abbrev pub task_rule : WordList → Rule
+task_rule tasks = record (new_rule (codes "command")) {
+  action = Some Set;
+  value_names = 1;
+  required = true;
+  parser = Some (vp.Names tasks);
+}
+
+-- `--name VALUE`
+abbrev pub option_rule : Text → Rule
+option_rule name =
+    record (new_rule name) { long = Some name; action = Some Set; value_names = 1 }
+
+-- an option that may not be left out
+abbrev pub start_rule : Rule
+start_rule = record (option_rule (codes "start")) { required = true }
+
+-- `--name VALUE`; where it isn't plain it takes values that begin with `-`
+abbrev pub value_rule : Bool → Text → Rule
+value_rule is_plain name = record (option_rule name) { is_simple = is_plain }
+
+-- the parsers of numbers that `u16` and `u64` hold
+abbrev pub parser_of_u16 : ValueParser
+parser_of_u16 = vp.Signed (pos 0) (pos 65535)
+
+abbrev pub parser_of_u64 : ValueParser
+parser_of_u64 = vp.Unsigned 0 18446744073709551615
+
+abbrev pub macro_limit_rule : Rule
+macro_limit_rule = record (option_rule (codes "macro-limit")) { parser = Some parser_of_u16 }
+
+abbrev pub limit_rule : Rule
+limit_rule = record (option_rule (codes "limit")) { parser = Some parser_of_u64 }
+
+-- --start NAME [--text TEXT] [--tree JSON]
+abbrev pub input_rules : Bool → List Rule
+input_rules is_plain = start_rule ∷ value_rule is_plain (codes "text") ∷ value_rule is_plain (codes "tree") ∷ []
+
+-- [--features LIST] [--macro-limit N] [--limit N]
+abbrev pub limit_rules : List Rule
+limit_rules = option_rule (codes "features") ∷ macro_limit_rule ∷ limit_rule ∷ []
+
+-- COMMAND, and then the options
+abbrev pub rules_of_program : Bool → WordList → List Rule
+rules_of_program is_plain tasks = task_rule tasks ∷ input_rules is_plain ++ limit_rules
+
+-- the command line with these rules; `tasks` has the words of the tasks
+unfoldable pub program : Bool → WordList → App
+program is_plain tasks = record {
+  top = record (new_shape (codes "lalrpop_run")) { rules = rules_of_program is_plain tasks };
+  subs = [];
+}
+
+-- the argument has this rule, and none on another argument
+pub record IsArgument (wanted : Rule) (argument : Arg) : Type 0 where
+  pub rule : rule_of argument ≡ wanted
+  pub plain : IsPlainArg argument
+  pub global : argument.global ≡ false
+
+-- the argument is the word of a task
+abbrev pub IsTaskArgument : Arg → Type 0
+IsTaskArgument argument =
+    (tasks : WordList) × (texts tasks.now ≡ task_words) × IsArgument (task_rule tasks) argument
+
+-- the command is the program's, with the words of the tasks
+abbrev pub IsProgram : Bool → App → Type 0
+IsProgram is_plain app =
+    (tasks : WordList) × (texts tasks.now ≡ task_words) × (app ≡ program is_plain tasks)
+
+-- the command line with arguments by these rules after its own
+abbrev pub with_rules : List Rule → App → App
+with_rules [] app = app
+with_rules (rule ∷ rules) app = with_rules rules (with_rule app rule)
+
+-- the new command has arguments by these rules after the old one's, none of which excludes another
+pub record AddsRules (rules : List Rule) (old new : Command) : Type 0 where
+  pub shape : app_of new ≡ with_rules rules (app_of old)
+  pub plain : IsPlain old → IsPlain new
+
+-- the command has one argument, the word of a task
+abbrev pub IsTaskCommand : Command → Type 0
+IsTaskCommand command = (tasks : WordList) × (texts tasks.now ≡ task_words)
+    × (app_of command ≡ with_rule (new_app (codes "lalrpop_run")) (task_rule tasks)) × IsPlain command

@@ -1,0 +1,148 @@
+//! The command line of the program.
+ghost use Rattle.std.specs.Prelude.{IfOk, codes, not};
+ghost use Rattle.clap.specs.Built.{IsPlain};
+ghost use Rattle.clap.specs.Simple.{app_of};
+ghost use Rattle.lalrpop_run_options.specs.Program.{AddsRules, IsArgument, IsProgram, IsTaskArgument, IsTaskCommand};
+ghost use Rattle.lalrpop_run_options.specs.Program.{input_rules, limit_rule, limit_rules, macro_limit_rule, option_rule};
+ghost use Rattle.lalrpop_run_options.specs.Program.{start_rule, value_rule};
+
+use crate::task::TASK_WORDS;
+use clap::{Arg, ArgAction, Command};
+use std::alloc::{AllocError, Global};
+
+/// What the help says below the options: each task with an example, and what the statuses are.
+const TASKS_AND_STATUSES: &str = "\
+Commands, each with an example:
+  judge   whether the grammar admits a tree: lalrpop_run judge --start S --tree \"$(cat examples/lists.tree.json)\" < examples/lists.grammar.json
+  tokens  the tokens of a text: lalrpop_run tokens --start S --text 'a b' < examples/lists.grammar.json
+
+Status:
+  0  an answer
+  1  the answer no, or a place without a token
+  3  the grammar is refused
+  4  wrong words, or a value that can't be read
+  5  out of memory
+  6  a read or a write failed";
+
+/// The command line of the program. With `dashes`, `--text` and `--tree` take values that begin
+/// with `-`.
+pub(crate) fn command<'a>(alloc: Global, dashes: bool) -> Result<Command<'a>, AllocError>
+    ensures program { IfOk result (λ c. IsProgram (not dashes) (app_of c)) }
+    ensures plain { IfOk result IsPlain }
+{
+    let command = with_task(alloc)?;
+    let command = with_inputs(alloc, command, dashes)?;
+    with_limits(alloc, command)
+}
+
+/// The program's name and what it is for, with the word that names the task.
+fn with_task<'a>(alloc: Global) -> Result<Command<'a>, AllocError>
+    ensures { IfOk result IsTaskCommand }
+{
+    Command::new(alloc, "lalrpop_run")
+        .bin_name("lalrpop_run")?
+        .about("Answers for a grammar, which is read as JSON from standard input")
+        .after_help(TASKS_AND_STATUSES)
+        .arg(task(alloc))
+}
+
+/// The command with `--start`, `--text` and `--tree`.
+fn with_inputs<'a>(
+    alloc: Global,
+    command: Command<'a>,
+    dashes: bool,
+) -> Result<Command<'a>, AllocError>
+    ensures { IfOk result (AddsRules (input_rules (not dashes)) command.entry) }
+{
+    command
+        .arg(start(alloc))?
+        .arg(value(alloc, "text", "TEXT", "The text to read", dashes))?
+        .arg(value(alloc, "tree", "JSON", "The tree to judge", dashes))
+}
+
+/// The command with `--features`, `--macro-limit` and `--limit`.
+fn with_limits<'a>(alloc: Global, command: Command<'a>) -> Result<Command<'a>, AllocError>
+    ensures { IfOk result (AddsRules limit_rules command.entry) }
+{
+    command
+        .arg(features(alloc))?
+        .arg(macro_limit(alloc))?
+        .arg(limit(alloc))
+}
+
+/// The word that names the task.
+fn task<'a>(alloc: Global) -> Arg<'a>
+    ensures { IsTaskArgument result }
+{
+    Arg::new(alloc, "command")
+        .value_name("COMMAND")
+        .help("What to do")
+        .action(ArgAction::Set)
+        .required(true)
+        .value_parser(TASK_WORDS.as_slice())
+}
+
+fn start<'a>(alloc: Global) -> Arg<'a>
+    ensures { IsArgument start_rule result }
+{
+    option(alloc, "start", "NAME", "The rule to start from").required(true)
+}
+
+fn features<'a>(alloc: Global) -> Arg<'a>
+    ensures { IsArgument (option_rule (codes "features")) result }
+{
+    option(
+        alloc,
+        "features",
+        "LIST",
+        "The features that are on, between commas",
+    )
+}
+
+fn macro_limit<'a>(alloc: Global) -> Arg<'a>
+    ensures { IsArgument macro_limit_rule result }
+{
+    option(
+        alloc,
+        "macro-limit",
+        "N",
+        "How deep macros may call macros [default: 200]",
+    )
+    .value_parser(clap::value_parser!(u16))
+}
+
+fn limit<'a>(alloc: Global) -> Arg<'a>
+    ensures { IsArgument limit_rule result }
+{
+    option(
+        alloc,
+        "limit",
+        "N",
+        "How many moves a parse may make [default: 1000000]",
+    )
+    .value_parser(clap::value_parser!(u64))
+}
+
+/// The option `--name`, which takes values that begin with `-` where `dashes` says so.
+fn value<'a>(
+    alloc: Global,
+    name: &'a str,
+    value_name: &'a str,
+    help: &'a str,
+    dashes: bool,
+) -> Arg<'a>
+    ensures { IsArgument (value_rule (not dashes) name.entry.now) result }
+{
+    option(alloc, name, value_name, help).allow_hyphen_values(dashes)
+}
+
+/// The option `--name`, with one value.
+fn option<'a>(alloc: Global, name: &'a str, value_name: &'a str, help: &'a str) -> Arg<'a>
+    ensures { IsArgument (option_rule name.entry.now) result }
+{
+    Arg::new(alloc, name)
+        .long(name)
+        .value_name(value_name)
+        .help(help)
+        .action(ArgAction::Set)
+}

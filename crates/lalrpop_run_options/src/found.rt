@@ -1,0 +1,76 @@
+//! What a parse found, as options.
+ghost use Rattle.std.specs.Prelude.{◌≡◌, IfOk, IsSome, Some, codes};
+ghost use Rattle.clap.specs.Matches.{first_value, found_of};
+ghost use Rattle.clap.specs.Walk.{rows_of, texts};
+ghost use Rattle.lalrpop_run_options.specs.Given.{IsComplete, HasPassed};
+ghost use Rattle.lalrpop_run_options.specs.Options.{AreOptionsOf, IsNumberOr, features_in};
+ghost use Rattle.lalrpop_run_options.specs.Program.{parser_of_u16, parser_of_u64};
+ghost use Rattle.lalrpop_run_options.specs.Task.{word_of};
+ghost use Rattle.lalrpop_run_options.specs.declared.task.Task.{Task};
+
+use crate::{Options, Task};
+use clap::ArgMatches;
+use std::alloc::{AllocError, Global};
+
+/// How deep macros may call macros where the words do not say.
+const USUAL_MACRO_LIMIT: u16 = 200;
+
+/// How many moves a parse may make where the words do not say.
+const USUAL_LIMIT: u64 = 1_000_000;
+
+/// The options that a parse found.
+pub(crate) fn read<'a>(alloc: Global, matches: &ArgMatches<'a>) -> Result<Options<'a>, AllocError>
+    requires { IsComplete (found_of matches.now) }
+    ensures { IfOk result (AreOptionsOf (rows_of (found_of matches.now))) }
+{
+    Ok(Options {
+        task: task(matches),
+        start: start(matches),
+        text: matches.get_str("text").unwrap_or(""),
+        tree: matches.get_str("tree"),
+        features: features(alloc, matches.get_str("features").unwrap_or(""))?,
+        macro_limit: macro_limit(matches),
+        limit: limit(matches),
+    })
+}
+
+fn task(matches: &ArgMatches<'_>) -> Task
+    requires { (t : Task) × (first_value (found_of matches.now) (codes "command")
+        ≡ Some (word_of t)) }
+    ensures { first_value (found_of matches.now) (codes "command") ≡ Some (word_of result) }
+{
+    Task::from_word(matches.get_str("command").unwrap())
+}
+
+fn start<'a>(matches: &ArgMatches<'a>) -> &'a str
+    requires { IsSome (first_value (found_of matches.now) (codes "start")) }
+    ensures { first_value (found_of matches.now) (codes "start") ≡ Some result.now }
+{
+    matches.get_str("start").unwrap()
+}
+
+/// The parts of `list` between commas, but for empty ones.
+fn features<'a>(alloc: Global, list: &'a str) -> Result<Vec<&'a str>, AllocError>
+    ensures { IfOk result (λ parts. texts parts.items ≡ features_in list.entry.now) }
+{
+    list.split(',')
+        .filter(|part| !part.is_empty())
+        .collect(alloc)
+}
+
+fn macro_limit(matches: &ArgMatches<'_>) -> u16
+    requires { HasPassed parser_of_u16 (codes "macro-limit") (found_of matches.now) }
+    ensures { IsNumberOr USUAL_MACRO_LIMIT
+        (first_value (found_of matches.now) (codes "macro-limit")) result }
+{
+    matches
+        .get_one::<u16>("macro-limit")
+        .unwrap_or(USUAL_MACRO_LIMIT)
+}
+
+fn limit(matches: &ArgMatches<'_>) -> u64
+    requires { HasPassed parser_of_u64 (codes "limit") (found_of matches.now) }
+    ensures { IsNumberOr USUAL_LIMIT (first_value (found_of matches.now) (codes "limit")) result }
+{
+    matches.get_one::<u64>("limit").unwrap_or(USUAL_LIMIT)
+}

@@ -1,9 +1,0 @@
-use Rattle.std.proofs.Common.{take}
-use Rattle.std.specs.Prelude.{flat_map}
-use Rattle.lalrpop_grammar.specs.Views.{item}
-use Rattle.lalrpop_scan.specs.Literals.{used_in_item}
-use Rattle.lalrpop_scan.specs.Noting.{Notes}
-use Rattle.lalrpop_scan.proofs.literals.note_items.Given as goal
-
-abbrev pub invariant-loop-item : goal.invariant-loop-item
-invariant-loop-item l = Notes l.initial.uses l.uses (flat_map (λ i. used_in_item (item i)) (take l.item-index l.items))

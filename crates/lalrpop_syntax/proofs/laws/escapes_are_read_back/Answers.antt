@@ -1,5 +1,0 @@
-use Rattle.lalrpop_syntax.proofs.EscapingLemmas.{escaped_read_back}
-use Rattle.lalrpop_syntax.proofs.laws.escapes_are_read_back.Goals as goal
-
-pub returns : goal.returns
-returns c = escaped_read_back

@@ -1,7 +1,0 @@
-pub mod ListLaws
-pub mod Lists
-pub mod MemberNames
-pub mod Nesting
-pub mod Pairs
-pub mod ScalarLaws
-pub mod Steps

@@ -1,6 +1,0 @@
-use Rattle.lalrpop_symbol_formats.specs.Spelling.{symbol_json}
-use Rattle.lalrpop_writing.proofs.Listed.{AreFirst}
-use Rattle.lalrpop_writing.proofs.symbol.+symbols.Given as goal
-
-abbrev pub invariant-symbols_value-loop-symbol : goal.invariant-symbols_value-loop-symbol
-invariant-symbols_value-loop-symbol l = AreFirst symbol_json l.symbols l.values.items l.symbol-index

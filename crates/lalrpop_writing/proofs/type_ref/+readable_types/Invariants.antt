@@ -1,6 +1,0 @@
-use Rattle.lalrpop_symbol_formats.specs.Readable.{IsReadableType}
-use Rattle.lalrpop_writing.proofs.Each.{RestDecides}
-use Rattle.lalrpop_writing.proofs.type_ref.+readable_types.Given as goal
-
-abbrev pub invariant-are_readable_types-loop-declared : goal.invariant-are_readable_types-loop-declared
-invariant-are_readable_types-loop-declared l = RestDecides (λ _. IsReadableType) l.types l.declared-index
