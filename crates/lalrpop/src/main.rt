@@ -58,7 +58,7 @@ fn answer_arguments<R: Alloc<A = Global> + Input + Print + Eprint>(
 }
 
 /// Answers over standard input and standard output.
-fn answer_words<R: Alloc<A = Global> + Input + Print>(rt: &R, options: &Options<'_>) -> u8 {
+fn answer_words<R: Alloc<A = Global> + Input + Print>(rt: &R, options: &Options) -> u8 {
     let mut grammar = Watched::new(rt.reader());
     let mut out = Watched::new(io::writer(rt));
     run_words(rt.alloc(), options, &mut grammar, &mut out)

@@ -45,7 +45,7 @@ fn respond<R: Env + Alloc<A = Global> + Files + Input + Print>(rt: &R) -> io::Re
 /// Answers over the grammar's JSON and standard input.
 fn answer_words<R: Alloc<A = Global> + Input + Print>(
     rt: &R,
-    options: &Options<'_>,
+    options: &Options,
     grammar: &str,
 ) -> u8 {
     let mut grammar = Watched::new(grammar.as_bytes());

@@ -69,9 +69,9 @@ pub(crate) fn outcome_of(alloc: Global, case: &Case) -> Result<Outcome> {
 }
 
 /// The outcome of the options over the case's grammar and text.
-fn outcome_under(alloc: Global, options: &Options<'_>, case: &Case) -> Result<Outcome> {
+fn outcome_under(alloc: Global, options: &Options, case: &Case) -> Result<Outcome> {
     let grammar = case.grammar_bytes(alloc)?;
-    let text = case.text_bytes(alloc, options.text)?;
+    let text = case.text_bytes(alloc, options.text.as_str())?;
     let mut written = Vec::new(alloc);
     let status = written_by(
         alloc,
@@ -91,7 +91,7 @@ fn outcome_under(alloc: Global, options: &Options<'_>, case: &Case) -> Result<Ou
 /// The status of the run, whose bytes are added to those written.
 fn written_by(
     alloc: Global,
-    options: &Options<'_>,
+    options: &Options,
     grammar: &[u8],
     text: &[u8],
     written: &mut Vec<u8>,
@@ -105,7 +105,7 @@ fn written_by(
 /// What the call over the values answers, where the bytes give a grammar and a text.
 fn answer_of_call(
     alloc: Global,
-    options: &Options<'_>,
+    options: &Options,
     grammar: &[u8],
     text: &[u8],
 ) -> Result<Option<Answer>> {
@@ -119,7 +119,7 @@ fn answer_of_call(
     };
     match read_grammar(alloc, &value) {
         Ok(grammar) => Ok(Some(answer(alloc, options, grammar, text)?)),
-        Err(ReadError::Shape(_)) => Ok(None),
+        Err(ReadError::Shape { .. }) => Ok(None),
         Err(ReadError::Memory) => Err(AllocError.into()),
     }
 }

@@ -1,5 +1,5 @@
 -- The written grammar as definitions see it.
-use Rattle.std.specs.Prelude.{ℕ, Bool, true, false, List, Option}
+use Rattle.std.specs.Prelude.{ℕ, Bool, true, false, List, [], ◌∷◌, Option}
 use Rattle.lalrpop_grammar_symbols.specs.Symbols.{Text, TextSpan, Terminal, WrittenSymbol, Argument}
 
 mutual
@@ -104,3 +104,12 @@ pub record Grammar : Type 0 where
   pub span : TextSpan
   pub attributes : List Attr
   pub items : List WrittenItem
+
+-- the rules among the items, in order, macros too
+abbrev pub rules_of : List WrittenItem → List Rule
+rules_of [] = []
+rules_of (WrittenItem.nonterminal r ∷ items) = r ∷ rules_of items
+rules_of (WrittenItem.match_token entries place ∷ items) = rules_of items
+rules_of (WrittenItem.extern_token place ∷ items) = rules_of items
+rules_of (WrittenItem.intern_token ∷ items) = rules_of items
+rules_of (WrittenItem.import text ∷ items) = rules_of items

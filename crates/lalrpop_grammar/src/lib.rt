@@ -14,6 +14,7 @@ mod leaves;
 mod match_token;
 mod nonterminal;
 mod origin;
+mod rules;
 mod token;
 mod tree;
 mod type_ref;
@@ -30,12 +31,14 @@ pub use lalrpop_grammar_streams::{
 };
 pub use lalrpop_grammar_symbols::{
     Atom, Boxed, ExprSymbol, List, MacroSymbol, MatchSymbol, Name, NonterminalString, RepeatOp,
-    RepeatSymbol, Span, Symbol, SymbolKind, TerminalLiteral, TerminalString,
+    RepeatSymbol, Span, Subsymbols, Symbol, SymbolKind, SymbolMap, TerminalLiteral, TerminalString,
+    subsymbols_of,
 };
 pub use leaves::{Leaf, Leaves};
 pub use match_token::{MatchContents, MatchItem, MatchMapping, MatchToken};
 pub use nonterminal::{NonterminalData, Visibility};
 pub use origin::Origin;
+pub use rules::GrammarRules;
 pub use token::ScanToken;
 pub use tree::WrittenTree;
 pub use type_ref::TypeRef;

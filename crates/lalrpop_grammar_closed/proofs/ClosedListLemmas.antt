@@ -5,6 +5,7 @@ use Rattle.std.proofs.Common.{map, drop, arith}
 use Rattle.std.proofs.lemmas.List.{map-append}
 use Rattle.std.specs.Prelude.{Result, Ok, Err, IfOk, if◌then◌else◌, option_map}
 use Rattle.lalrpop_grammar_symbols.specs.Symbols.{Text, TextSpan, Terminal, Syms, WrittenSymbol, Closed, Closeds, syms, Sym}
+use Rattle.lalrpop_grammar_symbols.specs.Subsymbols.{subsymbols, subsymbols_of}
 use Rattle.lalrpop_grammar_symbols.specs.Views.{symbol_view}
 use Rattle.lalrpop_grammar_symbols.specs.declared.symbol.Symbol.{Symbol}
 use Rattle.lalrpop_grammar.specs.WrittenGrammar.{Alternative, Grammar, Origin}
@@ -12,8 +13,8 @@ use Rattle.lalrpop_grammar.specs.Views.{grammar_view}
 use Rattle.lalrpop_grammar_language.specs.Enabled.{enabled_grammar, choice_of, EnabledRule}
 use Rattle.lalrpop_grammar_language.specs.Levels.{Rank, allowed_level, loosest, levels}
 use Rattle.lalrpop_grammar_language.specs.Closing.{Binding, Meaning, Scope, parameter_value, close, close_all, close_list, close_terminal}
-use Rattle.lalrpop_grammar_language.specs.Closing.{if_plain, if_macro, name_meaning, name_or, names_owner, occurrences, occurrences_in}
-use Rattle.lalrpop_grammar_language.specs.Closing.{occurrences_of, plain_call, plain_name, right_side, sound_or_faulty}
+use Rattle.lalrpop_grammar_language.specs.Closing.{if_plain, if_macro, name_meaning, name_or, names_owner, occurrences, occurrences_among}
+use Rattle.lalrpop_grammar_language.specs.Closing.{occurrences_in, plain_call, plain_name, right_side, sound_or_faulty}
 use Rattle.lalrpop_grammar_rules.specs.Details.{tighter_in}
 use Rattle.lalrpop_grammar_closed.specs.Scopes.{allowed_level_by, binding_view, level_view, scope_view}
 use Rattle.lalrpop_grammar_rules.specs.RuleTable.{rules_view, rules_with, no_search}
@@ -94,9 +95,11 @@ pub allowed_are : (r : EnabledRule) (rank : Option Rank) (t l : Option ℕ) (n k
 allowed_are r None t l n k is e = is
 allowed_are r (Some q) t l n k is e = ap (λ m. allowed_level_by m (Some q) t n k) is ∙ above r q t n k e
 
-pub occurrences_are : (b : Binding) (o : Text) (xs : List WrittenSymbol) → occurrences_in b o (syms xs) ≡ occurrences_of b o xs
-occurrences_are b o [] = refl
-occurrences_are b o (x ∷ xs) = ap (λ n. occurrences b o x + n) (occurrences_are b o xs)
+-- occurrences among symbols behind others are counted, too
+among-append : (b : Binding) (o : Text) (xs ys : List WrittenSymbol)
+    → occurrences_among b o (xs ++ ys) ≡ occurrences_among b o xs + occurrences_among b o ys
+among-append b o [] ys = omega arith
+among-append b o (x ∷ xs) ys = let more = among-append b o xs ys in omega (arith, more)
 
 -- closed symbols before others
 abbrev pub joined : List Closed → Closeds → Closeds
@@ -140,7 +143,8 @@ module _ (s : Scope) (ss : List Symbol) (i : ℕ) (x : Symbol) (here : drop i ss
   all_counted_on at whole before =
       let split : occurrences_in s.binding s.owner (syms (map symbol_view (drop i ss)))
       ≡ occurrences s.binding s.owner (symbol_view x) + occurrences_in s.binding s.owner rest =
-      ap (λ l. occurrences_in s.binding s.owner (syms (map symbol_view l))) here in
+      ap (λ l. occurrences_in s.binding s.owner (syms (map symbol_view l))) here
+      ∙ among-append s.binding s.owner (subsymbols (symbol_view x)) (subsymbols_of rest) in
       omega (arith, at, before, split)
 
 module _ (t : table.Rules) (s : program.Scope) (r : EnabledRule) (b : Binding) (a : Alternative) (rank : Option Rank) (l tight : Option ℕ)
@@ -149,10 +153,10 @@ module _ (t : table.Rules) (s : program.Scope) (r : EnabledRule) (b : Binding) (
     (lev : (k : ℕ) → level_view s k ≡ allowed_level_by l rank tight count k) (loose : l ≡ loosest r)
     (tighter : tight ≡ tighter_in (levels r) rank)
     (counted : count ≡ occurrences_in b r.name (syms a.expr)) (finds : Text → Text → Option Bool) where
-  level_same : (k : ℕ) → level_view s k ≡ allowed_level r rank (occurrences_of b r.name a.expr) k
+  level_same : (k : ℕ) → level_view s k ≡ allowed_level r rank (occurrences_in b r.name (syms a.expr)) k
   level_same k =
       lev k ∙ allowed_are r rank tight l count k loose tighter
-      ∙ ap (λ n. allowed_level r rank n k) (counted ∙ occurrences_are b r.name a.expr)
+      ∙ ap (λ n. allowed_level r rank n k) counted
 
   -- what is closed where the program closes it is the right side
   pub right_side_is : close_list (scope_view s) 0 a.expr ≡ right_side (rules_with finds t) r b (choice_of (Origin.start, a), rank)
@@ -166,7 +170,7 @@ module _ (t : table.Rules) (s : program.Scope) (r : EnabledRule) (b : Binding) (
       ∙ ap (λ u. close_list (record { grammar = rules_view t; binding = u; owner = s.owner.now; level_at = level_view s }) 0 a.expr) bind
       ∙ ap (λ u. close_list (record { grammar = rules_view t; binding = b; owner = u; level_at = level_view s }) 0 a.expr) own
       ∙ close_list_alike finds t.features.now (grammar_view t.grammar.now) b r.name (level_view s)
-      (allowed_level r rank (occurrences_of b r.name a.expr)) level_same 0 a.expr
+      (allowed_level r rank (occurrences_in b r.name (syms a.expr))) level_same 0 a.expr
 
 -- what is one list is each of these lists, where they are the same
 pub for_each : {E : Type 0} (r : Result (List ClosedSymbol) E) (P : List Closed) (Q : (Text → Text → Option Bool) → List Closed)

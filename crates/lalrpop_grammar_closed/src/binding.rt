@@ -1,15 +1,15 @@
 //! What the parameters of a macro stand for, and how often a rule occurs in a symbol of one of its alternatives.
 
-ghost use Rattle.std.specs.Prelude.{◌≡◌, ◌+◌, IfOk, if◌then◌else◌, map};
+ghost use Rattle.std.specs.Prelude.{◌≡◌, ◌+◌, IfOk, if◌then◌else◌};
 ghost use Rattle.std.specs.Str.{bytes_eq};
-ghost use Rattle.lalrpop_grammar_symbols.specs.Symbols.{syms};
+ghost use Rattle.lalrpop_grammar_symbols.specs.SymbolWalks.{symbols_view};
 ghost use Rattle.lalrpop_grammar_symbols.specs.Views.{symbol_view};
-ghost use Rattle.lalrpop_grammar_language.specs.Closing.{parameter_value, names_owner, occurrences as occurrences_seen, occurrences_in};
+ghost use Rattle.lalrpop_grammar_language.specs.Closing.{parameter_value, names_owner, occurs_at, occurrences_in};
 ghost use Rattle.lalrpop_grammar_closed.specs.Scopes.{binding_view, bound_view};
 
 use crate::closed_symbol::ClosedSymbol;
-use lalrpop_grammar_symbols::{Atom, NonterminalString, Symbol, SymbolKind};
-use std::alloc::AllocError;
+use lalrpop_grammar_symbols::{Atom, NonterminalString, Symbol, SymbolKind, subsymbols_of};
+use std::alloc::{AllocError, Global};
 
 /// The parameters of a macro with what each of them stands for, in order.
 #[derive(Clone, Copy)]
@@ -76,31 +76,6 @@ pub(crate) fn owner_count(binding: Binding<'_>, owner: &Atom, name: &Atom) -> u6
     }
 }
 
-/// How many occurrences of the owner the symbol has.
-#[cycle(count)]
-fn occurrences(binding: Binding<'_>, owner: &Atom, symbol: &Symbol) -> Result<u64, AllocError>
-    ensures { IfOk result (λ n. n
-        ≡ occurrences_seen (binding_view binding.entry) owner.now (symbol_view symbol.now)) }
-{
-    match &symbol.kind {
-        SymbolKind::Expr(group) => all_occurrences(binding, owner, group.symbols.as_slice()),
-        SymbolKind::AmbiguousId(name) => Ok(owner_count(binding, owner, name)),
-        SymbolKind::Nonterminal(name) => Ok(rule_count(owner, &name.0)),
-        SymbolKind::Macro(call) => {
-            let first = owner_count(binding, owner, &call.name.0);
-            let others = all_occurrences(binding, owner, call.args.as_slice())?;
-            sum(first, others)
-        }
-        SymbolKind::Repeat(repeat) => occurrences(binding, owner, &repeat.get().symbol),
-        SymbolKind::Choose(inside) => occurrences(binding, owner, inside.get()),
-        SymbolKind::Name(_, inside) => occurrences(binding, owner, inside.get()),
-        SymbolKind::Terminal(_) => Ok(0),
-        SymbolKind::Lookahead => Ok(0),
-        SymbolKind::Lookbehind => Ok(0),
-        SymbolKind::Error => Ok(0),
-    }
-}
-
 /// 1 where the name of a rule is the owner's, else 0.
 pub(crate) fn rule_count(owner: &Atom, name: &Atom) -> u64
     ensures { result ≡ (if bytes_eq name.now owner.now then 1 else 0) }
@@ -112,19 +87,38 @@ pub(crate) fn rule_count(owner: &Atom, name: &Atom) -> u64
     }
 }
 
-/// How many occurrences of the owner the symbols have.
-#[cycle(count)]
-pub(crate) fn all_occurrences(
+/// 1 where the symbol itself is an occurrence of the owner, else 0.
+fn occurs_at(binding: Binding<'_>, owner: &Atom, symbol: &Symbol) -> u64
+    ensures { result ≡ occurs_at (binding_view binding.entry) owner.now (symbol_view symbol.now) }
+{
+    match &symbol.kind {
+        SymbolKind::AmbiguousId(name) => owner_count(binding, owner, name),
+        SymbolKind::Nonterminal(name) => rule_count(owner, &name.0),
+        SymbolKind::Macro(call) => owner_count(binding, owner, &call.name.0),
+        SymbolKind::Expr(_)
+        | SymbolKind::Terminal(_)
+        | SymbolKind::Repeat(_)
+        | SymbolKind::Choose(_)
+        | SymbolKind::Name(_, _)
+        | SymbolKind::Lookahead
+        | SymbolKind::Lookbehind
+        | SymbolKind::Error => 0,
+    }
+}
+
+/// How many occurrences of the owner the symbols have, at any depth.
+pub(crate) fn occurrences_in(
+    alloc: Global,
     binding: Binding<'_>,
     owner: &Atom,
     symbols: &[Symbol],
 ) -> Result<u64, AllocError>
     ensures { IfOk result (λ n. n
-        ≡ occurrences_in (binding_view binding.entry) owner.now (syms (map symbol_view symbols.now))) }
+        ≡ occurrences_in (binding_view binding.entry) owner.now (symbols_view symbols.now)) }
 {
     let mut count = 0;
-    for symbol in symbols {
-        count = sum(count, occurrences(binding, owner, symbol)?)?;
+    for symbol in subsymbols_of(alloc, symbols)? {
+        count = sum(count, occurs_at(binding, owner, symbol))?;
     }
     Ok(count)
 }

@@ -5,7 +5,7 @@ ghost use Rattle.lalrpop_grammar_symbols.specs.Symbols.{Text, syms, Closed};
 ghost use Rattle.lalrpop_grammar_symbols.specs.Views.{symbol_view, terminal_view};
 ghost use Rattle.lalrpop_grammar.specs.WrittenGrammar.{Origin};
 ghost use Rattle.lalrpop_grammar.specs.Views.{alternative_view};
-ghost use Rattle.lalrpop_grammar_language.specs.Closing.{parameter_value, call_level, close as close_seen, close_all as close_all_seen, close_list, close_terminal, name_meaning, name_or, occurrences as occurrences_seen, occurrences_in, plain_call, plain_name, right_side as right_side_of, sound_or_faulty};
+ghost use Rattle.lalrpop_grammar_language.specs.Closing.{parameter_value, call_level, close as close_seen, close_all as close_all_seen, close_list, close_terminal, name_meaning, name_or, occurrences, occurrences_in, plain_call, plain_name, right_side as right_side_of, sound_or_faulty};
 ghost use Rattle.lalrpop_grammar_language.specs.Enabled.{choice_of};
 ghost use Rattle.lalrpop_grammar_language.specs.Levels.{levels};
 ghost use Rattle.lalrpop_grammar_rules.specs.Details.{enabled_rule_view, tighter_in};
@@ -14,7 +14,7 @@ ghost use Rattle.lalrpop_grammar_closed.specs.Scopes.{allowed_level_by, binding_
 ghost use Rattle.lalrpop_grammar_rules.specs.RuleTable.{IsKept, IsTable, rules_view, rules_with};
 ghost use Rattle.lalrpop_grammar_closed.specs.Views.{binding_of, closed_view, closeds};
 
-use crate::binding::{Binding, Bound, all_occurrences, bound_to, owner_count, rule_count, sum};
+use crate::binding::{Binding, Bound, bound_to, occurrences_in, owner_count, rule_count, sum};
 use crate::closed_symbol::ClosedSymbol;
 use lalrpop_grammar_rules::{Assoc, Choice, EnabledRule, Meaning, Rules};
 use lalrpop_grammar_symbols::{Atom, Boxed, List, Symbol, SymbolKind, TerminalString};
@@ -60,7 +60,7 @@ pub fn right_side(
         args,
     };
     let owner = &rule.written.name.0;
-    let count = all_occurrences(binding, owner, symbols)?;
+    let count = occurrences_in(alloc, binding, owner, symbols)?;
     let scope = scope_of(rules, rule, choice, binding, count);
     close_each(alloc, &scope, symbols)
 }
@@ -153,7 +153,7 @@ fn close(
     ensures symbol { IfOk result (λ c. closed_view c.symbol
         ≡ close_seen (scope_view scope.now) before (symbol_view symbol.now)) }
     ensures count { IfOk result (λ c. c.next
-        ≡ before + occurrences_seen (binding_view scope.now.binding) scope.now.owner.now (symbol_view symbol.now)) }
+        ≡ before + occurrences (binding_view scope.now.binding) scope.now.owner.now (symbol_view symbol.now)) }
 {
     match &symbol.kind {
         SymbolKind::Expr(group) => {

@@ -5,7 +5,7 @@ ghost use Rattle.std.specs.Option.{option_copied};
 ghost use Rattle.lalrpop_grammar.specs.Views.{condition_view, condition_op_view};
 ghost use Rattle.lalrpop_grammar_language.specs.Closing.{parameter_value};
 ghost use Rattle.lalrpop_grammar_language.specs.Conditions.{Holds, HoldsOf, PassesTest};
-ghost use Rattle.lalrpop_grammar_closed.specs.Finding.{IsFault, IsFinding, IsNotKnown, IsRefusal, IsUndecided, quoted_text_in};
+ghost use Rattle.lalrpop_grammar_closed.specs.Finding.{IsFault, IsFinding, IsNotKnown, IsReadFor, IsReadIn, IsReadPattern, IsReadWhereAsked, IsRefusal, IsUndecided, quoted_text_in};
 ghost use Rattle.lalrpop_grammar_closed.specs.Scopes.{binding_view};
 ghost use Rattle.lalrpop_grammar_rules.specs.RuleTable.{rules_with};
 ghost use Rattle.lalrpop_grammar_closed.specs.Views.{closed_view};
@@ -16,7 +16,7 @@ use crate::comparing::same_name;
 use lalrpop_grammar::{Condition, ConditionOp};
 use lalrpop_grammar_rules::Rules;
 use lalrpop_grammar_symbols::{Atom, TerminalLiteral, TerminalString};
-use std::alloc::{AllocError, Global};
+use std::alloc::{AllocError, AllocFailed, Global};
 
 /// What a search for a pattern in a text says.
 #[derive(Clone, Copy, Debug, PartialEq, Eq)]
@@ -27,7 +27,7 @@ pub enum Finding {
     Missing,
     /// It is no pattern, or one that is nested too deep.
     NotRead,
-    /// The search is refused for another cause.
+    /// It is a pattern, but the search for it is refused.
     Refused,
 }
 
@@ -49,7 +49,7 @@ pub trait Finder {
 pub enum ConditionFault {
     /// Its pattern isn't read.
     NotRead,
-    /// The search for its pattern is refused.
+    /// Its pattern is read, but the search for it is refused.
     Refused,
     /// Memory ran out.
     Memory,
@@ -66,11 +66,23 @@ impl From<AllocError> for ConditionFault {
     }
 }
 
+impl<T: Drop> From<AllocFailed<T>> for ConditionFault {
+    ghost use Rattle.std.specs.Prelude.{◌≡◌};
+    ghost use Rattle.lalrpop_grammar_closed.specs.declared.condition.ConditionFault.TheVariants.{Memory};
+
+    ghost from_gives = { λ _ e. e ≡ Memory };
+
+    fn from(_error: AllocFailed<T>) -> ConditionFault {
+        ConditionFault::Memory
+    }
+}
+
 /// Whether the condition holds for what the parameters are bound to; without one, it does.
 ///
 /// # Errors
 ///
-/// `NotRead` and `Refused` come only where it is a search for a pattern, the first where the pattern isn't read.
+/// `NotRead` and `Refused` come only where it is a search for a pattern, the first where the pattern isn't read, the second where it
+/// is. So where an answer is given, the pattern of a search was read.
 pub fn holds<F: Finder>(
     alloc: Global,
     finder: &F,
@@ -81,6 +93,8 @@ pub fn holds<F: Finder>(
     ensures exact { IfOk result (λ yes. IsTrue yes
         ↔ Holds (rules_with (F.finds finder.now) rules.now) (binding_view binding.entry)
         (option_map condition_view condition.now)) }
+    ensures read { IfOk result (λ _. IsReadWhereAsked (F.finds finder.now) (F.too_deep finder.now)
+        (binding_view binding.entry) (option_map condition_view condition.now)) }
     ensures fault { IfErr result (IsFault (F.finds finder.now) (F.too_deep finder.now)
         (binding_view binding.entry) (option_map condition_view condition.now)) }
 {
@@ -101,6 +115,8 @@ fn passes<F: Finder>(
     ensures exact { IfOk result (λ yes. IsTrue yes
         ↔ HoldsOf (rules_with (F.finds finder.now) rules.now) (condition_view condition.now)
         (parameter_value (binding_view binding.entry) condition.now.lhs.0)) }
+    ensures read { IfOk result (λ _. IsReadIn (F.finds finder.now) (F.too_deep finder.now)
+        (condition_view condition.now) (parameter_value (binding_view binding.entry) condition.now.lhs.0)) }
     ensures fault { IfErr result (IsUndecided (F.finds finder.now) (F.too_deep finder.now)
         (condition_view condition.now) (parameter_value (binding_view binding.entry) condition.now.lhs.0)) }
 {
@@ -142,6 +158,8 @@ fn passes_on<F: Finder>(
 ) -> Result<bool, ConditionFault>
     ensures exact { IfOk result (λ yes. IsTrue yes
         ↔ PassesTest (rules_with (F.finds finder.now) rules.now) (condition_op_view op) text.now against.now) }
+    ensures read { IfOk result (λ _. IsReadFor (F.finds finder.now) (F.too_deep finder.now)
+        (condition_op_view op) against.now text.now) }
     ensures fault { IfErr result (IsRefusal (F.finds finder.now) (F.too_deep finder.now)
         (condition_op_view op) against.now text.now) }
 {
@@ -164,6 +182,8 @@ fn is_found<F: Finder>(
     pattern: &Atom,
 ) -> Result<bool, ConditionFault>
     ensures exact { IfOk result (λ yes. F.finds finder.now pattern.now text.now ≡ Some yes) }
+    ensures read { IfOk result (λ _. IsReadPattern (F.finds finder.now pattern.now text.now)
+        (F.too_deep finder.now pattern.now)) }
     ensures fault { IfErr result (IsNotKnown (F.finds finder.now) (F.too_deep finder.now)
         pattern.now text.now) }
 {

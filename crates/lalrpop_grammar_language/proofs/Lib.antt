@@ -11,3 +11,5 @@ pub mod ExamplesOfMacros
 pub mod ExamplesOfSymbols
 pub mod LeafLemmas
 pub mod ExamplesOfExpansion
+pub mod LabelLemmas
+pub mod ShownLemmas

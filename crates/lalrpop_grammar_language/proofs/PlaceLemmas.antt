@@ -5,9 +5,9 @@ use Rattle.std.proofs.Common.{true, false, inl, inr, arith}
 use Rattle.std.specs.Prelude.{Option, None, map, filter, ◌==◌, ◌&&◌}
 use Rattle.std.proofs.lemmas.Bool.{eqb-true}
 use Rattle.lalrpop_grammar_symbols.specs.Symbols.{Text, Closeds}
-use Rattle.lalrpop_grammar.specs.WrittenGrammar.{Rule, Alternative, Grammar, Origin}
+use Rattle.lalrpop_grammar.specs.WrittenGrammar.{Rule, Alternative, Grammar, Origin, rules_of}
 use Rattle.lalrpop_grammar_language.specs.Among.{Among}
-use Rattle.lalrpop_grammar_language.specs.Enabled.{is_active, rules_of, at_places, choice_of, enabled_choices, enabled_rule}
+use Rattle.lalrpop_grammar_language.specs.Enabled.{is_active, at_places, choice_of, enabled_choices, enabled_rule}
 use Rattle.lalrpop_grammar_language.specs.Enabled.{enabled_grammar, EnabledGrammar, EnabledRule, Choice, has_name, IsRule}
 use Rattle.lalrpop_grammar_language.specs.Levels.{Rank, ranked_choices, with_ranks, has_levels, rank_after, written_level, written_assoc}
 use Rattle.lalrpop_grammar_language.specs.Admitting.{Fits}

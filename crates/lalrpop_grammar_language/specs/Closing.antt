@@ -2,7 +2,8 @@
 use Rattle.std.specs.Prelude.{ℕ, ◌+◌, Bool, true, false, ◌&&◌, not, ◌==◌, List, [], ◌∷◌, length, Option, Some, None}
 use Rattle.std.specs.Str.{bytes_eq}
 use Rattle.std.specs.Prelude.{option_map, filter, map, if◌then◌else◌, is_some}
-use Rattle.lalrpop_grammar_symbols.specs.Symbols.{Text, TextSpan, Terminal, Syms, WrittenSymbol, Closed, Closeds, closed_list, Sym}
+use Rattle.lalrpop_grammar_symbols.specs.Symbols.{Text, TextSpan, Terminal, Syms, syms, WrittenSymbol, Closed, Closeds, closed_list, Sym}
+use Rattle.lalrpop_grammar_symbols.specs.Subsymbols.{subsymbols, subsymbols_of}
 use Rattle.lalrpop_grammar_language.specs.Enabled.{has_text, EnabledRule, EnabledGrammar, Choice, rules_named}
 use Rattle.lalrpop_grammar_language.specs.Levels.{Rank, loosest, allowed_level}
 
@@ -47,24 +48,31 @@ pub record Scope : Type 0 where
 abbrev pub names_owner : Binding → Text → Text → ℕ
 names_owner binding owner n = if bytes_eq n owner && not (is_some (parameter_value binding n)) then 1 else 0
 
--- how many occurrences of the owner a symbol has
-abbrev mutual
-  pub occurrences : Binding → Text → WrittenSymbol → ℕ
-  occurrences b o (Sym.expr s xs) = occurrences_in b o xs
-  occurrences b o (Sym.ambiguous_id s n) = names_owner b o n
-  occurrences b o (Sym.nonterminal s n) = if bytes_eq n o then 1 else 0
-  occurrences b o (Sym.terminal s t) = 0
-  occurrences b o (Sym.macro s n args) = names_owner b o n + occurrences_in b o args
-  occurrences b o (Sym.repeat s op x) = occurrences b o x
-  occurrences b o (Sym.choose s x) = occurrences b o x
-  occurrences b o (Sym.name s m n x) = occurrences b o x
-  occurrences b o (Sym.lookahead s) = 0
-  occurrences b o (Sym.lookbehind s) = 0
-  occurrences b o (Sym.error s) = 0
+-- one, where the symbol itself is an occurrence of the owner: it names the owner, alone or as a call
+abbrev pub occurs_at : Binding → Text → WrittenSymbol → ℕ
+occurs_at b o (Sym.ambiguous_id s n) = names_owner b o n
+occurs_at b o (Sym.nonterminal s n) = if bytes_eq n o then 1 else 0
+occurs_at b o (Sym.macro s n args) = names_owner b o n
+occurs_at b o (Sym.expr s xs) = 0
+occurs_at b o (Sym.terminal s t) = 0
+occurs_at b o (Sym.repeat s op x) = 0
+occurs_at b o (Sym.choose s x) = 0
+occurs_at b o (Sym.name s m n x) = 0
+occurs_at b o (Sym.lookahead s) = 0
+occurs_at b o (Sym.lookbehind s) = 0
+occurs_at b o (Sym.error s) = 0
 
-  pub occurrences_in : Binding → Text → Syms TextSpan → ℕ
-  occurrences_in b o Syms.none = 0
-  occurrences_in b o (Syms.more x xs) = occurrences b o x + occurrences_in b o xs
+-- how many of these symbols are occurrences of the owner
+abbrev pub occurrences_among : Binding → Text → List WrittenSymbol → ℕ
+occurrences_among b o [] = 0
+occurrences_among b o (x ∷ xs) = occurs_at b o x + occurrences_among b o xs
+
+-- how many occurrences of the owner a symbol has, at any depth, and several symbols
+abbrev pub occurrences : Binding → Text → WrittenSymbol → ℕ
+occurrences b o x = occurrences_among b o (subsymbols x)
+
+abbrev pub occurrences_in : Binding → Text → Syms TextSpan → ℕ
+occurrences_in b o xs = occurrences_among b o (subsymbols_of xs)
 
 -- the level that a call of the rule carries, after k occurrences of the owner
 abbrev pub call_level : Scope → ℕ → Text → EnabledRule → Option ℕ
@@ -144,10 +152,6 @@ abbrev mutual
 abbrev pub sound_or_faulty : Closed → Closed
 sound_or_faulty x = if is_sound x then x else Closed.faulty
 
-abbrev pub occurrences_of : Binding → Text → List WrittenSymbol → ℕ
-occurrences_of b o [] = 0
-occurrences_of b o (x ∷ xs) = occurrences b o x + occurrences_of b o xs
-
 abbrev pub close_list : Scope → ℕ → List WrittenSymbol → List Closed
 close_list s k [] = []
 close_list s k (x ∷ xs) = sound_or_faulty (close s k x) ∷ close_list s (k + occurrences s.binding s.owner x) xs
@@ -158,7 +162,7 @@ scope_of g r binding c rank = record {
   grammar = g;
   binding = binding;
   owner = r.name;
-  level_at = allowed_level r rank (occurrences_of binding r.name c.expr);
+  level_at = allowed_level r rank (occurrences_in binding r.name (syms c.expr));
 }
 
 -- the closed symbols of an alternative

@@ -6,7 +6,7 @@ use Rattle.std.specs.Prelude.{Some, None, option_map, filter, map, flat_map, if�
 use Rattle.std.specs.List.{list_any, list_all}
 use Rattle.lalrpop_grammar_symbols.specs.Symbols.{Text, WrittenSymbol, Terminal}
 use Rattle.lalrpop_grammar.specs.WrittenGrammar.{Attr, Attrs, attr_id, are_none, Condition, Action, Ty, Origin, Alternative}
-use Rattle.lalrpop_grammar.specs.WrittenGrammar.{Rule, WrittenEntry, WrittenItem, Grammar}
+use Rattle.lalrpop_grammar.specs.WrittenGrammar.{Rule, WrittenEntry, WrittenItem, Grammar, rules_of}
 
 abbrev pub has_text : Text → List Text → Bool
 has_text x ys = list_any (bytes_eq x) ys
@@ -102,14 +102,6 @@ enabled_rule features r = record {
   declared = r.declared;
   choices = enabled_choices features (at_places r.name 0 r.alternatives);
 }
-
-abbrev pub rules_of : List WrittenItem → List Rule
-rules_of [] = []
-rules_of (WrittenItem.nonterminal r ∷ items) = r ∷ rules_of items
-rules_of (WrittenItem.match_token entries place ∷ items) = rules_of items
-rules_of (WrittenItem.extern_token place ∷ items) = rules_of items
-rules_of (WrittenItem.intern_token ∷ items) = rules_of items
-rules_of (WrittenItem.import text ∷ items) = rules_of items
 
 -- the bare name that an entry maps to
 abbrev pub bare_of : WrittenEntry → List Text

@@ -4,9 +4,10 @@ use Rattle.lalrpop_grammar_symbols.specs.Symbols.{Text, Closed}
 use Rattle.lalrpop_grammar.specs.Trees.{Token, Tree, leaves}
 use Rattle.lalrpop_grammar_language.specs.Enabled.{EnabledGrammar}
 use Rattle.lalrpop_grammar_language.specs.Admitting.{Admits, AdmitsStart}
-use Rattle.lalrpop_grammar_language.specs.Expansion.{grammar_symbol, GrammarSymbol, Nonterminal}
+use Rattle.lalrpop_grammar_language.specs.Expansion.{grammar_symbol, GrammarSymbol, Nonterminal, RightSide}
+use Rattle.lalrpop_grammar_language.specs.Expansion.{IsWrittenProduction, WrittenLabel}
 use Rattle.lalrpop_grammar_language.specs.Derivations.{Derivation, IsDerivationOf, written_tree, derivation_tokens, IsDerivationOfTree}
-use Rattle.lalrpop_grammar_language.specs.Derivations.{IsPublic}
+use Rattle.lalrpop_grammar_language.specs.Derivations.{IsPublic, with_shown}
 
 -- each derivation of a symbol stands for a written tree that is admitted for it
 abbrev pub DerivationsAreAdmitted : EnabledGrammar → Type 0
@@ -45,3 +46,13 @@ DerivationsFromStartsAreUnique g =
 -- an admitted tree fixes its tokens: they are its leaves
 abbrev pub TokensAreLeaves : EnabledGrammar → Type 0
 TokensAreLeaves g = (x : Closed) (t : Tree) (tokens : List Token) → Admits g x t tokens → tokens ≡ leaves t
+
+-- a label has one right side
+abbrev pub LabelsHaveOneSide : EnabledGrammar → Type 0
+LabelsHaveOneSide g =
+    (label : WrittenLabel) (side other : RightSide) → IsWrittenProduction g label side → IsWrittenProduction g label other
+    → side ≡ other
+
+-- trees that are equal once leaf texts are shown, and have equal leaves, are equal
+abbrev pub LeavesFixTrees : Type 0
+LeavesFixTrees = (s t : Tree) → with_shown s ≡ with_shown t → leaves s ≡ leaves t → s ≡ t

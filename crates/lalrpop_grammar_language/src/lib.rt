@@ -1,15 +1,15 @@
 //! Which written trees a grammar admits, the expansion of a grammar, and the law that ties the two.
 //!
-//! The crate has no code but two laws. The definitions stand in `specs/`: `Enabled` (which rules and alternatives hold
+//! The crate has no code but laws. The definitions stand in `specs/`: `Enabled` (which rules and alternatives hold
 //! under the features), `Levels` (levels and sides), `Closing` (closed symbols), `Conditions`, `Admitting` (admitted
-//! trees), `Sentences`, `Expansion` (labelled productions), `Expanding` (derivations and what they stand for) and
-//! `Corresponding` (what the laws say). The examples in `proofs/` show each construct with a tree that is admitted and
+//! trees), `Sentences`, `Expansion` (labelled productions), `Derivations` (derivations and what they stand for) and
+//! `OneToOne` (what the laws say). The examples in `proofs/` show each construct with a tree that is admitted and
 //! near misses that aren't.
 #![tactic(auto)]
 
 ghost use Rattle.lalrpop_grammar.specs.WrittenGrammar.{Grammar};
 ghost use Rattle.lalrpop_grammar_symbols.specs.Symbols.{Text};
-ghost use Rattle.lalrpop_grammar_language.specs.OneToOne.{DerivationsAreAdmitted, DerivationsFromStartsAreAdmitted, AdmittedHaveDerivations, AdmittedFromStartsHaveDerivations, DerivationsAreUnique, DerivationsFromStartsAreUnique, TokensAreLeaves};
+ghost use Rattle.lalrpop_grammar_language.specs.OneToOne.{DerivationsAreAdmitted, DerivationsFromStartsAreAdmitted, AdmittedHaveDerivations, AdmittedFromStartsHaveDerivations, DerivationsAreUnique, DerivationsFromStartsAreUnique, LabelsHaveOneSide, LeavesFixTrees, TokensAreLeaves};
 ghost use Rattle.lalrpop_grammar_language.specs.Enabled.{enabled_grammar};
 ghost use Rattle.std.specs.Prelude.{Bool, List, Option};
 
@@ -29,4 +29,15 @@ pub fn trees_correspond()
 /// The law that an admitted tree fixes its tokens: they are its leaves, in order.
 pub fn tokens_are_leaves()
     ensures { (finds : Text → Text → Option Bool) (features : List Text) (g : Grammar) → TokensAreLeaves (enabled_grammar finds features g) }
+{}
+
+/// The law that a label, a nonterminal with the choice by which it produces, has one right side.
+pub fn labels_have_one_side()
+    ensures { (finds : Text → Text → Option Bool) (features : List Text) (g : Grammar) → LabelsHaveOneSide (enabled_grammar finds features g) }
+{}
+
+/// The law that what a derivation leaves out of a written tree, the texts of its leaves, is fixed by the leaves: trees
+/// that are equal once each leaf has the text that its terminal shows, and have equal leaves, are equal.
+pub fn leaves_fix_trees()
+    ensures { LeavesFixTrees }
 {}

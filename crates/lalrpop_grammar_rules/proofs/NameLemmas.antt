@@ -1,6 +1,6 @@
 -- What a name stands for, rule by rule: for the functions that make `Rules` and find names in it.
-use Rattle.std.proofs.Common.{◌≡◌, ℕ, ◌+◌, Bool, true, false, cond, List, [], ◌∷◌, ◌++◌, Option, Some, None, refl, ap}
-use Rattle.std.proofs.Common.{sym, ◌∙◌, map, take}
+use Rattle.std.proofs.Common.{◌≡◌, Bool, true, false, cond, List, [], ◌∷◌, ◌++◌, Option, Some, None, refl, ap}
+use Rattle.std.proofs.Common.{sym, ◌∙◌, map}
 use Rattle.std.proofs.lemmas.List.{append-nil, append_assoc, map-append}
 use Rattle.std.proofs.lemmas.List.Elements.{filter-append}
 use Rattle.std.proofs.lemmas.Slice.Eq.{bytes_eq-Decides}
@@ -9,12 +9,10 @@ use Rattle.std.specs.Map.{update}
 use Rattle.std.specs.Prelude.{filter, option_map, is_some}
 use Rattle.std.specs.Str.{bytes_eq}
 use Rattle.lalrpop_grammar_symbols.specs.Symbols.{Text}
-use Rattle.lalrpop_grammar.specs.WrittenGrammar.{WrittenItem, Rule}
+use Rattle.lalrpop_grammar.specs.WrittenGrammar.{Rule}
 use Rattle.lalrpop_grammar_language.specs.Enabled.{EnabledRule as PureRule, enabled_rule, has_name, is_active, has_text, rules_named}
-use Rattle.lalrpop_grammar_language.specs.Enabled.{rules_of}
 use Rattle.lalrpop_grammar_language.specs.Closing.{name_meaning, name_meaning_in, Meaning}
-use Rattle.lalrpop_grammar.specs.Views.{item_view, nonterminal_view}
-use Rattle.lalrpop_grammar.specs.declared.grammar.GrammarItem.{GrammarItem}
+use Rattle.lalrpop_grammar.specs.Views.{nonterminal_view}
 use Rattle.lalrpop_grammar.specs.declared.nonterminal.NonterminalData.{NonterminalData}
 use Rattle.lalrpop_grammar_symbols.specs.declared.names.NonterminalString.{NonterminalString}
 use Rattle.lalrpop_grammar_rules.specs.declared.rule.EnabledRule.{EnabledRule}
@@ -35,38 +33,30 @@ only_of-append rs (x ∷ xs) =
     ap only_of (sym (append_assoc rs (x ∷ []) xs)) ∙ only_of-append (rs ++ x ∷ []) xs
     ∙ ap (λ e. entry_with_rules e xs) (only_of-push rs x)
 
-rules_of-append : (xs ys : List WrittenItem) → rules_of (xs ++ ys) ≡ rules_of xs ++ rules_of ys
-rules_of-append [] ys = refl
-rules_of-append (WrittenItem.nonterminal r ∷ xs) ys = ap (λ l. r ∷ l) (rules_of-append xs ys)
-rules_of-append (WrittenItem.match_token entries place ∷ xs) ys = rules_of-append xs ys
-rules_of-append (WrittenItem.extern_token place ∷ xs) ys = rules_of-append xs ys
-rules_of-append (WrittenItem.intern_token ∷ xs) ys = rules_of-append xs ys
-rules_of-append (WrittenItem.import text ∷ xs) ys = rules_of-append xs ys
+entry_with-append : (e : Option (Option Kept)) (xs ys : List PureRule)
+    → entry_with_rules e (xs ++ ys) ≡ entry_with_rules (entry_with_rules e xs) ys
+entry_with-append e [] ys = refl
+entry_with-append e (x ∷ xs) ys = entry_with-append (one_more e x) xs ys
 
-named_in-append : (f : List Text) (xs ys : List GrammarItem) (n : Text)
+named_in-append : (f : List Text) (xs ys : List Rule) (n : Text)
     → rules_named_in f (xs ++ ys) n ≡ rules_named_in f xs n ++ rules_named_in f ys n
 named_in-append f xs ys n =
     let active = filter (λ (r : Rule). is_active f r.attributes) in
-    ap (λ l. filter (has_name n) (map (enabled_rule f) (active (rules_of l)))) (map-append item_view xs ys)
-    ∙ ap (λ l. filter (has_name n) (map (enabled_rule f) (active l))) (rules_of-append (map item_view xs) (map item_view ys))
-    ∙ ap (λ l. filter (has_name n) (map (enabled_rule f) l))
-    (filter-append (λ r. is_active f r.attributes) (rules_of (map item_view xs)) (rules_of (map item_view ys)))
-    ∙ ap (λ l. filter (has_name n) l)
-    (map-append (enabled_rule f) (active (rules_of (map item_view xs))) (active (rules_of (map item_view ys))))
-    ∙ filter-append (has_name n) (map (enabled_rule f) (active (rules_of (map item_view xs))))
-    (map (enabled_rule f) (active (rules_of (map item_view ys))))
+    ap (λ l. filter (has_name n) (map (enabled_rule f) l)) (filter-append (λ r. is_active f r.attributes) xs ys)
+    ∙ ap (λ l. filter (has_name n) l) (map-append (enabled_rule f) (active xs) (active ys))
+    ∙ filter-append (has_name n) (map (enabled_rule f) (active xs)) (map (enabled_rule f) (active ys))
 
--- one item of the grammar more
-pub one_item_more : (f : List Text) (before after : Entries) (items : List GrammarItem) (i : ℕ) (item : GrammarItem) (n : Text)
-    → take (i + 1) items ≡ take i items ++ item ∷ []
-    → rule_entry_at f before n ≡ only_of (rules_named_in f (take i items) n)
-    → rule_entry_at f after n ≡ entry_with_rules (rule_entry_at f before n) (rules_named_in f (item ∷ []) n)
-    → rule_entry_at f after n ≡ only_of (rules_named_in f (take (i + 1) items) n)
-one_item_more f before after items i item n more was is =
-    is ∙ ap (λ e. entry_with_rules e (rules_named_in f (item ∷ []) n)) was
-    ∙ sym (only_of-append (rules_named_in f (take i items) n) (rules_named_in f (item ∷ []) n))
-    ∙ ap only_of (sym (named_in-append f (take i items) (item ∷ []) n))
-    ∙ ap (λ l. only_of (rules_named_in f l n)) (sym more)
+-- one written rule more: what the name stands for with those to come stays
+pub one_rule_added : (f : List Text) (before after : Entries) (left rest : List Rule) (r : Rule) (n : Text)
+    → left ≡ r ∷ rest
+    → rule_entry_at f after n ≡ entry_with_rules (rule_entry_at f before n) (rules_named_in f (r ∷ []) n)
+    → entry_with_rules (rule_entry_at f after n) (rules_named_in f rest n)
+    ≡ entry_with_rules (rule_entry_at f before n) (rules_named_in f left n)
+one_rule_added f before after left rest r n is added =
+    ap (λ e. entry_with_rules e (rules_named_in f rest n)) added
+    ∙ sym (entry_with-append (rule_entry_at f before n) (rules_named_in f (r ∷ []) n) (rules_named_in f rest n))
+    ∙ ap (entry_with_rules (rule_entry_at f before n)) (sym (named_in-append f (r ∷ []) rest n))
+    ∙ ap (λ l. entry_with_rules (rule_entry_at f before n) (rules_named_in f l n)) (sym is)
 
 -- a name that stands for a rule stands for it alone
 pub only_some : (rs : List PureRule) (p : Kept) → only_of rs ≡ Some (Some p) → (rs ≡ p.0 ∷ []) × (p ≡ details p.0)

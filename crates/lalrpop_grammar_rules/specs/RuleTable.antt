@@ -7,13 +7,13 @@ use Rattle.std.specs.Str.{bytes_eq}
 use Rattle.std.specs.declared.hash.FoldHasher.{FoldHasher}
 use Rattle.std.specs.declared.hash.BuildHasherDefault.{BuildHasherDefault}
 use Rattle.lalrpop_grammar_symbols.specs.Symbols.{Text}
-use Rattle.lalrpop_grammar.specs.WrittenGrammar.{Grammar, WrittenItem}
+use Rattle.lalrpop_grammar.specs.WrittenGrammar.{Grammar, Rule, WrittenItem}
 use Rattle.lalrpop_grammar.specs.Views.{grammar_view, match_item_view, item_view}
 use Rattle.lalrpop_grammar.specs.declared.grammar.GrammarItem.{GrammarItem}
 use Rattle.lalrpop_grammar.specs.declared.match_token.MatchContents.{MatchContents}
 use Rattle.lalrpop_grammar.specs.declared.match_token.MatchItem.{MatchItem}
 use Rattle.lalrpop_grammar_language.specs.Enabled.{EnabledGrammar, EnabledRule as PureRule, bare_of, bares_of, enabled_grammar}
-use Rattle.lalrpop_grammar_language.specs.Enabled.{enabled_rule, has_name, is_active, has_text, rules_named, rules_of}
+use Rattle.lalrpop_grammar_language.specs.Enabled.{enabled_rule, has_name, is_active, has_text, rules_named}
 use Rattle.lalrpop_grammar_language.specs.Closing as pure
 use Rattle.lalrpop_grammar_rules.specs.Details.{Kept, details, enabled_rule_view, kept_rule_view}
 use Rattle.lalrpop_grammar_rules.specs.declared.rule.EnabledRule.{EnabledRule}
@@ -36,10 +36,10 @@ rules_view t = rules_with no_search t
 abbrev pub IsOfGrammar : List Text → Grammar → table.Rules → Type 0
 IsOfGrammar features g t = (t.features.now ≡ features) × (grammar_view t.grammar.now ≡ g)
 
--- the enabled rules of that name among the items
-abbrev pub rules_named_in : List Text → List GrammarItem → Text → List PureRule
-rules_named_in features items n =
-    filter (has_name n) (map (enabled_rule features) (filter (λ r. is_active features r.attributes) (rules_of (map item_view items))))
+-- the enabled rules of that name among written rules
+abbrev pub rules_named_in : List Text → List Rule → Text → List PureRule
+rules_named_in features rules n =
+    filter (has_name n) (map (enabled_rule features) (filter (λ r. is_active features r.attributes) rules))
 
 -- what a name stands for that these rules have: nothing without a rule, no rule where there are several
 abbrev pub only_of : List PureRule → Option (Option Kept)

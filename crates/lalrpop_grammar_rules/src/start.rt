@@ -3,15 +3,16 @@
 ghost use Rattle.std.specs.Prelude.{◌≡◌, ◌||◌, ◌&&◌, map, not, true, false};
 ghost use Rattle.std.specs.Str.{bytes_eq};
 ghost use Rattle.std.specs.List.{list_any};
-ghost use Rattle.lalrpop_grammar.specs.Views.{item_view, nonterminal_view, attribute_view, is_public};
-ghost use Rattle.lalrpop_grammar_language.specs.Enabled.{enabled_rule, is_active, rules_of};
+ghost use Rattle.lalrpop_grammar.specs.Views.{grammar_view, nonterminal_view, attribute_view, is_public};
+ghost use Rattle.lalrpop_grammar.specs.WrittenGrammar.{rules_of};
+ghost use Rattle.lalrpop_grammar_language.specs.Enabled.{enabled_rule, is_active};
 ghost use Rattle.lalrpop_grammar_language.specs.Starts.{can_start, has_none, has_start};
 ghost use Rattle.lalrpop_grammar_rules.specs.RuleTable.{rules_view};
 ghost use Rattle.lalrpop_grammar_rules.specs.StartViews.{active_start, is_known, is_public_start};
 
 use crate::enabling::cfg_active;
 use crate::table::Rules;
-use lalrpop_grammar::{Atom, GrammarItem, NonterminalData, Visibility};
+use lalrpop_grammar::{Atom, Grammar, NonterminalData, Visibility};
 
 /// Whether a name can be a start.
 #[derive(Clone, Copy, Debug, PartialEq, Eq)]
@@ -31,11 +32,10 @@ impl<'g> Rules<'g> {
         ensures known { is_known result ≡ has_start name.now false (rules_view self.now) }
         ensures public { is_public_start result ≡ has_start name.now true (rules_view self.now) }
     {
-        let items = self.grammar.items.as_slice();
-        if has_start(self.features, items, name, true) {
+        if has_start(self.features, self.grammar, name, true) {
             return Start::Public;
         }
-        if has_start(self.features, items, name, false) {
+        if has_start(self.features, self.grammar, name, false) {
             return Start::Private;
         }
         Start::Unknown
@@ -43,14 +43,12 @@ impl<'g> Rules<'g> {
 }
 
 /// Whether an enabled rule that is no macro has the name; with `public`, whether a public one has it.
-fn has_start(features: &[Atom], items: &[GrammarItem], name: &str, public: bool) -> bool
-    ensures { result ≡ list_any (active_start features.now name.now public) (rules_of (map item_view items.now)) }
+fn has_start(features: &[Atom], grammar: &Grammar, name: &str, public: bool) -> bool
+    ensures { result ≡ list_any (active_start features.now name.now public) (rules_of (grammar_view grammar.now).items) }
 {
-    for item in items {
-        if let GrammarItem::Nonterminal(rule) = item {
-            if can_start(features, rule, name, public) {
-                return true;
-            }
+    for rule in grammar.rules() {
+        if can_start(features, rule, name, public) {
+            return true;
         }
     }
     false

@@ -4,6 +4,7 @@ ghost use Rattle.std.specs.Prelude.{◌≡◌, ◌||◌, [], ◌∷◌, IfOk, On
 ghost use Rattle.std.specs.Str.{bytes_eq};
 ghost use Rattle.lalrpop_grammar_symbols.specs.Symbols.{Text};
 ghost use Rattle.lalrpop_grammar.specs.Views.{nonterminal_view, match_item_view, grammar_view, item_view};
+ghost use Rattle.lalrpop_grammar.specs.WrittenGrammar.{rules_of};
 ghost use Rattle.lalrpop_grammar_language.specs.Enabled.{bare_of, bares_of, enabled_rule, has_text};
 ghost use Rattle.lalrpop_grammar_rules.specs.Details.{kept_rule_view};
 ghost use Rattle.lalrpop_grammar_rules.specs.RuleTable.{HasBares, IsMeaning, IsOnlyRule, IsTable, bares_of_entries, bares_of_groups, bares_of_item, bares_of_items, rule_entry_at, rule_entry, entry_with_rules, IsOfGrammar, knows, rules_named_in, names_of, one_more, only_of};
@@ -48,7 +49,7 @@ impl<'g> Rules<'g> {
         ensures made { IfOk result IsTable }
         ensures of_grammar { IfOk result (IsOfGrammar features.now (grammar_view grammar.now)) }
     {
-        let by_name = named_rules(alloc, features, grammar.items.as_slice())?;
+        let by_name = named_rules(alloc, features, grammar)?;
         let bares = bare_names(alloc, grammar.items.as_slice())?;
         Ok(Rules {
             grammar,
@@ -99,44 +100,37 @@ impl<'g> Rules<'g> {
     }
 }
 
-/// The rules by their names.
+/// The enabled rules by their names.
 fn named_rules<'g>(
     alloc: Global,
     features: &[Atom],
-    items: &'g [GrammarItem],
+    grammar: &'g Grammar,
 ) -> Result<HashMap<&'g str, Option<EnabledRule<'g>>>, AllocError>
-    ensures { IfOk result (λ by_name. (n : Text) →
-        rule_entry_at features.now by_name n ≡ only_of (rules_named_in features.now items.now n)) }
+    ensures { IfOk result (λ by_name. (n : Text) → rule_entry_at features.now by_name n
+        ≡ only_of (rules_named_in features.now (rules_of (grammar_view grammar.now).items) n)) }
 {
     let mut by_name = HashMap::new(alloc);
-    for item in items {
-        add_item(alloc, features, item, &mut by_name)?;
+    for rule in grammar.rules() {
+        add_enabled(alloc, features, rule, &mut by_name)?;
     }
     Ok(by_name)
 }
 
-/// Adds the item's rule, where it is an enabled one.
-fn add_item<'g>(
+/// Adds the rule, where it is an enabled one.
+fn add_enabled<'g>(
     alloc: Global,
     features: &[Atom],
-    item: &'g GrammarItem,
+    rule: &'g NonterminalData,
     by_name: &mut HashMap<&'g str, Option<EnabledRule<'g>>>,
 ) -> Result<(), AllocError>
     ensures { OnOk result ((n : Text) → rule_entry_at features.now by_name.new n
-        ≡ entry_with_rules (rule_entry_at features.now by_name.old n) (rules_named_in features.now (item.now ∷ []) n)) }
+        ≡ entry_with_rules (rule_entry_at features.now by_name.old n)
+        (rules_named_in features.now (nonterminal_view rule.now ∷ []) n)) }
 {
-    match item {
-        GrammarItem::Nonterminal(rule) => {
-            if !cfg_active(features, rule.attributes.as_slice()) {
-                return Ok(());
-            }
-            add_rule(alloc, features, rule, by_name)
-        }
-        GrammarItem::MatchToken(_) => Ok(()),
-        GrammarItem::ExternToken(_) => Ok(()),
-        GrammarItem::InternToken(_) => Ok(()),
-        GrammarItem::Use(_) => Ok(()),
+    if !cfg_active(features, rule.attributes.as_slice()) {
+        return Ok(());
     }
+    add_rule(alloc, features, rule, by_name)
 }
 
 /// Adds the rule, unless one of its name stands there.

@@ -1,2 +1,4 @@
 pub mod EscapeLemmas
+pub mod MapLemmas
+pub mod SubsymbolLemmas
 pub mod TextLemmas

@@ -1,5 +1,9 @@
 pub mod Items
 pub mod Parts
+pub mod Subsymbols
+pub mod SubsymbolsLeft
+pub mod SymbolMaps
+pub mod SymbolWalks
 pub mod Symbols
 pub mod Texts
 pub mod Views

@@ -10,7 +10,10 @@ mod boxed;
 mod list;
 mod names;
 mod span;
+mod subsymbols;
 mod symbol;
+mod symbol_map;
+mod symbol_walk;
 mod terminal;
 mod terminal_text;
 mod texts;
@@ -20,7 +23,10 @@ pub use boxed::Boxed;
 pub use list::List;
 pub use names::{Name, NonterminalString};
 pub use span::Span;
+pub use subsymbols::Subsymbols;
 pub use symbol::{
     ExprSymbol, MacroSymbol, RepeatOp, RepeatSymbol, Symbol, SymbolKind, clone_symbols,
 };
+pub use symbol_map::SymbolMap;
+pub use symbol_walk::subsymbols_of;
 pub use terminal::{MatchSymbol, TerminalLiteral, TerminalString};

@@ -4,6 +4,7 @@ ghost use Rattle.std.specs.Prelude.{◌≡◌, IfOk, length, true, false};
 
 use crate::atom::Atom;
 use std::alloc::AllocError;
+use std::fmt::{self, Display, Formatter, Write};
 
 /// The name of a rule, of a macro's parameter, or of a nonterminal.
 #[derive(Debug, PartialEq, Eq, PartialOrd, Ord, Hash, Drop)]
@@ -62,5 +63,29 @@ impl Name {
             mutable: self.mutable,
             name: self.name.try_clone()?,
         })
+    }
+}
+
+impl Display for NonterminalString {
+    ghost use Rattle.std.specs.Prelude.{Some};
+
+    ghost output = { λ name. Some name.0 };
+
+    fn fmt<W: Write>(&self, f: &mut Formatter<W>) -> fmt::Result {
+        f.write_str(self.0.as_str())
+    }
+}
+
+impl Display for Name {
+    ghost use Rattle.std.specs.Prelude.{◌++◌, Some};
+    ghost use Rattle.lalrpop_grammar_symbols.specs.Texts.{mutable_text};
+
+    ghost output = { λ name. Some (mutable_text name.mutable ++ name.name) };
+
+    fn fmt<W: Write>(&self, f: &mut Formatter<W>) -> fmt::Result {
+        if self.mutable {
+            f.write_str("mut ")?;
+        }
+        f.write_str(self.name.as_str())
     }
 }

@@ -1,21 +1,21 @@
 //! The printed texts of terminals.
 
-ghost use Rattle.std.specs.Prelude.{◌≡◌, ◌++◌, ◌<◌, IfOk, OnOk, OnErr, string_bytes, encode_utf8, length, min};
+ghost use Rattle.std.specs.Prelude.{◌≡◌, ◌++◌, ◌<◌, IfOk, OnOk, OnErr, Some, string_bytes, encode_utf8, length, min};
+ghost use Rattle.std.specs.Fmt.{WritesOnOk};
 ghost use Rattle.std.specs.Char.{digit_char};
 ghost use Rattle.lalrpop_grammar_symbols.specs.Views.{literal_view, terminal_view};
 ghost use Rattle.lalrpop_grammar_symbols.specs.Texts.{escape_byte, escape, code_text, terminal_text};
 
 use crate::terminal::{TerminalLiteral, TerminalString};
 use std::alloc::{AllocError, Global};
+use std::fmt::{self, Display, Formatter, Write};
 
 impl TerminalString {
     /// The printed text: a literal's text, a bare name as it is, `!` for error recovery.
     pub fn canonical_form(&self, alloc: Global) -> Result<String, AllocError>
         ensures { IfOk result (λ text. string_bytes text ≡ terminal_text (terminal_view self.now)) }
     {
-        let mut text = String::new(alloc);
-        push_terminal(self, &mut text)?;
-        Ok(text)
+        self.to_string(alloc)
     }
 
     /// Appends the printed text. Where memory is refused, `out` is as before.
@@ -46,9 +46,7 @@ impl TerminalLiteral {
     pub fn canonical_form(&self, alloc: Global) -> Result<String, AllocError>
         ensures { IfOk result (λ text. string_bytes text ≡ terminal_text (literal_view self.now)) }
     {
-        let mut text = String::new(alloc);
-        push_literal(self, &mut text)?;
-        Ok(text)
+        self.to_string(alloc)
     }
 
     /// Appends the printed text. Where memory is refused, `out` is as before.
@@ -72,70 +70,70 @@ impl TerminalLiteral {
     }
 }
 
-/// Appends the text of a terminal. Where memory is refused, some of it may stand.
-pub(crate) fn push_terminal(terminal: &TerminalString, out: &mut String) -> Result<(), AllocError>
-    ensures { OnOk result (string_bytes out.new
-        ≡ string_bytes out.old ++ terminal_text (terminal_view terminal.now)) }
-{
-    match terminal {
-        TerminalString::Literal(literal) => push_literal(literal, out),
-        TerminalString::Bare(name) => out.push_str(name.as_str()),
-        TerminalString::Error => out.push_str("!"),
-    }
-}
+impl Display for TerminalString {
+    ghost output = { λ t. Some (terminal_text (terminal_view t)) };
 
-fn push_literal(literal: &TerminalLiteral, out: &mut String) -> Result<(), AllocError>
-    ensures { OnOk result (string_bytes out.new
-        ≡ string_bytes out.old ++ terminal_text (literal_view literal.now)) }
-{
-    match literal {
-        TerminalLiteral::Quoted(text) => {
-            out.push_str("\"")?;
-            push_escaped(text.as_str(), out)?;
-            out.push_str("\"")
-        }
-        TerminalLiteral::Regex(pattern) => {
-            out.push_str("r#\"")?;
-            push_escaped(pattern.as_str(), out)?;
-            out.push_str("\"#")
+    fn fmt<W: Write>(&self, f: &mut Formatter<W>) -> fmt::Result {
+        match self {
+            TerminalString::Literal(literal) => literal.fmt(f),
+            TerminalString::Bare(name) => f.write_str(name.as_str()),
+            TerminalString::Error => f.write_str("!"),
         }
     }
 }
 
-fn push_escaped(text: &str, out: &mut String) -> Result<(), AllocError>
-    ensures { OnOk result (string_bytes out.new ≡ string_bytes out.old ++ escape text.now) }
+impl Display for TerminalLiteral {
+    ghost output = { λ l. Some (terminal_text (literal_view l)) };
+
+    fn fmt<W: Write>(&self, f: &mut Formatter<W>) -> fmt::Result {
+        match self {
+            TerminalLiteral::Quoted(text) => {
+                f.write_str("\"")?;
+                write_escaped(text.as_str(), f)?;
+                f.write_str("\"")
+            }
+            TerminalLiteral::Regex(pattern) => {
+                f.write_str("r#\"")?;
+                write_escaped(pattern.as_str(), f)?;
+                f.write_str("\"#")
+            }
+        }
+    }
+}
+
+fn write_escaped<W: Write>(text: &str, f: &mut Formatter<W>) -> fmt::Result
+    ensures { WritesOnOk W.write_str_gives f.old result (escape text.now) f.new }
 {
     for c in text.chars() {
-        push_escaped_char(c, out)?;
+        write_escaped_char(c, f)?;
     }
     Ok(())
 }
 
-fn push_escaped_char(c: char, out: &mut String) -> Result<(), AllocError>
-    ensures { OnOk result (string_bytes out.new
-        ≡ string_bytes out.old ++ escape (encode_utf8 c)) }
+fn write_escaped_char<W: Write>(c: char, f: &mut Formatter<W>) -> fmt::Result
+    ensures { WritesOnOk W.write_str_gives f.old result (escape (encode_utf8 c)) f.new }
 {
     match c {
-        '"' => out.push_str("\\\""),
-        '\\' => out.push_str("\\\\"),
-        '\n' => out.push_str("\\n"),
-        '\r' => out.push_str("\\r"),
-        '\t' => out.push_str("\\t"),
-        '\0'..='\u{1f}' => push_code(c as u32, out),
-        _ => out.push(c),
+        '"' => f.write_str("\\\""),
+        '\\' => f.write_str("\\\\"),
+        '\n' => f.write_str("\\n"),
+        '\r' => f.write_str("\\r"),
+        '\t' => f.write_str("\\t"),
+        '\0'..='\u{1f}' => write_code(c as u32, f),
+        _ => f.write_char(c),
     }
 }
 
-fn push_code(code: u32, out: &mut String) -> Result<(), AllocError>
+fn write_code<W: Write>(code: u32, f: &mut Formatter<W>) -> fmt::Result
     requires { code < 32 }
-    ensures { OnOk result (string_bytes out.new ≡ string_bytes out.old ++ code_text code) }
+    ensures { WritesOnOk W.write_str_gives f.old result (code_text code) f.new }
 {
-    out.push_str("\\u{")?;
+    f.write_str("\\u{")?;
     if code >= 16 {
-        out.push(hex_digit(code / 16))?;
+        f.write_char(hex_digit(code / 16))?;
     }
-    out.push(hex_digit(code % 16))?;
-    out.push_str("}")
+    f.write_char(hex_digit(code % 16))?;
+    f.write_str("}")
 }
 
 fn hex_digit(n: u32) -> char

@@ -1,23 +1,22 @@
 //! The printed texts of symbols.
 
-ghost use Rattle.std.specs.Prelude.{◌≡◌, ◌++◌, IfOk, OnOk, OnErr, string_bytes};
+ghost use Rattle.std.specs.Prelude.{◌≡◌, ◌++◌, IfOk, OnOk, OnErr, Some, string_bytes};
+ghost use Rattle.std.specs.Fmt.{WritesOnOk};
 ghost use Rattle.lalrpop_grammar_symbols.specs.Views.{symbol_view, repeat_op_view};
 ghost use Rattle.lalrpop_grammar_symbols.specs.Parts.{group_view, macro_view, repeat_view, texts_of_symbols};
 ghost use Rattle.lalrpop_grammar_symbols.specs.Texts.{symbol_text, symbol_texts, sign_text, join_texts, group_text, macro_text, choose_text, named_text, repeat_text};
 
 use crate::names::Name;
 use crate::symbol::{ExprSymbol, MacroSymbol, RepeatOp, RepeatSymbol, Symbol, SymbolKind};
-use crate::terminal_text::push_terminal;
 use std::alloc::{AllocError, Global};
+use std::fmt::{self, Display, Formatter, Write};
 
 impl Symbol {
     /// The printed text: `A`, `"a"`, `(A B)`, `M<A, B>`, `A*`, `<A>`, `<x:A>`, `<mut x:A>`, `@L`, `@R` or `!`.
     pub fn canonical_form(&self, alloc: Global) -> Result<String, AllocError>
         ensures { IfOk result (λ text. string_bytes text ≡ symbol_text (symbol_view self.now)) }
     {
-        let mut text = String::new(alloc);
-        push_symbol(self, &mut text)?;
-        Ok(text)
+        self.to_string(alloc)
     }
 
     /// Appends the printed text. Where memory is refused, `out` is as before.
@@ -37,9 +36,7 @@ impl ExprSymbol {
         ensures { IfOk result (λ text.
             string_bytes text ≡ group_text (symbol_texts (group_view self.now))) }
     {
-        let mut text = String::new(alloc);
-        push_group(self, &mut text)?;
-        Ok(text)
+        self.to_string(alloc)
     }
 }
 
@@ -49,9 +46,7 @@ impl MacroSymbol {
         ensures { let call = macro_view self.now in IfOk result (λ text.
             string_bytes text ≡ macro_text call.0 (symbol_texts call.1)) }
     {
-        let mut text = String::new(alloc);
-        push_call(self, &mut text)?;
-        Ok(text)
+        self.to_string(alloc)
     }
 }
 
@@ -61,104 +56,136 @@ impl RepeatSymbol {
         ensures { let repeat = repeat_view self.now in IfOk result (λ text.
             string_bytes text ≡ repeat_text repeat.0 (symbol_text repeat.1)) }
     {
-        let mut text = String::new(alloc);
-        push_repeat(self, &mut text)?;
-        Ok(text)
+        self.to_string(alloc)
+    }
+}
+
+impl Display for Symbol {
+    ghost output = { λ s. Some (symbol_text (symbol_view s)) };
+
+    fn fmt<W: Write>(&self, f: &mut Formatter<W>) -> fmt::Result {
+        write_symbol(self, f)
+    }
+}
+
+impl Display for ExprSymbol {
+    ghost output = { λ group. Some (group_text (symbol_texts (group_view group))) };
+
+    fn fmt<W: Write>(&self, f: &mut Formatter<W>) -> fmt::Result {
+        write_group(self, f)
+    }
+}
+
+impl Display for MacroSymbol {
+    ghost output = { λ call. Some (macro_text (macro_view call).0 (symbol_texts (macro_view call).1)) };
+
+    fn fmt<W: Write>(&self, f: &mut Formatter<W>) -> fmt::Result {
+        write_call(self, f)
+    }
+}
+
+impl Display for RepeatSymbol {
+    ghost output = { λ repeat. Some (repeat_text (repeat_view repeat).0 (symbol_text (repeat_view repeat).1)) };
+
+    fn fmt<W: Write>(&self, f: &mut Formatter<W>) -> fmt::Result {
+        write_repeat(self, f)
+    }
+}
+
+impl Display for RepeatOp {
+    ghost output = { λ op. Some (sign_text (repeat_op_view op)) };
+
+    fn fmt<W: Write>(&self, f: &mut Formatter<W>) -> fmt::Result {
+        f.write_str(match self {
+            RepeatOp::Star => "*",
+            RepeatOp::Plus => "+",
+            RepeatOp::Question => "?",
+        })
     }
 }
 
 #[cycle(texts)]
-fn push_symbol(symbol: &Symbol, out: &mut String) -> Result<(), AllocError>
-    ensures { OnOk result (string_bytes out.new
-        ≡ string_bytes out.old ++ symbol_text (symbol_view symbol.now)) }
+fn write_symbol<W: Write>(symbol: &Symbol, f: &mut Formatter<W>) -> fmt::Result
+    ensures { WritesOnOk W.write_str_gives f.old result
+        (symbol_text (symbol_view symbol.now)) f.new }
 {
     match &symbol.kind {
-        SymbolKind::Expr(group) => push_group(group, out),
-        SymbolKind::AmbiguousId(name) => out.push_str(name.as_str()),
-        SymbolKind::Terminal(terminal) => push_terminal(terminal, out),
-        SymbolKind::Nonterminal(name) => out.push_str(name.0.as_str()),
-        SymbolKind::Macro(call) => push_call(call, out),
-        SymbolKind::Repeat(repeat) => push_repeat(repeat.get(), out),
-        SymbolKind::Choose(chosen) => push_chosen(chosen.get(), out),
-        SymbolKind::Name(name, named) => push_named(name, named.get(), out),
-        SymbolKind::Lookahead => out.push_str("@L"),
-        SymbolKind::Lookbehind => out.push_str("@R"),
-        SymbolKind::Error => out.push_str("!"),
+        SymbolKind::Expr(group) => write_group(group, f),
+        SymbolKind::AmbiguousId(name) => f.write_str(name.as_str()),
+        SymbolKind::Terminal(terminal) => terminal.fmt(f),
+        SymbolKind::Nonterminal(name) => name.fmt(f),
+        SymbolKind::Macro(call) => write_call(call, f),
+        SymbolKind::Repeat(repeat) => write_repeat(repeat.get(), f),
+        SymbolKind::Choose(chosen) => write_chosen(chosen.get(), f),
+        SymbolKind::Name(name, named) => write_named(name, named.get(), f),
+        SymbolKind::Lookahead => f.write_str("@L"),
+        SymbolKind::Lookbehind => f.write_str("@R"),
+        SymbolKind::Error => f.write_str("!"),
     }
 }
 
 #[cycle(texts)]
-fn push_group(group: &ExprSymbol, out: &mut String) -> Result<(), AllocError>
-    ensures { OnOk result (string_bytes out.new
-        ≡ string_bytes out.old ++ group_text (symbol_texts (group_view group.now))) }
+fn write_group<W: Write>(group: &ExprSymbol, f: &mut Formatter<W>) -> fmt::Result
+    ensures { WritesOnOk W.write_str_gives f.old result
+        (group_text (symbol_texts (group_view group.now))) f.new }
 {
-    out.push_str("(")?;
-    push_symbols(group.symbols.as_slice(), " ", out)?;
-    out.push_str(")")
+    f.write_str("(")?;
+    write_symbols(group.symbols.as_slice(), " ", f)?;
+    f.write_str(")")
 }
 
 #[cycle(texts)]
-fn push_call(call: &MacroSymbol, out: &mut String) -> Result<(), AllocError>
-    ensures { let symbol_view = macro_view call.now in OnOk result (string_bytes out.new
-        ≡ string_bytes out.old ++ macro_text symbol_view.0 (symbol_texts symbol_view.1)) }
+fn write_call<W: Write>(call: &MacroSymbol, f: &mut Formatter<W>) -> fmt::Result
+    ensures { let view = macro_view call.now in WritesOnOk W.write_str_gives f.old result
+        (macro_text view.0 (symbol_texts view.1)) f.new }
 {
-    out.push_str(call.name.0.as_str())?;
-    out.push_str("<")?;
-    push_symbols(call.args.as_slice(), ", ", out)?;
-    out.push_str(">")
+    call.name.fmt(f)?;
+    f.write_str("<")?;
+    write_symbols(call.args.as_slice(), ", ", f)?;
+    f.write_str(">")
 }
 
 #[cycle(texts)]
-fn push_repeat(repeat: &RepeatSymbol, out: &mut String) -> Result<(), AllocError>
-    ensures { let symbol_view = repeat_view repeat.now in OnOk result (string_bytes out.new
-        ≡ string_bytes out.old ++ repeat_text symbol_view.0 (symbol_text symbol_view.1)) }
+fn write_repeat<W: Write>(repeat: &RepeatSymbol, f: &mut Formatter<W>) -> fmt::Result
+    ensures { let view = repeat_view repeat.now in WritesOnOk W.write_str_gives f.old result
+        (repeat_text view.0 (symbol_text view.1)) f.new }
 {
-    push_symbol(&repeat.symbol, out)?;
-    out.push_str(sign(repeat.op))
+    write_symbol(&repeat.symbol, f)?;
+    repeat.op.fmt(f)
 }
 
 #[cycle(texts)]
-fn push_chosen(chosen: &Symbol, out: &mut String) -> Result<(), AllocError>
-    ensures { OnOk result (string_bytes out.new
-        ≡ string_bytes out.old ++ choose_text (symbol_text (symbol_view chosen.now))) }
+fn write_chosen<W: Write>(chosen: &Symbol, f: &mut Formatter<W>) -> fmt::Result
+    ensures { WritesOnOk W.write_str_gives f.old result
+        (choose_text (symbol_text (symbol_view chosen.now))) f.new }
 {
-    out.push_str("<")?;
-    push_symbol(chosen, out)?;
-    out.push_str(">")
+    f.write_str("<")?;
+    write_symbol(chosen, f)?;
+    f.write_str(">")
 }
 
 #[cycle(texts)]
-fn push_named(name: &Name, named: &Symbol, out: &mut String) -> Result<(), AllocError>
-    ensures { OnOk result (string_bytes out.new ≡ string_bytes out.old
-        ++ named_text name.now.mutable name.now.name (symbol_text (symbol_view named.now))) }
+fn write_named<W: Write>(name: &Name, named: &Symbol, f: &mut Formatter<W>) -> fmt::Result
+    ensures { WritesOnOk W.write_str_gives f.old result
+        (named_text name.now.mutable name.now.name (symbol_text (symbol_view named.now))) f.new }
 {
-    out.push_str(if name.mutable { "<mut " } else { "<" })?;
-    out.push_str(name.name.as_str())?;
-    out.push_str(":")?;
-    push_symbol(named, out)?;
-    out.push_str(">")
+    f.write_str("<")?;
+    name.fmt(f)?;
+    f.write_str(":")?;
+    write_symbol(named, f)?;
+    f.write_str(">")
 }
 
 #[cycle(texts)]
-fn push_symbols(symbols: &[Symbol], separator: &str, out: &mut String) -> Result<(), AllocError>
-    ensures { OnOk result (string_bytes out.new
-        ≡ string_bytes out.old ++ join_texts separator.now (texts_of_symbols symbols.now)) }
+fn write_symbols<W: Write>(symbols: &[Symbol], separator: &str, f: &mut Formatter<W>) -> fmt::Result
+    ensures { WritesOnOk W.write_str_gives f.old result
+        (join_texts separator.now (texts_of_symbols symbols.now)) f.new }
 {
     for (i, symbol) in symbols.iter().enumerate() {
         if i > 0 {
-            out.push_str(separator)?;
+            f.write_str(separator)?;
         }
-        push_symbol(symbol, out)?;
+        write_symbol(symbol, f)?;
     }
     Ok(())
-}
-
-fn sign(op: RepeatOp) -> &'static str
-    ensures { result.now ≡ sign_text (repeat_op_view op) }
-{
-    match op {
-        RepeatOp::Star => "*",
-        RepeatOp::Plus => "+",
-        RepeatOp::Question => "?",
-    }
 }

@@ -5,7 +5,9 @@ use lalrpop_grammar::{
     MatchEntry, MatchItem, MatchMapping, MatchToken, NonterminalString, Origin, Span,
     TerminalLiteral, TerminalString, Visibility,
 };
-use lalrpop_grammar_language::{tokens_are_leaves, trees_correspond};
+use lalrpop_grammar_language::{
+    labels_have_one_side, leaves_fix_trees, tokens_are_leaves, trees_correspond,
+};
 use lalrpop_json_grammar::read_grammar;
 use serde_json::Value;
 use std::alloc::{AllocError, Global};
@@ -155,6 +157,16 @@ fn begins_with_a_documented_rule(grammar: &Grammar) -> bool {
 }
 
 #[test]
+fn rules_of_a_grammar(rt: HostRuntime) -> Result<(), Fail> {
+    let grammar = full(rt.alloc())?;
+    let mut rules = grammar.rules();
+    assert!(rt; matches!(rules.next(), Some(rule) if rule.name.0.as_str() == "N"));
+    assert!(rt; rules.next().is_none());
+    assert!(rt; rules.next().is_none());
+    Ok(())
+}
+
+#[test]
 fn questions_of_a_rule(rt: HostRuntime) -> Result<(), Fail> {
     let grammar = full(rt.alloc())?;
     assert!(rt; begins_with_a_public_macro(&grammar));
@@ -203,4 +215,6 @@ fn places_of_entries(rt: HostRuntime) {
 fn laws_are_called() {
     trees_correspond();
     tokens_are_leaves();
+    labels_have_one_side();
+    leaves_fix_trees();
 }

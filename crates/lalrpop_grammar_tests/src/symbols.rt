@@ -7,7 +7,7 @@ use lalrpop_grammar::{
 use std::alloc::{AllocError, Global};
 use std::test::Fail;
 
-fn symbol_of_name(alloc: Global, name: &str) -> Result<Symbol, AllocError> {
+pub(crate) fn symbol_of_name(alloc: Global, name: &str) -> Result<Symbol, AllocError> {
     let kind = SymbolKind::AmbiguousId(Atom::new(alloc, name)?);
     Ok(Symbol::new(Span(0, 0), kind))
 }

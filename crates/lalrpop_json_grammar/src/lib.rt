@@ -10,9 +10,7 @@ mod printing;
 mod tree;
 
 pub use grammar::read_grammar;
-pub use lalrpop_json_values::{
-    Fault, FaultKind, Key, ReadError, Step, fault_text, json_string, kind_text, path_text,
-};
+pub use lalrpop_json_values::{Fault, FaultKind, JsonText, Key, PathText, ReadError, Step};
 pub use laws::{grammar_laws, tree_laws};
-pub use printing::print_tree;
+pub use printing::{TreeText, print_tree};
 pub use tree::read_tree;

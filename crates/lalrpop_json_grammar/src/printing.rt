@@ -1,30 +1,40 @@
 //! How written trees are printed.
 
-ghost use Rattle.std.specs.Prelude.{◌≡◌, ◌++◌, IfOk, OnOk, string_bytes, map, option_map};
+ghost use Rattle.std.specs.Prelude.{◌≡◌, IfOk, Some, string_bytes, map, option_map};
+ghost use Rattle.std.specs.Fmt.{WritesOnOk};
 ghost use Rattle.lalrpop_grammar_symbols.specs.Texts.{join_texts};
 ghost use Rattle.lalrpop_grammar_symbols.specs.Parts.{texts_of_symbols};
 ghost use Rattle.lalrpop_grammar.specs.Views.{tree_view, opt_view};
-ghost use Rattle.lalrpop_json_values.specs.JsonText.{json_text};
 ghost use Rattle.lalrpop_json_grammar.specs.Printing.{row_text, arguments_text, head_text, tree_text};
 
 use lalrpop_grammar::{Boxed, NonterminalString, Symbol, WrittenTree};
-use lalrpop_json_values::json_string;
+use lalrpop_json_values::JsonText;
 use std::alloc::{AllocError, Global};
+use std::fmt::{self, Display, Formatter, Write};
 
-/// The printed tree: `Rule<X, Y>#place(a, b)` for a rule, `[a, b]` for a list, `(a, b)` for a group, `?()` or `?(a)` for
-/// an option, the text as a JSON string for a token, `@` for `@L` and `@R`.
+/// A tree that is printed: `Rule<X, Y>#place(a, b)` for a rule, `[a, b]` for a list, `(a, b)` for a group, `?()` or
+/// `?(a)` for an option, the text as a JSON string for a token, `@` for `@L` and `@R`.
+#[derive(Clone, Copy, Debug)]
+pub struct TreeText<'t>(pub &'t WrittenTree);
+
+impl Display for TreeText<'_> {
+    ghost output = { λ t. Some (tree_text (tree_view t.0.now)) };
+
+    fn fmt<W: Write>(&self, f: &mut Formatter<W>) -> fmt::Result {
+        write_tree(self.0, f)
+    }
+}
+
+/// The printed tree, as `TreeText` has it.
 pub fn print_tree(alloc: Global, tree: &WrittenTree) -> Result<String, AllocError>
     ensures { IfOk result (λ text. string_bytes text ≡ tree_text (tree_view tree.now)) }
 {
-    let mut text = String::new(alloc);
-    push_tree(alloc, tree, &mut text)?;
-    Ok(text)
+    TreeText(tree).to_string(alloc)
 }
 
 #[cycle(printing)]
-fn push_tree(alloc: Global, tree: &WrittenTree, out: &mut String) -> Result<(), AllocError>
-    ensures { OnOk result (string_bytes out.new
-        ≡ string_bytes out.old ++ tree_text (tree_view tree.now)) }
+fn write_tree<W: Write>(tree: &WrittenTree, f: &mut Formatter<W>) -> fmt::Result
+    ensures { WritesOnOk W.write_str_gives f.old result (tree_text (tree_view tree.now)) f.new }
 {
     match tree {
         WrittenTree::Rule {
@@ -33,92 +43,78 @@ fn push_tree(alloc: Global, tree: &WrittenTree, out: &mut String) -> Result<(), 
             place,
             children,
         } => {
-            push_head(alloc, rule, args.as_slice(), *place, out)?;
-            push_row(alloc, "(", children.as_slice(), ")", out)
+            write_head(rule, args.as_slice(), *place, f)?;
+            write_row("(", children.as_slice(), ")", f)
         }
-        WrittenTree::List(trees) => push_row(alloc, "[", trees.as_slice(), "]", out),
-        WrittenTree::Opt(inside) => push_option(alloc, inside, out),
-        WrittenTree::Group(trees) => push_row(alloc, "(", trees.as_slice(), ")", out),
-        WrittenTree::Terminal { text, .. } => push_json(alloc, text.as_str(), out),
-        WrittenTree::Look => out.push_str("@"),
+        WrittenTree::List(trees) => write_row("[", trees.as_slice(), "]", f),
+        WrittenTree::Opt(inside) => write_option(inside, f),
+        WrittenTree::Group(trees) => write_row("(", trees.as_slice(), ")", f),
+        WrittenTree::Terminal { text, .. } => JsonText(text.as_str()).fmt(f),
+        WrittenTree::Look => f.write_str("@"),
     }
 }
 
 #[cycle(printing)]
-fn push_option(
-    alloc: Global,
-    inside: &Option<Boxed<WrittenTree>>,
-    out: &mut String,
-) -> Result<(), AllocError>
-    ensures { OnOk result (string_bytes out.new
-        ≡ string_bytes out.old ++ tree_text (opt_view (option_map tree_view inside.now))) }
+fn write_option<W: Write>(inside: &Option<Boxed<WrittenTree>>, f: &mut Formatter<W>) -> fmt::Result
+    ensures { WritesOnOk W.write_str_gives f.old result
+        (tree_text (opt_view (option_map tree_view inside.now))) f.new }
 {
     match inside {
-        None => out.push_str("?()"),
+        None => f.write_str("?()"),
         Some(tree) => {
-            out.push_str("?(")?;
-            push_tree(alloc, tree.get(), out)?;
-            out.push_str(")")
+            f.write_str("?(")?;
+            write_tree(tree.get(), f)?;
+            f.write_str(")")
         }
     }
 }
 
 #[cycle(printing)]
-fn push_row(
-    alloc: Global,
+fn write_row<W: Write>(
     opening: &str,
     trees: &[WrittenTree],
     closing: &str,
-    out: &mut String,
-) -> Result<(), AllocError>
-    ensures { OnOk result (string_bytes out.new ≡ string_bytes out.old
-        ++ row_text opening.now closing.now (map (λ t. tree_text (tree_view t)) trees.now)) }
+    f: &mut Formatter<W>,
+) -> fmt::Result
+    ensures { WritesOnOk W.write_str_gives f.old result
+        (row_text opening.now closing.now (map (λ t. tree_text (tree_view t)) trees.now)) f.new }
 {
-    out.push_str(opening)?;
+    f.write_str(opening)?;
     for (i, tree) in trees.iter().enumerate() {
         if i > 0 {
-            out.push_str(", ")?;
+            f.write_str(", ")?;
         }
-        push_tree(alloc, tree, out)?;
+        write_tree(tree, f)?;
     }
-    out.push_str(closing)
+    f.write_str(closing)
 }
 
-fn push_head(
-    alloc: Global,
+fn write_head<W: Write>(
     rule: &NonterminalString,
     args: &[Symbol],
     place: u32,
-    out: &mut String,
-) -> Result<(), AllocError>
-    ensures { OnOk result (string_bytes out.new
-        ≡ string_bytes out.old ++ head_text rule.now.0 (texts_of_symbols args.now) place) }
+    f: &mut Formatter<W>,
+) -> fmt::Result
+    ensures { WritesOnOk W.write_str_gives f.old result
+        (head_text rule.now.0 (texts_of_symbols args.now) place) f.new }
 {
-    out.push_str(rule.0.as_str())?;
-    push_arguments(alloc, args, out)?;
-    write!(out, "#{place}")
+    rule.fmt(f)?;
+    write_arguments(args, f)?;
+    write!(f, "#{place}")
 }
 
-fn push_arguments(alloc: Global, args: &[Symbol], out: &mut String) -> Result<(), AllocError>
-    ensures { OnOk result (string_bytes out.new
-        ≡ string_bytes out.old ++ arguments_text (texts_of_symbols args.now)) }
+fn write_arguments<W: Write>(args: &[Symbol], f: &mut Formatter<W>) -> fmt::Result
+    ensures { WritesOnOk W.write_str_gives f.old result (arguments_text (texts_of_symbols args.now)) f.new }
 {
     if args.is_empty() {
         return Ok(());
     }
-    out.push_str("<")?;
+    f.write_str("<")?;
     for (i, arg) in args.iter().enumerate() {
         if i > 0 {
-            out.push_str(", ")?;
+            f.write_str(", ")?;
         }
-        arg.write_text(alloc, out)?;
+        arg.fmt(f)?;
     }
-    out.push_str(">")
-}
-
-fn push_json(alloc: Global, text: &str, out: &mut String) -> Result<(), AllocError>
-    ensures { OnOk result (string_bytes out.new ≡ string_bytes out.old ++ json_text text.now) }
-{
-    let json = json_string(alloc, text)?;
-    out.push_str(json.as_str())
+    f.write_str(">")
 }

@@ -1,8 +1,10 @@
+pub mod EscapeLemmas
 pub mod ListLawLemmas
 pub mod ListReadingLemmas
 pub mod MemberNameLemmas
 pub mod NestingLemmas
 pub mod PairLemmas
+pub mod PathTextLemmas
 pub mod PrefixRunLemmas
 pub mod ScalarLemmas
 pub mod StepLemmas

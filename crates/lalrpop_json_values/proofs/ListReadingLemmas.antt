@@ -47,8 +47,8 @@ module _ {A : Type 0} (read : ℕ → Data → Result A Fault) (vs : List Value)
       → Fails e (within (Index i) (read i (view (get_or vs i v)))) → IsAt front i
       → Fails e (rest_of 0)
   stops front i v Memory h fails at = tt
-  stops front i v (Shape f) h fails at =
-      let step : rest_of i ≡ Err f = opened i v h ∙ rw fails refl in
+  stops front i v (Shape path kind) h fails at =
+      let step : rest_of i ≡ Err (record { path = path; kind = kind }) = opened i v h ∙ rw fails refl in
       sym at ∙ rw step refl
 
   pub ends : (front : List A) (i : ℕ) → length vs ≤ i → IsAt front i → rest_of 0 ≡ Ok front

@@ -1,5 +1,5 @@
 -- Numbers, spans, texts, names and words: what is read is spelled so, and what is spelled so is read; for the laws of formats.
-use Rattle.std.proofs.Common.{◌≡◌, ℕ, ◌^◌, ◌<◌, ◌≤◌, List, [], Option, Some, None, Result, Ok, Err, Bool, true, false}
+use Rattle.std.proofs.Common.{◌≡◌, ℕ, ◌^◌, ◌<◌, ◌≤◌, List, Option, Some, None, Result, Ok, Err, Bool, true, false}
 use Rattle.std.proofs.Common.{arith, refl, ap, sym, ◌∙◌, cond, nat_lt, is_some}
 use Rattle.std.specs.Prelude.{⊤}
 use Rattle.std.specs.Cmp.Lexicographic.{same_text}

@@ -4,6 +4,8 @@ use Rattle.lalrpop_json_values.specs.JsonText.{json_text}
 use Rattle.lalrpop_json_values.specs.declared.fault.Fault.{Fault}
 use Rattle.lalrpop_json_values.specs.declared.fault.FaultKind.{FaultKind}
 use Rattle.lalrpop_json_values.specs.declared.fault.FaultKind.TheVariants as fault
+use Rattle.lalrpop_json_values.specs.declared.fault.ReadError.{ReadError}
+use Rattle.lalrpop_json_values.specs.declared.fault.ReadError.TheVariants as errors
 use Rattle.lalrpop_json_values.specs.declared.fault.Step.{Step}
 use Rattle.lalrpop_json_values.specs.declared.fault.Step.TheVariants as step
 use Rattle.lalrpop_json_values.specs.Key.{key_text}
@@ -29,3 +31,7 @@ kind_text fault.BadNumber = codes "bad number"
 
 abbrev pub fault_text : Fault → List ℕ
 fault_text f = kind_text f.kind ++ codes " at " ++ json_text (path_text f.path)
+
+abbrev pub read_error_text : ReadError → List ℕ
+read_error_text (errors.Shape path kind) = fault_text (record { path = path; kind = kind })
+read_error_text errors.Memory = codes "out of memory"

@@ -28,7 +28,7 @@ within s (Err f) = Err (record { path = s ∷ f.path; kind = f.kind })
 
 abbrev pub Fails : {Y : Type 0} → ReadError → Result Y Fault → Type 0
 Fails errors.Memory read = Unit {0}
-Fails (errors.Shape f) read = read ≡ Err f
+Fails (errors.Shape path kind) read = read ≡ Err (record { path = path; kind = kind })
 
 -- What a function returned is what reading gives, unless memory ran out.
 abbrev pub Gives : {X : Type 0} → Result X ReadError → Result X Fault → Type 0
@@ -43,6 +43,6 @@ GivesBy view (Err e) read = Fails e read
 -- the error of a reading one step further in
 abbrev pub IsWithin : Step → ReadError → ReadError → Type 0
 IsWithin s errors.Memory errors.Memory = Unit {0}
-IsWithin s errors.Memory (errors.Shape g) = ⊥
-IsWithin s (errors.Shape f) errors.Memory = Unit {0}
-IsWithin s (errors.Shape f) (errors.Shape g) = g ≡ record { path = s ∷ f.path; kind = f.kind }
+IsWithin s errors.Memory (errors.Shape path kind) = ⊥
+IsWithin s (errors.Shape path kind) errors.Memory = Unit {0}
+IsWithin s (errors.Shape path kind) (errors.Shape outer same) = (outer ≡ s ∷ path) × (same ≡ kind)

@@ -1,8 +1,7 @@
 -- The members of an object: which there must be, and what stands at each.
 use Rattle.std.specs.Prelude.{ℕ, List, [], ◌∷◌, ⊤, Result, Ok, Err, Option, Some, None, is_some, if◌then◌else◌, Bool, true}
 use Rattle.std.specs.Str.{bytes_eq}
-use Rattle.std.specs.Prelude.{false, ◌==◌}
-use Rattle.std.specs.Cmp.Lexicographic.{pointwise}
+use Rattle.std.specs.Prelude.{false}
 use Rattle.serde_json.specs.Data.{Data, Members, no_members, member}
 use Rattle.serde_json.specs.Find.{get, as_object}
 use Rattle.lalrpop_json_values.specs.declared.fault.Fault.{Fault}

@@ -40,10 +40,29 @@ pub struct Fault {
 /// Why a value wasn't read.
 #[derive(Debug, PartialEq, Eq, Drop)]
 pub enum ReadError {
-    /// The value spells nothing.
-    Shape(Fault),
+    /// The value spells nothing: its first fault in reading order.
+    Shape {
+        /// From the whole value to the one that is at fault.
+        path: List<Step>,
+        /// What is wrong there.
+        kind: FaultKind,
+    },
     /// There was no memory.
     Memory,
+}
+
+impl From<Fault> for ReadError {
+    ghost use Rattle.std.specs.Prelude.{◌≡◌};
+    ghost use Rattle.lalrpop_json_values.specs.declared.fault.ReadError.TheVariants.{Shape};
+
+    ghost from_gives = { λ fault e. e ≡ Shape fault.path fault.kind };
+
+    fn from(fault: Fault) -> ReadError {
+        ReadError::Shape {
+            path: fault.path,
+            kind: fault.kind,
+        }
+    }
 }
 
 impl From<AllocError> for ReadError {

@@ -6,7 +6,7 @@
 
 mod fault;
 mod form;
-mod json;
+mod json_text;
 mod key;
 mod object;
 mod prefix;
@@ -17,7 +17,7 @@ mod word;
 
 pub use fault::{Fault, FaultKind, ReadError, Step};
 pub use form::{Form, form_by_key, form_of};
-pub use json::json_string;
+pub use json_text::JsonText;
 pub use key::Key;
 pub use object::{at_index, at_key, here, keys, member, outside};
 pub use prefix::{larger, longest_run, prefix_past};
@@ -27,5 +27,5 @@ pub use scalar::{
     word_field, word_of,
 };
 pub use strings::longest_in;
-pub use telling::{fault_text, kind_text, path_text};
+pub use telling::PathText;
 pub use word::Word;

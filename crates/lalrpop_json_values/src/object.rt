@@ -1,14 +1,14 @@
 //! The members of an object, and the faults that are told at it.
 
-ghost use Rattle.std.specs.Prelude.{◌≡◌, map, option_map, string_bytes, IsErrAnd, IfOk, IfErr};
+ghost use Rattle.std.specs.Prelude.{◌≡◌, [], map, option_map, string_bytes, IsErrAnd, IfOk, IfErr};
 ghost use Rattle.std.specs.BTreeMap.{keys};
 ghost use Rattle.serde_json.specs.View.{view};
-ghost use Rattle.lalrpop_json_values.specs.Gives.{Gives, GivesBy, IsWithin, here};
+ghost use Rattle.lalrpop_json_values.specs.Gives.{Gives, GivesBy, IsWithin};
 ghost use Rattle.lalrpop_json_values.specs.Objects.{are_named, first_missing, first_unknown, is_listed, keys_at, member_at, keys_fault};
 ghost use Rattle.lalrpop_json_values.specs.declared.fault.Step.TheVariants as step;
 ghost use Rattle.lalrpop_json_values.specs.declared.fault.ReadError.TheVariants as errors;
 
-use crate::fault::{Fault, FaultKind, ReadError, Step};
+use crate::fault::{FaultKind, ReadError, Step};
 use crate::key::Key;
 use lalrpop_grammar_symbols::{Atom, List};
 use serde_json::{Map, Value};
@@ -16,12 +16,12 @@ use std::alloc::{AllocError, Global};
 
 /// A fault of the value itself.
 pub fn here(alloc: Global, kind: FaultKind) -> ReadError
-    ensures { result ≡ errors.Shape (here kind) }
+    ensures { result ≡ errors.Shape [] kind }
 {
-    ReadError::Shape(Fault {
+    ReadError::Shape {
         path: List::new(alloc),
         kind,
-    })
+    }
 }
 
 /// The error, for a value one step further out.
@@ -30,8 +30,8 @@ pub fn outside(error: ReadError, step: Step) -> ReadError
 {
     match error {
         ReadError::Memory => ReadError::Memory,
-        ReadError::Shape(Fault { mut path, kind }) => match path.push_front(step) {
-            Ok(()) => ReadError::Shape(Fault { path, kind }),
+        ReadError::Shape { mut path, kind } => match path.push_front(step) {
+            Ok(()) => ReadError::Shape { path, kind },
             Err(_) => ReadError::Memory,
         },
     }

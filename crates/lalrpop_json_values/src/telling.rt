@@ -1,64 +1,83 @@
-//! Faults as text.
+//! Faults as text: all words that a fault of a value prints.
 
-ghost use Rattle.std.specs.Prelude.{◌≡◌, string_bytes, IfOk};
-ghost use Rattle.lalrpop_json_values.specs.FaultText.{fault_text, keyed_text, kind_text, path_text, step_text};
+ghost use Rattle.std.specs.Prelude.{Some};
+ghost use Rattle.std.specs.Fmt.{WritesOnOk};
+ghost use Rattle.lalrpop_json_values.specs.FaultText.{fault_text, kind_text, path_text, read_error_text, step_text};
 
-use crate::fault::{Fault, FaultKind, Step};
-use crate::json::json_string;
-use std::alloc::{AllocError, Global};
+use crate::fault::{Fault, FaultKind, ReadError, Step};
+use crate::json_text::JsonText;
+use std::error::Error;
+use std::fmt::{self, Display, Formatter, Write};
 
-fn step_text(alloc: Global, step: &Step) -> Result<String, AllocError>
-    ensures { IfOk result (λ s. string_bytes s ≡ step_text step.now) }
-{
-    match step {
-        Step::Key(key) => String::from_str(alloc, key.text()),
-        Step::Index(index) => index.to_string(alloc),
+/// A path that is printed: a slash before each key and each index.
+#[derive(Clone, Copy, Debug)]
+pub struct PathText<'p>(pub &'p [Step]);
+
+impl Display for Step {
+    ghost output = { λ s. Some (step_text s) };
+
+    fn fmt<W: Write>(&self, f: &mut Formatter<W>) -> fmt::Result {
+        match self {
+            Step::Key(key) => f.write_str(key.text()),
+            Step::Index(index) => index.fmt(f),
+        }
     }
 }
 
-/// A path as text: a slash before each key and each index.
-pub fn path_text(alloc: Global, path: &[Step]) -> Result<String, AllocError>
-    ensures { IfOk result (λ s. string_bytes s ≡ path_text path.now) }
-{
-    let mut text = String::new(alloc);
-    for step in path {
-        text.push('/')?;
-        let step = step_text(alloc, step)?;
-        text.push_str(step.as_str())?;
-    }
-    Ok(text)
-}
+impl Display for PathText<'_> {
+    ghost output = { λ path. Some (path_text path.0.now) };
 
-fn keyed_text(alloc: Global, words: &str, key: &str) -> Result<String, AllocError>
-    ensures { IfOk result (λ s. string_bytes s ≡ keyed_text words.now key.now) }
-{
-    let mut text = String::from_str(alloc, words)?;
-    let key = json_string(alloc, key)?;
-    text.push_str(key.as_str())?;
-    Ok(text)
-}
-
-/// What is wrong, as text: `missing key "K"`, `unknown key "K"`, `wrong shape`, `bad name` or `bad number`.
-pub fn kind_text(alloc: Global, kind: &FaultKind) -> Result<String, AllocError>
-    ensures { IfOk result (λ s. string_bytes s ≡ kind_text kind.now) }
-{
-    match kind {
-        FaultKind::MissingKey(key) => keyed_text(alloc, "missing key ", key.text()),
-        FaultKind::UnknownKey(name) => keyed_text(alloc, "unknown key ", name.as_str()),
-        FaultKind::WrongShape => String::from_str(alloc, "wrong shape"),
-        FaultKind::BadName => String::from_str(alloc, "bad name"),
-        FaultKind::BadNumber => String::from_str(alloc, "bad number"),
+    fn fmt<W: Write>(&self, f: &mut Formatter<W>) -> fmt::Result {
+        for step in self.0 {
+            write!(f, "/{step}")?;
+        }
+        Ok(())
     }
 }
 
-/// A fault as text: what is wrong, ` at `, and the path as a JSON string.
-pub fn fault_text(alloc: Global, fault: &Fault) -> Result<String, AllocError>
-    ensures { IfOk result (λ s. string_bytes s ≡ fault_text fault.now) }
-{
-    let mut text = kind_text(alloc, &fault.kind)?;
-    let path = path_text(alloc, fault.path.as_slice())?;
-    let path = json_string(alloc, path.as_str())?;
-    text.push_str(" at ")?;
-    text.push_str(path.as_str())?;
-    Ok(text)
+/// Prints `missing key "K"`, `unknown key "K"`, `wrong shape`, `bad name` or `bad number`.
+impl Display for FaultKind {
+    ghost output = { λ kind. Some (kind_text kind) };
+
+    fn fmt<W: Write>(&self, f: &mut Formatter<W>) -> fmt::Result {
+        match self {
+            FaultKind::MissingKey(key) => write!(f, "missing key {}", JsonText(key.text())),
+            FaultKind::UnknownKey(name) => write!(f, "unknown key {}", JsonText(name.as_str())),
+            FaultKind::WrongShape => f.write_str("wrong shape"),
+            FaultKind::BadName => f.write_str("bad name"),
+            FaultKind::BadNumber => f.write_str("bad number"),
+        }
+    }
 }
+
+/// Prints what is wrong, ` at `, and the path as a JSON string: no byte of a path has an escape in JSON, so it stands in
+/// quotes as it is.
+impl Display for Fault {
+    ghost output = { λ fault. Some (fault_text fault) };
+
+    fn fmt<W: Write>(&self, f: &mut Formatter<W>) -> fmt::Result {
+        write_fault(self.path.as_slice(), &self.kind, f)
+    }
+}
+
+fn write_fault<W: Write>(path: &[Step], kind: &FaultKind, f: &mut Formatter<W>) -> fmt::Result
+    ensures { WritesOnOk W.write_str_gives f.old result
+        (fault_text (record { path = path.now; kind = kind.now })) f.new }
+{
+    write!(f, "{kind} at \"{}\"", PathText(path))
+}
+
+impl Error for Fault {}
+
+impl Display for ReadError {
+    ghost output = { λ e. Some (read_error_text e) };
+
+    fn fmt<W: Write>(&self, f: &mut Formatter<W>) -> fmt::Result {
+        match self {
+            ReadError::Shape { path, kind } => write_fault(path.as_slice(), kind, f),
+            ReadError::Memory => f.write_str("out of memory"),
+        }
+    }
+}
+
+impl Error for ReadError {}

@@ -1,6 +1,8 @@
 //! Why a grammar isn't written.
 
-use std::alloc::AllocError;
+ghost use Rattle.std.specs.Prelude.{◌≡◌};
+
+use std::alloc::{AllocError, AllocFailed};
 
 /// Why a grammar wasn't written.
 #[derive(Debug, PartialEq, Eq, Drop)]
@@ -12,12 +14,21 @@ pub enum WriteError {
 }
 
 impl From<AllocError> for WriteError {
-    ghost use Rattle.std.specs.Prelude.{◌≡◌};
     ghost use Rattle.lalrpop_json_writer.specs.declared.fault.WriteError.TheVariants.{Memory};
 
     ghost from_gives = { λ _ e. e ≡ Memory };
 
     fn from(_: AllocError) -> WriteError {
+        WriteError::Memory
+    }
+}
+
+impl<T: Drop> From<AllocFailed<T>> for WriteError {
+    ghost use Rattle.lalrpop_json_writer.specs.declared.fault.WriteError.TheVariants.{Memory};
+
+    ghost from_gives = { λ _ e. e ≡ Memory };
+
+    fn from(_: AllocFailed<T>) -> WriteError {
         WriteError::Memory
     }
 }

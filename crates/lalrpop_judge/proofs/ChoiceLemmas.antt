@@ -50,7 +50,7 @@ refused : (finds : Text → Text → Option Bool) (deep : Text → Bool) (test :
     (fault : ConditionFault)
     → IsRefusal finds deep test pattern text fault → fault_of fault ≡ errors.Condition → IsSearch test
 refused finds deep test pattern text faults.NotRead r e = r.0
-refused finds deep test pattern text faults.Refused r e = r
+refused finds deep test pattern text faults.Refused r e = r.0
 refused finds deep test pattern text faults.Memory r e = absurd (cc)
 
 search_of : (finds : Text → Text → Option Bool) (deep : Text → Bool) (c : Condition) (fault : ConditionFault) (o : Option Closed)

@@ -50,6 +50,28 @@ pub fn judge(
     if !are_leaves(tree, tokens) {
         return Ok(false);
     }
+    let yes = judge_tree(alloc, grammar, features, start, tree)?;
+    Ok(yes)
+}
+
+/// [`judge`] with the tokens at the tree's own leaves, which it needn't be given.
+///
+/// # Errors
+///
+/// Those of [`judge`].
+pub fn judge_tree(
+    alloc: Global,
+    grammar: &Grammar,
+    features: &[Atom],
+    start: &Atom,
+    tree: &WrittenTree,
+) -> Result<bool, JudgeError>
+    ensures exact { IfOk result (λ yes. IsTrue yes
+        ↔ AdmitsFrom finds features.now (grammar_view grammar.now) start.now (tree_view tree.now)
+        (leaves (tree_view tree.now))) }
+    ensures condition { IfErr result (OnlyWhere
+        (HasSearch (enabled_grammar finds features.now (grammar_view grammar.now)) (tree_view tree.now))) }
+{
     let rules = Rules::new(alloc, grammar, features)?;
     let yes = admits_start(alloc, &rules, start, tree)?;
     Ok(yes)

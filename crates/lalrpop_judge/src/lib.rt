@@ -9,4 +9,4 @@ mod leaves;
 mod walk;
 
 pub use error::JudgeError;
-pub use judging::judge;
+pub use judging::{judge, judge_tree};

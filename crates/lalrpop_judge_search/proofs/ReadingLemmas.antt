@@ -1,6 +1,7 @@
 -- A compiled expression finds what the grammar's reading of its text finds: for the search.
 use Rattle.std.proofs.Common.{◌≡◌, ◌≢◌, ◌≤◌, ◌<◌, ◌⊎◌, ℕ, Bool, true, false, List, length, Option, Some, None}
-use Rattle.std.proofs.Common.{All, IsSomeAnd, IfSome, inl, inr, refl, ap, sym, ◌∙◌}
+use Rattle.std.proofs.Common.{All, IsSomeAnd, IfSome, inl, inr, refl, ap, sym, ◌∙◌, arith}
+use Rattle.std.proofs.lemmas.Bool.Decides.{nat_tests}
 use Rattle.std.proofs.lemmas.Bool.{lt-ltb}
 use Rattle.std.specs.Prelude.{Result, Ok, Err, IfOk, option_map, is_some}
 use Rattle.regex_hir.specs.Re.{Re}
@@ -15,7 +16,7 @@ use Rattle.regex_syntax.specs.declared.error.ErrorKind.{ErrorKind}
 use Rattle.regex_syntax.specs.declared.error.ErrorKind.TheVariants.{OutOfMemory, NestLimitExceeded}
 use Rattle.regex_syntax.proofs.CapturesLemmas.{find_str_alike, spans}
 use Rattle.regex_syntax.proofs.Written.{is_some-option_map}
-use Rattle.lalrpop_grammar_closed.specs.Finding.{IsFinding, IsUnread}
+use Rattle.lalrpop_grammar_closed.specs.Finding.{IsFinding, IsReadPattern, IsUnread}
 use Rattle.lalrpop_grammar_closed.specs.declared.condition.Finding.{Finding}
 use Rattle.lalrpop_judge_search.specs.Search.{deeper, finding_of, finds, is_too_deep, search_pattern}
 
@@ -52,14 +53,40 @@ pub unread : (pattern text : List ℕ) (kind : ErrorKind) → kind ≢ OutOfMemo
 unfolding Refuses
 unread pattern text kind other refuses = by_refusal text (search_pattern pattern) kind other refuses
 
+shallow : (o : Option (Nested Re × Names)) (a : Re) (names : Names)
+    → IsSomeAnd o (λ (re, found). (re.depth ≤ default_config.nest_limit) × SameCaptures a re.value × (names ≡ found)
+    × (group_count a ≤ length names))
+    → deeper o ≡ false
+shallow None a names reads = absurd reads
+shallow (Some p) a names reads = let h : p.0.depth ≤ default_config.nest_limit = reads.0 in grind (arith, nat_tests, h)
+
+-- what the grammar reads isn't nested too deep
+pub not_too_deep : (pattern : List ℕ) (hir : Hir) (names : Names) → Reads default_config pattern hir names → is_too_deep pattern ≡ false
+unfolding Reads
+not_too_deep pattern hir names reads = shallow (search_pattern pattern) (meaning hir) names reads
+
+some_answer : (text : List ℕ) (o : Option (Nested Re × Names)) (a : Re) (names : Names)
+    → IsSomeAnd o (λ (re, found). (re.depth ≤ default_config.nest_limit) × SameCaptures a re.value × (names ≡ found)
+    × (group_count a ≤ length names))
+    → option_map (λ p. is_some (find_str p.0.value text 0)) o ≢ None
+some_answer text None a names reads = absurd reads
+some_answer text (Some p) a names reads = λ e. cc
+
+-- what the grammar reads is a pattern that is read
+pub read_pattern : (pattern text : List ℕ) (hir : Hir) (names : Names) → Reads default_config pattern hir names
+    → IsReadPattern (finds pattern text) (is_too_deep pattern)
+unfolding Reads
+read_pattern pattern text hir names reads =
+    (some_answer text (search_pattern pattern) (meaning hir) names reads, not_too_deep pattern hir names reads)
+
 -- what is found or missing is what the answer is
-pub finding_is : (b : Bool) (answer : Option Bool) (deep : Bool) → answer ≡ Some b → IsFinding answer deep (finding_of b)
-finding_is true answer deep e = e
-finding_is false answer deep e = e
+pub finding_is : (b : Bool) (answer : Option Bool) (deep : Bool) → answer ≡ Some b → deep ≡ false → IsFinding answer deep (finding_of b)
+finding_is true answer deep e d = (e, d)
+finding_is false answer deep e d = (e, d)
 
 -- a result that says whether the pattern is found says what the answer is
-pub answered : {E : Type 0} (r : Result Finding E) (b : Bool) (answer : Option Bool) (deep : Bool) → answer ≡ Some b
+pub answered : {E : Type 0} (r : Result Finding E) (b : Bool) (answer : Option Bool) (deep : Bool) → answer ≡ Some b → deep ≡ false
     → IfOk r (λ found. found ≡ finding_of b)
     → IfOk r (IsFinding answer deep)
-answered (Ok given) b answer deep e is = rw is (finding_is b answer deep e)
-answered (Err fault) b answer deep e is = is
+answered (Ok given) b answer deep e d is = rw is (finding_is b answer deep e d)
+answered (Err fault) b answer deep e d is = is

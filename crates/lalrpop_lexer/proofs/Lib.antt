@@ -14,3 +14,4 @@ pub mod DecideLemmas
 pub mod StateViewLemmas
 pub mod FollowLemmas
 pub mod BuildLemmas
+pub mod KernelLemmas

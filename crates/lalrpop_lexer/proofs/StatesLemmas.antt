@@ -1,20 +1,17 @@
 -- Sets of states by the numbers that they were given. For the states of an automaton under way.
 use Rattle.std.proofs.Common.{◌≡◌, ℕ, ◌+◌, ◌<◌, ◌↔◌, List, [], ◌∷◌, ◌++◌, length, get_or, take, Contains}
-use Rattle.std.proofs.Common.{All, Vec, Global, Bool, true, false, Some, ⊎_elim, sym, ap, ◌∙◌, refl, subst, arith}
+use Rattle.std.proofs.Common.{All, Vec, Global, Bool, true, false, Some, ⊎_elim, ap, ◌∙◌, refl, subst, arith}
 use Rattle.std.specs.Map.{lookup}
-use Rattle.std.specs.Ordering.{match_ordering, is_eq, nat_cmp}
-use Rattle.std.specs.Cmp.Lexicographic.{slice_cmp}
-use Rattle.std.proofs.lemmas.Map.Lookups.{exact_bytes}
+use Rattle.std.specs.Ordering.{match_ordering, is_eq}
 use Rattle.std.specs.declared.cmp.Ordering.{Ordering}
 use Rattle.std.specs.declared.cmp.Ordering.TheVariants.{Less, Equal, Greater}
 use Rattle.std.specs.BTreeMap.{insert_entry}
-use Rattle.std.proofs.lemmas.List.{get_or_append_left, map_push, length-map, get_or_push, take_more, length_push}
+use Rattle.std.proofs.lemmas.List.{get_or_append_left, map_push, length-map, get_or_push, take_more}
 use Rattle.std.proofs.lemmas.List.Elements.{Contains-push, Contains-push_cases, Contains-append_left, All-head, All-tail, All-cons, All-nil}
 use Rattle.lalrpop_lexer_nfa.specs.Paths.{Graph}
 use Rattle.lalrpop_lexer_nfa.specs.Sets.{IsEpsilonClosure, Inserts}
 use Rattle.lalrpop_lexer_nfa.proofs.SetLemmas.{Inserts-old, Inserts-new, Inserts-cases}
 use Rattle.lalrpop_lexer.specs.Targets.{items_lists, items_at}
-use Rattle.lalrpop_lexer.specs.States.{AreNumbered}
 
 -- the same members give the same closed set
 pub IsEpsilonClosure-along : (t : Graph) (old other new : List ℕ) → ((x : ℕ) → Contains old x → Contains other x)
@@ -52,13 +49,6 @@ items_at-new sets v =
     ap (λ ls. get_or ls (length sets) []) (map_push (λ (v : Vec ℕ Global). v.items) sets v)
     ∙ get_or_push (items_lists sets) v.items [] (length sets) (length-map sets (λ (v : Vec ℕ Global). v.items))
 
--- sets that have numbers keep them where one more set is added
-pub numbered_push : (t : Graph) (sets : List (Vec ℕ Global)) (v : Vec ℕ Global) (es : List (Vec ℕ Global × ℕ))
-    → AreNumbered t sets es → AreNumbered t (sets ++ v ∷ []) es
-numbered_push t sets v es h k d l =
-    let x = h k d l in
-    (omega (arith, length_push sets v, x.0), rw (items_at-old sets v (get_or es k d).1 x.0) x.1)
-
 -- loops that put the members of a list into a set
 pub same_members_more : (old new : List ℕ) (xs : List ℕ) (i : ℕ) → i < length xs
     → ((x : ℕ) → Contains old x ↔ Contains (take i xs) x) → Inserts old (get_or xs i 0) new →
@@ -89,31 +79,8 @@ All-insert_entry {K} P cmp k v (e ∷ es) same one all =
     go Equal is rest = All-cons Q (e.0, v) es (same e.0 is) (All-tail Q e es all)
     go Greater is rest = All-cons Q e (insert_entry cmp es k v) (All-head Q e es all) rest
 
-equal_from : (o : Ordering) → is_eq o ≡ true → o ≡ Equal
+-- an order that tells two keys equal
+pub equal_from : (o : Ordering) → is_eq o ≡ true → o ≡ Equal
 equal_from Less e = cc
 equal_from Equal e = refl
 equal_from Greater e = cc
-
--- what is found by a key is the key, closed
-pub found_key : (t : Graph) (sets : List (Vec ℕ Global)) (es : List (Vec ℕ Global × ℕ)) (key : List ℕ) (n : ℕ)
-    → AreNumbered t sets es →
-    lookup (λ (k : Vec ℕ Global). is_eq (slice_cmp nat_cmp key k.items)) es ≡ Some n → (n < length sets)
-    × IsEpsilonClosure t key (items_at sets n)
-found_key t sets es key n all found =
-    let x = found_entry (λ (k : Vec ℕ Global) m. (m < length sets) × IsEpsilonClosure t k.items (items_at sets m))
-    (λ (k : Vec ℕ Global). is_eq (slice_cmp nat_cmp key k.items)) es n all found in
-    let same : key ≡ x.0.items = exact_bytes key x.0.items (equal_from (slice_cmp nat_cmp key x.0.items) x.1) in
-    (x.2.0, let P : List ℕ → Type 0 = λ k. IsEpsilonClosure t k (items_at sets n) in subst P (sym same) x.2.1)
-
--- one more number
-pub numbered_insert : (t : Graph) (sets : List (Vec ℕ Global)) (es : List (Vec ℕ Global × ℕ)) (key : Vec ℕ Global) (n : ℕ)
-    → n < length sets → IsEpsilonClosure t key.items (items_at sets n) → AreNumbered t sets es →
-    AreNumbered t sets (insert_entry (λ (x y : Vec ℕ Global). slice_cmp nat_cmp x.items y.items) es key n)
-numbered_insert t sets es key n inside closed all =
-    All-insert_entry (λ (k : Vec ℕ Global) m. (m < length sets) × IsEpsilonClosure t k.items (items_at sets m))
-    (λ (x y : Vec ℕ Global). slice_cmp nat_cmp x.items y.items) key n es
-    (λ q e. (
-      inside,
-      let P : List ℕ → Type 0 = λ k. IsEpsilonClosure t k (items_at sets n) in
-          subst P (exact_bytes key.items q.items e) closed,
-    )) (inside, closed) all

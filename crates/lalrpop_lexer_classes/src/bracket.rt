@@ -10,7 +10,7 @@ use crate::fault::{PatternError, PatternFaultKind};
 use crate::posix::{caret, posix};
 use crate::set_escape::finished_set;
 use crate::text::{first, syntax};
-use lalrpop_lexer_pattern::CharacterSet;
+use lalrpop_lexer_pattern::{CharacterSet, CharacterSetBuilder};
 use std::alloc::Global;
 
 /// The set of a class whose opening bracket is read, and the text after it.
@@ -55,15 +55,16 @@ fn items(
     ensures gives { GivesReading ranges_read result (class_items_from (class_item_at depth fold) (length text.now + 1) true [] text.now) }
     ensures shorter { IfOk result (λ x. length x.1.now < length text.now) }
 {
-    let mut set = CharacterSet::empty(alloc);
+    let mut items = CharacterSetBuilder::new(alloc);
     let mut is_first = true;
     let mut rest = text;
     while let Some((character, more)) = first(rest) {
         if character == ']' && !is_first {
+            let set = items.build()?;
             return Ok((set, more));
         }
         let (item, following) = item(alloc, depth, fold, is_first, rest)?;
-        set = set.union(&item)?;
+        items = items.with(&item)?;
         is_first = false;
         rest = following;
     }

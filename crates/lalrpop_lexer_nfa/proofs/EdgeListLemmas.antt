@@ -13,8 +13,8 @@ use Rattle.lalrpop_lexer_nfa.specs.declared.edge.Edge.{Edge}
 use Rattle.lalrpop_lexer_nfa.specs.EdgeLists.{sources, HasRuns, MayComeNext}
 use Rattle.lalrpop_lexer_nfa.specs.Growth.{BeginsRun}
 
--- an index in a list with one more element
-push_cases : (xs : List ℕ) (y i : ℕ) → i < length (xs ++ y ∷ [])
+-- an index in a list with one more element is one of those before, or the last
+pub push_cases : (xs : List ℕ) (y i : ℕ) → i < length (xs ++ y ∷ [])
     → ((i < length xs) × (get_or (xs ++ y ∷ []) i 0 ≡ get_or xs i 0)) ⊎ ((i ≡ length xs) × (get_or (xs ++ y ∷ []) i 0 ≡ y))
 push_cases xs y i h =
     ⊎_elim
@@ -208,3 +208,12 @@ begins_none (x ∷ xs) q b at is =
 -- a list has as many sources as labelled edges
 pub length-sources : {L : Type 0} (es : List (Edge L)) → length (sources es) ≡ length es
 length-sources {L} es = length-map es (λ (e : Edge L). e.from.0)
+
+-- without edges there are no runs, and each state says that its own would begin in front
+pub runs_none : {X : Type 0} (f : X → ℕ) (states : List X) (froms : List ℕ) → froms ≡ [] → All (λ s. f s ≡ 0) states
+    → HasRuns (map f states) froms
+runs_none f states froms none front = record {
+  bounded = λ q l. omega (arith, All-get_or (λ n. n ≡ 0) (map f states) q 0 l (All-map (λ n. n ≡ 0) f states front));
+  after = λ i l. absurd (omega (arith, ap length none));
+  run = λ i j l. absurd (omega (arith, ap length none));
+}

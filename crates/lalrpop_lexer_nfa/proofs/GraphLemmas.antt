@@ -11,13 +11,16 @@ use Rattle.lalrpop_lexer_pattern.specs.Matches.{Pattern, Matches, Power, alterna
 use Rattle.lalrpop_lexer_pattern.specs.Ranges.{InRanges}
 use Rattle.lalrpop_lexer_pattern.specs.declared.class.Range.{Range}
 use Rattle.lalrpop_lexer_nfa.proofs.ListLemmas.{Contains-head, Contains-tail, Contains-map, Contains-from_map, Contains-two}
-use Rattle.lalrpop_lexer_nfa.proofs.LanguageLemmas.{literal_to, literal_from, any_to, any_from, at_least_to, at_least_from, between_to}
-use Rattle.lalrpop_lexer_nfa.proofs.LanguageLemmas.{between_from, up_to_none}
+use Rattle.lalrpop_lexer_nfa.proofs.LanguageLemmas.{literal_to, literal_from, any_to, any_from, least_to, least_from, plus_to, plus_from}
+use Rattle.lalrpop_lexer_nfa.proofs.LanguageLemmas.{between_to}
+use Rattle.lalrpop_lexer_nfa.proofs.LanguageLemmas.{between_from, up_to_none, up_to_to, up_to_from}
+use Rattle.lalrpop_lexer_nfa.proofs.KindLemmas.{AddsNeither-same, AddsNeither-trans}
+use Rattle.lalrpop_lexer_nfa.specs.Kinds.{AddsNeither}
 use Rattle.lalrpop_lexer_nfa.specs.Paths.{Graph, EpsilonEdge, TransitionEdge, HasEpsilonEdge, HasTransition}
 use Rattle.lalrpop_lexer_nfa.specs.Growth.{HasNoEpsilonEdges, HasNoTransitions, HasNoTransitionEdges, IsNewState, HasNewEpsilonEdges}
-use Rattle.lalrpop_lexer_nfa.specs.Growth.{HasNewTransitions, epsilon_edges_from, transitions_from}
+use Rattle.lalrpop_lexer_nfa.specs.Growth.{HasNewTransitions, IsSameGraph, epsilon_edges_from, transitions_from}
 use Rattle.lalrpop_lexer_nfa.specs.Fragments.{AgreeOn, ReadsJust, IsFragment, AreFragments, IsBranch, IsReader, Concatenation, KleeneStar}
-use Rattle.lalrpop_lexer_nfa.specs.Fragments.{UpTo, Optional, IsOneOf}
+use Rattle.lalrpop_lexer_nfa.specs.Fragments.{UpTo, AtLeast, Optional, IsOneOf}
 use Rattle.lalrpop_lexer_nfa.proofs.FragmentLemmas.{AgreeOn-refl, AgreeOn-trans, AgreeOn-narrow, ReadsJust-wider, ReadsJust-kept}
 use Rattle.lalrpop_lexer_nfa.proofs.FragmentLemmas.{ReadsJust-along, ReadsJust-nothing, ReadsJust-then, ReadsJust-read, ReadsJust-branch}
 use Rattle.lalrpop_lexer_nfa.proofs.FragmentLemmas.{ReadsJust-star}
@@ -131,18 +134,26 @@ IsNewState-no_tests old new s inside state e h from =
 -- a graph that stays as it is reads just the empty word
 pub IsFragment-nothing : (t : Graph) (a : ℕ) → IsFragment t t (λ w. w ≡ []) a a
 IsFragment-nothing t a =
-    record { grows = omega arith; inside = λ h. h; keeps = AgreeOn-refl t 0 t.count; does = ReadsJust-nothing t t.count t.count a }
+    record {
+      grows = omega arith;
+      kinds = AddsNeither-same t.kinds t.kinds refl;
+      inside = λ h. h;
+      keeps = AgreeOn-refl t 0 t.count;
+      does = ReadsJust-nothing t t.count t.count a;
+    }
 
 -- what is built for a language is built for each language of the same words
 pub IsFragment-along : {old new : Graph} {L : List ℕ → Type 0} {s a : ℕ} (M : List ℕ → Type 0)
     → ((w : List ℕ) → L w → M w) → ((w : List ℕ) → M w → L w) → IsFragment old new L s a → IsFragment old new M s a
-IsFragment-along M to from b = record { grows = b.grows; inside = b.inside; keeps = b.keeps; does = ReadsJust-along M to from b.does }
+IsFragment-along M to from b =
+    record { grows = b.grows; kinds = b.kinds; inside = b.inside; keeps = b.keeps; does = ReadsJust-along M to from b.does }
 
 -- what reads L comes before what reads M
 pub IsFragment-then : {old mid new : Graph} {L M : List ℕ → Type 0} {s b a : ℕ} → IsFragment old mid M b a
     → IsFragment mid new L s b → IsFragment old new (Concatenation L M) s a
 IsFragment-then {old} {mid} {new} one two = record {
   grows = omega (arith, one.grows, two.grows);
+  kinds = AddsNeither-trans one.kinds two.kinds;
   inside = λ h. two.inside (one.inside h);
   keeps = AgreeOn-trans (AgreeOn-narrow 0 old.count (omega arith) one.grows two.keeps) one.keeps;
   does = ReadsJust-then (ReadsJust-wider old.count new.count one.grows (omega arith) two.does)
@@ -150,38 +161,69 @@ IsFragment-then {old} {mid} {new} one two = record {
       (ReadsJust-kept new (AgreeOn-narrow old.count mid.count (omega arith) (omega arith) two.keeps) one.does));
 }
 
--- a new state that goes on at `a`, or goes round and comes back
-pub IsFragment-star : (old begun built new : Graph) (L : List ℕ → Type 0) (s round a : ℕ) → AreInside old →
-    IsNewState old begun s → IsFragment begun built L round s → HasNewEpsilonEdges built new s (a ∷ round ∷ [])
-    → IsFragment old new (KleeneStar L) s a
-IsFragment-star old begun built new L s round a inside state body more = record {
-  grows = omega (arith, body.grows, more.count, state.is, state.grows);
-  inside = λ h. omega (arith, body.grows, more.count, state.is, state.grows);
-  keeps = AgreeOn-trans (grown 0 old.count (λ q l h e. omega (arith, state.is)))
+-- a new state, what is built to go on there, and that state then goes on at `a`, or goes round
+module _ (old begun built new : Graph) (L : List ℕ → Type 0) (s round a : ℕ) (inside : AreInside old)
+    (state : IsNewState old begun s) (body : IsFragment begun built L round s)
+    (more : HasNewEpsilonEdges built new s (a ∷ round ∷ [])) where
+  grown : (lo hi : ℕ) → ((q : ℕ) → lo ≤ q → q < hi → s ≡ q → ⊥) → AgreeOn new built lo hi
+  grown lo hi apart = AgreeOn-noops built new s (a ∷ round ∷ []) more lo hi apart
+
+  quiet : HasNoTransitions new s
+  quiet c r h =
+      IsNewState-no_reads old begun s inside state c r
+      (body.keeps.reads_back s c r (omega arith) (omega (arith, state.grows)) (h.0, rw (← more.tests) h.1, h.2, h.3, h.4, h.5))
+
+  only : (r : ℕ) → HasEpsilonEdge new s r → (r ≡ a) ⊎ (r ≡ round)
+  only r h =
+      ⊎_elim
+      (λ older. absurd (IsNewState-no_leads old begun s inside state r
+      (body.keeps.leads_back s r (omega arith) (omega (arith, state.grows)) older)))
+      (λ own. ⊎_elim (λ e. inl (sym e)) (λ e. inr (sym e)) (Contains-two a round r own.1))
+      (leads_cases built new s (a ∷ round ∷ []) more s r h)
+
+  bigger : old.count ≤ new.count
+  bigger = omega (arith, body.grows, more.count, state.is, state.grows)
+
+  same_kinds : AddsNeither old.kinds new.kinds
+  same_kinds = AddsNeither-trans (AddsNeither-trans state.kinds body.kinds) (AddsNeither-same built.kinds new.kinds more.kinds)
+
+  agrees : AgreeOn new old 0 old.count
+  agrees = AgreeOn-trans (grown 0 old.count (λ q l h e. omega (arith, state.is)))
       (AgreeOn-trans (AgreeOn-narrow 0 old.count (omega arith) (omega (arith, state.is, state.grows)) body.keeps)
-      (AgreeOn-same begun old state.noops state.tests 0 old.count));
-  does = ReadsJust-star s round a (omega (arith, state.is)) (omega (arith, body.grows, state.grows, more.count)) quiet only
+      (AgreeOn-same begun old state.noops state.tests 0 old.count))
+
+  -- one round
+  once : ReadsJust new old.count new.count L round s
+  once = ReadsJust-wider old.count new.count (omega (arith, state.is, state.grows)) (omega (arith, more.count))
+      (ReadsJust-kept new (grown begun.count built.count (λ q l h e. omega (arith, state.grows))) body.does)
+
+  -- any count of rounds
+  rounds : ReadsJust new old.count new.count (KleeneStar L) s a
+  rounds = ReadsJust-star s round a (omega (arith, state.is)) (omega (arith, body.grows, state.grows, more.count)) quiet only
       (leads_new built new s (a ∷ round ∷ []) more a (Contains-head a (round ∷ [])))
-      (leads_new built new s (a ∷ round ∷ []) more round (Contains-tail a (round ∷ []) round (Contains-head round [])))
-      (ReadsJust-wider old.count new.count (omega (arith, state.is, state.grows)) (omega (arith, more.count))
-      (ReadsJust-kept new (grown begun.count built.count (λ q l h e. omega (arith, state.grows))) body.does));
-}
-  where
-    grown : (lo hi : ℕ) → ((q : ℕ) → lo ≤ q → q < hi → s ≡ q → ⊥) → AgreeOn new built lo hi
-    grown lo hi apart = AgreeOn-noops built new s (a ∷ round ∷ []) more lo hi apart
+      (leads_new built new s (a ∷ round ∷ []) more round (Contains-tail a (round ∷ []) round (Contains-head round []))) once
 
-    quiet : HasNoTransitions new s
-    quiet c r h =
-        IsNewState-no_reads old begun s inside state c r
-        (body.keeps.reads_back s c r (omega arith) (omega (arith, state.grows)) (h.0, rw (← more.tests) h.1, h.2, h.3, h.4, h.5))
+  -- from that state on any count of words is read
+  pub IsFragment-star : IsFragment old new (AtLeast L 0) s a
+  IsFragment-star = IsFragment-along (AtLeast L 0) (λ w h. (h.0, omega arith, h.1)) (λ w h. (h.0, h.2))
+      (record {
+        grows = bigger;
+        kinds = same_kinds;
+        inside = λ h. omega (arith, bigger, state.is, state.grows, body.grows, more.count);
+        keeps = agrees;
+        does = rounds;
+      })
 
-    only : (r : ℕ) → HasEpsilonEdge new s r → (r ≡ a) ⊎ (r ≡ round)
-    only r h =
-        ⊎_elim
-        (λ older. absurd (IsNewState-no_leads old begun s inside state r
-        (body.keeps.leads_back s r (omega arith) (omega (arith, state.grows)) older)))
-        (λ own. ⊎_elim (λ e. inl (sym e)) (λ e. inr (sym e)) (Contains-two a round r own.1))
-        (leads_cases built new s (a ∷ round ∷ []) more s r h)
+  -- from what is built on, which leads to that state, one word or more
+  pub IsFragment-plus : IsFragment old new (AtLeast L 1) round a
+  IsFragment-plus = IsFragment-along (AtLeast L 1) (plus_to L) (plus_from L)
+      (record {
+        grows = bigger;
+        kinds = same_kinds;
+        inside = λ h. omega (arith, body.inside (omega (arith, state.is, state.grows)), more.count);
+        keeps = agrees;
+        does = ReadsJust-then once rounds;
+      })
 
 abbrev two_places : ℕ → ℕ → Unit {0} ⊎ Unit {0} → ℕ
 two_places a b (inl x) = a
@@ -196,6 +238,7 @@ pub IsFragment-optional : (old begun new : Graph) (L : List ℕ → Type 0) (s o
     → IsBranch begun new s (a ∷ once ∷ []) → IsFragment old new (Optional L) s a
 IsFragment-optional old begun new L s once a body top = record {
   grows = omega (arith, body.grows, top.grows);
+  kinds = AddsNeither-trans body.kinds top.kinds;
   inside = λ h. omega (arith, top.is, top.grows);
   keeps = AgreeOn-trans (AgreeOn-narrow 0 old.count (omega arith) body.grows top.keeps) body.keeps;
   does = ReadsJust-along (Optional L) (λ w h. pick w h.0 h.1) (λ w h. ⊎_elim (λ e. (inl tt, e)) (λ l. (inr tt, l)) h)
@@ -225,6 +268,7 @@ pub IsReader-new : (old mid new : Graph) (s a : ℕ) (ranges : List Range) → A
 IsReader-new old mid new s a ranges inside state more = record {
   is = state.is;
   grows = omega (arith, state.is, state.grows, more.count);
+  kinds = AddsNeither-trans state.kinds (AddsNeither-same mid.kinds new.kinds more.kinds);
   keeps = AgreeOn-trans (AgreeOn-tests mid new s ranges a more 0 old.count (λ q l h e. omega (arith, state.is)))
       (AgreeOn-same mid old state.noops state.tests 0 old.count);
   leads = λ r h. IsNewState-no_leads old mid s inside state r (h.0, rw (← more.noops) h.1, h.2, h.3);
@@ -235,15 +279,16 @@ IsReader-new old mid new s a ranges inside state more = record {
 }
 
 -- a state reads the same where the graph has the same states, epsilon edges and transitions
-pub IsReader-same : (old mid new : Graph) (s a : ℕ) (P : ℕ → Type 0) → IsReader old mid s a P → new.count ≡ mid.count
-    → new.noops ≡ mid.noops → new.tests ≡ mid.tests → IsReader old new s a P
-IsReader-same old mid new s a P r count noops tests = record {
+pub IsReader-same : (old mid new : Graph) (s a : ℕ) (P : ℕ → Type 0) → IsReader old mid s a P → IsSameGraph mid new
+    → IsReader old new s a P
+IsReader-same old mid new s a P r same = record {
   is = r.is;
-  grows = omega (arith, r.grows);
-  keeps = AgreeOn-trans (AgreeOn-same new mid noops tests 0 old.count) r.keeps;
-  leads = λ x h. r.leads x (h.0, rw (← noops) h.1, h.2, h.3);
-  only = λ c x h. r.only c x (h.0, rw (← tests) h.1, h.2, h.3, h.4, h.5);
-  all = λ c h. let x = r.all c h in (x.0, rw tests x.1, x.2, x.3, x.4, x.5);
+  grows = omega (arith, r.grows, same.count);
+  kinds = AddsNeither-trans r.kinds (AddsNeither-same mid.kinds new.kinds same.kinds);
+  keeps = AgreeOn-trans (AgreeOn-same new mid same.noops same.tests 0 old.count) r.keeps;
+  leads = λ x h. r.leads x (h.0, rw (← same.noops) h.1, h.2, h.3);
+  only = λ c x h. r.only c x (h.0, rw (← same.tests) h.1, h.2, h.3, h.4, h.5);
+  all = λ c h. let x = r.all c h in (x.0, rw same.tests x.1, x.2, x.3, x.4, x.5);
 }
 
 pub IsReader-along : {old new : Graph} {s a : ℕ} {P : ℕ → Type 0} (Q : ℕ → Type 0) → ((c : ℕ) → P c → Q c)
@@ -251,6 +296,7 @@ pub IsReader-along : {old new : Graph} {s a : ℕ} {P : ℕ → Type 0} (Q : ℕ
 IsReader-along Q to from r = record {
   is = r.is;
   grows = r.grows;
+  kinds = r.kinds;
   keeps = r.keeps;
   leads = r.leads;
   only = λ c x h. (to c (r.only c x h).0, (r.only c x h).1);
@@ -261,6 +307,7 @@ IsReader-along Q to from r = record {
 pub IsFragment-reader : (old new : Graph) (s a : ℕ) (P : ℕ → Type 0) → IsReader old new s a P → IsFragment old new (IsOneOf P) s a
 IsFragment-reader old new s a P r = record {
   grows = omega (arith, r.grows);
+  kinds = r.kinds;
   inside = λ h. omega (arith, r.is, r.grows);
   keeps = r.keeps;
   does = ReadsJust-read P s a (omega (arith, r.is)) (omega (arith, r.is, r.grows)) r.leads r.only r.all;
@@ -272,6 +319,7 @@ pub IsBranch-new : (old mid new : Graph) (s : ℕ) (targets : List ℕ) → AreI
 IsBranch-new old mid new s targets inside state more = record {
   is = state.is;
   grows = omega (arith, state.is, state.grows, more.count);
+  kinds = AddsNeither-trans state.kinds (AddsNeither-same mid.kinds new.kinds more.kinds);
   keeps = AgreeOn-trans (AgreeOn-noops mid new s targets more 0 old.count (λ q l h e. omega (arith, state.is)))
       (AgreeOn-same mid old state.noops state.tests 0 old.count);
   reads = λ c r h. IsNewState-no_reads old mid s inside state c r (h.0, rw (← more.tests) h.1, h.2, h.3, h.4, h.5);
@@ -307,6 +355,7 @@ AreFragments-none t L places a none =
     record {
       count = none;
       grows = omega arith;
+      kinds = AddsNeither-same t.kinds t.kinds refl;
       keeps = AgreeOn-refl t 0 t.count;
       inside = λ k d l. absurd (omega arith);
       each = λ k l. absurd (omega arith);
@@ -319,6 +368,7 @@ pub AreFragments-push : (old mid new : Graph) (L : ℕ → List ℕ → Type 0) 
 AreFragments-push old mid new L n s a places goal before one = record {
   count = simp length-append (omega (arith, before.count));
   grows = omega (arith, before.grows, one.grows);
+  kinds = AddsNeither-trans before.kinds one.kinds;
   keeps = AgreeOn-trans (AgreeOn-narrow 0 old.count (omega arith) before.grows one.keeps) before.keeps;
   inside = All-push (λ x. x < new.count) places s
       (All-weaker (λ x. x < mid.count) (λ x. x < new.count) (λ x h. omega (arith, one.grows)) places before.inside) (one.inside goal);
@@ -342,6 +392,7 @@ pub IsFragment-branch : (old mid new : Graph) (ps : List Pattern) (s a : ℕ) (p
     → IsFragment old new (Matches (alternation_all ps)) s a
 IsFragment-branch old mid new ps s a places parts top = record {
   grows = omega (arith, parts.grows, top.grows);
+  kinds = AddsNeither-trans parts.kinds top.kinds;
   inside = λ h. omega (arith, top.is, top.grows);
   keeps = AgreeOn-trans (AgreeOn-narrow 0 old.count (omega arith) parts.grows top.keeps) parts.keeps;
   does = ReadsJust-along (Matches (alternation_all ps)) (λ w h. any_to ps h.0.0 w h.0.1 h.1)
@@ -361,22 +412,38 @@ IsFragment-dead old new s a inside state =
     (IsFragment-reader old new s a (λ c. ⊥) (record {
       is = state.is;
       grows = omega (arith, state.is, state.grows);
+      kinds = state.kinds;
       keeps = AgreeOn-same new old state.noops state.tests 0 old.count;
       leads = IsNewState-no_leads old new s inside state;
       only = λ c r h. absurd (IsNewState-no_reads old new s inside state c r h);
       all = λ c h. absurd h;
     }))
 
+-- one more copy than so many, and the last as often as one likes
+pub IsFragment-least : (old mid new : Graph) (L : List ℕ → Type 0) (least s b a : ℕ) → 0 < least
+    → IsFragment old mid (AtLeast L 1) b a
+    → IsFragment mid new (Power L (least - 1)) s b → IsFragment old new (AtLeast L least) s a
+IsFragment-least old mid new L least s b a some last front =
+    IsFragment-along (AtLeast L least) (least_to L least some) (least_from L least some) (IsFragment-then last front)
+
+-- a copy, and behind it up to so many that may be left out; all of it may be left out
+pub IsFragment-up_to : (old mid begun new : Graph) (L : List ℕ → Type 0) (count next once s a : ℕ)
+    → IsFragment old mid (UpTo L count) next a
+    → IsFragment mid begun L once next → IsBranch begun new s (a ∷ once ∷ []) → IsFragment old new (UpTo L (count + 1)) s a
+IsFragment-up_to old mid begun new L count next once s a rest body top =
+    IsFragment-along (UpTo L (count + 1)) (up_to_to L count) (up_to_from L count)
+    (IsFragment-optional old begun new (Concatenation L (UpTo L count)) s once a (IsFragment-then rest body) top)
+
 -- repetitions
 module _ (p : Pattern) (least : ℕ) (greedy : Bool) where
-  -- copies in front of any count of them are built for a repetition without a greatest count
-  pub IsFragment-at_least : (old mid new : Graph) (most : Option ℕ) (s b a : ℕ) → most ≡ None →
-      IsFragment old mid (KleeneStar (Matches p)) b a → IsFragment mid new (Power (Matches p) least) s b
+  -- what is built for a least count of copies is built for a repetition without a greatest count
+  pub IsFragment-at_least : (old new : Graph) (most : Option ℕ) (s a : ℕ) → most ≡ None
+      → IsFragment old new (AtLeast (Matches p) least) s a
       → IsFragment old new (Matches (Pattern.repetition least most greedy p)) s a
-  IsFragment-at_least old mid new most s b a none rest front =
+  IsFragment-at_least old new most s a none all =
       let P : Option ℕ → Type 0 = λ x. IsFragment old new (Matches (Pattern.repetition least x greedy p)) s a in
-      subst P (sym none) (IsFragment-along (Matches (Pattern.repetition least None greedy p)) (at_least_to p least greedy)
-      (at_least_from p least greedy) (IsFragment-then rest front))
+      subst P (sym none) (IsFragment-along (Matches (Pattern.repetition least None greedy p)) (λ w h. (h.0, (h.1, tt), h.2))
+      (λ w h. (h.0, h.1.0, h.2)) all)
 
   -- copies in front of some that may be left out are built for a repetition between two counts
   pub IsFragment-between : (old mid new : Graph) (most : Option ℕ) (n s b a : ℕ) → most ≡ Some n

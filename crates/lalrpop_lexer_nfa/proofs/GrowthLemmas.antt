@@ -16,13 +16,14 @@ use Rattle.lalrpop_lexer_nfa.proofs.EdgeListLemmas.{MayComeNext-none, length-sou
 
 -- a graph that stays as it is got epsilon edges to no target
 pub HasNewEpsilonEdges-none : (t : Graph) (q : ℕ) → HasNewEpsilonEdges t t q []
-HasNewEpsilonEdges-none t q = record { count = refl; noops = sym (append-nil t.noops); tests = refl }
+HasNewEpsilonEdges-none t q = record { count = refl; kinds = refl; noops = sym (append-nil t.noops); tests = refl }
 
 -- epsilon edges to some targets, and then one to one more
 pub HasNewEpsilonEdges-more : (old mid new : Graph) (q r : ℕ) (targets : List ℕ) → HasNewEpsilonEdges old mid q targets
     → HasNewEpsilonEdges mid new q (r ∷ []) → HasNewEpsilonEdges old new q (targets ++ r ∷ [])
 HasNewEpsilonEdges-more old mid new q r targets one two = record {
   count = two.count ∙ one.count;
+  kinds = two.kinds ∙ one.kinds;
   noops = two.noops ∙ ap (λ es. es ++ epsilon_edges_from q (r ∷ [])) one.noops
       ∙ append_assoc old.noops (epsilon_edges_from q targets) (epsilon_edges_from q (r ∷ []))
       ∙ ap (λ es. old.noops ++ es) (sym (map_push (λ x. record { from = q; to = x }) targets r));
@@ -31,13 +32,14 @@ HasNewEpsilonEdges-more old mid new q r targets one two = record {
 
 -- a graph that stays as it is got transitions for no range
 pub HasNewTransitions-none : (t : Graph) (q to : ℕ) → HasNewTransitions t t q [] to
-HasNewTransitions-none t q to = record { count = refl; noops = refl; tests = sym (append-nil t.tests) }
+HasNewTransitions-none t q to = record { count = refl; kinds = refl; noops = refl; tests = sym (append-nil t.tests) }
 
 -- transitions for some ranges, and then one for one more
 pub HasNewTransitions-more : (old mid new : Graph) (q to : ℕ) (r : Range) (ranges : List Range) → HasNewTransitions old mid q ranges to
     → HasNewTransitions mid new q (r ∷ []) to → HasNewTransitions old new q (ranges ++ r ∷ []) to
 HasNewTransitions-more old mid new q to r ranges one two = record {
   count = two.count ∙ one.count;
+  kinds = two.kinds ∙ one.kinds;
   noops = two.noops ∙ one.noops;
   tests = two.tests ∙ ap (λ es. es ++ transitions_from q (r ∷ []) to) one.tests
       ∙ append_assoc old.tests (transitions_from q ranges to) (transitions_from q (r ∷ []) to)

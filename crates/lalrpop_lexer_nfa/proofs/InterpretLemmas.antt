@@ -116,4 +116,4 @@ pub record IsRunning (nfa : Nfa) (text rest word : List ℕ) (current next : Sta
 -- one number put into an empty set
 pub inserts_one : (old new : List ℕ) (x : ℕ) → old ≡ [] → Inserts old x new → new ≡ x ∷ []
 inserts_one old new x none (inl h) = absurd (Contains-nil x (rw none at h.0))
-inserts_one old new x none (inr h) = h ∙ ap (λ xs. xs ++ x ∷ []) none
+inserts_one old new x none (inr h) = h.1 ∙ ap (λ xs. xs ++ x ∷ []) none

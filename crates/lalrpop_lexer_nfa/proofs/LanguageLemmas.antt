@@ -1,12 +1,12 @@
 -- The words of a pattern, as the parts of its automaton read them. For the functions that build one from a tree.
 use Rattle.std.proofs.Common.{◌≡◌, ℕ, zero, suc, ◌+◌, ◌-◌, ◌<◌, ◌≤◌, List, [], ◌∷◌, ◌++◌, length}
-use Rattle.std.proofs.Common.{get_or, map, Some, None, Bool, inl, inr, ⊎_elim, sym, ap, ◌∙◌, refl, subst, arith, append_assoc}
+use Rattle.std.proofs.Common.{get_or, map, Some, Bool, inl, inr, sym, ap, ◌∙◌, refl, subst, arith, append_assoc}
 use Rattle.std.proofs.Common.{zero-add, add-one, drop, drop-cons}
 use Rattle.lalrpop_lexer_pattern.specs.Matches.{Pattern, alternation_all, Power, Matches}
 use Rattle.std.proofs.lemmas.List.{get_or-map}
 use Rattle.lalrpop_lexer_pattern.specs.Meaning.{meaning}
 use Rattle.lalrpop_lexer_pattern.specs.declared.tree.Hir.{Hir}
-use Rattle.lalrpop_lexer_nfa.specs.Fragments.{Concatenation, KleeneStar, UpTo, Optional, IsOneOf}
+use Rattle.lalrpop_lexer_nfa.specs.Fragments.{Concatenation, KleeneStar, UpTo, AtLeast, Optional, IsOneOf}
 
 -- the first character, and then the others: the literal of them all
 pub literal_to : (c : ℕ) (cs w : List ℕ) → Concatenation (IsOneOf (λ x. x ≡ c)) (Matches (Pattern.literal cs)) w
@@ -42,18 +42,37 @@ module _ (L : List ℕ → Type 0) where
   pub pieces_from : (k : ℕ) (w : List ℕ) → Power L (k + 1) w → Concatenation L (Power L k) w
   pieces_from k w h = rw add-one at h
 
-  -- one word of a language or none, and then at most k of them, are at most k + 1
-  pub up_to_to : (k : ℕ) (w : List ℕ) → Concatenation (Optional L) (UpTo L k) w → UpTo L (k + 1) w
-  up_to_to k w h =
-      ⊎_elim
-      (λ none. (h.4.0, omega (arith, h.4.1), let e : w ≡ h.1 = h.2 ∙ ap (λ x. x ++ h.1) none in rw e h.4.2))
-      (λ one. (suc h.4.0, omega (arith, h.4.1), (h.0, h.1, h.2, one, h.4.2)))
-      h.3
+  -- nothing, or one word of a language and then at most k of them, are at most k + 1
+  pub up_to_to : (k : ℕ) (w : List ℕ) → Optional (Concatenation L (UpTo L k)) w → UpTo L (k + 1) w
+  up_to_to k w (inl none) = (zero, omega arith, none)
+  up_to_to k w (inr h) = (suc h.4.0, omega (arith, h.4.1), (h.0, h.1, h.2, h.3, h.4.2))
 
-  -- at most k + 1 words of a language are one of them or none, and then at most k
-  pub up_to_from : (k : ℕ) (w : List ℕ) → UpTo L (k + 1) w → Concatenation (Optional L) (UpTo L k) w
-  up_to_from k w (zero, less, h) = ([], w, refl, inl refl, (zero, omega arith, h))
-  up_to_from k w (suc n, less, h) = (h.0, h.1, h.2, inr h.3, (n, omega arith, h.4))
+  -- at most k + 1 words of a language are none, or one of them and then at most k
+  pub up_to_from : (k : ℕ) (w : List ℕ) → UpTo L (k + 1) w → Optional (Concatenation L (UpTo L k)) w
+  up_to_from k w (zero, less, h) = inl h
+  up_to_from k w (suc n, less, h) = inr (h.0, h.1, h.2, h.3, (n, omega arith, h.4))
+
+  -- one word of a language and then any count of them are at least one
+  pub plus_to : (w : List ℕ) → Concatenation L (KleeneStar L) w → AtLeast L 1 w
+  plus_to w h = (suc h.4.0, omega arith, (h.0, h.1, h.2, h.3, h.4.1))
+
+  -- at least one word of a language is one of them and then any count
+  pub plus_from : (w : List ℕ) → AtLeast L 1 w → Concatenation L (KleeneStar L) w
+  plus_from w (zero, less, h) = absurd (omega arith)
+  plus_from w (suc n, less, h) = (h.0, h.1, h.2, h.3, (n, h.4))
+
+  -- one fewer than the least count, and then one or more, are the least count or more
+  pub least_to : (least : ℕ) → 0 < least → (w : List ℕ) → Concatenation (Power L (least - 1)) (AtLeast L 1) w
+      → AtLeast L least w
+  least_to least some w h = (least - 1 + h.4.0, omega (arith, h.4.1), rw h.2 (Power-append (least - 1) h.4.0 h.0 h.1 h.3 h.4.2))
+
+  -- the least count or more are one fewer than it, and then one or more
+  pub least_from : (least : ℕ) → 0 < least → (w : List ℕ) → AtLeast L least w
+      → Concatenation (Power L (least - 1)) (AtLeast L 1) w
+  least_from least some w h =
+      let e : h.0 ≡ least - 1 + (h.0 - (least - 1)) = omega (arith, h.1) in
+      let x = Power-split (least - 1) (h.0 - (least - 1)) w (let P : ℕ → Type 0 = λ k. Power L k w in subst P e h.2) in
+      (x.0, x.1, x.2, x.3, (h.0 - (least - 1), omega (arith, h.1), x.4))
 
 -- at most 0 words of a language are the empty word
 pub up_to_none : (L : List ℕ → Type 0) (w : List ℕ) → UpTo L 0 w → w ≡ []
@@ -61,19 +80,6 @@ up_to_none L w (zero, less, h) = h
 up_to_none L w (suc n, less, h) = absurd (omega arith)
 
 module _ (p : Pattern) (min : ℕ) (greedy : Bool) where
-  -- the least count of copies, and then any count, match a repetition without a greatest count
-  pub at_least_to : (w : List ℕ) → Concatenation (Power (Matches p) min) (KleeneStar (Matches p)) w
-      → Matches (Pattern.repetition min None greedy p) w
-  at_least_to w h = (min + h.4.0, (omega arith, tt), rw h.2 (Power-append (Matches p) min h.4.0 h.0 h.1 h.3 h.4.1))
-
-  -- a match of a repetition without a greatest count is the least count of copies, and then any count
-  pub at_least_from : (w : List ℕ) → Matches (Pattern.repetition min None greedy p) w
-      → Concatenation (Power (Matches p) min) (KleeneStar (Matches p)) w
-  at_least_from w h =
-      let e : h.0 ≡ min + (h.0 - min) = omega (arith, h.1.0) in
-      let x = Power-split (Matches p) min (h.0 - min) w (let P : ℕ → Type 0 = λ k. Power (Matches p) k w in subst P e h.2) in
-      (x.0, x.1, x.2, x.3, (h.0 - min, x.4))
-
   -- the least count of copies, and then up to the difference, match a repetition between two counts
   pub between_to : (max : ℕ) → min ≤ max → (w : List ℕ) → Concatenation (Power (Matches p) min) (UpTo (Matches p) (max - min)) w
       → Matches (Pattern.repetition min (Some max) greedy p) w

@@ -2,6 +2,9 @@ pub mod ListLemmas
 pub mod BoundaryLemmas
 pub mod AlphabetClassLemmas
 pub mod EdgeListLemmas
+pub mod PlaceLemmas
+pub mod KindLemmas
+pub mod TakenLemmas
 pub mod FrontLemmas
 pub mod GrowthLemmas
 pub mod FragmentLemmas

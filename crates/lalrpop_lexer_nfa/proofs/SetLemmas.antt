@@ -16,27 +16,27 @@ use Rattle.lalrpop_lexer_nfa.proofs.ListLemmas.{Contains-from_map, Contains-filt
 -- one more member
 pub Inserts-old : (old new : List ℕ) (x y : ℕ) → Inserts old x new → Contains old y → Contains new y
 Inserts-old old new x y (inl h) k = rw h.1 k
-Inserts-old old new x y (inr h) k = rw h (Contains-append_left old (x ∷ []) y k)
+Inserts-old old new x y (inr h) k = rw h.1 (Contains-append_left old (x ∷ []) y k)
 
 -- what is inserted is a member
 pub Inserts-new : (old new : List ℕ) (x : ℕ) → Inserts old x new → Contains new x
 Inserts-new old new x (inl h) = rw h.1 h.0
-Inserts-new old new x (inr h) = rw h (Contains-push old x)
+Inserts-new old new x (inr h) = rw h.1 (Contains-push old x)
 
 -- a member was one before, or is the one inserted
 pub Inserts-cases : (old new : List ℕ) (x y : ℕ) → Inserts old x new → Contains new y → Contains old y ⊎ (x ≡ y)
 Inserts-cases old new x y (inl h) k = inl (rw h.1 at k)
-Inserts-cases old new x y (inr h) k = Contains-push_cases old x y (rw h at k)
+Inserts-cases old new x y (inr h) k = Contains-push_cases old x y (rw h.1 at k)
 
 pub Inserts-after : (first old new : List ℕ) (x : ℕ) → Inserts old x new → (more : List ℕ) × (old ≡ first ++ more)
     → (more : List ℕ) × (new ≡ first ++ more)
 Inserts-after first old new x (inl h) k = (k.0, h.1 ∙ k.1)
-Inserts-after first old new x (inr h) k = (k.0 ++ x ∷ [], h ∙ ap (λ xs. xs ++ x ∷ []) k.1 ∙ append_assoc first k.0 (x ∷ []))
+Inserts-after first old new x (inr h) k = (k.0 ++ x ∷ [], h.1 ∙ ap (λ xs. xs ++ x ∷ []) k.1 ∙ append_assoc first k.0 (x ∷ []))
 
 -- what holds of the members and of the one inserted holds of all members after that
 pub Inserts-all : (P : ℕ → Type 0) (old new : List ℕ) (x : ℕ) → Inserts old x new → All P old → P x → All P new
 Inserts-all P old new x (inl h) all one = rw h.1 all
-Inserts-all P old new x (inr h) all one = rw h (All-push P old x all one)
+Inserts-all P old new x (inr h) all one = rw h.1 (All-push P old x all one)
 
 -- the epsilon edges of a state that are left
 pub record AreTargets (t : Graph) (edges : List (Edge Noop)) (q : ℕ) (old new : List ℕ) (left : List (Edge Noop)) : Type 0 where

@@ -1,12 +1,12 @@
 -- A text read from its front, a character at a time. For the functions that run an automaton over a text.
-use Rattle.std.proofs.Common.{◌≡◌, ℕ, ◌-◌, List, [], ◌∷◌, ◌++◌, length, take, sym, ap, ◌∙◌, refl, arith}
-use Rattle.std.proofs.Common.{length-append, append_assoc, append-nil, Bool, true, false, ◌&&◌}
+use Rattle.std.proofs.Common.{◌≡◌, ℕ, List, [], ◌∷◌, ◌++◌, length, take, sym, ap, ◌∙◌, refl}
+use Rattle.std.proofs.Common.{append_assoc, append-nil, Bool, true, false, ◌&&◌}
 use lib.Utf8.{scalars, scalar}
-use Rattle.std.specs.Str.{chars, IsUtf8, IsCharBoundary}
+use Rattle.std.specs.Str.{chars, IsUtf8}
 use Rattle.std.specs.Char.{IsScalar}
 use Rattle.std.specs.Prelude.{encode_utf8}
 use Rattle.std.proofs.lemmas.Str.{chars-append, chars_past_char, scalars-chars, IsUtf8-append, IsUtf8-encode, IsUtf8-past_char, IsUtf8-nil}
-use Rattle.std.proofs.lemmas.Str.{chars-nil, IsCharBoundary-at_seam}
+use Rattle.std.proofs.lemmas.Str.{chars-nil}
 use Rattle.std.proofs.lemmas.List.{take_at}
 
 -- the characters of the word have been read, and the rest is left

@@ -2,6 +2,7 @@
 use Rattle.std.specs.Prelude.{◌≡◌, ℕ, ◌+◌, ◌<◌, Contains, All, length, slice_index, ◌≤◌, ◌⊎◌, List, []}
 use Rattle.std.specs.Prelude.{◌∷◌, ◌++◌}
 use Rattle.lalrpop_lexer_pattern.specs.Matches.{Power}
+use Rattle.lalrpop_lexer_nfa.specs.Kinds.{AddsNeither}
 use Rattle.lalrpop_lexer_nfa.specs.Paths.{Graph, HasEpsilonEdge, HasTransition, IsPath}
 
 -- from the states lo up to hi the same edges go out in both
@@ -29,9 +30,10 @@ pub record ReadsJust (t : Graph) (lo hi : ℕ) (L : List ℕ → Type 0) (s a : 
   pub complete : (f : Graph) → AgreeOn f t lo hi → (goal n : ℕ) (w : List ℕ) → goal < lo → IsPath f goal n s w
       → IsSplitPath f L goal a n w
 
--- the graph grew, and from s on its new states read just the words of L, and go on at a
+-- the graph grew, and from s on its new states, which neither accept nor reject, read just the words of L, and go on at a
 pub record IsFragment (old new : Graph) (L : List ℕ → Type 0) (s a : ℕ) : Type 0 where
   pub grows : old.count ≤ new.count
+  pub kinds : AddsNeither old.kinds new.kinds
   pub inside : a < old.count → s < new.count
   pub keeps : AgreeOn new old 0 old.count
   pub does : ReadsJust new old.count new.count L s a
@@ -41,6 +43,9 @@ Concatenation L M w = (u v : List ℕ) × (w ≡ u ++ v) × L u × M v
 
 abbrev pub KleeneStar : (List ℕ → Type 0) → List ℕ → Type 0
 KleeneStar L w = (k : ℕ) × Power L k w
+
+abbrev pub AtLeast : (List ℕ → Type 0) → ℕ → List ℕ → Type 0
+AtLeast L n w = (k : ℕ) × (n ≤ k) × Power L k w
 
 abbrev pub UpTo : (List ℕ → Type 0) → ℕ → List ℕ → Type 0
 UpTo L n w = (k : ℕ) × (k ≤ n) × Power L k w
@@ -55,6 +60,7 @@ IsOneOf P w = (c : ℕ) × (w ≡ c ∷ []) × P c
 pub record IsBranch (old new : Graph) (s : ℕ) (targets : List ℕ) : Type 0 where
   pub is : s ≡ old.count
   pub grows : new.count ≡ old.count + 1
+  pub kinds : AddsNeither old.kinds new.kinds
   pub keeps : AgreeOn new old 0 old.count
   pub reads : (c r : ℕ) → HasTransition new s c r → ⊥
   pub only : (r : ℕ) → HasEpsilonEdge new s r → Contains targets r
@@ -64,6 +70,7 @@ pub record IsBranch (old new : Graph) (s : ℕ) (targets : List ℕ) : Type 0 wh
 pub record IsReader (old new : Graph) (s a : ℕ) (P : ℕ → Type 0) : Type 0 where
   pub is : s ≡ old.count
   pub grows : new.count ≡ old.count + 1
+  pub kinds : AddsNeither old.kinds new.kinds
   pub keeps : AgreeOn new old 0 old.count
   pub leads : (r : ℕ) → HasEpsilonEdge new s r → ⊥
   pub only : (c r : ℕ) → HasTransition new s c r → P c × (r ≡ a)
@@ -74,6 +81,7 @@ pub record IsReader (old new : Graph) (s a : ℕ) (P : ℕ → Type 0) : Type 0 
 pub record AreFragments (old new : Graph) (L : ℕ → List ℕ → Type 0) (n : ℕ) (places : List ℕ) (a : ℕ → ℕ) : Type 0 where
   pub count : length places ≡ n
   pub grows : old.count ≤ new.count
+  pub kinds : AddsNeither old.kinds new.kinds
   pub keeps : AgreeOn new old 0 old.count
   pub inside : All (λ s. s < new.count) places
   pub each : (k : ℕ) → k < n → ReadsJust new old.count new.count (L k) (slice_index places k) (a k)

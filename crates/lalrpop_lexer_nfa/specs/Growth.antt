@@ -2,6 +2,7 @@
 use Rattle.std.specs.Prelude.{◌≡◌, ◌≢◌, ℕ, ◌+◌, ◌-◌, ◌<◌, Bool, MatchBool, List, [], ◌++◌, Contains, length}
 use Rattle.std.specs.Prelude.{map, slice_index}
 use Rattle.lalrpop_lexer_pattern.specs.declared.class.Range.{Range}
+use Rattle.lalrpop_lexer_nfa.specs.Kinds.{AddsNeither}
 use Rattle.lalrpop_lexer_nfa.specs.Paths.{Graph, EpsilonEdge, TransitionEdge, HasEpsilonEdge, HasTransition}
 
 -- no epsilon edge goes out from the state
@@ -16,10 +17,11 @@ HasNoTransitions t q = (c r : ℕ) → HasTransition t q c r → ⊥
 abbrev pub HasNoTransitionEdges : Graph → ℕ → Type 0
 HasNoTransitionEdges t q = (e : TransitionEdge) → Contains t.tests e → e.from ≡ q → ⊥
 
--- one more state s, without edges
+-- one more state s, without edges, which neither accepts nor rejects
 pub record IsNewState (old new : Graph) (s : ℕ) : Type 0 where
   pub is : s ≡ old.count
   pub grows : new.count ≡ s + 1
+  pub kinds : AddsNeither old.kinds new.kinds
   pub noops : new.noops ≡ old.noops
   pub tests : new.tests ≡ old.tests
 
@@ -32,12 +34,14 @@ transitions_from q ranges to = map (λ range. record { from = q; start = range.s
 -- new epsilon edges from the state to each target
 pub record HasNewEpsilonEdges (old new : Graph) (q : ℕ) (targets : List ℕ) : Type 0 where
   pub count : new.count ≡ old.count
+  pub kinds : new.kinds ≡ old.kinds
   pub noops : new.noops ≡ old.noops ++ epsilon_edges_from q targets
   pub tests : new.tests ≡ old.tests
 
 -- new transitions from the state that read the ranges
 pub record HasNewTransitions (old new : Graph) (q : ℕ) (ranges : List Range) (to : ℕ) : Type 0 where
   pub count : new.count ≡ old.count
+  pub kinds : new.kinds ≡ old.kinds
   pub noops : new.noops ≡ old.noops
   pub tests : new.tests ≡ old.tests ++ transitions_from q ranges to
 
@@ -50,6 +54,7 @@ BeginsRun froms q begins =
 -- the same states and edges
 pub record IsSameGraph (old new : Graph) : Type 0 where
   pub count : new.count ≡ old.count
+  pub kinds : new.kinds ≡ old.kinds
   pub noops : new.noops ≡ old.noops
   pub tests : new.tests ≡ old.tests
 

@@ -1,9 +1,13 @@
 pub mod Ranges
 pub mod EdgeLists
 pub mod Labels
+pub mod Kinds
+pub mod Places
+pub mod Lending
 pub mod Paths
 pub mod Growth
 pub mod Fragments
 pub mod Refusals
 pub mod Sets
+pub mod Taken
 pub mod Fronts

@@ -2,9 +2,9 @@
 use Rattle.std.specs.Prelude.{◌≡◌, ℕ, ◌⊎◌, List, [], ◌∷◌, ◌++◌, ◌↔◌, Contains}
 use Rattle.lalrpop_lexer_nfa.specs.Paths.{Graph, HasEpsilonEdge, HasTransition}
 
--- the number comes after the others, unless it was there
+-- a number that wasn't there comes after the others, and one that was changes nothing
 abbrev pub Inserts : List ℕ → ℕ → List ℕ → Type 0
-Inserts old x new = (Contains old x × (new ≡ old)) ⊎ (new ≡ old ++ x ∷ [])
+Inserts old x new = (Contains old x × (new ≡ old)) ⊎ ((Contains old x → ⊥) × (new ≡ old ++ x ∷ []))
 
 -- epsilon edges lead from x to y
 pub data EpsilonReaches (t : Graph) (x : ℕ) : ℕ → Type 0 where

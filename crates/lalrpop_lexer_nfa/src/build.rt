@@ -4,10 +4,9 @@ ghost use Rattle.std.specs.Prelude.{◌≡◌, ℕ, ◌+◌, ◌<◌, ◌≤◌,
 ghost use Rattle.lalrpop_lexer_pattern.specs.Meaning.{meaning};
 ghost use Rattle.lalrpop_lexer_pattern.specs.Matches.{Matches, Power, concat_all, alternation_all, Pattern};
 ghost use Rattle.lalrpop_lexer_nfa.specs.Paths.{nfa_view};
-ghost use Rattle.lalrpop_lexer_nfa.specs.Fragments.{IsFragment, UpTo, KleeneStar, Optional};
+ghost use Rattle.lalrpop_lexer_nfa.specs.Fragments.{IsFragment, UpTo, AtLeast};
 
 use crate::automaton::Nfa;
-use crate::state::StateKind;
 use lalrpop_lexer_pattern::{Hir, Range, Repeats};
 use std::alloc::AllocError;
 
@@ -35,7 +34,7 @@ impl Nfa {
         requires { accept < vec_len self.old.states }
         ensures { IfOk result (λ s. IsFragment (nfa_view self.old) (nfa_view self.new) (λ w. ⊥) s accept) }
     {
-        let state = self.new_state(StateKind::Neither)?;
+        let state = self.new_state()?;
         Ok(state)
     }
 
@@ -102,12 +101,28 @@ impl Nfa {
         requires { accept < vec_len self.old.states }
         ensures { IfOk result (λ s. IsFragment (nfa_view self.old) (nfa_view self.new) (Matches (Pattern.repetition repeats.min repeats.max repeats.greedy (meaning sub.now))) s accept) }
     {
-        let rest = match repeats.max {
-            Some(0) => return Ok(accept),
-            Some(max) => self.up_to(max - repeats.min, sub, accept)?,
-            None => self.star(sub, accept)?,
-        };
-        let state = self.copies(repeats.min, sub, rest)?;
+        match repeats.max {
+            Some(0) => Ok(accept),
+            Some(max) => {
+                let rest = self.up_to(max - repeats.min, sub, accept)?;
+                let state = self.copies(repeats.min, sub, rest)?;
+                Ok(state)
+            }
+            None => self.at_least(repeats.min, sub, accept),
+        }
+    }
+
+    /// Adds `count` copies, the last of which may be read again.
+    #[cycle(build)]
+    fn at_least(&mut self, count: u32, sub: &Hir, accept: usize) -> Result<usize, AllocError>
+        requires { accept < vec_len self.old.states }
+        ensures { IfOk result (λ s. IsFragment (nfa_view self.old) (nfa_view self.new) (AtLeast (Matches (meaning sub.now)) count) s accept) }
+    {
+        if count == 0 {
+            return self.star(sub, accept);
+        }
+        let last = self.plus(sub, accept)?;
+        let state = self.copies(count - 1, sub, last)?;
         Ok(state)
     }
 
@@ -124,7 +139,8 @@ impl Nfa {
         Ok(next)
     }
 
-    /// Adds the pattern `count` times, where each may be left out.
+    /// Adds the pattern `count` times. In front of each copy stands a state that goes on at it, or behind them all: so what
+    /// follows a copy stands inside what may be left out with it.
     #[cycle(build)]
     fn up_to(&mut self, count: u32, sub: &Hir, accept: usize) -> Result<usize, AllocError>
         requires { accept < vec_len self.old.states }
@@ -132,29 +148,31 @@ impl Nfa {
     {
         let mut next = accept;
         for done in 0..count {
-            next = self.optional(sub, next)?;
+            let once = self.expr(sub, next)?;
+            next = self.new_branch(&[accept, once])?;
         }
         Ok(next)
     }
 
-    /// Adds the pattern, and a state that goes on at it or behind it.
+    /// Adds the pattern, and a state behind it that goes on at `accept`, or at the pattern once more.
     #[cycle(build)]
-    fn optional(&mut self, sub: &Hir, accept: usize) -> Result<usize, AllocError>
+    fn plus(&mut self, sub: &Hir, accept: usize) -> Result<usize, AllocError>
         requires { accept < vec_len self.old.states }
-        ensures { IfOk result (λ s. IsFragment (nfa_view self.old) (nfa_view self.new) (Optional (Matches (meaning sub.now))) s accept) }
+        ensures { IfOk result (λ s. IsFragment (nfa_view self.old) (nfa_view self.new) (AtLeast (Matches (meaning sub.now)) 1) s accept) }
     {
-        let once = self.expr(sub, accept)?;
-        let state = self.new_branch(&[accept, once])?;
-        Ok(state)
+        let state = self.new_state()?;
+        let first = self.expr(sub, state)?;
+        self.push_noops(state, &[accept, first])?;
+        Ok(first)
     }
 
     /// Adds a state that goes on behind the pattern, or at the pattern, which comes back to that state.
     #[cycle(build)]
     fn star(&mut self, sub: &Hir, accept: usize) -> Result<usize, AllocError>
         requires { accept < vec_len self.old.states }
-        ensures { IfOk result (λ s. IsFragment (nfa_view self.old) (nfa_view self.new) (KleeneStar (Matches (meaning sub.now))) s accept) }
+        ensures { IfOk result (λ s. IsFragment (nfa_view self.old) (nfa_view self.new) (AtLeast (Matches (meaning sub.now)) 0) s accept) }
     {
-        let state = self.new_state(StateKind::Neither)?;
+        let state = self.new_state()?;
         let round = self.expr(sub, state)?;
         self.push_noops(state, &[accept, round])?;
         Ok(state)

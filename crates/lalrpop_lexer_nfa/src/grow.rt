@@ -1,6 +1,6 @@
 //! How an automaton grows: new states, epsilon edges and transitions.
 
-ghost use Rattle.std.specs.Prelude.{◌≡◌, ℕ, ◌<◌, ◌++◌, ◌∷◌, [], length, All, IfOk, OnOk, OnErr, vec_len};
+ghost use Rattle.std.specs.Prelude.{◌≡◌, ◌≢◌, ℕ, ◌<◌, ◌++◌, ◌∷◌, [], length, All, IfOk, OnOk, OnErr, vec_len};
 ghost use Rattle.lalrpop_lexer_nfa.specs.EdgeLists.{sources, MayComeNext};
 ghost use Rattle.lalrpop_lexer_nfa.specs.Growth.{HasNoEpsilonEdges, HasNoTransitionEdges, IsNewState, HasNewEpsilonEdges, HasNewTransitions, IsSameGraph, BeginsRun};
 ghost use Rattle.lalrpop_lexer_nfa.specs.Paths.{nfa_view};
@@ -39,14 +39,14 @@ fn push_edge<L: Drop>(
 }
 
 impl Nfa {
-    /// Adds a state without edges.
-    pub(crate) fn new_state(&mut self, kind: StateKind) -> Result<usize, AllocError>
+    /// Adds a state without edges, which neither accepts nor rejects.
+    pub(crate) fn new_state(&mut self) -> Result<usize, AllocError>
         ensures state { IfOk result (λ s. IsNewState (nfa_view self.old) (nfa_view self.new) s) }
         ensures others { OnOk result (self.new.edges.other_edges.items ≡ self.old.edges.other_edges.items) }
     {
         let state = self.states.len();
         self.states.push(State {
-            kind,
+            kind: StateKind::Neither,
             first_noop_edge: self.edges.noop_edges.len(),
             first_test_edge: self.edges.test_edges.len(),
             first_other_edge: self.edges.other_edges.len(),
@@ -57,6 +57,7 @@ impl Nfa {
     /// Adds an epsilon edge from a state of which others, if it has any, stand last in their list.
     fn push_noop(&mut self, from: usize, to: usize) -> Result<(), AllocError>
         requires from { from < vec_len self.old.states }
+        requires leaves { from ≢ REJECT.0 }
         requires to { to < vec_len self.old.states }
         requires last { MayComeNext (sources self.old.edges.noop_edges.items) from }
         ensures noops { OnOk result (HasNewEpsilonEdges (nfa_view self.old) (nfa_view self.new) from (to ∷ [])) }
@@ -75,6 +76,7 @@ impl Nfa {
     /// last in their list.
     fn push_test(&mut self, from: usize, start: u32, end: u32, to: usize) -> Result<(), AllocError>
         requires from { from < vec_len self.old.states }
+        requires leaves { from ≢ REJECT.0 }
         requires to { to < vec_len self.old.states }
         requires last { MayComeNext (sources self.old.edges.test_edges.items) from }
         ensures tests { OnOk result (HasNewTransitions (nfa_view self.old) (nfa_view self.new) from ((record { start = start; end = end }) ∷ []) to) }
@@ -88,14 +90,15 @@ impl Nfa {
         Ok(())
     }
 
-    /// Adds an edge to the state `to` for what no test of the state `from` holds.
-    fn push_other(&mut self, from: usize, to: usize) -> Result<(), AllocError>
+    /// Adds an edge to `REJECT` for what no test of the state `from` holds.
+    fn push_other(&mut self, from: usize) -> Result<(), AllocError>
         requires from { from < vec_len self.old.states }
+        requires leaves { from ≢ REJECT.0 }
         requires last { MayComeNext (sources self.old.edges.other_edges.items) from }
         ensures same { OnOk result (IsSameGraph (nfa_view self.old) (nfa_view self.new)) }
     {
         let place = self.edges.other_edges.len();
-        if push_edge(&mut self.edges.other_edges, from, Other, to)? {
+        if push_edge(&mut self.edges.other_edges, from, Other, REJECT.0)? {
             self.states[from].first_other_edge = place;
         }
         Ok(())
@@ -106,6 +109,7 @@ impl Nfa {
     /// Adds epsilon edges from a state without any to each target.
     pub(crate) fn push_noops(&mut self, from: usize, targets: &[usize]) -> Result<(), AllocError>
         requires from { from < vec_len self.old.states }
+        requires leaves { from ≢ REJECT.0 }
         requires targets { All (λ r. r < vec_len self.old.states) targets.now }
         requires none { HasNoEpsilonEdges (nfa_view self.old) from }
         ensures { OnOk result (HasNewEpsilonEdges (nfa_view self.old) (nfa_view self.new) from targets.now) }
@@ -119,6 +123,7 @@ impl Nfa {
     /// Adds transitions that read the ranges from a state without any to another.
     fn push_tests(&mut self, from: usize, ranges: &[Range], to: usize) -> Result<(), AllocError>
         requires from { from < vec_len self.old.states }
+        requires leaves { from ≢ REJECT.0 }
         requires to { to < vec_len self.old.states }
         requires none { HasNoTransitionEdges (nfa_view self.old) from }
         ensures tests { OnOk result (HasNewTransitions (nfa_view self.old) (nfa_view self.new) from ranges.now to) }
@@ -136,7 +141,7 @@ impl Nfa {
         requires { All (λ r. r < vec_len self.old.states) targets.now }
         ensures { IfOk result (λ s. IsBranch (nfa_view self.old) (nfa_view self.new) s targets.now) }
     {
-        let state = self.new_state(StateKind::Neither)?;
+        let state = self.new_state()?;
         self.push_noops(state, targets)?;
         Ok(state)
     }
@@ -146,9 +151,9 @@ impl Nfa {
         requires { to < vec_len self.old.states }
         ensures { IfOk result (λ s. IsReader (nfa_view self.old) (nfa_view self.new) s to (InRanges ranges.now)) }
     {
-        let state = self.new_state(StateKind::Neither)?;
+        let state = self.new_state()?;
         self.push_tests(state, ranges, to)?;
-        self.push_other(state, REJECT.0)?;
+        self.push_other(state)?;
         Ok(state)
     }
 }

@@ -1,5 +1,5 @@
 -- A copy with the same contents has the same meaning. For the function that copies a tree.
-use Rattle.std.proofs.Common.{◌≡◌, ◌∙◌, ap, ap₂, sym, subst, refl, map, List, [], ◌∷◌, Result, IfOk}
+use Rattle.std.proofs.Common.{◌≡◌, ◌<◌, ◌∙◌, ap, ap₂, sym, subst, refl, arith, map, List, [], ◌∷◌, ◌++◌, Box, Global, Result, IfOk}
 use Rattle.std.proofs.lemmas.Result.{IfOk-weaker}
 use Rattle.std.specs.Prelude.{option_map}
 use Rattle.std.specs.String.{string_bytes}
@@ -7,7 +7,9 @@ use Rattle.std.specs.declared.alloc.AllocError.{AllocError}
 use Rattle.lalrpop_lexer_pattern.specs.Matches.{Pattern, concat_all, alternation_all}
 use Rattle.lalrpop_lexer_pattern.specs.Meaning.{meaning, node_meaning}
 use Rattle.lalrpop_lexer_pattern.specs.PlainHirs as plain
-use Rattle.lalrpop_lexer_pattern.specs.declared.tree.Hir.{Hir}
+use Rattle.lalrpop_lexer_pattern.specs.declared.tree.Repeats.{Repeats}
+use Rattle.lalrpop_lexer_pattern.specs.declared.tree.Hir.{Hir, size-Hir, size_is-Hir, roll-Hir, out-roll-Hir}
+use Rattle.lalrpop_lexer_pattern.specs.declared.tree.Hir.TheVariants.{Repetition, rolls-Repetition}
 use Rattle.lalrpop_lexer_pattern.specs.declared.tree.Hir.TheOpen.{Hir-F}
 use Rattle.lalrpop_lexer_pattern.specs.declared.tree.Hir.TheFolds.{fold-roll-Hir, ind-Hir, map-Hir}
 
@@ -58,3 +60,23 @@ pub same_meaning : (result : Result Hir AllocError) (original : Hir)
     → IfOk result (λ copy. plain.hir_view copy ≡ plain.hir_view original) → IfOk result (λ copy. meaning copy ≡ meaning original)
 same_meaning result original same = IfOk-weaker result _ (λ copy. meaning copy ≡ meaning original)
     (λ copy is. of_contents copy ∙ ap pattern_of is ∙ sym (of_contents original)) same
+
+-- the contents of a repetition
+pub hir_view-Repetition : (r : Repeats) (sub : Box Hir Global)
+    → plain.hir_view (Repetition r sub) ≡ plain.PlainHir.repetition r.min r.max r.greedy (plain.hir_view sub.value)
+hir_view-Repetition r sub =
+    ap plain.hir_view (sym (rolls-Repetition r sub)) ∙ fold-roll-Hir plain.PlainHir plain.hir_layer (Hir-F.Repetition r sub)
+
+-- the last of a list of repetitions is the innermost
+pub plain_repeated-push : (rs : List Repeats) (r : Repeats) (p : plain.PlainHir)
+    → plain.plain_repeated (rs ++ r ∷ []) p ≡ plain.plain_repeated rs (plain.PlainHir.repetition r.min r.max r.greedy p)
+plain_repeated-push [] r p = refl
+plain_repeated-push (q ∷ rs) r p = ap (plain.PlainHir.repetition q.min q.max q.greedy) (plain_repeated-push rs r p)
+
+-- what is repeated is less deep
+pub size-Repetition : (r : Repeats) (sub : Box Hir Global) → size-Hir sub.value < size-Hir (Repetition r sub)
+size-Repetition r sub =
+    let h = size_is-Hir (roll-Hir (Hir-F.Repetition r sub)) in
+    let g = rw out-roll-Hir at h in
+    let P : Hir → Type 0 = λ d. size-Hir sub.value < size-Hir d in
+    subst P (rolls-Repetition r sub) (omega (arith, g))

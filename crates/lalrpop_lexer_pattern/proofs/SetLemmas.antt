@@ -12,7 +12,7 @@ use Rattle.std.proofs.lemmas.List.Sorted.{sum_by-IsPermutation}
 use Rattle.lalrpop_lexer_pattern.specs.declared.class.Range.{Range}
 use Rattle.lalrpop_lexer_pattern.specs.Ranges.{IsCanonical}
 use Rattle.lalrpop_lexer_pattern.specs.Sets.{some_below, in_range, in_ranges, fits_from, rises_from, IsRising, add_front, ranges_from}
-use Rattle.lalrpop_lexer_pattern.specs.Sets.{ranges_of, last_start_or}
+use Rattle.lalrpop_lexer_pattern.specs.Sets.{ranges_of, union_of, last_start_or}
 
 -- a range as its two ends
 abbrev pub range_from : ℕ → ℕ → Range
@@ -424,3 +424,19 @@ pub same_tests : (a b : Bool) → (a ≡ true → b ≡ true) → (b ≡ true �
 same_tests true b f g = sym (f refl)
 same_tests false true f g = g refl
 same_tests false false f g = refl
+
+-- ranges without members are those of no test
+pub ranges_of-nil : (rs : List Range) → rs ≡ [] → ranges_of (in_ranges rs) ≡ []
+ranges_of-nil rs e =
+    sym (is_ranges_of [] (in_ranges rs) (rises_from-nil 0) (λ c h. ap (λ l. in_ranges l c) (sym e)))
+
+-- the members of ranges within Unicode have the same ranges as the test of the ranges
+pub ranges_of-again : (p : ℕ → Bool) → ranges_of (in_ranges (ranges_of p)) ≡ ranges_of p
+ranges_of-again p = ranges_of-same (in_ranges (ranges_of p)) p (in_ranges-ranges_of p)
+
+-- with the ranges of a set put behind them, ranges have the members of both
+pub ranges_of-append : (rs ss both : List Range) → both ≡ rs ++ ss
+    → ranges_of (in_ranges both) ≡ union_of (ranges_of (in_ranges rs)) ss
+ranges_of-append rs ss both e =
+    ranges_of-same (in_ranges both) _ (λ c h. ap (λ l. in_ranges l c) e ∙ in_ranges-append rs ss c
+    ∙ ap (λ b. b || in_ranges ss c) (sym (in_ranges-ranges_of (in_ranges rs) c h)))

@@ -1,5 +1,6 @@
 pub mod Ranges
 pub mod Sets
+pub mod Partners
 pub mod Matches
 pub mod Meaning
 pub mod PlainHirs

@@ -3,6 +3,7 @@ use Rattle.std.specs.Prelude.{ℕ, Bool, List, [], ◌∷◌, Option, option_map
 use Rattle.std.specs.String.{string_bytes}
 use Rattle.lalrpop_lexer_pattern.specs.declared.class.Range.{Range}
 use Rattle.lalrpop_lexer_pattern.specs.declared.tree.Look.{Look}
+use Rattle.lalrpop_lexer_pattern.specs.declared.tree.Repeats.{Repeats}
 use Rattle.lalrpop_lexer_pattern.specs.declared.tree.Hir.{Hir}
 use Rattle.lalrpop_lexer_pattern.specs.declared.tree.Hir.TheOpen.{Hir-F}
 use Rattle.lalrpop_lexer_pattern.specs.declared.tree.Hir.TheFolds.{fold-Hir}
@@ -40,3 +41,8 @@ hir_layer (Hir-F.Alternation subs) = PlainHir.alternation (plain_hirs subs.items
 
 abbrev pub hir_view : Hir → PlainHir
 hir_view = fold-Hir PlainHir hir_layer
+
+-- a tree, repeated as the list says, whose last is the innermost
+abbrev pub plain_repeated : List Repeats → PlainHir → PlainHir
+plain_repeated [] tree = tree
+plain_repeated (r ∷ rs) tree = PlainHir.repetition r.min r.max r.greedy (plain_repeated rs tree)

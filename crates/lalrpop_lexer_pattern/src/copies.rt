@@ -3,11 +3,11 @@
 ghost use Rattle.std.specs.Prelude.{◌≡◌, IfOk, map, option_map};
 ghost use Rattle.std.specs.String.{string_bytes};
 ghost use Rattle.lalrpop_lexer_pattern.specs.Meaning.{meaning};
-ghost use Rattle.lalrpop_lexer_pattern.specs.PlainHirs.{hir_view};
+ghost use Rattle.lalrpop_lexer_pattern.specs.PlainHirs.{hir_view, plain_repeated};
 
 use crate::class::Class;
 use crate::set::CharacterSet;
-use crate::tree::Hir;
+use crate::tree::{Hir, Repeats};
 use std::alloc::{AllocError, Global};
 
 impl Class {
@@ -39,35 +39,52 @@ impl Hir {
         self.copy(alloc)
     }
 
-    /// A copy with the same contents.
+    /// A copy with the same contents. Repetitions of repetitions are gone through by a loop.
     #[cycle(copy)]
     fn copy(&self, alloc: Global) -> Result<Hir, AllocError>
         ensures { IfOk result (λ copy. hir_view copy ≡ hir_view self.now) }
     {
-        match self {
-            Hir::Empty => Ok(Hir::Empty),
-            Hir::Literal(characters) => Ok(Hir::Literal(Vec::from_slice(alloc, characters)?)),
-            Hir::Class(class) => Ok(Hir::Class(class.try_clone(alloc)?)),
-            Hir::Look(look) => Ok(Hir::Look(*look)),
-            Hir::Capture { name, sub } => {
-                let name = clone_name(alloc, name)?;
-                let sub = sub.copy(alloc)?;
-                Ok(Hir::Capture {
-                    name,
-                    sub: Box::new(alloc, sub)?,
-                })
-            }
-            Hir::Repetition { repeats, sub } => {
-                let sub = sub.copy(alloc)?;
-                Ok(Hir::Repetition {
-                    repeats: *repeats,
-                    sub: Box::new(alloc, sub)?,
-                })
-            }
-            Hir::Concat(subs) => Ok(Hir::Concat(clone_all(alloc, subs)?)),
-            Hir::Alternation(subs) => Ok(Hir::Alternation(clone_all(alloc, subs)?)),
+        let mut around = Vec::new(alloc);
+        let mut tree = self;
+        loop {
+            let copy = match tree {
+                Hir::Empty => Hir::Empty,
+                Hir::Literal(characters) => Hir::Literal(Vec::from_slice(alloc, characters)?),
+                Hir::Class(class) => Hir::Class(class.try_clone(alloc)?),
+                Hir::Look(look) => Hir::Look(*look),
+                Hir::Capture { name, sub } => {
+                    let name = clone_name(alloc, name)?;
+                    let sub = sub.copy(alloc)?;
+                    Hir::Capture {
+                        name,
+                        sub: Box::new(alloc, sub)?,
+                    }
+                }
+                Hir::Repetition { repeats, sub } => {
+                    around.push(*repeats)?;
+                    tree = sub;
+                    continue;
+                }
+                Hir::Concat(subs) => Hir::Concat(clone_all(alloc, subs)?),
+                Hir::Alternation(subs) => Hir::Alternation(clone_all(alloc, subs)?),
+            };
+            return wrap_in_repeats(alloc, around, copy);
         }
     }
+}
+
+/// Wraps the tree in the repeats of the list, whose last is the innermost.
+fn wrap_in_repeats(alloc: Global, mut around: Vec<Repeats>, tree: Hir) -> Result<Hir, AllocError>
+    ensures { IfOk result (λ whole. hir_view whole ≡ plain_repeated around.items (hir_view tree)) }
+{
+    let mut whole = tree;
+    while let Some(repeats) = around.pop() {
+        whole = Hir::Repetition {
+            repeats,
+            sub: Box::new(alloc, whole)?,
+        };
+    }
+    Ok(whole)
 }
 
 /// A copy of a name, if there is one.

@@ -8,9 +8,11 @@ mod constructors;
 mod copies;
 mod laws;
 mod literal;
+mod partners;
 mod refusal;
 mod set;
 mod set_algebra;
+mod set_builder;
 mod set_named;
 mod tree;
 
@@ -19,4 +21,5 @@ pub use laws::sets_are_their_members;
 pub use literal::{characters_of, parse_literal};
 pub use refusal::Refusal;
 pub use set::CharacterSet;
+pub use set_builder::CharacterSetBuilder;
 pub use tree::{Hir, Look, Regex, Repeats};

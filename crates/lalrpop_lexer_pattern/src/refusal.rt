@@ -26,29 +26,31 @@ impl Hir {
     pub fn refusal(&self) -> Option<Refusal>
         ensures { result ≡ refusal (meaning self.now) }
     {
-        match self {
-            Hir::Empty => None,
-            Hir::Literal(_) => None,
-            Hir::Class(_) => None,
-            Hir::Look(_) => Some(Refusal::LookAround),
-            Hir::Capture { name, sub } => {
-                if name.is_some() {
-                    Some(Refusal::NamedCaptures)
-                } else {
-                    sub.refusal()
+        let mut tree = self;
+        loop {
+            match tree {
+                Hir::Empty => return None,
+                Hir::Literal(_) => return None,
+                Hir::Class(_) => return None,
+                Hir::Look(_) => return Some(Refusal::LookAround),
+                Hir::Capture { name, sub } => {
+                    if name.is_some() {
+                        return Some(Refusal::NamedCaptures);
+                    }
+                    tree = sub;
                 }
-            }
-            Hir::Repetition { repeats, sub } => {
-                if !repeats.greedy {
-                    Some(Refusal::NonGreedy)
-                } else if repeats.max == Some(0) {
-                    None
-                } else {
-                    sub.refusal()
+                Hir::Repetition { repeats, sub } => {
+                    if !repeats.greedy {
+                        return Some(Refusal::NonGreedy);
+                    }
+                    if repeats.max == Some(0) {
+                        return None;
+                    }
+                    tree = sub;
                 }
+                Hir::Concat(subs) => return first_refusal(subs),
+                Hir::Alternation(subs) => return first_refusal(subs),
             }
-            Hir::Concat(subs) => first_refusal(subs),
-            Hir::Alternation(subs) => first_refusal(subs),
         }
     }
 }

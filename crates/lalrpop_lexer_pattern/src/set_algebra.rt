@@ -4,6 +4,7 @@ ghost use Rattle.std.specs.Prelude.{◌≡◌, ℕ, ◌≤◌, ◌+◌, ◌||◌
 ghost use Rattle.lalrpop_lexer_pattern.specs.Sets.{in_range, in_ranges, ranges_of, union_of, complement_of, folded_of, StartsAtMost};
 
 use crate::class::{Class, Range};
+use crate::partners::push_partners;
 use crate::set::CharacterSet;
 use std::alloc::{AllocError, Global};
 use unicode::case::fold_pairs;
@@ -137,13 +138,9 @@ impl CharacterSet {
         ensures { IfOk result (λ set. set.ranges.items ≡ folded_of self.ranges.items) }
     {
         let mut ranges = Vec::from_slice(*self.ranges.allocator(), &self.ranges)?;
-        for (from, to) in fold_pairs() {
-            if self.contains(*from) {
-                ranges.push(Range {
-                    start: *to,
-                    end: *to,
-                })?;
-            }
+        let mut pairs = fold_pairs();
+        for range in self.ranges.iter() {
+            pairs = push_partners(&mut ranges, *range, pairs)?;
         }
         CharacterSet::from_ranges(ranges)
     }

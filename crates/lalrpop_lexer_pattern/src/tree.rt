@@ -31,7 +31,7 @@ pub struct Repeats {
 }
 
 /// A pattern as a tree.
-#[derive(Debug, Drop)]
+#[derive(Debug)]
 pub enum Hir {
     /// The word without characters.
     Empty,
@@ -59,6 +59,25 @@ pub enum Hir {
     Concat(Vec<Hir>),
     /// One of some patterns.
     Alternation(Vec<Hir>),
+}
+
+impl Drop for Hir {
+    /// Takes repetitions of repetitions apart by a loop: of these a pattern may have more in one another than the stack
+    /// has room for.
+    fn drop(mut self) {
+        loop {
+            match self {
+                Hir::Empty => return,
+                Hir::Literal(_) => return,
+                Hir::Class(_) => return,
+                Hir::Look(_) => return,
+                Hir::Capture { name: _, sub: _ } => return,
+                Hir::Repetition { repeats: _, sub } => self = Box::into_inner(sub),
+                Hir::Concat(_) => return,
+                Hir::Alternation(_) => return,
+            }
+        }
+    }
 }
 
 /// A pattern as it is read from text.

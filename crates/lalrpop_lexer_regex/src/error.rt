@@ -1,5 +1,8 @@
 //! Why a text is no pattern.
 
+ghost use Rattle.std.specs.Prelude.{◌≡◌};
+
+use std::alloc::{AllocError, AllocFailed};
 use thiserror::Error;
 
 /// Why a text is no pattern. The number is the byte of the text where the fault stands.
@@ -20,4 +23,24 @@ pub enum RegexError {
     /// Memory ran out.
     #[error("out of memory")]
     Memory,
+}
+
+impl From<AllocError> for RegexError {
+    ghost use Rattle.lalrpop_lexer_regex.specs.declared.error.RegexError.TheVariants.{Memory};
+
+    ghost from_gives = { λ _ e. e ≡ Memory };
+
+    fn from(_: AllocError) -> RegexError {
+        RegexError::Memory
+    }
+}
+
+impl<T: Drop> From<AllocFailed<T>> for RegexError {
+    ghost use Rattle.lalrpop_lexer_regex.specs.declared.error.RegexError.TheVariants.{Memory};
+
+    ghost from_gives = { λ _ e. e ≡ Memory };
+
+    fn from(_: AllocFailed<T>) -> RegexError {
+        RegexError::Memory
+    }
 }

@@ -13,16 +13,10 @@ use Rattle.std.proofs.lemmas.Map.Text.{is_eq-slice_cmp}
 use Rattle.std.proofs.lemmas.Slice.Eq.{bytes_eq-Decides}
 use Rattle.std.proofs.lemmas.Bool.Decides.{same_from_decides}
 use Rattle.lalrpop_grammar_symbols.specs.declared.span.Span.{Span}
-use Rattle.lalrpop_grammar_symbols.specs.declared.symbol.Symbol as symbols
-use Rattle.lalrpop_grammar_symbols.specs.declared.symbol.ExprSymbol.{ExprSymbol}
-use Rattle.lalrpop_grammar_symbols.specs.declared.symbol.MacroSymbol.{MacroSymbol}
-use Rattle.lalrpop_grammar_symbols.specs.declared.symbol.SymbolKind.TheFolds.{fold_out-ExprSymbol, fold_out-MacroSymbol}
-use Rattle.lalrpop_grammar_symbols.specs.declared.symbol.SymbolKind.TheViews.{out-ExprSymbol, out-MacroSymbol}
-use Rattle.lalrpop_grammar_symbols.specs.Symbols.{Text, TextSpan, Op, Syms, Terminal, WrittenSymbol, syms}
-use Rattle.lalrpop_grammar_symbols.specs.Views.{kind_step, expr_step, macro_step, repeat_step, symbol_step, symbol_view, span_view}
-use Rattle.lalrpop_grammar_symbols.specs.Parts.{group_view, macro_view}
+use Rattle.lalrpop_grammar_symbols.specs.Symbols.{Text, TextSpan, Terminal}
+use Rattle.lalrpop_grammar_symbols.specs.Views.{span_view}
 use Rattle.lalrpop_lexer_scan.specs.declared.noting.Uses.{Uses}
-use Rattle.lalrpop_lexer_scan.specs.Literals.{LiteralUse, same_terminal, first_span, uses_in_symbol, uses_in_symbols}
+use Rattle.lalrpop_lexer_scan.specs.Literals.{LiteralUse, same_terminal, first_span}
 use Rattle.lalrpop_lexer_scan.specs.Noting.{noted_span, noted_span_of, Notes}
 
 option_or_none : {A : Type 0} (x : Option A) → option_or x None ≡ x
@@ -42,15 +36,25 @@ first_place-append (u ∷ us) vs t =
     (λ b. cond b (Some u.span) (first_span (us ++ vs) t) ≡ option_or (cond b (Some u.span) (first_span us t)) (first_span vs t))
     [ true ↦ refl | false ↦ first_place-append us vs t ]
 
-pub Notes-nil : (uses : Uses) → Notes uses uses []
-Notes-nil uses t = sym (option_or_none (noted_span_of uses t))
-
 pub Notes-append : (a b c : Uses) (us vs : List LiteralUse) → Notes a b us → Notes b c vs → Notes a c (us ++ vs)
 Notes-append a b c us vs h k t =
     k t
     ∙ ap (λ (o : Option TextSpan). option_or o (first_span vs t)) (h t)
     ∙ option_or_assoc (noted_span_of a t) (first_span us t) (first_span vs t)
     ∙ ap (option_or (noted_span_of a t)) (sym (first_place-append us vs t))
+
+-- Together with what is still to come, these spans are noted. For loops over walks.
+abbrev pub NotesInAll : (all : Terminal → Option TextSpan) → Uses → List LiteralUse → Type 0
+NotesInAll all uses left = (t : Terminal) → option_or (noted_span_of uses t) (first_span left t) ≡ all t
+
+-- one more turn of such a loop
+pub NotesInAll-step : (all : Terminal → Option TextSpan) (a b : Uses) (left us rest : List LiteralUse) → left ≡ us ++ rest → Notes a b us
+    → NotesInAll all a left → NotesInAll all b rest
+NotesInAll-step all a b left us rest is k h t =
+    ap (λ (o : Option TextSpan). option_or o (first_span rest t)) (k t)
+    ∙ option_or_assoc (noted_span_of a t) (first_span us t) (first_span rest t)
+    ∙ ap (option_or (noted_span_of a t)) (sym (first_place-append us rest t) ∙ ap (λ (l : List LiteralUse). first_span l t) (sym is))
+    ∙ h t
 
 -- one more turn of a loop over a list
 pub Notes-more : {A : Type 0} (f : A → List LiteralUse) (xs : List A) (i : ℕ) (x : A) (a b c : Uses) → i < length xs
@@ -68,29 +72,6 @@ Notes-more f xs i x a b c inside is h k =
 pub flat_map-map : {A B C : Type 0} (f : B → List C) (g : A → B) (xs : List A) → flat_map f (map g xs) ≡ flat_map (λ x. f (g x)) xs
 flat_map-map f g [] = refl
 flat_map-map f g (x ∷ xs) = ap (λ r. f (g x) ++ r) (flat_map-map f g xs)
-
-used_in_all-syms : (xs : List symbols.Symbol)
-    → uses_in_symbols (syms (map symbol_view xs)) ≡ flat_map (λ s. uses_in_symbol (symbol_view s)) xs
-used_in_all-syms [] = refl
-used_in_all-syms (x ∷ xs) = ap (λ r. uses_in_symbol (symbol_view x) ++ r) (used_in_all-syms xs)
-
--- the literals of a group
-pub used_in_group : (e : ExprSymbol)
-    → uses_in_symbols (group_view e) ≡ flat_map (λ s. uses_in_symbol (symbol_view s)) (out-ExprSymbol e).symbols
-used_in_group e =
-    ap uses_in_symbols
-    (fold_out-ExprSymbol (TextSpan → WrittenSymbol) (Syms TextSpan) (Text × Syms TextSpan) (Op × WrittenSymbol) WrittenSymbol
-    kind_step expr_step macro_step repeat_step symbol_step e)
-    ∙ used_in_all-syms (out-ExprSymbol e).symbols
-
--- the literals of a call's arguments
-pub used_in_call : (m : MacroSymbol)
-    → uses_in_symbols (macro_view m).1 ≡ flat_map (λ s. uses_in_symbol (symbol_view s)) (out-MacroSymbol m).args
-used_in_call m =
-    ap (λ (p : Text × Syms TextSpan). uses_in_symbols p.1)
-    (fold_out-MacroSymbol (TextSpan → WrittenSymbol) (Syms TextSpan) (Text × Syms TextSpan) (Op × WrittenSymbol) WrittenSymbol
-    kind_step expr_step macro_step repeat_step symbol_step m)
-    ∙ used_in_all-syms (out-MacroSymbol m).args
 
 -- one text in a map
 turned : (k q : Text) → bytes_eq k q ≡ bytes_eq q k

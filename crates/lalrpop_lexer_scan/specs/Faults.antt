@@ -26,3 +26,7 @@ tokens_fault_text (faults.Ambiguous first second span) =
     fault_head (codes "N20") (span_view span) ++ terminal_text (literal_view first) ++ codes " and " ++ terminal_text
     (literal_view second) ++ codes " match the same text"
 tokens_fault_text faults.Memory = codes "out of memory"
+
+abbrev pub scan_error_text : ScanError → Text
+scan_error_text (errors.NoToken at) = codes "no token at byte " ++ decimal at
+scan_error_text errors.Memory = codes "out of memory"

@@ -1,13 +1,14 @@
 -- The literals of a grammar: those that stand in its alternatives, and the list of them that gives a text its entries.
-use Rattle.std.specs.Prelude.{◌≡◌, Bool, true, false, List, [], ◌∷◌, ◌++◌, Option, Some, None, if◌then◌else◌}
+use Rattle.std.specs.Prelude.{◌≡◌, Bool, true, false, List, [], ◌∷◌, Option, Some, None, if◌then◌else◌}
 use Rattle.std.specs.Prelude.{flat_map}
 use Rattle.std.specs.Cmp.Lexicographic.{slice_cmp}
 use Rattle.std.specs.List.{AllByRecursion}
 use Rattle.std.specs.Str.{bytes_eq}
 use Rattle.std.specs.Ordering.{nat_cmp}
 use Rattle.std.specs.declared.cmp.Ordering.TheVariants.{Less}
-use Rattle.lalrpop_grammar_symbols.specs.Symbols.{TextSpan, Terminal, WrittenSymbol, Syms, Sym}
-use Rattle.lalrpop_grammar.specs.WrittenGrammar.{Alternative, Rule, WrittenItem, Grammar}
+use Rattle.lalrpop_grammar_symbols.specs.Symbols.{TextSpan, Terminal, WrittenSymbol, syms, Sym}
+use Rattle.lalrpop_grammar_symbols.specs.Subsymbols.{subsymbols_of}
+use Rattle.lalrpop_grammar.specs.WrittenGrammar.{Alternative, Rule, Grammar, rules_of}
 
 -- a literal and where it stands
 pub record LiteralUse : Type 0 where
@@ -21,41 +22,30 @@ uses_of_terminal p (Terminal.regex t) = record { literal = Terminal.regex t; spa
 uses_of_terminal p (Terminal.bare n) = []
 uses_of_terminal p Terminal.error = []
 
--- the literals inside a symbol, in reading order
-abbrev mutual
-  pub uses_in_symbol : WrittenSymbol → List LiteralUse
-  uses_in_symbol (Sym.expr p xs) = uses_in_symbols xs
-  uses_in_symbol (Sym.ambiguous_id p n) = []
-  uses_in_symbol (Sym.nonterminal p n) = []
-  uses_in_symbol (Sym.terminal p t) = uses_of_terminal p t
-  uses_in_symbol (Sym.macro p n args) = uses_in_symbols args
-  uses_in_symbol (Sym.repeat p op x) = uses_in_symbol x
-  uses_in_symbol (Sym.choose p x) = uses_in_symbol x
-  uses_in_symbol (Sym.name p mutable n x) = uses_in_symbol x
-  uses_in_symbol (Sym.lookahead p) = []
-  uses_in_symbol (Sym.lookbehind p) = []
-  uses_in_symbol (Sym.error p) = []
+-- the symbol itself, where it is a literal
+abbrev pub uses_at : WrittenSymbol → List LiteralUse
+uses_at (Sym.terminal p t) = uses_of_terminal p t
+uses_at (Sym.expr p xs) = []
+uses_at (Sym.ambiguous_id p n) = []
+uses_at (Sym.nonterminal p n) = []
+uses_at (Sym.macro p n args) = []
+uses_at (Sym.repeat p op x) = []
+uses_at (Sym.choose p x) = []
+uses_at (Sym.name p mutable n x) = []
+uses_at (Sym.lookahead p) = []
+uses_at (Sym.lookbehind p) = []
+uses_at (Sym.error p) = []
 
-  pub uses_in_symbols : Syms TextSpan → List LiteralUse
-  uses_in_symbols Syms.none = []
-  uses_in_symbols (Syms.more x xs) = uses_in_symbol x ++ uses_in_symbols xs
-
+-- the literals in an alternative, at any depth, in reading order
 abbrev pub uses_in_alternative : Alternative → List LiteralUse
-uses_in_alternative a = flat_map uses_in_symbol a.expr
+uses_in_alternative a = flat_map uses_at (subsymbols_of (syms a.expr))
 
 abbrev pub uses_in_rule : Rule → List LiteralUse
 uses_in_rule r = flat_map uses_in_alternative r.alternatives
 
-abbrev pub uses_in_item : WrittenItem → List LiteralUse
-uses_in_item (WrittenItem.nonterminal r) = uses_in_rule r
-uses_in_item (WrittenItem.match_token entries place) = []
-uses_in_item (WrittenItem.extern_token place) = []
-uses_in_item WrittenItem.intern_token = []
-uses_in_item (WrittenItem.import text) = []
-
 -- the literals of a grammar, as often as they stand in it, in reading order
 abbrev pub uses_in_grammar : Grammar → List LiteralUse
-uses_in_grammar g = flat_map uses_in_item g.items
+uses_in_grammar g = flat_map uses_in_rule (rules_of g.items)
 
 abbrev pub same_terminal : Terminal → Terminal → Bool
 same_terminal (Terminal.quoted s) (Terminal.quoted t) = bytes_eq s t

@@ -1,11 +1,12 @@
 //! Why a grammar's literals give no tokens, and why a text has none.
 
-ghost use Rattle.std.specs.Prelude.{◌≡◌, ◌++◌, IfOk, OnOk, string_bytes};
-ghost use Rattle.lalrpop_grammar_symbols.specs.Views.{span_view};
-ghost use Rattle.lalrpop_lexer_scan.specs.Faults.{tokens_fault_text, fault_head};
+ghost use Rattle.std.specs.Prelude.{◌≡◌, IfOk, Some, string_bytes};
+ghost use Rattle.lalrpop_lexer_scan.specs.Faults.{tokens_fault_text, scan_error_text};
 
 use lalrpop_grammar_symbols::{Span, TerminalLiteral};
 use std::alloc::{AllocError, AllocFailed, Global};
+use std::error::Error;
+use std::fmt::{self, Display, Formatter, Write};
 
 /// Why no text can be cut by the literals of a grammar.
 #[derive(Debug, PartialEq, Eq, Drop)]
@@ -45,39 +46,52 @@ impl TokensFault {
     pub fn message(&self, alloc: Global) -> Result<String, AllocError>
         ensures { IfOk result (λ text. string_bytes text ≡ tokens_fault_text self.now) }
     {
-        let mut text = String::new(alloc);
+        self.to_string(alloc)
+    }
+}
+
+impl Display for TokensFault {
+    ghost output = { λ fault. Some (tokens_fault_text fault) };
+
+    fn fmt<W: Write>(&self, f: &mut Formatter<W>) -> fmt::Result {
         match self {
             TokensFault::Refused { literal, span } => {
-                push_head(alloc, "N19", *span, &mut text)?;
-                text.push_str("pattern refused: ")?;
-                literal.write_text(alloc, &mut text)?;
+                write!(
+                    f,
+                    "N19 at {}..{}: pattern refused: {literal}",
+                    span.0, span.1
+                )
             }
             TokensFault::Ambiguous {
                 first,
                 second,
                 span,
             } => {
-                push_head(alloc, "N20", *span, &mut text)?;
-                first.write_text(alloc, &mut text)?;
-                text.push_str(" and ")?;
-                second.write_text(alloc, &mut text)?;
-                text.push_str(" match the same text")?;
+                write!(
+                    f,
+                    "N20 at {}..{}: {first} and {second} match the same text",
+                    span.0, span.1
+                )
             }
-            TokensFault::Memory => text.push_str("out of memory")?,
+            TokensFault::Memory => f.write_str("out of memory"),
         }
-        Ok(text)
     }
 }
 
-/// Appends a fault's name and place: `N19 at 0..1: `.
-fn push_head(alloc: Global, name: &str, span: Span, out: &mut String) -> Result<(), AllocError>
-    ensures { OnOk result (string_bytes out.new
-        ≡ string_bytes out.old ++ fault_head name.now (span_view span)) }
-{
-    let Span(lo, hi) = span;
-    let text = format!(in alloc; "{name} at {lo}..{hi}: ")?;
-    out.push_str(text.as_str())
+impl Error for TokensFault {}
+
+impl Display for ScanError {
+    ghost output = { λ e. Some (scan_error_text e) };
+
+    fn fmt<W: Write>(&self, f: &mut Formatter<W>) -> fmt::Result {
+        match self {
+            ScanError::NoToken(at) => write!(f, "no token at byte {at}"),
+            ScanError::Memory => f.write_str("out of memory"),
+        }
+    }
 }
+
+impl Error for ScanError {}
 
 impl From<AllocError> for TokensFault {
     ghost use Rattle.lalrpop_lexer_scan.specs.declared.fault.TokensFault.TheVariants.{Memory};

@@ -5,12 +5,12 @@ ghost use Rattle.std.specs.Ordering.{nat_cmp};
 ghost use Rattle.std.specs.Cmp.Lexicographic.{slice_cmp};
 ghost use Rattle.std.specs.BTreeMap.{IsOrdered};
 ghost use Rattle.lalrpop_grammar_symbols.specs.Symbols.{Terminal};
-ghost use Rattle.lalrpop_grammar.specs.Views.{grammar_view, item_view, alternative_view};
-ghost use Rattle.lalrpop_lexer_scan.specs.Literals.{uses_in_alternative, uses_in_item, uses_in_grammar, first_span, IsAscending, AreLiterals};
+ghost use Rattle.lalrpop_grammar.specs.Views.{grammar_view, alternative_view};
+ghost use Rattle.lalrpop_lexer_scan.specs.Literals.{uses_in_alternative, uses_in_grammar, first_span, IsAscending, AreLiterals};
 ghost use Rattle.lalrpop_lexer_scan.specs.Noting.{Notes, noted_span_of, use_view, quoted_use, regex_use};
 
 use crate::noting::{Uses, note_symbols};
-use lalrpop_grammar::{Alternative, Grammar, GrammarItem};
+use lalrpop_grammar::{Alternative, Grammar};
 use lalrpop_grammar_symbols::{Atom, Span, TerminalLiteral};
 use std::alloc::{AllocError, Global};
 use std::collections::BTreeMap;
@@ -31,41 +31,24 @@ pub fn entries_of(alloc: Global, grammar: &Grammar) -> Result<Vec<UsedLiteral>, 
         AreLiterals (uses_in_grammar (grammar_view grammar.now)) (map use_view entries.items)) }
 {
     let mut uses = Uses::new(alloc);
-    note_items(grammar.items.as_slice(), &mut uses)?;
+    for rule in grammar.rules() {
+        note_alternatives(alloc, rule.alternatives.as_slice(), &mut uses)?;
+    }
     let entries = literal_list(alloc, uses)?;
     Ok(entries)
 }
 
-/// Notes the literals of the items.
-fn note_items(items: &[GrammarItem], uses: &mut Uses) -> Result<(), AllocError>
-    ensures { OnOk result (Notes uses.old uses.new
-        (flat_map (λ i. uses_in_item (item_view i)) items.now)) }
-{
-    for item in items {
-        note_item(item, uses)?;
-    }
-    Ok(())
-}
-
-fn note_item(item: &GrammarItem, uses: &mut Uses) -> Result<(), AllocError>
-    ensures { OnOk result (Notes uses.old uses.new (uses_in_item (item_view item.now))) }
-{
-    match item {
-        GrammarItem::Nonterminal(rule) => note_alternatives(rule.alternatives.as_slice(), uses),
-        GrammarItem::MatchToken(_)
-        | GrammarItem::ExternToken(_)
-        | GrammarItem::InternToken(_)
-        | GrammarItem::Use(_) => Ok(()),
-    }
-}
-
 /// Notes the literals of the alternatives.
-fn note_alternatives(alternatives: &[Alternative], uses: &mut Uses) -> Result<(), AllocError>
+fn note_alternatives(
+    alloc: Global,
+    alternatives: &[Alternative],
+    uses: &mut Uses,
+) -> Result<(), AllocError>
     ensures { OnOk result (Notes uses.old uses.new
         (flat_map (λ a. uses_in_alternative (alternative_view a)) alternatives.now)) }
 {
     for alternative in alternatives {
-        note_symbols(alternative.expr.as_slice(), uses)?;
+        note_symbols(alloc, alternative.expr.as_slice(), uses)?;
     }
     Ok(())
 }

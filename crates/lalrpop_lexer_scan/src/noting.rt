@@ -1,17 +1,17 @@
 //! The literals inside the symbols of a grammar, with the spans where they stand first.
 
-ghost use Rattle.std.specs.Prelude.{◌≡◌, ℕ, List, OnOk, flat_map, map, if◌then◌else◌};
+ghost use Rattle.std.specs.Prelude.{◌≡◌, ℕ, List, OnOk, flat_map, if◌then◌else◌};
 ghost use Rattle.std.specs.Option.{option_or};
 ghost use Rattle.std.specs.Str.{bytes_eq};
 ghost use Rattle.lalrpop_grammar_symbols.specs.Views.{symbol_view, span_view, terminal_view};
 ghost use Rattle.lalrpop_grammar_symbols.specs.Symbols.{Terminal};
-ghost use Rattle.lalrpop_grammar_symbols.specs.Parts.{group_view, macro_view, repeat_view};
-ghost use Rattle.lalrpop_lexer_scan.specs.Literals.{uses_of_terminal, uses_in_symbol, uses_in_symbols};
+ghost use Rattle.lalrpop_grammar_symbols.specs.Subsymbols.{subsymbols_of};
+ghost use Rattle.lalrpop_grammar_symbols.specs.SymbolWalks.{symbols_view};
+ghost use Rattle.lalrpop_lexer_scan.specs.Literals.{uses_at, uses_of_terminal};
 ghost use Rattle.lalrpop_lexer_scan.specs.Noting.{Notes, noted_span_of, noted_span};
 
 use lalrpop_grammar_symbols::{
-    Atom, ExprSymbol, MacroSymbol, RepeatSymbol, Span, Symbol, SymbolKind, TerminalLiteral,
-    TerminalString,
+    Atom, Span, Symbol, SymbolKind, TerminalLiteral, TerminalString, subsymbols_of,
 };
 use std::alloc::{AllocError, Global};
 use std::collections::BTreeMap;
@@ -60,53 +60,35 @@ fn note_terminal(terminal: &TerminalString, span: Span, uses: &mut Uses) -> Resu
     }
 }
 
-#[cycle(noting)]
-fn note_symbol(symbol: &Symbol, uses: &mut Uses) -> Result<(), AllocError>
-    ensures { OnOk result (Notes uses.old uses.new (uses_in_symbol (symbol_view symbol.now))) }
+/// Notes the symbol itself, where it is a literal.
+fn note_at(symbol: &Symbol, uses: &mut Uses) -> Result<(), AllocError>
+    ensures { OnOk result (Notes uses.old uses.new (uses_at (symbol_view symbol.now))) }
 {
     match &symbol.kind {
-        SymbolKind::Expr(group) => note_group(group, uses),
         SymbolKind::Terminal(terminal) => note_terminal(terminal, symbol.span, uses),
-        SymbolKind::Macro(call) => note_call(call, uses),
-        SymbolKind::Repeat(repeat) => note_repeat(repeat.get(), uses),
-        SymbolKind::Choose(chosen) => note_symbol(chosen.get(), uses),
-        SymbolKind::Name(_, named) => note_symbol(named.get(), uses),
-        SymbolKind::AmbiguousId(_)
+        SymbolKind::Expr(_)
+        | SymbolKind::AmbiguousId(_)
         | SymbolKind::Nonterminal(_)
+        | SymbolKind::Macro(_)
+        | SymbolKind::Repeat(_)
+        | SymbolKind::Choose(_)
+        | SymbolKind::Name(_, _)
         | SymbolKind::Lookahead
         | SymbolKind::Lookbehind
         | SymbolKind::Error => Ok(()),
     }
 }
 
-#[cycle(noting)]
-fn note_group(group: &ExprSymbol, uses: &mut Uses) -> Result<(), AllocError>
-    ensures { OnOk result (Notes uses.old uses.new (uses_in_symbols (group_view group.now))) }
+/// Notes the literals in the symbols, at any depth.
+pub(crate) fn note_symbols(
+    alloc: Global,
+    symbols: &[Symbol],
+    uses: &mut Uses,
+) -> Result<(), AllocError>
+    ensures { OnOk result (Notes uses.old uses.new (flat_map uses_at (subsymbols_of (symbols_view symbols.now)))) }
 {
-    note_symbols(group.symbols.as_slice(), uses)
-}
-
-#[cycle(noting)]
-fn note_call(call: &MacroSymbol, uses: &mut Uses) -> Result<(), AllocError>
-    ensures { OnOk result (Notes uses.old uses.new (uses_in_symbols (macro_view call.now).1)) }
-{
-    note_symbols(call.args.as_slice(), uses)
-}
-
-#[cycle(noting)]
-fn note_repeat(repeat: &RepeatSymbol, uses: &mut Uses) -> Result<(), AllocError>
-    ensures { OnOk result (Notes uses.old uses.new (uses_in_symbol (repeat_view repeat.now).1)) }
-{
-    note_symbol(&repeat.symbol, uses)
-}
-
-/// Notes the literals inside the symbols.
-#[cycle(noting)]
-pub(crate) fn note_symbols(symbols: &[Symbol], uses: &mut Uses) -> Result<(), AllocError>
-    ensures { OnOk result (Notes uses.old uses.new (flat_map (λ s. uses_in_symbol (symbol_view s)) symbols.now)) }
-{
-    for symbol in symbols {
-        note_symbol(symbol, uses)?;
+    for symbol in subsymbols_of(alloc, symbols)? {
+        note_at(symbol, uses)?;
     }
     Ok(())
 }

@@ -2,7 +2,8 @@
 
 use lalrpop_lexer::dfa::{DfaStateIndex, Kind, NfaIndex, Precedence, build_dfa};
 use lalrpop_lexer::nfa::{
-    ACCEPT, Nfa, NfaConstructionError, Noop, Other, REJECT, START, StateKind, Test,
+    ACCEPT, Edge, EdgeLabel, Edges, Nfa, NfaConstructionError, Noop, Other, REJECT, START, State,
+    StateKind, Test,
 };
 use lalrpop_lexer::re::parse_literal;
 use lalrpop_lexer_nfa::{FIRST_ACCEPT, StateSet};
@@ -24,6 +25,43 @@ fn states_and_edges_of_one_character(rt: HostRuntime) -> Result<(), Fail> {
     let edge = read.next().ok_or("no edge that reads")?;
     assert_eq!(rt; (edge.label, edge.to), (Test::char('a'), ACCEPT));
     assert!(rt; read.next().is_none());
+    Ok(())
+}
+
+/// The list and the place of one kind are changed, and the others stay.
+#[test]
+fn lists_and_places_of_one_kind(rt: HostRuntime) -> Result<(), Fail> {
+    let mut edges = Edges::new(rt.alloc());
+    Test::vec_mut(&mut edges).push(Edge {
+        from: START,
+        label: Test::char('a'),
+        to: ACCEPT,
+    })?;
+    assert_eq!(rt; Test::vec(&edges).len(), 1);
+    assert_eq!(rt; Noop::vec(&edges).len(), 0);
+    let mut state = State::new(StateKind::Neither);
+    *Other::first_mut(&mut state) = 1;
+    assert_eq!(rt; *Other::first(&state), 1);
+    assert_eq!(rt; *Test::first(&state), 0);
+    Ok(())
+}
+
+/// Plus signs share one automaton, and of the copies that may be left out only the next one is entered.
+#[test]
+fn repetitions_stay_small(rt: HostRuntime) -> Result<(), Fail> {
+    let alloc = rt.alloc();
+    let plus = Nfa::from_re(alloc, &parse_regex(alloc, "a++++++++++++++++")?)?;
+    assert_eq!(rt; plus.state_count(), 20);
+    let counted = Nfa::from_re(alloc, &parse_regex(alloc, "a{0,1000}")?)?;
+    let mut set = StateSet::new(alloc, counted.state_count())?;
+    let mut next = StateSet::new(alloc, set.limit())?;
+    let fresh = set.insert(START.0)?;
+    let again = set.insert(START.0)?;
+    assert!(rt; fresh && !again);
+    counted.close(&mut set)?;
+    assert_eq!(rt; set.members().len(), 4);
+    counted.step(&set, 97, &mut next)?;
+    assert_eq!(rt; next.members().len(), 3);
     Ok(())
 }
 

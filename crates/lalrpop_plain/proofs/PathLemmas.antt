@@ -11,8 +11,8 @@ use Rattle.lalrpop_plain.specs.Plain.{filled, itself}
 
 pub FailsAt-append : (ps qs : List Path) (e : ReadError) → FailsAt ps e → FailsAt (ps ++ qs) e
 FailsAt-append ps qs Memory h = tt
-FailsAt-append [] qs (Shape f) h = absurd h
-FailsAt-append (p ∷ ps) qs (Shape f) h = h
+FailsAt-append [] qs (Shape path kind) h = absurd h
+FailsAt-append (p ∷ ps) qs (Shape path kind) h = h
 
 -- the values of the second list, where the first one has none
 pub FailsAt-behind : (ps qs : List Path) (e : ReadError) → ps ≡ [] → FailsAt qs e → FailsAt (ps ++ qs) e

@@ -26,7 +26,7 @@ IsFirst (p ∷ ps) f = f ≡ record { path = p; kind = fault.WrongShape }
 
 abbrev pub FailsAt : List Path → ReadError → Type 0
 FailsAt paths errors.Memory = Unit {0}
-FailsAt paths (errors.Shape f) = IsFirst paths f
+FailsAt paths (errors.Shape path kind) = IsFirst paths (record { path = path; kind = kind })
 
 -- There is no such value; or the fault tells the first one, unless memory ran out.
 abbrev pub TellsFirst : List Path → Result ⊤ ReadError → Type 0

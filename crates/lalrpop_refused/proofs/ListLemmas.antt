@@ -38,8 +38,8 @@ module _ (look : Reader ⊤) (vs : List Value) where
   pub stops : (i : ℕ) (v : Value) (e : ReadError) → i < length vs → Fails e (within (Index i) (look (view (get_or vs i v))))
       → IsAt i → Fails e (rest_of 0)
   stops i v Memory h fails at = tt
-  stops i v (Shape f) h fails at =
-      let step : rest_of i ≡ Err f = opened i v h ∙ rw fails refl in
+  stops i v (Shape path kind) h fails at =
+      let step : rest_of i ≡ Err (record { path = path; kind = kind }) = opened i v h ∙ rw fails refl in
       sym at ∙ step
 
   pub ends : (i : ℕ) → length vs ≤ i → IsAt i → rest_of 0 ≡ Ok tt

@@ -33,4 +33,4 @@ earlier (Err q) f = if comes_first f.path q.path then f else q
 -- the error tells the fault, unless memory ran out
 abbrev pub Tells : Fault → ReadError → Type 0
 Tells f errors.Memory = Unit {0}
-Tells f (errors.Shape g) = g ≡ f
+Tells f (errors.Shape path kind) = (path ≡ f.path) × (kind ≡ f.kind)

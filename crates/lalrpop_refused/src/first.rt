@@ -48,13 +48,13 @@ pub fn first_fault(alloc: Global, value: &Value, fault: Fault) -> ReadError
     ensures { Tells (earlier (in_value (view value.now)) fault) result }
 {
     match check_grammar(alloc, value) {
-        Ok(()) => ReadError::Shape(fault),
+        Ok(()) => ReadError::from(fault),
         Err(ReadError::Memory) => ReadError::Memory,
-        Err(ReadError::Shape(refused)) => {
-            if comes_first(fault.path.as_slice(), refused.path.as_slice()) {
-                ReadError::Shape(fault)
+        Err(ReadError::Shape { path, kind }) => {
+            if comes_first(fault.path.as_slice(), path.as_slice()) {
+                ReadError::from(fault)
             } else {
-                ReadError::Shape(refused)
+                ReadError::Shape { path, kind }
             }
         }
     }

@@ -9,5 +9,5 @@ use Rattle.lalrpop_run.specs.Plain.{plain_by}
 
 pub refused : (g : Grammar) (ps : List Path) (e : ReadError) → FailsAt ps e → Fails e (plain_by g ps)
 refused g ps Memory h = tt
-refused g [] (Shape f) h = absurd h
-refused g (p ∷ ps) (Shape f) h = ap Err (sym h)
+refused g [] (Shape path kind) h = absurd h
+refused g (p ∷ ps) (Shape path kind) h = ap Err (sym h)

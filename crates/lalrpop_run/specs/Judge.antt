@@ -1,5 +1,5 @@
 -- What `judge` replies to a grammar.
-use Rattle.std.specs.Prelude.{◌≡◌, ◌↔◌, ℕ, Bool, IsTrue, List, Result, Ok, Err, Option, Some, None}
+use Rattle.std.specs.Prelude.{◌≡◌, ◌↔◌, Bool, IsTrue, Result, Ok, Err, Some, None}
 use Rattle.serde_json.specs.Data.{Data}
 use Rattle.lalrpop_grammar_symbols.specs.Symbols.{Text}
 use Rattle.lalrpop_json_values.specs.declared.fault.Fault.{Fault}

@@ -2,7 +2,6 @@ pub mod Inputs
 pub mod Judge
 pub mod Plain
 pub mod Questions
-pub mod Quoting
 pub mod Replies
 pub mod ReplyTexts
 pub mod Runs

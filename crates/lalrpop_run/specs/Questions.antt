@@ -1,5 +1,5 @@
 -- What the words ask, and what has to be read to answer it.
-use Rattle.std.specs.Prelude.{ℕ, Bool, true, false, List, Option, Some, None, Result, option_map, map}
+use Rattle.std.specs.Prelude.{Bool, true, false, List, Option, Some, None, Result, option_map, map, string_bytes}
 use Rattle.serde_json.specs.Data.{Data}
 use Rattle.lalrpop_grammar_symbols.specs.Symbols.{Text}
 use Rattle.lalrpop_grammar.specs.declared.grammar.Grammar.{Grammar}
@@ -23,9 +23,9 @@ pub record Question : Type 0 where
 abbrev pub question_of : Options → Question
 question_of options = record {
   task = options.task;
-  features = map (λ text. text.now) options.features.items;
-  start = options.start.now;
-  tree = option_map (λ text. text.now) options.tree;
+  features = map string_bytes options.features.items;
+  start = string_bytes options.start;
+  tree = option_map string_bytes options.tree;
 }
 
 abbrev pub question_view : words.Question → Question

@@ -1,5 +1,5 @@
 -- What `tokens` replies to a grammar and a text.
-use Rattle.std.specs.Prelude.{◌≡◌, ◌≢◌, ℕ, true, false, List, Result, Ok, Err, Vec, map}
+use Rattle.std.specs.Prelude.{◌≡◌, ◌≢◌, ℕ, true, false, List, Ok, Err, Vec, map}
 use Rattle.std.specs.Str.{chars}
 use Rattle.std.specs.declared.alloc.Global.{Global}
 use Rattle.lalrpop_grammar_symbols.specs.Symbols.{Text}

@@ -17,7 +17,7 @@ use std::alloc::{AllocError, Global};
 /// The answer once the grammar and the text are read. `judge` has no use for the text.
 pub fn answer(
     alloc: Global,
-    options: &Options<'_>,
+    options: &Options,
     grammar: Grammar,
     text: &str,
 ) -> Result<Answer, AllocError>

@@ -47,7 +47,7 @@ fn tree_of_value(alloc: Global, value: &Value) -> Result<Input<WrittenTree>, All
 {
     match read_tree(alloc, value) {
         Ok(tree) => Ok(Input::Value(tree)),
-        Err(ReadError::Shape(fault)) => Ok(Input::Fault(fault)),
+        Err(ReadError::Shape { path, kind }) => Ok(Input::Fault(Fault { path, kind })),
         Err(ReadError::Memory) => Err(AllocError),
     }
 }
@@ -75,7 +75,7 @@ fn grammar_of_value(alloc: Global, task: Task, value: &Value) -> Result<Input<Gr
 {
     match read_for(alloc, task, value) {
         Ok(grammar) => Ok(Input::Value(grammar)),
-        Err(ReadError::Shape(fault)) => Ok(Input::Fault(fault)),
+        Err(ReadError::Shape { path, kind }) => Ok(Input::Fault(Fault { path, kind })),
         Err(ReadError::Memory) => Err(AllocError),
     }
 }
@@ -96,7 +96,9 @@ fn read_plain(alloc: Global, value: &Value) -> Result<Grammar, ReadError>
 {
     match read_grammar(alloc, value) {
         Ok(grammar) => only_plain(alloc, grammar),
-        Err(ReadError::Shape(fault)) => Err(first_fault(alloc, value, fault)),
+        Err(ReadError::Shape { path, kind }) => {
+            Err(first_fault(alloc, value, Fault { path, kind }))
+        }
         Err(ReadError::Memory) => Err(ReadError::Memory),
     }
 }

@@ -8,7 +8,7 @@ use crate::input::{Input, tree_input};
 use crate::question::Question;
 use crate::reply::Reply;
 use lalrpop_grammar::{Grammar, WrittenTree};
-use lalrpop_judge::{JudgeError, judge};
+use lalrpop_judge::{JudgeError, judge_tree};
 use std::alloc::{AllocError, Global};
 
 /// The reply to a grammar.
@@ -58,15 +58,12 @@ fn verdict(
     ensures { IfOk result (λ reply. GivesTree (question_view question.now) (Ok tree.now)
         → IsJudgeReply (question_view question.now) grammar.now reply) }
 {
-    let tokens = tree.tokens(alloc)?;
-    let features = question.features.as_slice();
-    match judge(
+    match judge_tree(
         alloc,
         grammar,
-        features,
+        question.features.as_slice(),
         &question.start,
         tree,
-        tokens.as_slice(),
     ) {
         Ok(admitted) => Ok(Reply::Judged(admitted)),
         Err(JudgeError::Condition) => Ok(Reply::ConditionLimit),

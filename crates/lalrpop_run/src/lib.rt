@@ -7,7 +7,6 @@ mod json_value;
 mod judging;
 mod putting;
 mod question;
-mod quoting;
 mod reply;
 mod running;
 mod texts;
@@ -16,7 +15,7 @@ mod words;
 
 pub use answering::answer;
 pub use lalrpop_json_grammar::{
-    Fault, FaultKind, Key, ReadError, Step, print_tree, read_grammar, read_tree,
+    Fault, FaultKind, Key, ReadError, Step, TreeText, print_tree, read_grammar, read_tree,
 };
 pub use lalrpop_json_writer::{WriteError, write_grammar};
 pub use lalrpop_lexer_scan::TokensFault;

@@ -5,7 +5,6 @@ ghost use Rattle.lalrpop_run.specs.ReplyTexts.{reply_status};
 ghost use Rattle.lalrpop_run.specs.Runs.{answer_view, reply_output};
 
 use crate::reply::{Answer, Reply};
-use crate::texts::text_of_reply;
 use std::alloc::{AllocError, Global};
 
 /// The answer that says it.
@@ -19,7 +18,7 @@ pub(crate) fn put(alloc: Global, reply: Reply<'_>) -> Result<Answer, AllocError>
 fn answer_to(alloc: Global, reply: &Reply<'_>) -> Result<Answer, AllocError>
     ensures { IfOk result (λ answer. answer_view answer ≡ reply_output reply.now) }
 {
-    let text = text_of_reply(alloc, reply)?;
+    let text = reply.to_string(alloc)?;
     Ok(Answer {
         text,
         status: status(reply),

@@ -1,6 +1,6 @@
 //! What the words ask of a grammar.
 
-ghost use Rattle.std.specs.Prelude.{◌≡◌, IfOk, map};
+ghost use Rattle.std.specs.Prelude.{◌≡◌, IfOk, map, string_bytes};
 ghost use Rattle.lalrpop_run.specs.Questions.{question_of, question_view, reads_grammar};
 
 use lalrpop_grammar::Atom;
@@ -19,33 +19,33 @@ pub(crate) struct Question<'a> {
 /// The question that the words put.
 pub(crate) fn question_of<'a>(
     alloc: Global,
-    options: &Options<'a>,
+    options: &'a Options,
 ) -> Result<Question<'a>, AllocError>
-    ensures { IfOk result (λ q. question_view q ≡ question_of options.now) }
+    ensures { IfOk result (λ q. question_view q ≡ question_of options.entry.now) }
 {
-    let start = Atom::new(alloc, options.start)?;
+    let start = Atom::new(alloc, options.start.as_str())?;
     let features = atoms(alloc, options.features.as_slice())?;
     Ok(Question {
         task: options.task,
         start,
         features,
-        tree: options.tree,
+        tree: options.tree.as_deref(),
     })
 }
 
 /// The texts, shared.
-fn atoms(alloc: Global, texts: &[&str]) -> Result<Vec<Atom>, AllocError>
-    ensures { IfOk result (λ shared. shared.items ≡ map (λ text. text.now) texts.now) }
+fn atoms(alloc: Global, texts: &[String]) -> Result<Vec<Atom>, AllocError>
+    ensures { IfOk result (λ shared. shared.items ≡ map string_bytes texts.now) }
 {
     let mut shared = Vec::new(alloc);
     for text in texts {
-        shared.push(Atom::new(alloc, text)?)?;
+        shared.push(Atom::new(alloc, text.as_str())?)?;
     }
     Ok(shared)
 }
 
 /// Whether the grammar is read: `judge` has no use for it where no tree was given.
-pub(crate) fn reads_grammar(options: &Options<'_>) -> bool
+pub(crate) fn reads_grammar(options: &Options) -> bool
     ensures { result ≡ reads_grammar (question_of options.now) }
 {
     match options.task {

@@ -27,7 +27,7 @@ use std::str;
 /// failed it is 6.
 pub fn run<R1: Source, R2: Source, W: Sink>(
     alloc: Global,
-    options: &Options<'_>,
+    options: &Options,
     grammar: &mut R1,
     text: &mut R2,
     out: &mut W,
@@ -64,7 +64,7 @@ pub fn run<R1: Source, R2: Source, W: Sink>(
 /// The answer to what the readers give, or why there is none.
 fn right_answer<R1: Source, R2: Source>(
     alloc: Global,
-    options: &Options<'_>,
+    options: &Options,
     grammar: &mut R1,
     text: &mut R2,
 ) -> Result<Answer, SourceError>
@@ -135,7 +135,7 @@ fn reply_answer(alloc: Global, reply: Reply<'_>) -> Result<Answer, SourceError>
 /// What all that the grammar's reader has left is read as.
 fn read_grammar<R: Source>(
     alloc: Global,
-    options: &Options<'_>,
+    options: &Options,
     grammar: &mut R,
 ) -> Result<Input<Grammar>, SourceError>
     ensures read { IfOk result (λ input. (bytes : List ℕ)
@@ -153,7 +153,7 @@ fn read_grammar<R: Source>(
 /// The answer over a grammar and, where the task needs it, all that the text's reader has left.
 fn answer_over<R: Source>(
     alloc: Global,
-    options: &Options<'_>,
+    options: &Options,
     grammar: Grammar,
     text: &mut R,
 ) -> Result<Answer, SourceError>
@@ -184,7 +184,7 @@ fn answer_over<R: Source>(
 /// The answer over a grammar and the text's bytes.
 fn answer_over_bytes(
     alloc: Global,
-    options: &Options<'_>,
+    options: &Options,
     grammar: Grammar,
     bytes: &[u8],
 ) -> Result<Answer, AllocError>

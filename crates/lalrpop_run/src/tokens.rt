@@ -15,7 +15,7 @@ use crate::question::Question;
 use crate::reply::Reply;
 use lalrpop_grammar::Grammar;
 use lalrpop_grammar_rules::{Rules, Start};
-use lalrpop_json_grammar::ReadError;
+use lalrpop_json_grammar::{Fault, ReadError};
 use lalrpop_lexer_scan::{ScanError, Scanner, TokensFault};
 use lalrpop_plain::check_plain;
 use std::alloc::{AllocError, Global};
@@ -34,7 +34,7 @@ pub(crate) fn tokens_reply<'t>(
             let reply = plain_reply(alloc, question, grammar, text)?;
             Ok(reply)
         }
-        Err(ReadError::Shape(fault)) => Ok(Reply::GrammarFault(fault)),
+        Err(ReadError::Shape { path, kind }) => Ok(Reply::GrammarFault(Fault { path, kind })),
         Err(ReadError::Memory) => Err(AllocError),
     }
 }

@@ -1,6 +1,6 @@
 //! The run over the text that the words give.
 
-ghost use Rattle.std.specs.Prelude.{◌≡◌, Bool, Some, false};
+ghost use Rattle.std.specs.Prelude.{◌≡◌, Bool, Some, false, string_bytes};
 ghost use Rattle.lalrpop_run.specs.Questions.{question_of, reads_grammar};
 ghost use Rattle.lalrpop_run.specs.Runs.{IsRightRun};
 
@@ -12,7 +12,7 @@ use std::alloc::Global;
 /// Answers the words over the grammar's JSON, as [`run`] does; the text is the one that the words give.
 pub fn run_words<R: Source, W: Sink>(
     alloc: Global,
-    options: &Options<'_>,
+    options: &Options,
     grammar: &mut R,
     out: &mut W,
 ) -> u8
@@ -25,7 +25,7 @@ pub fn run_words<R: Source, W: Sink>(
           has_ended = R.ended grammar.new;
         })
         (record {
-          known = Some options.now.text.now;
+          known = Some (string_bytes options.now.text);
           had_ended = false;
           has_failed = text_failed;
           has_ended = text_ended;

@@ -42,10 +42,9 @@ not_false : (b : Bool) → not b ≡ true → b ≡ false
 not_false true h = cc
 not_false false h = refl
 
-has_rules : (c : Command) (is_plain : Bool) (tasks : WordList) → app_of c ≡ program is_plain tasks → IsPlain c
-    → HasRules c (rules_of_program is_plain tasks)
+has_rules : (c : Command) (tasks : WordList) → app_of c ≡ program tasks → IsPlain c → HasRules c (rules_of_program tasks)
 unfolding program
-has_rules c is_plain tasks app plain = record {
+has_rules c tasks app plain = record {
   rules_are = ap (λ (a : App). a.top.rules) app;
   plain = plain;
   globals = not_false _ (and_first _ _ (and_second _ _ (and_second _ _ (ap (λ (a : App). a.top.is_plain) app))));
@@ -174,12 +173,11 @@ task_named (x ∷ xs) t h = go (bytes_eq (word_of x) t) refl (λ rest. task_name
 -- ---- all of it
 
 -- a parse of the program's command line that succeeds has all that the options need
-pub complete : (c : Command) (m : ArgMatches) (is_plain : Bool) → IsProgram is_plain (app_of c) → IsPlain c → IsParsedFrom c m
-    → IsComplete (found_of m)
-complete c m is_plain shown plain p =
+pub complete : (c : Command) (m : ArgMatches) → IsProgram (app_of c) → IsPlain c → IsParsedFrom c m → IsComplete (found_of m)
+complete c m shown plain p =
     let tasks = shown.0 in
-    let rules = rules_of_program is_plain tasks in
-    let h = has_rules c is_plain tasks shown.2 plain in
+    let rules = rules_of_program tasks in
+    let h = has_rules c tasks shown.2 plain in
     let task = argument_at c rules h 0 (task_rule tasks) (omega arith) (λ d. refl) refl refl in
     let start = argument_at c rules h 1 start_rule (omega arith) (λ d. refl) refl refl in
     let macro_limit = argument_at c rules h 5 macro_limit_rule (omega arith) (λ d. refl) refl refl in

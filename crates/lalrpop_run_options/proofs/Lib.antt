@@ -5,3 +5,5 @@ mod RuleLemmas
 mod GivenLemmas
 mod CompleteLemmas
 mod ProgramLemmas
+mod HiddenLemmas
+mod HiddenExamples

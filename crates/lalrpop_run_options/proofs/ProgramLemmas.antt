@@ -1,5 +1,5 @@
 -- The program's command line is one whose matches and faults `clap` states, and what becomes of faults, for `options`.
-use Rattle.std.proofs.Common.{◌≡◌, ◌∙◌, ap, inl, inr, refl, subst, sym, Bool, true, false, not}
+use Rattle.std.proofs.Common.{◌≡◌, inl, inr, refl, subst, sym, true}
 use Rattle.std.specs.Prelude.{map}
 use Rattle.clap.specs.Kinds.{HasKind, IsAmong, Kinds}
 use Rattle.clap.specs.Values.{kind_of}
@@ -7,27 +7,22 @@ use Rattle.clap.specs.Walk.{texts}
 use Rattle.clap.specs.declared.error.Error.{Error}
 use Rattle.clap.proofs.OnLiterals.{clap_on_literals}
 use Rattle.clap.specs.Faults.{is_simple_and_free}
-use Rattle.clap.specs.Simple.{App, is_simple}
-use Rattle.lalrpop_run_options.specs.Program.{IsProgram, WordList, program}
+use Rattle.clap.specs.Simple.{is_simple}
+use Rattle.lalrpop_run_options.specs.Program.{WordList, program}
 use Rattle.lalrpop_run_options.specs.Refusal.{IsRefusalOf, RefusesBy}
 use Rattle.lalrpop_run_options.specs.Task.{task_words}
 use Rattle.lalrpop_run_options.specs.declared.fault.OptionsError.{OptionsError}
 use Rattle.lalrpop_run_options.specs.declared.fault.OptionsError.TheVariants as fault
 
--- the plain command line is one whose matches `clap` states
-pub program_is_simple : (tasks : WordList) → is_simple (program true tasks) ≡ true
+-- the command line is one whose matches `clap` states
+pub program_is_simple : (tasks : WordList) → is_simple (program tasks) ≡ true
 unfolding program clap_on_literals
 program_is_simple tasks = refl
 
--- the plain command line is one whose faults `clap` states
-pub program_is_free : (tasks : WordList) → is_simple_and_free (program true tasks) ≡ true
+-- the command line is one whose faults `clap` states
+pub program_is_free : (tasks : WordList) → is_simple_and_free (program tasks) ≡ true
 unfolding program clap_on_literals
 program_is_free tasks = refl
-
--- without dashed values the command is the plain one
-pub is_plain_program : (app : App) (dashes : Bool) (shown : IsProgram (not dashes) app) → dashes ≡ false
-    → app ≡ program true shown.0
-is_plain_program app dashes shown plain = shown.2 ∙ ap (λ b. program (not b) shown.0) plain
 
 -- the words of the tasks, lent from nowhere
 abbrev pub some_tasks : WordList

@@ -1,5 +1,6 @@
 pub mod Task
-pub mod Dashes
+pub mod Hidden
+pub mod Place
 pub mod Program
 pub mod Given
 pub mod Options

@@ -1,9 +1,12 @@
 -- What the words ask for.
 use Rattle.std.specs.Prelude.{◌≡◌, ◌==◌, ℕ, not, List, [], Option, Some, None, codes, filter}
-use Rattle.std.specs.Prelude.{length, option_map, pos, unwrap_or}
+use Rattle.std.specs.Prelude.{length, map, option_map, pos, unwrap_or}
 use Rattle.std.specs.List.{slice_split}
+use Rattle.std.specs.Option.{option_or}
 use Rattle.std.specs.Str.Parse.{IsNumeral, signed_digits_value, without_leading_sign}
-use Rattle.clap.specs.Walk.{Row, Text, first_of, texts}
+use Rattle.std.specs.String.{string_bytes}
+use Rattle.clap.specs.Walk.{Row, Text, first_of}
+use Rattle.lalrpop_run_options.specs.Hidden.{hidden_value}
 use Rattle.lalrpop_run_options.specs.Task.{word_of}
 use Rattle.lalrpop_run_options.specs.declared.found.TheConstants.{USUAL_LIMIT, USUAL_MACRO_LIMIT}
 use Rattle.lalrpop_run_options.specs.declared.settings.Options.{Options}
@@ -18,13 +21,22 @@ IsNumberOr usual None n = n ≡ usual
 IsNumberOr usual (Some text) n =
     IsNumeral 10 (without_leading_sign text) × (signed_digits_value 10 text ≡ pos n)
 
--- the options are those that a parse found: what was given, and else the usual value
-pub record AreOptionsOf (rows : List Row) (options : Options) : Type 0 where
+-- the text to read: the word that was hidden, and else what `clap` found
+abbrev pub text_of : List Text → List Row → Option Text
+text_of line rows = option_or (hidden_value (codes "--text") line) (first_of (codes "text") rows)
+
+-- the tree to judge, in the same way
+abbrev pub tree_of : List Text → List Row → Option Text
+tree_of line rows = option_or (hidden_value (codes "--tree") line) (first_of (codes "tree") rows)
+
+-- the options are those that a parse found, with the values that were hidden from it on the line:
+-- what was given, and else the usual value
+pub record AreOptionsOf (line : List Text) (rows : List Row) (options : Options) : Type 0 where
   pub task : first_of (codes "command") rows ≡ Some (word_of options.task)
-  pub start : first_of (codes "start") rows ≡ Some options.start.now
-  pub text : options.text.now ≡ unwrap_or (first_of (codes "text") rows) []
-  pub tree : option_map (λ s. s.now) options.tree ≡ first_of (codes "tree") rows
-  pub features : texts options.features.items
+  pub start : first_of (codes "start") rows ≡ Some (string_bytes options.start)
+  pub text : string_bytes options.text ≡ unwrap_or (text_of line rows) []
+  pub tree : option_map string_bytes options.tree ≡ tree_of line rows
+  pub features : map string_bytes options.features.items
       ≡ features_in (unwrap_or (first_of (codes "features") rows) [])
   pub macro_limit : IsNumberOr USUAL_MACRO_LIMIT (first_of (codes "macro-limit") rows)
       options.macro_limit

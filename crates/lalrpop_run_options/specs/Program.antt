@@ -1,5 +1,5 @@
 -- The command line of the program, as `clap` reads it.
-use Rattle.std.specs.Prelude.{◌≡◌, ℕ, Bool, List, [], ◌∷◌, ◌++◌, Some, pos, codes, true, false}
+use Rattle.std.specs.Prelude.{◌≡◌, ℕ, List, [], ◌∷◌, ◌++◌, Some, pos, codes, true, false}
 use Rattle.std.specs.Borrow.{Bor}
 use Rattle.clap.specs.Built.{IsPlain, IsPlainArg}
 use Rattle.clap.specs.Walk.{Rule, Text, rule_of, texts}
@@ -33,10 +33,6 @@ option_rule name =
 abbrev pub start_rule : Rule
 start_rule = record (option_rule (codes "start")) { required = true }
 
--- `--name VALUE`; where it isn't plain it takes values that begin with `-`
-abbrev pub value_rule : Bool → Text → Rule
-value_rule is_plain name = record (option_rule name) { is_simple = is_plain }
-
 -- the parsers of numbers that `u16` and `u64` hold
 abbrev pub parser_of_u16 : ValueParser
 parser_of_u16 = vp.Signed (pos 0) (pos 65535)
@@ -51,21 +47,21 @@ abbrev pub limit_rule : Rule
 limit_rule = record (option_rule (codes "limit")) { parser = Some parser_of_u64 }
 
 -- --start NAME [--text TEXT] [--tree JSON]
-abbrev pub input_rules : Bool → List Rule
-input_rules is_plain = start_rule ∷ value_rule is_plain (codes "text") ∷ value_rule is_plain (codes "tree") ∷ []
+abbrev pub input_rules : List Rule
+input_rules = start_rule ∷ option_rule (codes "text") ∷ option_rule (codes "tree") ∷ []
 
 -- [--features LIST] [--macro-limit N] [--limit N]
 abbrev pub limit_rules : List Rule
 limit_rules = option_rule (codes "features") ∷ macro_limit_rule ∷ limit_rule ∷ []
 
 -- COMMAND, and then the options
-abbrev pub rules_of_program : Bool → WordList → List Rule
-rules_of_program is_plain tasks = task_rule tasks ∷ input_rules is_plain ++ limit_rules
+abbrev pub rules_of_program : WordList → List Rule
+rules_of_program tasks = task_rule tasks ∷ input_rules ++ limit_rules
 
 -- the command line with these rules; `tasks` has the words of the tasks
-unfoldable pub program : Bool → WordList → App
-program is_plain tasks = record {
-  top = record (new_shape (codes "lalrpop_run")) { rules = rules_of_program is_plain tasks };
+unfoldable pub program : WordList → App
+program tasks = record {
+  top = record (new_shape (codes "lalrpop_run")) { rules = rules_of_program tasks };
   subs = [];
 }
 
@@ -81,9 +77,8 @@ IsTaskArgument argument =
     (tasks : WordList) × (texts tasks.now ≡ task_words) × IsArgument (task_rule tasks) argument
 
 -- the command is the program's, with the words of the tasks
-abbrev pub IsProgram : Bool → App → Type 0
-IsProgram is_plain app =
-    (tasks : WordList) × (texts tasks.now ≡ task_words) × (app ≡ program is_plain tasks)
+abbrev pub IsProgram : App → Type 0
+IsProgram app = (tasks : WordList) × (texts tasks.now ≡ task_words) × (app ≡ program tasks)
 
 -- the command line with arguments by these rules after its own
 abbrev pub with_rules : List Rule → App → App

@@ -1,10 +1,10 @@
 //! The command line of the program.
-ghost use Rattle.std.specs.Prelude.{IfOk, codes, not};
+ghost use Rattle.std.specs.Prelude.{IfOk, codes};
 ghost use Rattle.clap.specs.Built.{IsPlain};
 ghost use Rattle.clap.specs.Simple.{app_of};
 ghost use Rattle.lalrpop_run_options.specs.Program.{AddsRules, IsArgument, IsProgram, IsTaskArgument, IsTaskCommand};
 ghost use Rattle.lalrpop_run_options.specs.Program.{input_rules, limit_rule, limit_rules, macro_limit_rule, option_rule};
-ghost use Rattle.lalrpop_run_options.specs.Program.{start_rule, value_rule};
+ghost use Rattle.lalrpop_run_options.specs.Program.{start_rule};
 
 use crate::task::TASK_WORDS;
 use clap::{Arg, ArgAction, Command};
@@ -24,14 +24,13 @@ Status:
   5  out of memory
   6  a read or a write failed";
 
-/// The command line of the program. With `dashes`, `--text` and `--tree` take values that begin
-/// with `-`.
-pub(crate) fn command<'a>(alloc: Global, dashes: bool) -> Result<Command<'a>, AllocError>
-    ensures program { IfOk result (λ c. IsProgram (not dashes) (app_of c)) }
+/// The command line of the program.
+pub(crate) fn command<'a>(alloc: Global) -> Result<Command<'a>, AllocError>
+    ensures program { IfOk result (λ c. IsProgram (app_of c)) }
     ensures plain { IfOk result IsPlain }
 {
     let command = with_task(alloc)?;
-    let command = with_inputs(alloc, command, dashes)?;
+    let command = with_inputs(alloc, command)?;
     with_limits(alloc, command)
 }
 
@@ -47,17 +46,13 @@ fn with_task<'a>(alloc: Global) -> Result<Command<'a>, AllocError>
 }
 
 /// The command with `--start`, `--text` and `--tree`.
-fn with_inputs<'a>(
-    alloc: Global,
-    command: Command<'a>,
-    dashes: bool,
-) -> Result<Command<'a>, AllocError>
-    ensures { IfOk result (AddsRules (input_rules (not dashes)) command.entry) }
+fn with_inputs<'a>(alloc: Global, command: Command<'a>) -> Result<Command<'a>, AllocError>
+    ensures { IfOk result (AddsRules input_rules command.entry) }
 {
     command
         .arg(start(alloc))?
-        .arg(value(alloc, "text", "TEXT", "The text to read", dashes))?
-        .arg(value(alloc, "tree", "JSON", "The tree to judge", dashes))
+        .arg(option(alloc, "text", "TEXT", "The text to read"))?
+        .arg(option(alloc, "tree", "JSON", "The tree to judge"))
 }
 
 /// The command with `--features`, `--macro-limit` and `--limit`.
@@ -121,19 +116,6 @@ fn limit<'a>(alloc: Global) -> Arg<'a>
         "How many moves a parse may make [default: 1000000]",
     )
     .value_parser(clap::value_parser!(u64))
-}
-
-/// The option `--name`, which takes values that begin with `-` where `dashes` says so.
-fn value<'a>(
-    alloc: Global,
-    name: &'a str,
-    value_name: &'a str,
-    help: &'a str,
-    dashes: bool,
-) -> Arg<'a>
-    ensures { IsArgument (value_rule (not dashes) name.entry.now) result }
-{
-    option(alloc, name, value_name, help).allow_hyphen_values(dashes)
 }
 
 /// The option `--name`, with one value.

@@ -1,13 +1,16 @@
 //! What a parse found, as options.
-ghost use Rattle.std.specs.Prelude.{◌≡◌, IfOk, IsSome, Some, codes};
+ghost use Rattle.std.specs.Prelude.{◌≡◌, [], IfOk, IsSome, Some, codes, map, option_map, unwrap_or};
+ghost use Rattle.std.specs.String.{string_bytes};
 ghost use Rattle.clap.specs.Matches.{first_value, found_of};
 ghost use Rattle.clap.specs.Walk.{rows_of, texts};
 ghost use Rattle.lalrpop_run_options.specs.Given.{IsComplete, HasPassed};
 ghost use Rattle.lalrpop_run_options.specs.Options.{AreOptionsOf, IsNumberOr, features_in};
+ghost use Rattle.lalrpop_run_options.specs.Options.{text_of, tree_of};
 ghost use Rattle.lalrpop_run_options.specs.Program.{parser_of_u16, parser_of_u64};
 ghost use Rattle.lalrpop_run_options.specs.Task.{word_of};
 ghost use Rattle.lalrpop_run_options.specs.declared.task.Task.{Task};
 
+use crate::hidden::hidden_value;
 use crate::{Options, Task};
 use clap::ArgMatches;
 use std::alloc::{AllocError, Global};
@@ -18,16 +21,20 @@ const USUAL_MACRO_LIMIT: u16 = 200;
 /// How many moves a parse may make where the words do not say.
 const USUAL_LIMIT: u64 = 1_000_000;
 
-/// The options that a parse found.
-pub(crate) fn read<'a>(alloc: Global, matches: &ArgMatches<'a>) -> Result<Options<'a>, AllocError>
+/// The options that a parse found, with the values of `line` that were hidden from it.
+pub(crate) fn read(
+    alloc: Global,
+    line: &[&str],
+    matches: &ArgMatches<'_>,
+) -> Result<Options, AllocError>
     requires { IsComplete (found_of matches.now) }
-    ensures { IfOk result (AreOptionsOf (rows_of (found_of matches.now))) }
+    ensures { IfOk result (AreOptionsOf (texts line.now) (rows_of (found_of matches.now))) }
 {
     Ok(Options {
         task: task(matches),
-        start: start(matches),
-        text: matches.get_str("text").unwrap_or(""),
-        tree: matches.get_str("tree"),
+        start: String::from_str(alloc, start(matches))?,
+        text: text(alloc, line, matches)?,
+        tree: tree(alloc, line, matches)?,
         features: features(alloc, matches.get_str("features").unwrap_or(""))?,
         macro_limit: macro_limit(matches),
         limit: limit(matches),
@@ -49,13 +56,37 @@ fn start<'a>(matches: &ArgMatches<'a>) -> &'a str
     matches.get_str("start").unwrap()
 }
 
-/// The parts of `list` between commas, but for empty ones.
-fn features<'a>(alloc: Global, list: &'a str) -> Result<Vec<&'a str>, AllocError>
-    ensures { IfOk result (λ parts. texts parts.items ≡ features_in list.entry.now) }
+fn text(alloc: Global, line: &[&str], matches: &ArgMatches<'_>) -> Result<String, AllocError>
+    ensures { IfOk result (λ text. string_bytes text
+        ≡ unwrap_or (text_of (texts line.now) (rows_of (found_of matches.now))) []) }
 {
-    list.split(',')
-        .filter(|part| !part.is_empty())
-        .collect(alloc)
+    let text = hidden_value("--text", line).or(matches.get_str("text"));
+    String::from_str(alloc, text.unwrap_or(""))
+}
+
+fn tree(
+    alloc: Global,
+    line: &[&str],
+    matches: &ArgMatches<'_>,
+) -> Result<Option<String>, AllocError>
+    ensures { IfOk result (λ tree. option_map string_bytes tree
+        ≡ tree_of (texts line.now) (rows_of (found_of matches.now))) }
+{
+    match hidden_value("--tree", line).or(matches.get_str("tree")) {
+        Some(tree) => Ok(Some(String::from_str(alloc, tree)?)),
+        None => Ok(None),
+    }
+}
+
+/// The parts of `list` between commas, but for empty ones.
+fn features(alloc: Global, list: &str) -> Result<Vec<String>, AllocError>
+    ensures { IfOk result (λ parts. map string_bytes parts.items ≡ features_in list.now) }
+{
+    let mut features = Vec::new(alloc);
+    for part in list.split(',').filter(|part| !part.is_empty()) {
+        features.push(String::from_str(alloc, part)?)?;
+    }
+    Ok(features)
 }
 
 fn macro_limit(matches: &ArgMatches<'_>) -> u16

@@ -2,9 +2,9 @@
 #![tactic(auto)]
 
 mod command;
-mod dashes;
 mod fault;
 mod found;
+mod hidden;
 mod settings;
 mod task;
 mod words;

@@ -19,9 +19,9 @@ fn what_is_not_given_has_its_usual_value(rt: HostRuntime) -> Result<(), Fail> {
         let words = words(rt.alloc(), line)?;
         let found = options(rt.alloc(), words.as_slice())?;
         assert_eq!(rt; found.task, Task::Judge);
-        assert_eq!(rt; found.start, "S");
-        assert_eq!(rt; found.text, "");
-        assert_eq!(rt; found.tree, None);
+        assert_eq!(rt; found.start.as_str(), "S");
+        assert_eq!(rt; found.text.as_str(), "");
+        assert!(rt; found.tree.is_none());
         assert_eq!(rt; found.features.len(), 0);
         assert_eq!(rt; found.macro_limit, 200);
         assert_eq!(rt; found.limit, 1_000_000);
@@ -36,10 +36,13 @@ fn each_option_is_read(rt: HostRuntime) -> Result<(), Fail> {
     let words = words(rt.alloc(), line)?;
     let found = options(rt.alloc(), words.as_slice())?;
     assert_eq!(rt; found.task.word(), "judge");
-    assert_eq!(rt; found.start, "Expr");
-    assert_eq!(rt; found.text, "1+2");
-    assert_eq!(rt; found.tree, Some("{}"));
-    assert_eq!(rt; found.features.as_slice(), ["a", "b"].as_slice());
+    assert_eq!(rt; found.start.as_str(), "Expr");
+    assert_eq!(rt; found.text.as_str(), "1+2");
+    assert_eq!(rt; found.tree.as_deref(), Some("{}"));
+    let [first, second] = found.features.as_slice() else {
+        return Err(Fail::from("not two features"));
+    };
+    assert_eq!(rt; (first.as_str(), second.as_str()), ("a", "b"));
     assert_eq!(rt; found.macro_limit, 65_535);
     assert_eq!(rt; found.limit, 18_446_744_073_709_551_615);
     Ok(())
@@ -66,7 +69,11 @@ fn texts_and_trees_may_begin_with_dashes(rt: HostRuntime) -> Result<(), Fail> {
         let words = words(rt.alloc(), line)?;
         let found = options(rt.alloc(), words.as_slice())?;
         assert_eq!(rt;
-            (found.start, found.text, found.tree),
+            (
+                found.start.as_str(),
+                found.text.as_str(),
+                found.tree.as_deref()
+            ),
             (start, text, tree),
             "{line}"
         );

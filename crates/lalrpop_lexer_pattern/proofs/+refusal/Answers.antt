@@ -11,3 +11,4 @@ tree::Hir::refusal-returns-in-Alternation t c =
     c.first_refusal-in-Alternation.ensures ∙ ap (λ hs. refusal (concat_all (map meaning hs))) c.deref-in-Alternation.ensures.value
     ∙ refusal-alt_all (map meaning c.in-Alternation.subs.items)
     ∙ sym (ap refusal (ap meaning c.in-Alternation.is ∙ meaning-Alternation c.in-Alternation.subs))
+    ∙ sym c.loop-tree.invariant.same

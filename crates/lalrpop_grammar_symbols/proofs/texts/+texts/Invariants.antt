@@ -1,9 +1,10 @@
-use Rattle.std.proofs.Common.{◌≡◌, ◌++◌, take}
-use Rattle.std.specs.String.{string_bytes}
+use Rattle.std.proofs.Common.{take}
+use Rattle.std.specs.Fmt.{HasWritten, IsPlainFormatter}
 use Rattle.lalrpop_grammar_symbols.specs.Texts.{join_texts}
 use Rattle.lalrpop_grammar_symbols.specs.Parts.{texts_of_symbols}
 use Rattle.lalrpop_grammar_symbols.proofs.texts.+texts.Given as goal
 
-abbrev pub invariant-push_symbols-loop-i : goal.invariant-push_symbols-loop-i
-invariant-push_symbols-loop-i l =
-    string_bytes l.out ≡ string_bytes l.initial.out ++ join_texts l.separator (texts_of_symbols (take l.i l.symbols))
+abbrev pub invariant-write_symbols-loop-i : goal.invariant-write_symbols-loop-i
+invariant-write_symbols-loop-i g l =
+    IsPlainFormatter l.initial.f
+    → HasWritten g.W.Write.write_str_gives l.initial.f (join_texts l.separator (texts_of_symbols (take l.i l.symbols))) l.f

@@ -1,19 +1,26 @@
-use Rattle.std.proofs.Common.{append_assoc, rules}
+use Rattle.std.proofs.Common.{sym, rules}
+use Rattle.std.proofs.Output.{has_written_append, has_written_of_eq}
 use Rattle.lalrpop_json_grammar.proofs.PrintingLemmas.{printed-Rule, printed-List, printed-Group}
 use Rattle.lalrpop_json_grammar.proofs.printing.+printing.Goals as goal
 
-pub push_tree-returns-in_ok-push_head-in-Rule : goal.push_tree-returns-in_ok-push_head-in-Rule
-push_tree-returns-in_ok-push_head-in-Rule t c =
+pub write_tree-returns-in_ok-write_head-in-Rule : goal.write_tree-returns-in_ok-write_head-in-Rule
+write_tree-returns-in_ok-write_head-in-Rule g t c plain ok =
     let rule = c.in-Rule in
-    rw (printed-Rule c.args.tree.now rule.rule rule.args c.as_slice.result.now rule.place rule.children c.as_slice-in-Rule.result.now
-    rule.is c.as_slice.ensures c.as_slice-in-Rule.ensures)
-    (search (rules, append_assoc))
+    let head = c.write_head.ensures plain (search rules) in
+    let row = c.write_row.ensures head.plain ok in
+    has_written_of_eq _ _ _ _ _
+    (sym (printed-Rule c.args.tree.now rule.rule rule.args c.as_slice.result.now rule.place rule.children c.as_slice-in-Rule.result.now
+    rule.is c.as_slice.ensures c.as_slice-in-Rule.ensures))
+    (has_written_append _ _ _ _ _ _ head row)
 
-pub push_tree-returns-in-List : goal.push_tree-returns-in-List
-push_tree-returns-in-List t c =
-    rw (printed-List c.args.tree.now c.in-List.trees c.as_slice-in-List.result.now c.in-List.is c.as_slice-in-List.ensures) (search rules)
+pub write_tree-returns-in-List : goal.write_tree-returns-in-List
+write_tree-returns-in-List g t c plain ok =
+    has_written_of_eq _ _ _ _ _
+    (sym (printed-List c.args.tree.now c.in-List.trees c.as_slice-in-List.result.now c.in-List.is c.as_slice-in-List.ensures))
+    (c.write_row-in-List.ensures plain ok)
 
-pub push_tree-returns-in-Group : goal.push_tree-returns-in-Group
-push_tree-returns-in-Group t c =
-    rw (printed-Group c.args.tree.now c.in-Group.trees c.as_slice-in-Group.result.now c.in-Group.is c.as_slice-in-Group.ensures)
-    (search rules)
+pub write_tree-returns-in-Group : goal.write_tree-returns-in-Group
+write_tree-returns-in-Group g t c plain ok =
+    has_written_of_eq _ _ _ _ _
+    (sym (printed-Group c.args.tree.now c.in-Group.trees c.as_slice-in-Group.result.now c.in-Group.is c.as_slice-in-Group.ensures))
+    (c.write_row-in-Group.ensures plain ok)

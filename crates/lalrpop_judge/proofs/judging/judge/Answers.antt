@@ -1,9 +1,9 @@
-use Rattle.std.proofs.Common.{rules, IsTrue, map}
+use Rattle.std.proofs.Common.{rules, ◌↔◌, IsTrue, map, subst, sym}
 use Rattle.lalrpop_grammar.specs.Views.{grammar_view, token_view, tree_view}
 use Rattle.lalrpop_grammar_language.specs.Enabled.{enabled_grammar}
 use Rattle.lalrpop_judge_search.specs.Search.{finds}
-use Rattle.lalrpop_judge.specs.Faults.{HasSearch, OnlyWhere}
-use Rattle.lalrpop_judge.proofs.StartLemmas.{over_grammar, over_tokens, start_apart}
+use Rattle.lalrpop_grammar_language.specs.Admitting.{AdmitsFrom}
+use Rattle.lalrpop_judge.proofs.StartLemmas.{start_apart}
 use Rattle.lalrpop_judge.proofs.WalkLemmas.{never}
 use Rattle.lalrpop_judge.proofs.judging.judge.Goals as goal
 
@@ -16,18 +16,9 @@ returns-then-not-are_leaves-clause-exact c =
           (tree_view c.args.tree.now) (map token_view c.args.tokens.now) a).0)),
     )
 
-pub returns-in_err-yes-clause-condition : goal.returns-in_err-yes-clause-condition
-returns-in_err-yes-clause-condition c =
-    let there : OnlyWhere (HasSearch (enabled_grammar finds c.args.features.now (grammar_view c.args.grammar.now))
-    (tree_view c.args.tree.now)) c.in_err-yes.field-0.0 =
-    over_grammar finds c.args.features.now (grammar_view c.args.grammar.now) c.in_ok-rules.rules c.in_ok-rules.ensures.of_grammar
-    c.args.start.now
-    (tree_view c.args.tree.now) c.in_err-yes.field-0.0 c.in_err-yes.ensures.fault in
-    search (rules, there)
-
 pub returns-clause-exact : goal.returns-clause-exact
 returns-clause-exact c =
     let all : IsTrue c.are_leaves.result = search rules in
-    over_tokens finds c.args.features.now (grammar_view c.args.grammar.now) c.in_ok-rules.rules c.in_ok-rules.ensures.of_grammar
-    c.args.start.now
-    (tree_view c.args.tree.now) (map token_view c.args.tokens.now) c.in_ok-yes.yes (c.are_leaves.ensures.0 all) c.in_ok-yes.ensures.exact
+    subst (λ tokens. IsTrue c.in_ok-yes.yes
+    ↔ AdmitsFrom finds c.args.features.now (grammar_view c.args.grammar.now) c.args.start.now (tree_view c.args.tree.now) tokens)
+    (sym (c.are_leaves.ensures.0 all)) c.in_ok-yes.ensures.exact

@@ -21,7 +21,7 @@ pub loop-edge-init : goal.loop-edge-init
 loop-edge-init c =
     gather_start (nfa_view c.args.nfa.now) c.args.nfa.now.edges.test_edges.items refl _ _ _ _ _
     (ap (λ (s : EdgeIterator Test). front_from s.from.0 s.edges.now) c.into_iter-edge-iterator.ensures.into_iter_gives
-    ∙ c.edges-edge-items.ensures) c.loop-i.invariant
+    ∙ c.edges-edge-items.ensures.edges) c.loop-i.invariant
 
 pub loop-edge-preserved : goal.loop-edge-preserved
 loop-edge-preserved c =

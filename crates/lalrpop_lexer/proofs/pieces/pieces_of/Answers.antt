@@ -13,7 +13,7 @@ pub loop-edge-init : goal.loop-edge-init
 loop-edge-init c =
     labels_start c.args.nfa.now.edges.test_edges.items _ _ _
     (ap (λ (s : EdgeIterator Test). front_from s.from.0 s.edges.now) c.into_iter-edge-iterator.ensures.into_iter_gives
-    ∙ c.edges-edge-items.ensures) c.loop-state.invariant
+    ∙ c.edges-edge-items.ensures.edges) c.loop-state.invariant
 
 pub loop-edge-preserved : goal.loop-edge-preserved
 loop-edge-preserved c =

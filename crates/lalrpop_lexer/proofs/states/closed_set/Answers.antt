@@ -18,9 +18,9 @@ loop-i-preserved c =
 pub returns-clause-closed : goal.returns-clause-closed
 returns-clause-closed c =
     let all = take_all c.loop-i.i c.args.kernel.now (omega arith) in
-    rw (c.in_ok-set.ensures.items, c.members.ensures)
+    rw (c.in_ok-set.ensures.items, c.members.ensures.members)
     (IsEpsilonClosure-along (nfa_view c.args.nfa.now) _ _ _ (λ x h. rw all at ((c.loop-i.invariant.same x).0 h))
     (λ x h. (c.loop-i.invariant.same x).1 (rw all h)) c.in_ok-close.ensures.closed)
 
 pub returns-clause-inside : goal.returns-clause-inside
-returns-clause-inside c = rw (c.in_ok-set.ensures.items, c.members.ensures) c.in_ok-close.ensures.inside
+returns-clause-inside c = rw (c.in_ok-set.ensures.items, c.members.ensures.members) c.in_ok-close.ensures.inside

@@ -5,6 +5,7 @@ use Rattle.lalrpop_lexer.specs.declared.state.State.{State}
 use Rattle.lalrpop_lexer.specs.StateViews.{edges_in}
 use Rattle.lalrpop_lexer.proofs.WholeLemmas.{IsExplored, explored_start, explored_end}
 use Rattle.lalrpop_lexer.proofs.StateViewLemmas.{explored_push}
+use Rattle.lalrpop_lexer.proofs.KernelLemmas.{numbered_none, states_at_most}
 use Rattle.lalrpop_lexer.proofs.whole.all_states.Goals as goal
 
 pub states-init : goal.states-init
@@ -36,3 +37,19 @@ returns-clause-states c =
     explored_end (nfa_view c.args.nfa.now) START.0 (length c.states.states.items) c.states.known.sets.items (edges_in c.states.states.items)
     c.states.invariant.explored
     (omega (arith, c.states-test.false, c.len.ensures, c.len-in-states.ensures, c.states.states.ok.0, c.states.known.sets.ok.0))
+
+pub number_of-requires-clause-numbered : goal.number_of-requires-clause-numbered
+number_of-requires-clause-numbered c = rw (c.new-2.ensures.items, c.new-3.ensures.empty) (numbered_none (nfa_view c.args.nfa.now))
+
+pub states-smaller : goal.states-smaller
+states-smaller c =
+    let known = c.states.known in
+    omega (
+      arith,
+      states_at_most (nfa_view c.args.nfa.now) known.sets.items known.numbers.entries c.states.invariant.numbered,
+      c.states-test.true,
+      c.len.ensures,
+      c.len-in-states.ensures,
+      c.in_ok-push.ensures.len,
+      known.sets.ok.0,
+    )

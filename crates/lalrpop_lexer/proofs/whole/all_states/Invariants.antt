@@ -15,4 +15,4 @@ invariant-states l = record {
 }
 
 abbrev pub decreases-states : goal.decreases-states
-decreases-states l = 2 ^ 64 - vec_len l.states
+decreases-states l = 2 ^ vec_len l.nfa.states - vec_len l.states

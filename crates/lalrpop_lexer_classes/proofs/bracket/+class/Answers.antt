@@ -30,20 +30,21 @@ class-returns-clause-gives t c =
 
 pub items-returns-then-not-is_first-clause-gives : goal.items-returns-then-not-is_first-clause-gives
 items-returns-then-not-is_first-clause-gives t c =
-    items_end (class_item_at c.args.depth c.args.fold) c.args.text.now c.loop-character.rest.now c.in-Some.more.now c.in-Some.character
-    c.loop-character.is_first c.loop-character.set.ranges.items
-    c.in-Some.ensures c.loop-character.invariant (grind (arith, nat_tests))
+    rw c.in_ok-set.ensures
+    (items_end (class_item_at c.args.depth c.args.fold) c.args.text.now c.loop-character.rest.now c.in-Some.more.now c.in-Some.character
+    c.loop-character.is_first c.loop-character.items
+    c.in-Some.ensures c.loop-character.invariant (grind (arith, nat_tests)))
 
 pub items-returns-in_err-item-clause-gives : goal.items-returns-in_err-item-clause-gives
 items-returns-in_err-item-clause-gives t c =
-    let p = err_from_is_err_and c.from_residual.result c.from_residual.ensures.1 in
+    let p = err_from_is_err_and c.from_residual-in_err-item.result c.from_residual-in_err-item.ensures.1 in
     let go : ((c.in-Some.character == 93) && not c.loop-character.is_first) ≡ false = elim c.else-character-eq93.branch [
       | items-else-character-eq93-via-then-character-eq93+else-not-is_first w ↦ grind (arith, nat_tests)
       | items-else-character-eq93-via-else-character-eq93 w ↦ grind (arith, nat_tests)
     ] in
     rw (p.1, p.2)
     (items_fail (class_item_at c.args.depth c.args.fold) c.args.text.now c.loop-character.rest.now c.in-Some.more.now c.in-Some.character
-    c.loop-character.is_first c.loop-character.set.ranges.items
+    c.loop-character.is_first c.loop-character.items
     c.in-Some.ensures c.loop-character.invariant c.in_err-item.field-0.0 go c.in_err-item.ensures.gives)
 
 pub items-loop-character-preserved : goal.items-loop-character-preserved
@@ -52,9 +53,9 @@ items-loop-character-preserved t c =
       | items-else-character-eq93-via-then-character-eq93+else-not-is_first w ↦ grind (arith, nat_tests)
       | items-else-character-eq93-via-else-character-eq93 w ↦ grind (arith, nat_tests)
     ] in
-    rw c.in_ok-set.ensures
+    rw c.in_ok-items.ensures
     (items_more (class_item_at c.args.depth c.args.fold) c.args.text.now c.loop-character.rest.now c.in-Some.more.now c.in-Some.character
-    c.loop-character.is_first c.loop-character.set.ranges.items
+    c.loop-character.is_first c.loop-character.items
     c.in-Some.ensures c.loop-character.invariant c.in_ok-item.item.ranges.items c.in_ok-item.following.now go c.in_ok-item.ensures.gives
     c.in_ok-item.ensures.shorter)
 
@@ -62,4 +63,4 @@ pub items-returns-clause-gives : goal.items-returns-clause-gives
 items-returns-clause-gives t c =
     rw c.syntax.ensures
     (items_none (class_item_at c.args.depth c.args.fold) c.args.text.now c.loop-character.rest.now c.loop-character.is_first
-    c.loop-character.set.ranges.items c.loop-character.invariant c.in_default.ensures)
+    c.loop-character.items c.loop-character.invariant c.in_default.ensures)

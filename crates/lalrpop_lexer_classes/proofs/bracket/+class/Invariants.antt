@@ -13,7 +13,7 @@ abbrev pub decreases-item : goal.decreases-item
 decreases-item l = 3 * l.depth + 1
 
 abbrev pub invariant-items-loop-character : goal.invariant-items-loop-character
-invariant-items-loop-character l = IsUnderWay (class_item_at l.depth l.fold) l.text l.rest l.is_first l.set.ranges.items
+invariant-items-loop-character l = IsUnderWay (class_item_at l.depth l.fold) l.text l.rest l.is_first l.items
 
 abbrev pub decreases-items-loop-character : goal.decreases-items-loop-character
 decreases-items-loop-character l = length l.rest

@@ -1,4 +1,4 @@
-use Rattle.std.proofs.Common.{◌≡◌, Bool, true, false, ap, refl, subst, sym}
+use Rattle.std.proofs.Common.{◌≡◌, true, false, ap, subst, sym}
 use Rattle.lalrpop_grammar_language.specs.Starts.{has_start}
 use Rattle.lalrpop_grammar_rules.specs.StartViews.{is_known, is_public_start}
 use Rattle.lalrpop_grammar_rules.specs.declared.start.Start.{Start}

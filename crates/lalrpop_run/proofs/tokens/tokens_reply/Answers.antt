@@ -1,4 +1,4 @@
-use Rattle.std.proofs.Common.{ap, refl, rules}
+use Rattle.std.proofs.Common.{ap, rules}
 use Rattle.lalrpop_grammar.specs.Views.{grammar_view}
 use Rattle.lalrpop_json_values.specs.Gives.{Fails}
 use Rattle.lalrpop_plain.specs.Plain.{in_grammar}
@@ -15,4 +15,4 @@ returns-in-Err-Shape c =
     let g = c.args.grammar.now in
     let e = c.in-Err-Shape.field-0 in
     let fact : Fails e (plain g) = refused g (in_grammar (grammar_view g)) e c.in-Err-Shape.ensures in
-    IsTokensReply.not_plain c.in-Err-Shape.fault (rw c.in-Err-Shape.field-0-is at fact) (search (rules, c.in-Err-Shape.field-0-is))
+    IsTokensReply.not_plain (record { path = c.in-Err-Shape.path; kind = c.in-Err-Shape.kind }) (rw c.in-Err-Shape.field-0-is at fact) (search (rules, c.in-Err-Shape.field-0-is))

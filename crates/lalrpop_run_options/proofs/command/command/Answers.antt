@@ -1,4 +1,4 @@
-use Rattle.std.proofs.Common.{◌∙◌, ap, not}
+use Rattle.std.proofs.Common.{◌∙◌, ap}
 use Rattle.std.proofs.lemmas.Result.{IfOk-weaker}
 use Rattle.clap.specs.Built.{IsPlain}
 use Rattle.clap.specs.Simple.{app_of}
@@ -9,12 +9,12 @@ pub returns-clause-program : goal.returns-clause-program
 unfolding program
 returns-clause-program c =
     let first = c.in_ok-command.ensures in
-    IfOk-weaker c.with_limits.result _ (λ r. IsProgram (not c.args.dashes) (app_of r))
+    IfOk-weaker c.with_limits.result _ (λ r. IsProgram (app_of r))
     (λ r added. (
       first.0,
       first.1,
       added.shape ∙ ap (with_rules limit_rules) (c.in_ok-command-2.ensures.shape
-          ∙ ap (with_rules (input_rules (not c.args.dashes))) first.2),
+          ∙ ap (with_rules input_rules) first.2),
     ))
     c.with_limits.ensures
 

@@ -1,18 +1,22 @@
-use Rattle.std.proofs.Common.{ℕ, ◌+◌, ◌≡◌, map, get_or, length, ap, ◌∙◌, subst, arith, drop_of_length-le, Some}
+use Rattle.std.proofs.Common.{ℕ, ◌+◌, ◌≡◌, map, drop, get_or, length, ap, ◌∙◌, sym, subst, arith, drop_of_length-le}
+use Rattle.std.proofs.Common.{Some, Result, IfOk}
+use Rattle.std.specs.Prelude.{option_map, string_bytes}
+use Rattle.std.proofs.lemmas.Result.{IfOk-weaker}
 use Rattle.std.proofs.lemmas.List.{length-map}
-use Rattle.lalrpop_lexer_pattern.specs.Matches.{Matches, Power, Pattern}
+use Rattle.lalrpop_lexer_pattern.specs.Matches.{Matches, Power, Pattern, concat_all, alternation_all}
 use Rattle.lalrpop_lexer_pattern.specs.Meaning.{meaning}
-use Rattle.lalrpop_lexer_pattern.proofs.MeaningLemmas.{meaning-Empty}
-use Rattle.lalrpop_lexer_nfa.specs.Paths.{nfa_view}
-use Rattle.lalrpop_lexer_nfa.specs.Fragments.{IsFragment, AreFragments, UpTo}
+use Rattle.lalrpop_lexer_pattern.proofs.MeaningLemmas.{meaning-Empty, meaning-Literal, meaning-Class, meaning-Look, meaning-Capture}
+use Rattle.lalrpop_lexer_pattern.proofs.MeaningLemmas.{meaning-Repetition, meaning-Concat}
+use Rattle.lalrpop_lexer_pattern.proofs.MeaningLemmas.{meaning-Alternation}
+use Rattle.lalrpop_lexer_nfa.specs.Paths.{Graph, nfa_view}
+use Rattle.lalrpop_lexer_nfa.specs.Fragments.{IsFragment, AreFragments, UpTo, AtLeast}
 use Rattle.lalrpop_lexer_nfa.proofs.GraphLemmas.{IsFragment-nothing, IsFragment-along, IsFragment-then, IsFragment-star}
-use Rattle.lalrpop_lexer_nfa.proofs.GraphLemmas.{IsFragment-optional, IsFragment-branch, IsFragment-at_least, IsFragment-between}
-use Rattle.lalrpop_lexer_nfa.proofs.GraphLemmas.{IsFragment-no_repeat, AreFragments-push, IsNewState-no_leads}
+use Rattle.lalrpop_lexer_nfa.proofs.GraphLemmas.{IsFragment-plus, IsFragment-up_to, IsFragment-least, IsFragment-branch}
+use Rattle.lalrpop_lexer_nfa.proofs.GraphLemmas.{IsFragment-at_least}
+use Rattle.lalrpop_lexer_nfa.proofs.GraphLemmas.{IsFragment-between, IsFragment-no_repeat, AreFragments-push, IsNewState-no_leads}
 use Rattle.lalrpop_lexer_nfa.proofs.NfaLemmas.{inside_of}
-use Rattle.lalrpop_lexer_nfa.proofs.LanguageLemmas.{pieces_to, pieces_from, up_to_to, up_to_from, up_to_none, drop_less, meaning_at}
+use Rattle.lalrpop_lexer_nfa.proofs.LanguageLemmas.{pieces_to, pieces_from, up_to_none, drop_less, meaning_at}
 use Rattle.lalrpop_lexer_nfa.proofs.automaton.Nfa.+build.Goals as goal
-use Rattle.lalrpop_lexer_nfa.proofs.automaton.Nfa.+build.Goals.{repetition-in-Some+in_ok-rest-in-Some}
-use Rattle.lalrpop_lexer_nfa.proofs.automaton.Nfa.+build.Goals.{repetition-in-None+in_ok-rest-in-None}
 
 pub copies-loop-done-init : goal.copies-loop-done-init
 copies-loop-done-init t c = IsFragment-nothing _ _
@@ -36,14 +40,28 @@ up_to-loop-done-init t c =
 
 pub up_to-loop-done-preserved : goal.up_to-loop-done-preserved
 up_to-loop-done-preserved t c =
-    IsFragment-along (UpTo _ (c.loop-done.done + 1)) (up_to_to _ _) (up_to_from _ _)
-    (IsFragment-then c.loop-done.invariant c.in_ok-next.ensures)
+    IsFragment-up_to (nfa_view c.args.self.now) (nfa_view c.loop-done.self) (nfa_view c.expr.new.self) (nfa_view c.new_branch.new.self)
+    (Matches (meaning c.args.sub.now)) c.loop-done.done c.loop-done.next c.in_ok-once.once c.in_ok-next.next c.args.accept
+    c.loop-done.invariant c.in_ok-once.ensures c.in_ok-next.ensures
 
-pub optional-returns : goal.optional-returns
-optional-returns t c =
-    IsFragment-optional (nfa_view c.args.self.now) (nfa_view c.expr.new.self) (nfa_view c.new_branch.new.self)
-    (Matches (meaning c.args.sub.now)) c.in_ok-state.state c.in_ok-once.once c.args.accept
-    c.in_ok-once.ensures c.in_ok-state.ensures
+pub plus-push_noops-requires-clause-none : goal.plus-push_noops-requires-clause-none
+plus-push_noops-requires-clause-none t c =
+    let old = c.args.self.now in
+    let state = c.in_ok-state.ensures.state in
+    λ r h. IsNewState-no_leads (nfa_view old) (nfa_view c.new_state.new.self) c.in_ok-state.state (inside_of old) state r
+    (c.in_ok-first.ensures.keeps.leads_back c.in_ok-state.state r (omega arith) (omega (arith, state.grows)) h)
+
+pub plus-returns : goal.plus-returns
+plus-returns t c =
+    IsFragment-plus (nfa_view c.args.self.now) (nfa_view c.new_state.new.self) (nfa_view c.expr.new.self) (nfa_view c.push_noops.new.self)
+    (Matches (meaning c.args.sub.now))
+    c.in_ok-state.state c.in_ok-first.first c.args.accept (inside_of c.args.self.now) c.in_ok-state.ensures.state c.in_ok-first.ensures
+    c.in_ok-push_noops.ensures
+
+pub at_least-returns : goal.at_least-returns
+at_least-returns t c =
+    IsFragment-least (nfa_view c.args.self.now) (nfa_view c.plus.new.self) (nfa_view c.copies.new.self) (Matches (meaning c.args.sub.now))
+    c.args.count c.in_ok-state.state c.in_ok-last.last c.args.accept (omega arith) c.in_ok-last.ensures c.in_ok-state.ensures
 
 pub star-push_noops-requires-clause-none : goal.star-push_noops-requires-clause-none
 star-push_noops-requires-clause-none t c =
@@ -65,18 +83,77 @@ repetition-returns-in-Some-eq0 t c =
     IsFragment-no_repeat (meaning c.args.sub.now) c.args.repeats.min c.args.repeats.greedy _ c.args.repeats.max c.args.accept
     (c.in-Some-eq0.is ∙ ap Some zero) c.args.repeats.ordered
 
-pub repetition-returns : goal.repetition-returns
-repetition-returns t c =
-    elim c.match-repeats.branch [
-      | repetition-in-Some+in_ok-rest-in-Some w ↦
-          IsFragment-between (meaning c.args.sub.now) c.args.repeats.min c.args.repeats.greedy _ (nfa_view w.up_to.new.self) _
-          c.args.repeats.max w.in-Some.max _ w.in_ok-rest-in-Some.rest _ w.in-Some.is c.args.repeats.ordered
-          w.in_ok-rest-in-Some.ensures (rw (w.self-is, w.rest-is) at c.in_ok-state.ensures)
-      | repetition-in-None+in_ok-rest-in-None w ↦
-          IsFragment-at_least (meaning c.args.sub.now) c.args.repeats.min c.args.repeats.greedy _ (nfa_view w.star.new.self) _
-          c.args.repeats.max _ w.in_ok-rest-in-None.rest _ w.in-None.is
-          w.in_ok-rest-in-None.ensures (rw (w.self-is, w.rest-is) at c.in_ok-state.ensures)
-    ]
+pub repetition-returns-in_ok-state-in-Some : goal.repetition-returns-in_ok-state-in-Some
+repetition-returns-in_ok-state-in-Some t c =
+    IsFragment-between (meaning c.args.sub.now) c.args.repeats.min c.args.repeats.greedy _ (nfa_view c.up_to.new.self) _
+    c.args.repeats.max c.in-Some.max _ c.in_ok-rest-in-Some.rest _ c.in-Some.is c.args.repeats.ordered
+    c.in_ok-rest-in-Some.ensures c.in_ok-state-in-Some.ensures
+
+pub repetition-returns-in-None : goal.repetition-returns-in-None
+repetition-returns-in-None t c =
+    IfOk-weaker c.at_least.result
+    (λ s. IsFragment (nfa_view c.args.self.now) (nfa_view c.at_least.new.self)
+    (AtLeast (Matches (meaning c.args.sub.now)) c.args.repeats.min) s c.args.accept) _
+    (λ s. IsFragment-at_least (meaning c.args.sub.now) c.args.repeats.min c.args.repeats.greedy (nfa_view c.args.self.now)
+    (nfa_view c.at_least.new.self) c.args.repeats.max s c.args.accept c.in-None.is) c.at_least.ensures
+
+-- what was built for a pattern is built for the same pattern
+told : {E : Type 0} (r : Result ℕ E) (old new : Graph) (a : ℕ) (p q : Pattern) → q ≡ p
+    → IfOk r (λ s. IsFragment old new (Matches p) s a) → IfOk r (λ s. IsFragment old new (Matches q) s a)
+told r old new a p q e h = let P : Pattern → Type 0 = λ x. IfOk r (λ s. IsFragment old new (Matches x) s a) in subst P (sym e) h
+
+pub expr-returns-in-Literal : goal.expr-returns-in-Literal
+expr-returns-in-Literal t c =
+    told _ _ _ _ (Pattern.literal c.deref.result.now) _
+    (ap meaning c.in-Literal.is ∙ meaning-Literal _ ∙ ap Pattern.literal (sym c.deref.ensures.value)) c.literal.ensures
+
+pub expr-returns-in-Class : goal.expr-returns-in-Class
+expr-returns-in-Class t c =
+    told _ _ _ _ (Pattern.class c.deref-in-Class.result.now) _
+    (ap meaning c.in-Class.is ∙ meaning-Class _ ∙ ap Pattern.class (sym c.deref-in-Class.ensures.value)) c.class.ensures
+
+pub expr-returns-in-Look : goal.expr-returns-in-Look
+expr-returns-in-Look t c =
+    told _ _ _ _ (Pattern.look c.in-Look.field-0) _ (ap meaning c.in-Look.is ∙ meaning-Look _) c.dead.ensures
+
+pub expr-returns-in-Capture : goal.expr-returns-in-Capture
+expr-returns-in-Capture t c =
+    told _ _ _ _ (Pattern.capture (option_map string_bytes c.in-Capture.name) (meaning c.deref-in-Capture.result.now)) _
+    (ap meaning c.in-Capture.is ∙ meaning-Capture _ _
+    ∙ ap (λ h. Pattern.capture (option_map string_bytes c.in-Capture.name) (meaning h)) (sym c.deref-in-Capture.ensures)) c.expr.ensures
+
+pub expr-returns-in-Repetition : goal.expr-returns-in-Repetition
+expr-returns-in-Repetition t c =
+    let r = c.in-Repetition.repeats in
+    told _ _ _ _ (Pattern.repetition r.min r.max r.greedy (meaning c.deref-in-Repetition.result.now)) _
+    (ap meaning c.in-Repetition.is ∙ meaning-Repetition _ _
+    ∙ ap (λ h. Pattern.repetition r.min r.max r.greedy (meaning h)) (sym c.deref-in-Repetition.ensures)) c.repetition.ensures
+
+pub expr-returns-in-Concat : goal.expr-returns-in-Concat
+expr-returns-in-Concat t c =
+    told _ _ _ _ (concat_all (map meaning c.deref-in-Concat.result.now)) _
+    (ap meaning c.in-Concat.is ∙ meaning-Concat _ ∙ ap (λ hs. concat_all (map meaning hs)) (sym c.deref-in-Concat.ensures.value))
+    c.concat.ensures
+
+pub expr-returns-in-Alternation : goal.expr-returns-in-Alternation
+expr-returns-in-Alternation t c =
+    told _ _ _ _ (alternation_all (map meaning c.deref-in-Alternation.result.now)) _
+    (ap meaning c.in-Alternation.is ∙ meaning-Alternation _
+    ∙ ap (λ hs. alternation_all (map meaning hs)) (sym c.deref-in-Alternation.ensures.value)) c.alternation.ensures
+
+pub concat-returns : goal.concat-returns
+concat-returns t c =
+    let P : ℕ → Type 0 = λ i. IsFragment (nfa_view c.args.self.now) (nfa_view c.loop-i.self)
+    (Matches (concat_all (map meaning (drop i c.args.subs.now)))) c.loop-i.next c.args.accept in
+    let none : c.loop-i.i ≡ 0 = omega arith in
+    subst P none c.loop-i.invariant
+
+pub up_to-returns : goal.up_to-returns
+up_to-returns t c =
+    let all : c.loop-done.done ≡ c.args.count = omega arith in
+    let P : ℕ → Type 0 = λ k. IsFragment (nfa_view c.args.self.now) (nfa_view c.loop-done.self)
+    (UpTo (Matches (meaning c.args.sub.now)) k) c.loop-done.next c.args.accept in
+    subst P all c.loop-done.invariant
 
 pub expr-returns-in-Empty : goal.expr-returns-in-Empty
 expr-returns-in-Empty t c = rw (c.in-Empty.is, meaning-Empty) (IsFragment-nothing _ _)

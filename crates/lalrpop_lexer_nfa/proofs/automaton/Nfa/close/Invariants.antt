@@ -1,4 +1,4 @@
-use Rattle.std.proofs.Common.{◌≡◌, ◌-◌, ◌^◌, ◌<◌, All, vec_len}
+use Rattle.std.proofs.Common.{◌≡◌, ◌-◌, ◌<◌, All, vec_len}
 use Rattle.lalrpop_lexer_nfa.specs.Paths.{nfa_view}
 use Rattle.lalrpop_lexer_nfa.proofs.SetLemmas.{IsClosing}
 use Rattle.lalrpop_lexer_nfa.proofs.automaton.Nfa.close.Given as goal
@@ -11,4 +11,4 @@ invariant-loop-done l = record {
 }
 
 abbrev pub decreases-loop-done : goal.decreases-loop-done
-decreases-loop-done l = 2 ^ 64 - l.done
+decreases-loop-done l = vec_len l.set.places - l.done

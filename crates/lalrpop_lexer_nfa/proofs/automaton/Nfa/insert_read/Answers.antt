@@ -12,12 +12,12 @@ pub loop-edge-init : goal.loop-edge-init
 loop-edge-init c = record {
   reading = reading_start (nfa_view c.args.self.now) c.args.self.now.edges.test_edges.items refl c.args.state c.args.number _ _
       (ap (λ (s : EdgeIterator Test). front_from s.from.0 s.edges.now) c.into_iter-edge-iterator.ensures.into_iter_gives
-      ∙ c.edges-edge-items.ensures);
+      ∙ c.edges-edge-items.ensures.edges);
   bound = refl;
 }
 
-pub loop-edge-preserved-in-Continue-1 : goal.loop-edge-preserved-in-Continue-1
-loop-edge-preserved-in-Continue-1 c =
+pub loop-edge-preserved-in_ok-insert : goal.loop-edge-preserved-in_ok-insert
+loop-edge-preserved-in_ok-insert c =
     let first = front_more (λ (s : EdgeIterator Test). front_from s.from.0 s.edges.now) c.loop-edge.edge-iterator c.next.new.self
     c.next.result c.in-Some.edge c.in-Some.is c.next.ensures.steps in
     record {

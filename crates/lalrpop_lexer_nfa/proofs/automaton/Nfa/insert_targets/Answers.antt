@@ -12,7 +12,7 @@ pub loop-edge-init : goal.loop-edge-init
 loop-edge-init c = record {
   targets = targets_start (nfa_view c.args.self.now) c.args.self.now.edges.noop_edges.items c.args.state refl _ _
       (ap (λ (s : EdgeIterator Noop). front_from s.from.0 s.edges.now) c.into_iter-edge-iterator.ensures.into_iter_gives
-      ∙ c.edges-edge-items.ensures);
+      ∙ c.edges-edge-items.ensures.edges);
   bound = refl;
 }
 

@@ -17,8 +17,7 @@ push_other-requires-clause-last c =
 
 pub returns : goal.returns
 returns c =
-    let same = c.in_ok-push_other.ensures.same in
     IsReader-same _ (nfa_view c.push_tests.new.self) _ _ _ _
     (IsReader-new _ (nfa_view c.new_state.new.self) _ _ _ _ (inside_of c.args.self.now) c.in_ok-state.ensures.state
     c.in_ok-push_tests.ensures.tests)
-    same.count same.noops same.tests
+    c.in_ok-push_other.ensures.same

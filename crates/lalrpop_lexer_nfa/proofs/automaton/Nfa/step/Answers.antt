@@ -19,7 +19,7 @@ loop-i-preserved c = record {
 pub insert_read-requires-clause-state : goal.insert_read-requires-clause-state
 insert_read-requires-clause-state c =
     All-get_or (λ q. q < vec_len c.args.self.now.states) c.members-from.result.now c.loop-i.i 0 (omega arith)
-    (rw c.members-from.ensures c.requires.inside)
+    (rw c.members-from.ensures.members c.requires.inside)
 
 pub close-requires-clause-inside : goal.close-requires-clause-inside
 close-requires-clause-inside c k d l =
@@ -28,5 +28,5 @@ close-requires-clause-inside c k d l =
 
 pub returns-clause-step : goal.returns-clause-step
 returns-clause-step c =
-    rw (← c.members-from.ensures, ← take_all c.loop-i.i c.members-from.result.now (omega arith))
+    rw (← c.members-from.ensures.members, ← take_all c.loop-i.i c.members-from.result.now (omega arith))
     (step_from_read (nfa_view c.args.self.now) _ _ _ _ c.loop-i.invariant.read c.in_ok-close.ensures.closed)
