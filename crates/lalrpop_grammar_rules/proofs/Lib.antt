@@ -3,3 +3,4 @@ pub mod NameLemmas
 pub mod RankLemmas
 pub mod BareNameLemmas
 pub mod StartLemmas
+pub mod GreatestLemmas

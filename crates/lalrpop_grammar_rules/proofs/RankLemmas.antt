@@ -1,9 +1,8 @@
 -- Levels and ranks of a rule's alternatives, place by place: for the making of an enabled rule.
-use Rattle.std.proofs.Common.{◌≡◌, ℕ, ◌+◌, ◌≤◌, ◌<◌, suc, Bool, true, false, ◌||◌, ◌&&◌, List, [], ◌∷◌}
-use Rattle.std.proofs.Common.{◌++◌, Option, Some, None, refl, ap, sym, ◌∙◌, map, length, drop, arith}
-use Rattle.std.proofs.lemmas.Bool.{lt-ltb, le-ltb}
+use Rattle.std.proofs.Common.{◌≡◌, ℕ, ◌+◌, suc, Bool, true, false, ◌||◌, ◌&&◌, List, [], ◌∷◌}
+use Rattle.std.proofs.Common.{IsPermutation, ◌++◌, Option, Some, None, refl, ap, sym, ◌∙◌, map, length, drop, arith}
 use Rattle.std.proofs.lemmas.List.{append_assoc}
-use Rattle.std.specs.Prelude.{filter, filter_map, if◌then◌else◌, codes, option_map, max, nat_lt}
+use Rattle.std.specs.Prelude.{filter, filter_map, if◌then◌else◌, codes, option_map, nat_lt}
 use Rattle.std.specs.List.{list_any}
 use Rattle.lalrpop_grammar_symbols.specs.Symbols.{Text}
 use Rattle.lalrpop_grammar.specs.WrittenGrammar.{Alternative, Origin}
@@ -13,6 +12,7 @@ use Rattle.lalrpop_grammar.specs.declared.alternative.Alternative as program
 use Rattle.lalrpop_grammar_language.specs.Enabled.{Choice as PureChoice, EnabledRule as PureRule, is_active, has_attr, at_places, choice_of}
 use Rattle.lalrpop_grammar_language.specs.Enabled.{enabled_choices, enabled_rule}
 use Rattle.lalrpop_grammar_language.specs.Levels as pure
+use Rattle.lalrpop_grammar_rules.proofs.GreatestLemmas.{greatest_moved, greatest_same}
 use Rattle.lalrpop_grammar_rules.specs.Ranks.{rank_view}
 use Rattle.lalrpop_grammar_rules.specs.declared.levels.Rank.{Rank}
 use Rattle.lalrpop_grammar_rules.specs.Details.{IsRanked, Kept, and_level, choice_details, choices_view, choice_detail, details, is_leveled}
@@ -106,21 +106,22 @@ pub tightened_are : (levels : List ℕ) (name : Text) (k : ℕ) (cs : List (Opti
 tightened_are levels name k [] = refl
 tightened_are levels name k (c ∷ cs) = tighten_step levels name k c cs (λ n. tightened_are levels name n cs)
 
--- the greater of two, where they are there
-abbrev pub greater : Option ℕ → Option ℕ → Option ℕ
-greater None y = y
-greater (Some a) y = pure.larger a y
+module _ (ls ms : List ℕ)
+    (same : (n : ℕ) → pure.greatest (filter (λ k. nat_lt k n) ls) ≡ pure.greatest (filter (λ k. nat_lt k n) ms)) where
+  tighter_alike : (o : Option pure.Rank) → tighter_in ls o ≡ tighter_in ms o
+  tighter_alike None = refl
+  tighter_alike (Some k) = same k.level
 
--- a level of the rest may be counted among those that were found before
-pub greater_next : (found : Option ℕ) (n : ℕ) (rest : Option ℕ)
-    → greater found (pure.larger n rest) ≡ greater (pure.larger n found) rest
-greater_next None n rest = refl
-greater_next (Some a) n None = let same : max a n ≡ max n a = omega arith in ap (λ m. Some m) same
-greater_next (Some a) n (Some b) = let same : max a (max n b) ≡ max (max n a) b = omega arith in ap (λ m. Some m) same
+  choice_alike : (c : Option Ranked) → with_tighter_level ls c ≡ with_tighter_level ms c
+  choice_alike None = refl
+  choice_alike (Some c) =
+      ap (λ t. Some (record { alternative = c.alternative; rank = c.rank; tighter = t })) (tighter_alike (option_map rank_view c.rank))
 
-pub greater_none : (found : Option ℕ) → greater found None ≡ found
-greater_none None = refl
-greater_none (Some a) = refl
+  -- levels in another order make no difference
+  pub choices_alike : (cs : List (Option Ranked)) → map (with_tighter_level ls) cs ≡ map (with_tighter_level ms) cs
+  choices_alike [] = refl
+  choices_alike (c ∷ cs) =
+      ap (λ x. x ∷ map (with_tighter_level ls) cs) (choice_alike c) ∙ ap (λ l. with_tighter_level ms c ∷ l) (choices_alike cs)
 
 module _ (f : List Text) (name : Text) (i : ℕ) (a : Alternative) (more : List Alternative) (has : Bool) where
   abbrev behind : List PureChoice
@@ -191,7 +192,7 @@ module _ (f : List Text) (w : NonterminalData) (has : Bool) (found : List (Optio
     (found_is : (name : Text)
     → ranked_view name 0 found
     ≡ ranked_choices_from has None (enabled_choices f (at_places name 0 (map alternative_view w.alternatives))))
-    (levels_is : levels ≡ levels_in found) (loosest_is : loosest ≡ pure.greatest levels)
+    (levels_are_those : IsPermutation (levels_in found) levels) (loosest_is : loosest ≡ pure.greatest levels)
     (choices_is : choices ≡ map (with_tighter_level levels) found) where
   abbrev the_rule : PureRule
   the_rule = enabled_rule f (nonterminal_view w)
@@ -202,33 +203,22 @@ module _ (f : List Text) (w : NonterminalData) (has : Bool) (found : List (Optio
   all_ranked : ranked_view w.name.0 0 found ≡ pure.ranked_choices the_rule
   all_ranked = found_is w.name.0 ∙ ap (λ h. ranked_choices_from h None the_rule.choices) leveled ∙ ranked_is the_rule
 
-  all_levels : levels ≡ pure.levels the_rule
+  all_levels : levels_in found ≡ pure.levels the_rule
   all_levels =
-      levels_is ∙ sym (levels_are w.name.0 0 found)
+      sym (levels_are w.name.0 0 found)
       ∙ ap (filter_map level_said) all_ranked
 
   all_detailed : choices_view w.name.0 0 choices ≡ choice_details the_rule
   all_detailed =
-      ap (choices_view w.name.0 0) choices_is ∙ tightened_are levels w.name.0 0 found
-      ∙ ap (map (choice_detail levels)) all_ranked ∙ ap (λ l. map (choice_detail l) (pure.ranked_choices the_rule)) all_levels
+      ap (choices_view w.name.0 0) (choices_is
+      ∙ choices_alike levels (levels_in found) (λ n. greatest_moved (λ k. nat_lt k n) (levels_in found) levels levels_are_those) found)
+      ∙ tightened_are (levels_in found) w.name.0 0 found
+      ∙ ap (map (choice_detail (levels_in found))) all_ranked
+      ∙ ap (λ l. map (choice_detail l) (pure.ranked_choices the_rule)) all_levels
 
   -- what is kept of a rule
   pub kept : ◌≡◌ {A = Kept} (the_rule, (has, (loosest, choices_view w.name.0 0 choices))) (details the_rule)
   kept =
-      let l : loosest ≡ pure.loosest the_rule = loosest_is ∙ ap pure.greatest all_levels in
+      let l : loosest ≡ pure.loosest the_rule =
+      loosest_is ∙ (greatest_same (levels_in found) levels levels_are_those ∙ ap pure.greatest all_levels) in
       rw (leveled, l, all_detailed) refl
-
--- below the bound the first of the two counts
-pub is_below : (n b : ℕ) (x y : Option ℕ) → n < b → x ≡ (if nat_lt n b then x else y)
-is_below n b x y below = rw (lt-ltb n b below) refl
-
--- else the second does
-pub is_not_below : (n b : ℕ) (x y : Option ℕ) → b ≤ n → y ≡ (if nat_lt n b then x else y)
-is_not_below n b x y above = rw (le-ltb n b above) refl
-
--- one level more, where it counts
-pub greater_if : (b : Bool) (found : Option ℕ) (n : ℕ) (rest : List ℕ)
-    → greater found (pure.greatest (if b then n ∷ rest else rest))
-    ≡ greater (if b then pure.larger n found else found) (pure.greatest rest)
-greater_if true found n rest = greater_next found n (pure.greatest rest)
-greater_if false found n rest = refl

@@ -1,11 +1,12 @@
 //! Enabled rules, with the levels of their alternatives.
 
-ghost use Rattle.std.specs.Prelude.{◌≡◌, IfOk, None, filter, if◌then◌else◌, map, nat_lt, option_map};
+ghost use Rattle.std.specs.Prelude.{◌≡◌, IfOk, IsPermutation, None, filter, map, nat_lt, option_map};
 ghost use Rattle.std.specs.List.{list_any};
+ghost use Rattle.std.specs.List.Sorted.{IsNonDecreasing};
 ghost use Rattle.lalrpop_grammar_symbols.specs.Symbols.{Text};
 ghost use Rattle.lalrpop_grammar.specs.Views.{alternative_view, nonterminal_view};
 ghost use Rattle.lalrpop_grammar_language.specs.Enabled.{enabled_choices, enabled_rule, at_places};
-ghost use Rattle.lalrpop_grammar_language.specs.Levels.{greatest as greatest_of, larger as larger_of};
+ghost use Rattle.lalrpop_grammar_language.specs.Levels.{greatest as greatest_of};
 ghost use Rattle.lalrpop_grammar_rules.specs.Ranks.{rank_view};
 ghost use Rattle.lalrpop_grammar_rules.specs.Details.{IsRanked, details, is_leveled, last_of, ranked_level, levels_in, ranked_choices_from, ranked_view, kept_rule_view, with_tighter_level, tighter_in};
 
@@ -51,7 +52,7 @@ impl<'g> EnabledRule<'g> {
         let alternatives = written.alternatives.as_slice();
         let has_levels = has_levels(features, alternatives);
         let ranked = with_ranks(alloc, features, alternatives, has_levels)?;
-        let levels = levels(alloc, ranked.as_slice())?;
+        let levels = sorted_levels(alloc, ranked.as_slice())?;
         let loosest = greatest(levels.as_slice());
         let choices = with_tighter(alloc, ranked.as_slice(), levels.as_slice())?;
         Ok(EnabledRule {
@@ -145,11 +146,21 @@ fn last_rank(choice: Option<Ranked<'_>>, last: Option<Rank>) -> Option<Rank>
     }
 }
 
-/// The levels of the alternatives.
-fn levels(alloc: Global, ranked: &[Option<Ranked<'_>>]) -> Result<List<u32>, AllocError>
-    ensures { IfOk result (λ levels. levels ≡ levels_in ranked.now) }
+/// The levels of the alternatives, which rise.
+fn sorted_levels(alloc: Global, ranked: &[Option<Ranked<'_>>]) -> Result<Vec<u32>, AllocError>
+    ensures rising { IfOk result (λ levels. IsNonDecreasing levels.items) }
+    ensures same { IfOk result (λ levels. IsPermutation (levels_in ranked.now) levels.items) }
 {
-    let mut levels = List::new(alloc);
+    let mut levels = levels(alloc, ranked)?;
+    levels.sort_unstable();
+    Ok(levels)
+}
+
+/// The levels of the alternatives, in the order in which they are written.
+fn levels(alloc: Global, ranked: &[Option<Ranked<'_>>]) -> Result<Vec<u32>, AllocError>
+    ensures { IfOk result (λ levels. levels.items ≡ levels_in ranked.now) }
+{
+    let mut levels = Vec::new(alloc);
     for choice in ranked {
         match level_at(choice) {
             Some(level) => levels.push(level)?,
@@ -171,55 +182,30 @@ fn level_at(choice: &Option<Ranked<'_>>) -> Option<u32>
     }
 }
 
-/// The greatest of the levels.
+/// The greatest of the levels, which rise.
 fn greatest(levels: &[u32]) -> Option<u32>
+    requires { IsNonDecreasing levels.now }
     ensures { result ≡ greatest_of levels.now }
 {
-    let mut found = None;
-    for level in levels {
-        found = larger(found, *level);
-    }
-    found
+    levels.last().copied()
 }
 
-/// The greatest of the levels below that one.
+/// The greatest of the levels below that one. The levels rise.
 fn greatest_below(levels: &[u32], bound: u32) -> Option<u32>
+    requires { IsNonDecreasing levels.now }
     ensures { result ≡ greatest_of (filter (λ n. nat_lt n bound) levels.now) }
 {
-    let mut found = None;
-    for level in levels {
-        found = larger_below(found, *level, bound);
-    }
-    found
+    let below = levels.partition_point(|level| *level < bound);
+    levels[..below].last().copied()
 }
 
-/// The larger one, where the level is below that one.
-#[tactic(auto, using(crate::proofs::RankLemmas::is_below, crate::proofs::RankLemmas::is_not_below))]
-fn larger_below(found: Option<u32>, level: u32, bound: u32) -> Option<u32>
-    ensures { result ≡ (if nat_lt level bound then larger_of level found else found) }
-{
-    if level < bound {
-        larger(found, level)
-    } else {
-        found
-    }
-}
-
-fn larger(found: Option<u32>, level: u32) -> Option<u32>
-    ensures { result ≡ larger_of level found }
-{
-    match found {
-        Some(other) => Some(level.max(other)),
-        None => Some(level),
-    }
-}
-
-/// The alternatives by their places, each with the next tighter one of the levels.
+/// The alternatives by their places, each with the next tighter one of the levels, which rise.
 fn with_tighter<'g>(
     alloc: Global,
     ranked: &[Option<Ranked<'g>>],
     levels: &[u32],
 ) -> Result<List<Option<Choice<'g>>>, AllocError>
+    requires { IsNonDecreasing levels.now }
     ensures { IfOk result (λ choices. choices ≡ map (with_tighter_level levels.now) ranked.now) }
 {
     let mut choices = List::new(alloc);
@@ -230,6 +216,7 @@ fn with_tighter<'g>(
 }
 
 fn tighten<'g>(choice: &Option<Ranked<'g>>, levels: &[u32]) -> Option<Choice<'g>>
+    requires { IsNonDecreasing levels.now }
     ensures { result ≡ with_tighter_level levels.now choice.now }
 {
     match choice {
@@ -243,6 +230,7 @@ fn tighten<'g>(choice: &Option<Ranked<'g>>, levels: &[u32]) -> Option<Choice<'g>
 }
 
 fn tighter_of(rank: Option<Rank>, levels: &[u32]) -> Option<u32>
+    requires { IsNonDecreasing levels.now }
     ensures { result ≡ tighter_in levels.now (option_map rank_view rank) }
 {
     match rank {

@@ -61,7 +61,8 @@ shallow None a names reads = absurd reads
 shallow (Some p) a names reads = let h : p.0.depth ≤ default_config.nest_limit = reads.0 in grind (arith, nat_tests, h)
 
 -- what the grammar reads isn't nested too deep
-pub not_too_deep : (pattern : List ℕ) (hir : Hir) (names : Names) → Reads default_config pattern hir names → is_too_deep pattern ≡ false
+pub not_too_deep : (pattern : List ℕ) (hir : Hir) (names : Names) → Reads default_config pattern hir names
+    → is_too_deep pattern ≡ false
 unfolding Reads
 not_too_deep pattern hir names reads = shallow (search_pattern pattern) (meaning hir) names reads
 
@@ -80,7 +81,8 @@ read_pattern pattern text hir names reads =
     (some_answer text (search_pattern pattern) (meaning hir) names reads, not_too_deep pattern hir names reads)
 
 -- what is found or missing is what the answer is
-pub finding_is : (b : Bool) (answer : Option Bool) (deep : Bool) → answer ≡ Some b → deep ≡ false → IsFinding answer deep (finding_of b)
+pub finding_is : (b : Bool) (answer : Option Bool) (deep : Bool) → answer ≡ Some b → deep ≡ false
+    → IsFinding answer deep (finding_of b)
 finding_is true answer deep e d = (e, d)
 finding_is false answer deep e d = (e, d)
 

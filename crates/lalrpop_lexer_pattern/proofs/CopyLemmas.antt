@@ -1,5 +1,6 @@
 -- A copy with the same contents has the same meaning. For the function that copies a tree.
-use Rattle.std.proofs.Common.{◌≡◌, ◌<◌, ◌∙◌, ap, ap₂, sym, subst, refl, arith, map, List, [], ◌∷◌, ◌++◌, Box, Global, Result, IfOk}
+use Rattle.std.proofs.Common.{◌≡◌, ◌<◌, ◌∙◌, ap, ap₂, sym, subst, refl, arith, map, List, [], ◌∷◌, ◌++◌}
+use Rattle.std.proofs.Common.{Box, Global, Result, IfOk}
 use Rattle.std.proofs.lemmas.Result.{IfOk-weaker}
 use Rattle.std.specs.Prelude.{option_map}
 use Rattle.std.specs.String.{string_bytes}

@@ -1,7 +1,10 @@
 -- The steps of a walk over pairs in order, and what a set with the partners of its ranges holds: for the folding of a set.
-use Rattle.std.proofs.Common.{◌≡◌, ℕ, zero, suc, ◌+◌, ◌<◌, ◌≤◌, ◌⊎◌, Bool, true, false, cond, not, ◌&&◌, ◌||◌, nat_le, nat_lt}
-use Rattle.std.proofs.Common.{List, [], ◌∷◌, ◌++◌, map, length, get_or, drop, flat_map, Contains, refl, sym, ap, ◌∙◌, inl, inr, arith}
-use Rattle.std.proofs.Common.{append_assoc, le_of_suc-le-suc, suc-le-suc, not-suc-le-zero, zero-lt-suc, true≢false, leb-true, le_trans, le_refl, subst, ◌==◌, eq-eqb, eqb-true, lt-ltb}
+use Rattle.std.proofs.Common.{◌≡◌, ℕ, zero, suc, ◌+◌, ◌<◌, ◌≤◌, ◌⊎◌, Bool, true, false, cond, not, ◌&&◌}
+use Rattle.std.proofs.Common.{◌||◌, nat_le, nat_lt}
+use Rattle.std.proofs.Common.{List, [], ◌∷◌, ◌++◌, map, length, get_or, drop, flat_map, Contains, refl, sym, ap, ◌∙◌}
+use Rattle.std.proofs.Common.{inl, inr, arith}
+use Rattle.std.proofs.Common.{append_assoc, le_of_suc-le-suc, suc-le-suc, not-suc-le-zero, zero-lt-suc, true≢false, leb-true}
+use Rattle.std.proofs.Common.{le_trans, le_refl, subst, ◌==◌, eq-eqb, eqb-true, lt-ltb}
 use Rattle.std.proofs.lemmas.Bool.{cases_Bool, both_ways, and_parts, or_cases, or_left, or_right}
 use Rattle.std.proofs.lemmas.Bool.Decides.{nat_tests}
 use Rattle.std.proofs.lemmas.List.{append-nil}
@@ -14,7 +17,8 @@ use Rattle.unicode.proofs.BoundLemmas.{pairs_rise, pairs_rise-fold_pairs}
 use Rattle.lalrpop_lexer_pattern.specs.declared.class.Range.{Range}
 use Rattle.lalrpop_lexer_pattern.specs.Sets.{in_range, in_ranges, IsRising}
 use Rattle.lalrpop_lexer_pattern.specs.Partners.{partners_of}
-use Rattle.lalrpop_lexer_pattern.proofs.SetLemmas.{range_from, range_at, in_range_tells, in_ranges-nil, in_ranges-cons, in_ranges-append, rises_from-gap}
+use Rattle.lalrpop_lexer_pattern.proofs.SetLemmas.{range_from, range_at, in_range_tells, in_ranges-nil, in_ranges-cons}
+use Rattle.lalrpop_lexer_pattern.proofs.SetLemmas.{in_ranges-append, rises_from-gap}
 use Rattle.lalrpop_lexer_pattern.proofs.FoldLemmas.{Leads, Gathers}
 
 abbrev pub Pairs : Type 0
@@ -144,7 +148,8 @@ module _ (r : Range) (pairs rest more : Pairs) (before now new : List Range) (a 
       → filter (λ (p : ℕ × ℕ). nat_lt r.end p.0) more ≡ filter (λ (p : ℕ × ℕ). nat_lt r.end p.0) pairs
   behind_more w le =
       let out : nat_lt r.end a ≡ false = grind (arith, nat_tests) in
-      let here : filter (λ (p : ℕ × ℕ). nat_lt r.end p.0) ((a, b) ∷ more) ≡ filter (λ (p : ℕ × ℕ). nat_lt r.end p.0) more = rw out refl in
+      let here : filter (λ (p : ℕ × ℕ). nat_lt r.end p.0) ((a, b) ∷ more) ≡ filter (λ (p : ℕ × ℕ). nat_lt r.end p.0) more =
+      rw out refl in
       sym here ∙ ap (filter (λ (p : ℕ × ℕ). nat_lt r.end p.0)) (sym e) ∙ w.behind
 
   -- one more pair, whose partner lies outside the range

@@ -48,8 +48,8 @@ abbrev pub NotesInAll : (all : Terminal → Option TextSpan) → Uses → List L
 NotesInAll all uses left = (t : Terminal) → option_or (noted_span_of uses t) (first_span left t) ≡ all t
 
 -- one more turn of such a loop
-pub NotesInAll-step : (all : Terminal → Option TextSpan) (a b : Uses) (left us rest : List LiteralUse) → left ≡ us ++ rest → Notes a b us
-    → NotesInAll all a left → NotesInAll all b rest
+pub NotesInAll-step : (all : Terminal → Option TextSpan) (a b : Uses) (left us rest : List LiteralUse) → left ≡ us ++ rest
+    → Notes a b us → NotesInAll all a left → NotesInAll all b rest
 NotesInAll-step all a b left us rest is k h t =
     ap (λ (o : Option TextSpan). option_or o (first_span rest t)) (k t)
     ∙ option_or_assoc (noted_span_of a t) (first_span us t) (first_span rest t)

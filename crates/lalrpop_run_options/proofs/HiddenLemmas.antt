@@ -1,5 +1,6 @@
 -- What is left of a line behind each of its words, for the loops of `hidden` and `hidden_value`.
-use Rattle.std.proofs.Common.{◌≡◌, ◌∙◌, ◌+◌, ◌<◌, ◌≤◌, ◌++◌, ap, ap₂, refl, sym, ℕ, Bool, true, false, List, [], ◌∷◌, Option, Some, None}
+use Rattle.std.proofs.Common.{◌≡◌, ◌∙◌, ◌+◌, ◌<◌, ◌≤◌, ◌++◌, ap, ap₂, refl, sym, ℕ, Bool, true, false}
+use Rattle.std.proofs.Common.{List, [], ◌∷◌, Option, Some, None}
 use Rattle.std.proofs.Common.{append_assoc, drop, get_or, length}
 use Rattle.std.specs.Prelude.{flat_map, map, option_and_then, option_map, if◌then◌else◌}
 use Rattle.std.specs.Bool.{then_some}
@@ -7,7 +8,8 @@ use Rattle.std.specs.Borrow.{Bor}
 use Rattle.std.proofs.lemmas.List.{append-nil, at_drop_all, at_drop_more, map-append}
 use Rattle.std.specs.Str.{bytes_eq}
 use Rattle.clap.specs.Walk.{Text, texts}
-use Rattle.lalrpop_run_options.specs.Hidden.{begins_with_dash, ends_options, hidden, hidden_value, if_hidden, parts, parts_of_line, shown_words, LinePart}
+use Rattle.lalrpop_run_options.specs.Hidden.{begins_with_dash, ends_options, hidden, hidden_value, if_hidden, parts, parts_of_line}
+use Rattle.lalrpop_run_options.specs.Hidden.{shown_words, LinePart}
 use Rattle.lalrpop_run_options.specs.Hidden.{shown_value, takes_dashes, value_among}
 use Rattle.lalrpop_run_options.specs.Place.{is_value_of, place_after, shown_at}
 use Rattle.lalrpop_run_options.specs.declared.hidden.Place.{Place}
@@ -85,7 +87,8 @@ value_from-cons option Tail w ws = refl
 
 -- one more word is shown
 pub shown-step : (line done more : List (Bor Text)) (place after : Place) (i : ℕ) (d pushed : Bor Text) → i < length line
-    → more ≡ done ++ (pushed ∷ []) → pushed.now ≡ shown_at place (get_or line i d).now → after ≡ place_after place (get_or line i d)
+    → more ≡ done ++ (pushed ∷ []) → pushed.now ≡ shown_at place (get_or line i d).now
+    → after ≡ place_after place (get_or line i d)
     → texts more ++ shown_from after (texts (drop (i + 1) line)) ≡ texts done ++ shown_from place (texts (drop i line))
 shown-step line done more place after i d pushed lt more_is pushed_is after_is =
     let rest = texts (drop (i + 1) line) in

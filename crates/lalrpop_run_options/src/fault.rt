@@ -4,7 +4,7 @@ ghost use Rattle.lalrpop_run_options.specs.Refusal.{IsRefusalOf};
 ghost use Rattle.lalrpop_run_options.specs.declared.fault.OptionsError.TheVariants.{Memory};
 
 use clap::error::ErrorKind;
-use std::alloc::AllocError;
+use std::alloc::{AllocError, AllocFailed};
 
 /// Why `options` gives no options.
 #[derive(Debug, Drop)]
@@ -31,6 +31,14 @@ impl From<AllocError> for OptionsError {
     ghost from_gives = { λ _ refusal. refusal ≡ Memory };
 
     fn from(_error: AllocError) -> OptionsError {
+        OptionsError::Memory
+    }
+}
+
+impl<T: Drop> From<AllocFailed<T>> for OptionsError {
+    ghost from_gives = { λ _ refusal. refusal ≡ Memory };
+
+    fn from(_error: AllocFailed<T>) -> OptionsError {
         OptionsError::Memory
     }
 }

@@ -3,4 +3,4 @@ use Rattle.lalrpop_grammar_rules.specs.Details.{levels_in}
 use Rattle.lalrpop_grammar_rules.proofs.rule.levels.Given as goal
 
 abbrev pub invariant-loop-choice : goal.invariant-loop-choice
-invariant-loop-choice l = levels_in l.ranked ≡ l.levels ++ levels_in (drop l.choice-index l.ranked)
+invariant-loop-choice l = levels_in l.ranked ≡ l.levels.items ++ levels_in (drop l.choice-index l.ranked)

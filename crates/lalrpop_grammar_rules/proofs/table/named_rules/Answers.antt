@@ -3,7 +3,7 @@ use Rattle.lalrpop_grammar.specs.RulesLeft.{rules_left}
 use Rattle.lalrpop_grammar.specs.Views.{grammar_view, nonterminal_view}
 use Rattle.lalrpop_grammar.specs.WrittenGrammar.{rules_of}
 use Rattle.lalrpop_grammar_rules.specs.Details.{Kept}
-use Rattle.lalrpop_grammar_rules.specs.RuleTable.{entry_with_rules, only_of, rule_entry_at, rules_named_in}
+use Rattle.lalrpop_grammar_rules.specs.RuleTable.{entry_with_rules, rule_entry_at, rules_named_in}
 use Rattle.lalrpop_grammar_rules.proofs.NameLemmas.{only_of-append, one_rule_added}
 use Rattle.lalrpop_grammar_rules.proofs.table.named_rules.Goals as goal
 

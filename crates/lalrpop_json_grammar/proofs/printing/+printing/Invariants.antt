@@ -9,4 +9,5 @@ use Rattle.lalrpop_json_grammar.proofs.printing.+printing.Given as goal
 abbrev pub invariant-write_row-loop-i : goal.invariant-write_row-loop-i
 invariant-write_row-loop-i g l =
     IsPlainFormatter l.initial.f
-    → HasWritten g.W.Write.write_str_gives l.initial.f (join_texts (codes ", ") (map (λ t. tree_text (tree_view t)) (take l.i l.trees))) l.f
+    → HasWritten g.W.Write.write_str_gives l.initial.f
+    (join_texts (codes ", ") (map (λ t. tree_text (tree_view t)) (take l.i l.trees))) l.f

@@ -14,8 +14,8 @@ returns-in_default g c plain ok =
     let base = c.in_radix.result.base in
     let shown =
     ap₂ (λ s o. option_map (padded_integral s false (shown_prefix s (radix_prefix base))) o) c.laid_out.ensures c.in_radix.ensures in
-    let written = subst (λ o. DisplaysOnOk g.W.Write.write_str_gives c.args.f.now c.write.result (Some (92 ∷ 117 ∷ 48 ∷ 48 ∷ []) ++? o) c.write.new.self)
-    shown c.write.ensures.writes in
+    let written = subst (λ o. DisplaysOnOk g.W.Write.write_str_gives c.args.f.now c.write.result
+    (Some (92 ∷ 117 ∷ 48 ∷ 48 ∷ []) ++? o) c.write.new.self) shown c.write.ensures.writes in
     has_written_of_eq _ _ _ _ _ (ap (λ ds. 92 ∷ 117 ∷ 48 ∷ 48 ∷ ds) (hex_byte false c.args.code (omega arith)) ∙ sym e)
     (written plain ok)
 
