@@ -69,12 +69,18 @@ fn a_tree_that_is_not_admitted_with_its_tokens(rt: HostRuntime) -> Result<(), Fa
     Ok(())
 }
 
+/// Whether `S` admits the tree with the tokens at its leaves.
+fn admits_alone(alloc: Global, tree: &WrittenTree) -> Result<bool, Fail> {
+    let start = Atom::new(alloc, "S")?;
+    let yes = judge_tree(alloc, &grammar(alloc)?, &[], &start, tree)?;
+    Ok(yes)
+}
+
 #[test]
 fn trees_over_their_own_leaves(rt: HostRuntime) -> Result<(), Fail> {
-    let alloc = rt.alloc();
-    let grammar = grammar(alloc)?;
-    let start = Atom::new(alloc, "S")?;
-    assert!(rt; judge_tree(alloc, &grammar, &[], &start, &tree(alloc, TREE)?)?);
-    assert!(rt; !judge_tree(alloc, &grammar, &[], &start, &tree(alloc, OTHER)?)?);
+    let right = tree(rt.alloc(), TREE)?;
+    assert!(rt; admits_alone(rt.alloc(), &right)?);
+    let other = tree(rt.alloc(), OTHER)?;
+    assert!(rt; !admits_alone(rt.alloc(), &other)?);
     Ok(())
 }

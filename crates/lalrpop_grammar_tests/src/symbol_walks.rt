@@ -6,11 +6,52 @@ ghost use Rattle.lalrpop_grammar_symbols.specs.Views.{span_view, symbol_view};
 
 use crate::symbols::symbol_of_name;
 use lalrpop_grammar_symbols::{
-    Atom, Boxed, ExprSymbol, List, MacroSymbol, Name, NonterminalString, RepeatOp, RepeatSymbol,
-    Span, Subsymbols, Symbol, SymbolKind, SymbolMap, TerminalString, subsymbols_of,
+    Atom, ExprSymbol, List, MacroSymbol, NonterminalString, Span, Subsymbols, Symbol, SymbolKind,
+    SymbolMap, subsymbols_of,
 };
+use lalrpop_json_symbols::symbol_of;
+use serde_json::Value;
 use std::alloc::{AllocError, Global};
 use std::test::Fail;
+
+/// `M<(a b)*, <mut x:c>>`
+const NESTED: &str =
+    r#"{"args":[{"kind":"repeat","op":"*","span":[2,8],"symbol":{"expr":[{"kind":"id","name":"a","span":[3,4]},{"kind":"id","name":"b","span":[5,6]}],"kind":"group","span":[2,7]}},{"kind":"named","mutable":true,"name":"x","span":[10,19],"symbol":{"kind":"id","name":"c","span":[17,18]}}],"kind":"macro","name":"M","span":[0,20]}"#;
+
+/// A symbol of each kind that the format spells, and its text.
+const KINDS: [(&str, &str); 10] = [
+    (r#"{"kind":"id","name":"A","span":[3,7]}"#, "A"),
+    (
+        r#"{"kind":"terminal","span":[3,7],"terminal":{"quoted":"\""}}"#,
+        "\"\\\"\"",
+    ),
+    (r#"{"kind":"lookahead","span":[3,7]}"#, "@L"),
+    (r#"{"kind":"lookbehind","span":[3,7]}"#, "@R"),
+    (r#"{"kind":"error","span":[3,7]}"#, "!"),
+    (
+        r#"{"expr":[{"kind":"id","name":"a","span":[3,4]},{"kind":"id","name":"b","span":[5,6]}],"kind":"group","span":[3,7]}"#,
+        "(a b)",
+    ),
+    (
+        r#"{"kind":"choose","span":[3,7],"symbol":{"kind":"id","name":"a","span":[4,5]}}"#,
+        "<a>",
+    ),
+    (
+        r#"{"kind":"repeat","op":"?","span":[3,7],"symbol":{"kind":"id","name":"a","span":[3,4]}}"#,
+        "a?",
+    ),
+    (
+        r#"{"kind":"named","mutable":false,"name":"n","span":[3,7],"symbol":{"kind":"id","name":"a","span":[4,5]}}"#,
+        "<n:a>",
+    ),
+    (NESTED, "M<(a b)*, <mut x:c>>"),
+];
+
+fn symbol(alloc: Global, json: &str) -> Result<Symbol, Fail> {
+    let value = Value::from_str(alloc, json)?;
+    let symbol = symbol_of(alloc, &value)?;
+    Ok(symbol)
+}
 
 fn symbols_of_names(alloc: Global, names: &[&str]) -> Result<List<Symbol>, AllocError> {
     let mut symbols = List::new(alloc);
@@ -20,62 +61,16 @@ fn symbols_of_names(alloc: Global, names: &[&str]) -> Result<List<Symbol>, Alloc
     Ok(symbols)
 }
 
-fn group(alloc: Global, names: &[&str]) -> Result<SymbolKind, AllocError> {
-    let symbols = symbols_of_names(alloc, names)?;
-    Ok(SymbolKind::Expr(ExprSymbol { symbols }))
+/// Whether the symbol has this text.
+fn has_text(alloc: Global, symbol: &Symbol, text: &str) -> Result<bool, AllocError> {
+    let written = format!(in alloc; "{symbol}")?;
+    Ok(written.as_str() == text)
 }
 
-fn call(alloc: Global, name: &str, args: List<Symbol>) -> Result<SymbolKind, AllocError> {
-    let name = NonterminalString(Atom::new(alloc, name)?);
-    Ok(SymbolKind::Macro(MacroSymbol { name, args }))
-}
-
-fn repeat(alloc: Global, op: RepeatOp, symbol: Symbol) -> Result<SymbolKind, AllocError> {
-    let repeat = RepeatSymbol { op, symbol };
-    Ok(SymbolKind::Repeat(Boxed::new(alloc, repeat)?))
-}
-
-fn with_name(alloc: Global, name: &str, symbol: Symbol) -> Result<SymbolKind, AllocError> {
-    let boxed = Boxed::new(alloc, symbol)?;
-    Ok(SymbolKind::Name(Name::new(true, Atom::new(alloc, name)?), boxed))
-}
-
-fn choice(alloc: Global, symbol: Symbol) -> Result<SymbolKind, AllocError> {
-    Ok(SymbolKind::Choose(Boxed::new(alloc, symbol)?))
-}
-
-fn nonterminal(alloc: Global, name: &str) -> Result<SymbolKind, AllocError> {
-    Ok(SymbolKind::Nonterminal(NonterminalString(Atom::new(alloc, name)?)))
-}
-
-fn terminal(alloc: Global, text: &str) -> Result<SymbolKind, AllocError> {
-    let text = Atom::new(alloc, text)?;
-    Ok(SymbolKind::Terminal(TerminalString::quoted(text)))
-}
-
-/// `M<(a b)*, <mut x:c>>`
-fn nested(alloc: Global) -> Result<Symbol, AllocError> {
-    let pair = Symbol::new(Span(2, 7), group(alloc, &["a", "b"])?);
-    let first = Symbol::new(Span(2, 8), repeat(alloc, RepeatOp::Star, pair)?);
-    let inner = symbol_of_name(alloc, "c")?;
-    let second = Symbol::new(Span(10, 19), with_name(alloc, "x", inner)?);
-    let mut args = List::new(alloc);
-    args.push(first)?;
-    args.push(second)?;
-    Ok(Symbol::new(Span(0, 20), call(alloc, "M", args)?))
-}
-
-/// Whether the symbol has this text, and a copy equals it.
-fn is_copied(alloc: Global, symbol: &Symbol, text: &str) -> Result<bool, AllocError> {
+/// Whether a copy of the symbol equals it.
+fn is_copied(alloc: Global, symbol: &Symbol) -> Result<bool, AllocError> {
     let copy = symbol.try_clone(alloc)?;
-    let written = format!(in alloc; "{copy}")?;
-    Ok(copy == *symbol && written.as_str() == text)
-}
-
-/// Whether a symbol of this kind has this text, and a copy equals it.
-fn is_kind_copied(alloc: Global, kind: SymbolKind, text: &str) -> Result<bool, AllocError> {
-    let symbol = Symbol::new(Span(3, 7), kind);
-    is_copied(alloc, &symbol, text)
+    Ok(copy == *symbol)
 }
 
 #[test]
@@ -90,25 +85,20 @@ fn a_copy_of_four_symbols_equals_them(rt: HostRuntime) -> Result<(), Fail> {
 }
 
 #[test]
-fn copies_of_symbols_without_others_inside(rt: HostRuntime) -> Result<(), Fail> {
-    let alloc = rt.alloc();
-    let name = SymbolKind::AmbiguousId(Atom::new(alloc, "A")?);
-    assert!(rt; is_kind_copied(alloc, name, "A")?);
-    assert!(rt; is_kind_copied(alloc, nonterminal(alloc, "B")?, "B")?);
-    assert!(rt; is_kind_copied(alloc, terminal(alloc, "\"")?, "\"\\\"\"")?);
-    assert!(rt; is_kind_copied(alloc, SymbolKind::Lookahead, "@L")?);
-    assert!(rt; is_kind_copied(alloc, SymbolKind::Lookbehind, "@R")?);
-    assert!(rt; is_kind_copied(alloc, SymbolKind::Error, "!")?);
+fn copies_and_texts_of_each_kind(rt: HostRuntime) -> Result<(), Fail> {
+    for (json, text) in KINDS {
+        let symbol = symbol(rt.alloc(), json)?;
+        assert!(rt; is_copied(rt.alloc(), &symbol)?, "{text}");
+        assert!(rt; has_text(rt.alloc(), &symbol, text)?, "{text}");
+    }
     Ok(())
 }
 
 #[test]
-fn copies_of_symbols_around_others(rt: HostRuntime) -> Result<(), Fail> {
-    let alloc = rt.alloc();
-    assert!(rt; is_kind_copied(alloc, group(alloc, &["a", "b"])?, "(a b)")?);
-    let inner = symbol_of_name(alloc, "a")?;
-    assert!(rt; is_kind_copied(alloc, choice(alloc, inner)?, "<a>")?);
-    assert!(rt; is_copied(alloc, &nested(alloc)?, "M<(a b)*, <mut x:c>>")?);
+fn a_copy_of_a_nonterminal_equals_it(rt: HostRuntime) -> Result<(), Fail> {
+    let nonterminal = nonterminal_at(Span(3, 7), Atom::new(rt.alloc(), "B")?);
+    assert!(rt; is_copied(rt.alloc(), &nonterminal)?);
+    assert!(rt; has_text(rt.alloc(), &nonterminal, "B")?);
     Ok(())
 }
 
@@ -124,7 +114,7 @@ fn texts_of(alloc: Global, symbols: Subsymbols<'_>) -> Result<String, AllocError
 #[test]
 fn subsymbols_in_reading_order(rt: HostRuntime) -> Result<(), Fail> {
     let alloc = rt.alloc();
-    let symbol = nested(alloc)?;
+    let symbol = symbol(alloc, NESTED)?;
     let texts = texts_of(alloc, symbol.subsymbols(alloc)?)?;
     assert_eq!(rt;
         texts.as_str(),
@@ -204,9 +194,9 @@ fn has_no_ambiguous_id(alloc: Global, symbol: &Symbol) -> Result<bool, AllocErro
 fn names_inside_a_symbol_replaced(rt: HostRuntime) -> Result<(), Fail> {
     let alloc = rt.alloc();
     let mut map = Resolving { calls: 0 };
-    let mapped = nested(alloc)?.map(alloc, &mut map)?;
+    let mapped = symbol(alloc, NESTED)?.map(alloc, &mut map)?;
     assert!(rt; has_no_ambiguous_id(alloc, &mapped)?);
-    assert!(rt; is_copied(alloc, &mapped, "M<(a b)*, <mut x:c>>")?);
+    assert!(rt; has_text(alloc, &mapped, "M<(a b)*, <mut x:c>>")?);
     assert_eq!(rt; map.calls, 1);
     Ok(())
 }

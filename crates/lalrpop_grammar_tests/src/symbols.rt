@@ -12,18 +12,37 @@ pub(crate) fn symbol_of_name(alloc: Global, name: &str) -> Result<Symbol, AllocE
     Ok(Symbol::new(Span(0, 0), kind))
 }
 
+/// Whether this is written for the terminal behind what was written before.
+fn is_written(alloc: Global, terminal: &TerminalString, text: &str) -> Result<bool, AllocError> {
+    let mut out = String::from_str(alloc, "<")?;
+    terminal.write_text(alloc, &mut out)?;
+    Ok(out.strip_prefix('<') == Some(text))
+}
+
 #[test]
 fn texts_of_terminals(rt: HostRuntime) -> Result<(), Fail> {
-    let alloc = rt.alloc();
-    let mut out = String::from_str(alloc, "<")?;
-    TerminalString::quoted(Atom::new(alloc, "a")?).write_text(alloc, &mut out)?;
-    TerminalString::regex(Atom::new(alloc, "b+")?).write_text(alloc, &mut out)?;
-    TerminalString::Bare(Atom::new(alloc, "NUM")?).write_text(alloc, &mut out)?;
-    TerminalString::Error.write_text(alloc, &mut out)?;
-    TerminalLiteral::Quoted(Atom::new(alloc, "")?).write_text(alloc, &mut out)?;
-    assert_eq!(rt; out.as_str(), "<\"a\"r#\"b+\"#NUM!\"\"");
+    let quoted = TerminalString::quoted(Atom::new(rt.alloc(), "a")?);
+    assert!(rt; is_written(rt.alloc(), &quoted, "\"a\"")?);
+    let regex = TerminalString::regex(Atom::new(rt.alloc(), "b+")?);
+    assert!(rt; is_written(rt.alloc(), &regex, "r#\"b+\"#")?);
+    let bare = TerminalString::Bare(Atom::new(rt.alloc(), "NUM")?);
+    assert!(rt; is_written(rt.alloc(), &bare, "NUM")?);
+    assert!(rt; is_written(rt.alloc(), &TerminalString::Error, "!")?);
+    Ok(())
+}
+
+#[test]
+fn the_text_of_a_literal(rt: HostRuntime) -> Result<(), Fail> {
+    let mut out = String::new(rt.alloc());
+    TerminalLiteral::Quoted(Atom::new(rt.alloc(), "")?).write_text(rt.alloc(), &mut out)?;
+    assert_eq!(rt; out.as_str(), "\"\"");
+    Ok(())
+}
+
+#[test]
+fn the_text_of_error_recovery(rt: HostRuntime) -> Result<(), Fail> {
     let error = TerminalString::Error;
-    assert_eq!(rt; error.canonical_form(alloc)?.as_str(), "!");
+    assert_eq!(rt; error.canonical_form(rt.alloc())?.as_str(), "!");
     assert_eq!(rt; error.display_len(), 1);
     Ok(())
 }
