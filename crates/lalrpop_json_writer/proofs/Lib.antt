@@ -1,10 +1,1 @@
-pub mod AlternativeLemmas
-pub mod AttributeLemmas
-pub mod EachLemmas
 pub mod GrammarLemmas
-pub mod ItemLemmas
-pub mod ListLemmas
-pub mod MatchLemmas
-pub mod SymbolLemmas
-pub mod TerminalLemmas
-pub mod TypeLemmas

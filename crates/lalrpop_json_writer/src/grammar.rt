@@ -9,12 +9,13 @@ ghost use Rattle.lalrpop_json_grammar.specs.Grammars.{grammar_at};
 ghost use Rattle.lalrpop_json_grammar.specs.Spelling.{spelling};
 ghost use Rattle.lalrpop_json_writer.specs.Written.{AreReadableParts, WritesGrammar, WritesAgain};
 
-use crate::attribute::{are_readable_attributes, attributes_value};
 use crate::fault::WriteError;
-use crate::item::{are_readable_items, items_value};
-use crate::scalar::{is_readable_span, span_value};
 use lalrpop_grammar::Grammar;
 use lalrpop_grammar_symbols::Atom;
+use lalrpop_json_items_writer::{are_readable_items, items_value};
+use lalrpop_json_symbols_writer::{
+    are_readable_attributes, attributes_value, is_readable_span, span_value,
+};
 use lalrpop_json_values::{longest_in, prefix_past};
 use serde_json::{Value, json};
 use std::alloc::{AllocError, Global};

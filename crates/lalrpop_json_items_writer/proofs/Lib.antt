@@ -1,0 +1,3 @@
+pub mod AlternativeLemmas
+pub mod ItemLemmas
+pub mod MatchLemmas
