@@ -1,5 +1,6 @@
 -- One token more in the lines of tokens: for the function that writes them.
-use Rattle.std.proofs.Common.{◌≡◌, ◌<◌, ◌+◌, ℕ, List, [], ◌∷◌, ◌++◌, ap, sym, ◌∙◌, append-nil, append_assoc, take, get_or, length}
+use Rattle.std.proofs.Common.{◌≡◌, ◌<◌, ◌+◌, ℕ, List, [], ◌∷◌, ◌++◌, ap, sym, ◌∙◌, append-nil}
+use Rattle.std.proofs.Common.{append_assoc, take, get_or, length}
 use Rattle.std.proofs.lemmas.List.{take_more}
 use Rattle.lalrpop_grammar.specs.declared.token.ScanToken.{ScanToken}
 use Rattle.lalrpop_grammar.specs.Views.{token_view}

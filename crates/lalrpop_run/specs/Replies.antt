@@ -34,7 +34,8 @@ IsTextIn false known text = text ≡ []
 -- To the grammar's bytes and what the text's reader has left. The text is read once there is a grammar, where it is needed.
 pub data IsRunReply (q : Question) (bytes : List ℕ) (known : Option (List ℕ)) (reply : Reply) : Type 0 where
   no_json : IsNoJson bytes → reply ≡ replies.NotJson → IsRunReply q bytes known reply
-  no_grammar : (fault : Fault) → GivesGrammar q bytes (Err fault) → reply ≡ replies.GrammarFault fault → IsRunReply q bytes known reply
+  no_grammar : (fault : Fault) → GivesGrammar q bytes (Err fault) → reply ≡ replies.GrammarFault fault
+      → IsRunReply q bytes known reply
   no_text : (g : Grammar) (text : List ℕ) → GivesGrammar q bytes (Ok g) → reads_text q ≡ true → ReadsAll known text
       → (IsUtf8 text → ⊥) → reply ≡ replies.NotUtf8 → IsRunReply q bytes known reply
   replied : (g : Grammar) (text : List ℕ) → GivesGrammar q bytes (Ok g) → IsTextIn (reads_text q) known text

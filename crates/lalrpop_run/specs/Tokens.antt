@@ -37,7 +37,8 @@ pub record AreEntriesOf (g : written.Grammar) (literals : List LiteralUse) : Typ
 
 -- by the entries: the tokens, or the first byte at which there is none
 pub data IsScanReply (literals : List LiteralUse) (text : Text) (reply : Reply) : Type 0 where
-  no_token : (at : ℕ) → NoTokenAt (literal_entries literals) (chars text) at → reply ≡ replies.NoToken at → IsScanReply literals text reply
+  no_token : (at : ℕ) → NoTokenAt (literal_entries literals) (chars text) at → reply ≡ replies.NoToken at
+      → IsScanReply literals text reply
   tokens : (found : Vec ScanToken Global) → AreAllTokens (literal_entries literals) text found.items
       → reply ≡ replies.Tokens found → IsScanReply literals text reply
 

@@ -15,4 +15,5 @@ returns-in-Err-Shape c =
     let g = c.args.grammar.now in
     let e = c.in-Err-Shape.field-0 in
     let fact : Fails e (plain g) = refused g (in_grammar (grammar_view g)) e c.in-Err-Shape.ensures in
-    IsTokensReply.not_plain (record { path = c.in-Err-Shape.path; kind = c.in-Err-Shape.kind }) (rw c.in-Err-Shape.field-0-is at fact) (search (rules, c.in-Err-Shape.field-0-is))
+    IsTokensReply.not_plain (record { path = c.in-Err-Shape.path; kind = c.in-Err-Shape.kind }) (rw c.in-Err-Shape.field-0-is at fact)
+    (search (rules, c.in-Err-Shape.field-0-is))
