@@ -1,0 +1,6 @@
+pub mod Algorithms
+pub mod Maps
+pub mod NormErrorTexts
+pub mod Productions
+pub mod SymbolTypes
+pub mod TypeReprs

@@ -1,0 +1,128 @@
+//! What may be wrong with a written grammar.
+
+ghost use Rattle.std.specs.Prelude.{◌≡◌, IfOk, Some, string_bytes};
+ghost use Rattle.lalrpop_grammar_repr.specs.NormErrorTexts.{norm_error_text};
+
+use lalrpop_grammar_symbols::{Atom, NonterminalString, Span, TerminalLiteral};
+use std::error::Error;
+use std::fmt::{self, Display, Formatter, Write};
+
+/// A fault of a written grammar, and where it stands.
+#[derive(Debug, PartialEq, Eq, Drop)]
+pub struct NormError {
+    /// What is wrong.
+    pub kind: NormErrorKind,
+    /// Where.
+    pub span: Span,
+}
+
+/// What is wrong with a written grammar. It prints its message.
+#[derive(Debug, PartialEq, Eq, Drop)]
+pub enum NormErrorKind {
+    /// N1: two rules, a rule and a mapped bare name, or two parameters of a macro have this name.
+    DuplicateDefinition(Atom),
+    /// N2: a second match block.
+    SecondMatchBlock,
+    /// N3: an attribute of this name where none such may stand, or one of another shape.
+    UnknownAttribute(Atom),
+    /// N4: a public rule is marked `inline`.
+    PublicInline,
+    /// N5: a rule has levels, and its first alternative has none.
+    FirstWithoutLevel,
+    /// N6: a level that is no number below 2^32.
+    LevelIsNoNumber,
+    /// N7: a side on the tightest level.
+    SideOnTightestLevel,
+    /// N8: a side that is none.
+    UnknownSide,
+    /// N9: a name that begins with the prefix.
+    ReservedPrefix,
+    /// N10: a named symbol beside a chosen one, in a group, or in an alternative without user code.
+    NamedNotAllowed,
+    /// N11: an entry stands twice in the match block.
+    EntryTwice,
+    /// N12: a name that names nothing.
+    NoDefinition(Atom),
+    /// N13: a macro with another number of arguments than parameters.
+    WrongNumberOfArguments,
+    /// N14: a macro without arguments, or arguments for a rule that is none.
+    MacroAsRule,
+    /// N15: macros within macros beyond this depth.
+    MacroDepth(u16),
+    /// N16: a condition on something else than a quoted literal.
+    ConditionOnOther,
+    /// N17: a condition whose pattern is none.
+    ConditionPattern,
+    /// N18: a literal that no entry of the match block takes.
+    NotInMatchBlock(TerminalLiteral),
+    /// N19: a literal that is no pattern, or one that no automaton is made for.
+    PatternRefused(TerminalLiteral),
+    /// N20: two literals match the same word, and none that matches it has a greater precedence.
+    SameText(TerminalLiteral, TerminalLiteral),
+    /// N21: the alternatives of a rule disagree in type.
+    TypesDisagree,
+    /// N22: a rule without a type.
+    NoType(NonterminalString),
+    /// N23: more than 2^32 actions.
+    TooManyActions,
+    /// N24: a rule that would have to be inlined into itself.
+    CyclicInline(NonterminalString),
+}
+
+impl Display for NormErrorKind {
+    ghost output = { λ kind. Some (norm_error_text kind) };
+
+    fn fmt<W: Write>(&self, f: &mut Formatter<W>) -> fmt::Result {
+        match self {
+            NormErrorKind::DuplicateDefinition(name) => {
+                write!(f, "duplicate definition of `{name}`")
+            }
+            NormErrorKind::SecondMatchBlock => f.write_str("second match block"),
+            NormErrorKind::UnknownAttribute(name) => write!(f, "unknown attribute `{name}`"),
+            NormErrorKind::PublicInline => f.write_str("public rules can't be inlined"),
+            NormErrorKind::FirstWithoutLevel => {
+                f.write_str("the first alternative needs a level")
+            }
+            NormErrorKind::LevelIsNoNumber => f.write_str("level is no number"),
+            NormErrorKind::SideOnTightestLevel => f.write_str("no side on the tightest level"),
+            NormErrorKind::UnknownSide => f.write_str("unknown side"),
+            NormErrorKind::ReservedPrefix => f.write_str("reserved prefix"),
+            NormErrorKind::NamedNotAllowed => f.write_str("named symbol not allowed here"),
+            NormErrorKind::EntryTwice => f.write_str("entry listed twice"),
+            NormErrorKind::NoDefinition(name) => write!(f, "no definition found for `{name}`"),
+            NormErrorKind::WrongNumberOfArguments => f.write_str("wrong number of arguments"),
+            NormErrorKind::MacroAsRule => { f.write_str("macro used as a rule or rule as a macro") }
+            NormErrorKind::MacroDepth(limit) => write!(f, "macro depth above {limit}"),
+            NormErrorKind::ConditionOnOther => {
+                f.write_str("condition on something else than a literal")
+            }
+            NormErrorKind::ConditionPattern => f.write_str("condition pattern not read"),
+            NormErrorKind::NotInMatchBlock(literal) => {
+                write!(f, "{literal} isn't in the match block")
+            }
+            NormErrorKind::PatternRefused(literal) => write!(f, "pattern refused: {literal}"),
+            NormErrorKind::SameText(first, second) => {
+                write!(f, "{first} and {second} match the same text")
+            }
+            NormErrorKind::TypesDisagree => f.write_str("alternatives disagree in type"),
+            NormErrorKind::NoType(name) => write!(f, "no type for `{name}`"),
+            NormErrorKind::TooManyActions => f.write_str("too many actions"),
+            NormErrorKind::CyclicInline(name) => write!(
+                f,
+                "cyclic inline directive: `{name}` would have to be inlined into itself"
+            ),
+        }
+    }
+}
+
+impl Error for NormErrorKind {}
+
+impl Display for NormError {
+    ghost output = { λ error. Some (norm_error_text error.kind) };
+
+    fn fmt<W: Write>(&self, f: &mut Formatter<W>) -> fmt::Result {
+        write!(f, "{}", self.kind)
+    }
+}
+
+impl Error for NormError {}

@@ -1,0 +1,13 @@
+pub mod TreeLemmas
+pub mod TakeLemmas
+pub mod TokenLemmas
+pub mod StepLemmas
+pub mod StepOriginLemmas
+pub mod StepOnceLemmas
+pub mod SideLemmas
+pub mod StepLawLemmas
+pub mod OrderLemmas
+pub mod WrittenLemmas
+pub mod ExpandedWrittenLemmas
+pub mod ExamplesOfSteps
+pub mod ExamplesOfLabels
