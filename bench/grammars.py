@@ -5,7 +5,7 @@ import time
 
 HERE = os.path.dirname(os.path.abspath(__file__))
 PROGRAM = os.path.join(HERE, "..", "crates", "lalrpop", "out", "lalrpop")
-TEXT_PROGRAM = os.path.join(HERE, "..", "crates", "lalrpop_bench", "out", "lalrpop_bench")
+TEXT_PROGRAM = os.path.join(HERE, "..", "crates", "lalrpop_cases", "out", "lalrpop_cases")
 SPAN = {"span": [0, 0]}
 
 

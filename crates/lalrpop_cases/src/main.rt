@@ -1,74 +1,48 @@
-//! Table tests: each case of the files that the words name, run over readers and a writer in memory.
+//! Table tests, and the tokens of standard input, to be timed.
+//!
+//! The words name files of cases, each of which is run over readers and a writer in memory. Behind the word `tokens` stand a
+//! start and a file: the program answers as `lalrpop_run tokens` does, whose text is a word and so no longer than a word may be.
 #![tactic(auto)]
-
-ghost use Rattle.std.specs.Prelude.{◌≤◌, IfOk, length};
 
 mod case;
 mod outcome;
+mod runs;
+mod tally;
+mod timing;
 
-use crate::case::Case;
-use crate::outcome::{Outcome, outcome_of};
-use anyhow::{Context, Result};
+use crate::runs::run_tally;
+use crate::tally::Tally;
+use crate::timing::answer_words;
+use anyhow::Result;
 use std::alloc::Global;
+use std::env;
 use std::process::ExitCode;
 use std::rt::{Env, Files};
-use std::{env, fs};
 
 /// The status where a case differs.
 const DIFFERS: u8 = 1;
 
 fn main(rt: HostRuntime) -> Result<ExitCode> {
-    let failed = respond(&rt)?;
-    Ok(ExitCode::from(if failed == 0 { 0 } else { DIFFERS }))
+    Ok(ExitCode::from(respond(&rt)?))
 }
 
-/// Runs the files that the words name, and answers how many cases differ.
-fn respond<R: Alloc<A = Global> + Env + Files + Print>(rt: &R) -> Result<usize> {
+/// Reads the words, and answers them.
+fn respond<R: Alloc<A = Global> + Env + Files + Input + Print>(rt: &R) -> Result<u8> {
     let words: Vec<String> = env::args(rt)?.collect(rt.alloc())?;
-    let mut passed = 0usize;
-    let mut failed = 0usize;
-    for file in words.iter().skip(1) {
-        let cases = read_cases(rt, file.as_str())?;
-        let differing = tell_differing(rt, cases.as_slice())?;
-        passed = passed.saturating_add(cases.len() - differing);
-        failed = failed.saturating_add(differing);
-    }
-    println!(rt; "{passed} passed, {failed} failed")?;
-    Ok(failed)
-}
-
-/// The cases of the file.
-fn read_cases<R: Alloc<A = Global> + Files>(rt: &R, file: &str) -> Result<Vec<Case>> {
-    let text = fs::read_to_string(rt, file).context(format_args!("reading {file}"))?;
-    let cases = serde_json::from_str(rt.alloc(), text.as_str()).context(format_args!("{file}"))?;
-    Ok(cases)
-}
-
-/// How many cases differ, each of which is told.
-fn tell_differing<R: Alloc<A = Global> + Print>(rt: &R, cases: &[Case]) -> Result<usize>
-    ensures { IfOk result (λ failed. failed ≤ length cases.now) }
-{
-    let mut failed = 0;
-    for case in cases {
-        let outcome = outcome_of(rt.alloc(), case).context(format_args!("the case {}", case.name))?;
-        if !outcome.is_wanted(case) || !outcome.is_confirmed() {
-            tell(rt, case, &outcome)?;
-            failed += 1;
+    match words.as_slice() {
+        [_, first, start, file] if first.as_str() == "tokens" => {
+            answer_words(rt, start.as_str(), file.as_str())
         }
+        words => run_tables(rt, words),
     }
-    Ok(failed)
 }
 
-/// Tells what was wanted and what came.
-fn tell(rt: &impl Print, case: &Case, outcome: &Outcome) -> Result<()> {
-    println!(rt; "{} {}", case.name, case.shows)?;
-    println!(rt; "  wanted {:?} {} {}", case.output, case.status, case.fault)?;
-    println!(rt;
-        "  got    {:?} {} {}",
-        outcome.text, outcome.status, outcome.fault
-    )?;
-    if let Some(answer) = &outcome.called {
-        println!(rt; "  called {:?} {}", answer.text, answer.status)?;
+/// Runs the files that the words name, and tells how many cases differ.
+fn run_tables<R: Alloc<A = Global> + Files + Print>(rt: &R, words: &[String]) -> Result<u8> {
+    let mut all = Tally::new();
+    for file in words.iter().skip(1) {
+        all = all.with(run_tally(rt, file.as_str())?);
     }
-    Ok(())
+    println!(rt; "{} passed, {} failed", all.passed, all.failed)?;
+    Ok(if all.failed == 0 { 0 } else { DIFFERS })
 }
