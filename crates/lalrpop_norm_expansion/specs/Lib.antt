@@ -1,0 +1,11 @@
+pub mod Depth
+pub mod Same
+pub mod Productions
+pub mod Rows
+pub mod Inlined
+pub mod Types
+pub mod Keys
+pub mod Between
+pub mod Premises
+pub mod Rounds
+pub mod Laws

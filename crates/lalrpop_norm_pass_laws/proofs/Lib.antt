@@ -1,0 +1,5 @@
+pub mod KeyRuleLemmas
+pub mod KeyTableLemmas
+pub mod LevelRuleLemmas
+pub mod ExamplesOfKeyRules
+pub mod ExamplesOfLevelRules

@@ -1,0 +1,4 @@
+pub mod KeyRules
+pub mod KeyTables
+pub mod LevelRules
+pub mod PassLaws
