@@ -77,8 +77,11 @@ instance_of_level =
 
 -- a level's alternatives keep the places at which they were written
 level_places : productions_of leveled (Nonterminal.closed (Closed.call (codes "Expr") Closeds.none None))
-    ≡ (Origin.alternative (codes "Expr") [] 1, GrammarSymbol.nonterminal of_expr_1
-        ∷ GrammarSymbol.terminal (Terminal.quoted (codes "+")) ∷ [])
+    ≡ (
+      Origin.alternative (codes "Expr") [] 1,
+      GrammarSymbol.nonterminal of_expr_1
+          ∷ GrammarSymbol.terminal (Terminal.quoted (codes "+")) ∷ [],
+    )
     ∷ (Origin.pass_down, GrammarSymbol.nonterminal (Nonterminal.closed expr_1) ∷ []) ∷ []
 level_places = refl
 
@@ -252,8 +255,10 @@ unconditional : (r : EnabledRule) → Among resolved.rules r → HasNoCondition 
 unconditional =
     all-among HasNoCondition resolved.rules (
       all-among (λ c. c.condition ≡ None) rule_S.choices (refl, tt),
-      (all-among (λ c. c.condition ≡ None) rule_X.choices (refl, tt),
-          (all-among (λ c. c.condition ≡ None) rule_M.choices (refl, tt), tt)),
+      (
+        all-among (λ c. c.condition ≡ None) rule_X.choices (refl, tt),
+        (all-among (λ c. c.condition ≡ None) rule_M.choices (refl, tt), tt),
+      ),
     )
 
 not_some : {A : Type 0} (o : Option A) (x : A) → o ≡ None → o ≡ Some x → ⊥

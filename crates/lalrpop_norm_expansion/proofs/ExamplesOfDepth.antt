@@ -26,7 +26,7 @@ three_deep = enabled_grammar finds [] (grammar (
     ∷ macro_of "B" ("I" ∷ []) (alt (lit "b" ∷ of_macro "C" (in_group (lit "," ∷ id "I" ∷ []) ∷ []) ∷ []) ∷ [])
     ∷ macro_of "C" ("I" ∷ []) (alt (lit "c" ∷ id "I" ∷ []) ∷ [])
     ∷ rule_of "D" (alt (of_macro "A" (lit "d" ∷ []) ∷ of_macro "B" (lit "d" ∷ []) ∷ of_macro "C" (lit "d" ∷ []) ∷ [])
-        ∷ []) ∷ []))
+    ∷ []) ∷ []))
 
 -- C<("," ("." "d"))>
 abbrev deepest : Closed
@@ -81,7 +81,7 @@ abbrev two_ways : EnabledGrammar
 two_ways = enabled_grammar finds [] (grammar (
     rule_of "S" (alt (of_macro "A" (lit "a" ∷ []) ∷ []) ∷ alt (of_macro "B" (lit "a" ∷ []) ∷ []) ∷ [])
     ∷ macro_of "A" ("T" ∷ []) (alt (of_macro "B" (id "T" ∷ []) ∷ []) ∷ [])
-        ∷ macro_of "B" ("T" ∷ []) (alt (id "T" ∷ []) ∷ []) ∷ []))
+    ∷ macro_of "B" ("T" ∷ []) (alt (id "T" ∷ []) ∷ []) ∷ []))
 
 longer_chain_too : HasCallChain two_ways 2 (of_one "B" (quoted "a"))
 longer_chain_too = listed-chain two_ways 2 (of_one "B" (quoted "a")) (inl refl)
@@ -150,7 +150,7 @@ zero_is_not = is_too_deep recursive 0 1 (of_one "A" (quoted "a")) refl refl
 abbrev conditional : EnabledGrammar
 conditional = enabled_grammar finds [] (grammar (rule_of "S" (alt (of_macro "E" (lit "n" ∷ []) ∷ []) ∷ [])
     ∷ macro_of "E" ("K" ∷ []) (on_K ConditionTest.equals "n" (lit "n" ∷ [])
-        ∷ on_K ConditionTest.equals "m" (of_macro "F" (id "K" ∷ []) ∷ [])
+    ∷ on_K ConditionTest.equals "m" (of_macro "F" (id "K" ∷ []) ∷ [])
     ∷ []) ∷ macro_of "F" ("T" ∷ []) (alt (id "T" ∷ []) ∷ []) ∷ []))
 
 no_call_under_false : (x : Closed) → IsTooDeep conditional 1 x → ⊥

@@ -53,7 +53,7 @@ IsNamed g numbers = IsNaming (leveled_key_text g) (codes "__") g (name_by (level
 abbrev beside : EnabledGrammar
 beside = rules (rule_of "E" (with (level "1" ∷ []) (lit "a" ∷ []) ∷ with (level "2" ∷ []) (many_of (id "E2") ∷ lit "b" ∷ [])
     ∷ with (level "3" ∷ side "none" ∷ []) (many_of (id "E") ∷ lit "c" ∷ []) ∷ [])
-        ∷ private_with "E2" [] (alt (lit "d" ∷ []) ∷ []) ∷ [])
+    ∷ private_with "E2" [] (alt (lit "d" ∷ []) ∷ []) ∷ [])
 
 abbrev beside_nonterminals : List Nonterminal
 beside_nonterminals = Nonterminal.start (codes "E") ∷ key (of_rule "E" (Some 3)) ∷ key (of_rule "E" (Some 2))
@@ -79,7 +79,7 @@ beside_named = naming-is beside (leveled_key_text beside) (codes "__") beside_nu
 abbrev two_instances : EnabledGrammar
 two_instances = rules (rule_of "S" (alt (of_macro "E1" (lit "a" ∷ []) ∷ of_macro "E" (lit "a" ∷ []) ∷ []) ∷ [])
     ∷ private_with "E" ("T" ∷ []) (with (level "1" ∷ []) (id "T" ∷ [])
-        ∷ with (level "2" ∷ []) (of_macro "E" (id "T" ∷ []) ∷ lit "+" ∷ [])
+    ∷ with (level "2" ∷ []) (of_macro "E" (id "T" ∷ []) ∷ lit "+" ∷ [])
     ∷ []) ∷ private_with "E1" ("T" ∷ []) (alt (id "T" ∷ lit "z" ∷ []) ∷ []) ∷ [])
 
 abbrev two_instances_nonterminals : List Nonterminal
@@ -102,7 +102,7 @@ abbrev numbered_rule : EnabledGrammar
 numbered_rule = rules (rule_of "Expr" (with (level "1" ∷ []) (id "Expr2" ∷ [])
     ∷ with (level "2" ∷ side "left" ∷ []) (id "Expr" ∷ lit "*" ∷ id "Expr" ∷ [])
     ∷ with (level "3" ∷ side "left" ∷ []) (id "Expr" ∷ lit "+" ∷ id "Expr" ∷ []) ∷ [])
-        ∷ private_with "Expr2" [] (alt (lit "n" ∷ []) ∷ [])
+    ∷ private_with "Expr2" [] (alt (lit "n" ∷ []) ∷ [])
     ∷ [])
 
 abbrev numbered_rule_nonterminals : List Nonterminal
@@ -140,7 +140,7 @@ crossed_named : IsNamed crossed ((of_rule "E" (Some 12), 1) ∷ (of_rule "E" (So
 unfolding digits
 crossed_named =
     naming-is crossed (leveled_key_text crossed) (codes "__") ((of_rule "E" (Some 12), 1) ∷ (of_rule "E" (Some 1), 1)
-        ∷ []) 2 crossed_nonterminals
+    ∷ []) 2 crossed_nonterminals
     refl refl refl
 
 -- S = E<"a">; E<E1> = { L1 E1, L2 left E<E1> "+" E<E1> }: a parameter may have a level's name
@@ -148,7 +148,7 @@ abbrev parameter_named : EnabledGrammar
 parameter_named = rules (rule_of "S" (alt (of_macro "E" (lit "a" ∷ []) ∷ []) ∷ [])
     ∷ private_with "E" ("E1" ∷ []) (with (level "1" ∷ []) (id "E1" ∷ [])
     ∷ with (level "2" ∷ side "left" ∷ []) (of_macro "E" (id "E1" ∷ []) ∷ lit "+" ∷ of_macro "E" (id "E1" ∷ []) ∷ [])
-        ∷ []) ∷ [])
+    ∷ []) ∷ [])
 
 abbrev parameter_named_nonterminals : List Nonterminal
 parameter_named_nonterminals = Nonterminal.start (codes "S") ∷ key (of_rule "S" None) ∷ key (of_one "E" (quoted "a") (Some 2))

@@ -63,7 +63,7 @@ abbrev sums : EnabledGrammar
 sums = enabled_grammar finds [] (grammar (rule_of "E" (with (level "1" ∷ []) (id "Num" ∷ [])
     ∷ with (level "2" ∷ side "left" ∷ []) (id "E" ∷ lit "*" ∷ id "E" ∷ [])
     ∷ with (level "3" ∷ side "left" ∷ []) (id "E" ∷ lit "+" ∷ id "E" ∷ []) ∷ [])
-        ∷ rule_of "Num" (alt (lit "n" ∷ []) ∷ []) ∷ []))
+    ∷ rule_of "Num" (alt (lit "n" ∷ []) ∷ []) ∷ []))
 
 abbrev sums_nonterminals : List Nonterminal
 sums_nonterminals = Nonterminal.start (codes "E") ∷ Nonterminal.start (codes "Num") ∷ rule_named "E" (Some 3)
@@ -74,7 +74,7 @@ abbrev sums_productions : List NamedProduction
 sums_productions = production "__E" (nt "E" ∷ []) 0 ∷ production "__Num" (nt "Num" ∷ []) 1
     ∷ production "E" (nt "E" ∷ word "+" ∷ nt "E2" ∷ []) 2 ∷ production "E" (nt "E2" ∷ []) 3
     ∷ production "E2" (nt "E2" ∷ word "*" ∷ nt "E1" ∷ []) 4 ∷ production "E2" (nt "E1" ∷ []) 5
-        ∷ production "E1" (nt "Num" ∷ []) 6
+    ∷ production "E1" (nt "Num" ∷ []) 6
     ∷ production "Num" (word "n" ∷ []) 7 ∷ []
 
 abbrev sums_origins : List Origin

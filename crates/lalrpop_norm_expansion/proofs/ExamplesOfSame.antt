@@ -117,7 +117,7 @@ idle_refused to w =
 abbrev inline_rules : EnabledGrammar
 inline_rules = enabled_grammar finds [] (grammar (rule_with (Attr.empty here (codes "inline") ∷ []) "I" [] (alt (lit "i" ∷ []) ∷ [])
     ∷ rule_with (Attr.empty here (codes "inline") ∷ []) "M" ("T" ∷ []) (alt (id "T" ∷ []) ∷ [])
-        ∷ rule_of "R" (alt (lit "r" ∷ []) ∷ []) ∷
+    ∷ rule_of "R" (alt (lit "r" ∷ []) ∷ []) ∷
     []))
 
 inlined_rule : IsInlined inline_rules (key "I")

@@ -161,7 +161,7 @@ e_at n = of_rule "E" (Some n)
 level_untyped : (t : GroundType) → IsGrounded by_levels (e_at 1) t → ⊥
 level_untyped t h =
     let e : None ≡ Some t = type-in-table by_levels ((e_at 2, text_type) ∷ []) (key (e_at 1) ∷ key (e_at 2)
-        ∷ []) refl (e_at 1) t h in
+    ∷ []) refl (e_at 1) t h in
     cc
 
 level_typed : IsGrounded by_levels (e_at 2) text_type

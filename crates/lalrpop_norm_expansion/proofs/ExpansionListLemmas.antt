@@ -321,7 +321,7 @@ a-chain g (suc limit) x h = go (has_closed (calls_at g (suc limit)) x) refl h (�
   where
     go : (b : Bool) → has_closed (calls_at g (suc limit)) x ≡ b → (not b && has_no_chain g limit x) ≡ false →
         (has_no_chain g limit x ≡ false → (k : ℕ) × (k ≤ limit) × HasCallChain g k x) →
-            (k : ℕ) × (k ≤ suc limit) × HasCallChain g k x
+        (k : ℕ) × (k ≤ suc limit) × HasCallChain g k x
     go true e f later =
         (suc limit, omega arith, listed-chain g (suc limit) x (has_closed-among (calls_at g (suc limit)) x e))
     go false e f later = let w = later f in (w.0, omega (arith, w.1), w.2)

@@ -71,7 +71,7 @@ apart-each name_of [] h x y i j e = absurd i
 apart-each name_of (z ∷ zs) h x y (inl k) (inl l) e = sym k ∙ l
 apart-each name_of (z ∷ zs) h x y (inr i) (inr j) e =
     apart-each name_of zs
-        (and_parts (list_all (λ v. not (bytes_eq (name_of z) (name_of v))) zs) (are_named_apart name_of zs) h).1 x y i j e
+    (and_parts (list_all (λ v. not (bytes_eq (name_of z) (name_of v))) zs) (are_named_apart name_of zs) h).1 x y i j e
 apart-each name_of (z ∷ zs) h x y (inl k) (inr j) e =
     let t = all-each (λ v. not (bytes_eq (name_of z) (name_of v))) zs
     (and_parts (list_all (λ v. not (bytes_eq (name_of z) (name_of v))) zs) (are_named_apart name_of zs) h).0 y j in

@@ -45,7 +45,7 @@ production_at name_of k (first ∷ rows) row (inr h) =
 
 production_row : (name_of : Nonterminal → Text) (k : ℕ) (rows : List Row) (p : NamedProduction) →
     Among (productions_from name_of k rows) p →
-        (i : ℕ) × (row : Row) × Among rows row × (p ≡ production_of_row name_of (k + i) row)
+    (i : ℕ) × (row : Row) × Among rows row × (p ≡ production_of_row name_of (k + i) row)
     × (slice_get (origins_of rows) i ≡ Some row.0.choice)
 production_row name_of k [] p h = absurd h
 production_row name_of k (row ∷ rows) p (inl e) =
@@ -153,7 +153,7 @@ numbered_productions g name_of rows a = record {
         let one : v.0.0.choice ≡ o = cc in
         let two : w.0.0.choice ≡ later = cc in
         subst (λ z. IsOriginBefore z later) one
-            (subst (λ z. IsOriginBefore v.0.0.choice z) two (a.in_order i j v.0 w.0 less v.1 w.1 names))
+        (subst (λ z. IsOriginBefore v.0.0.choice z) two (a.in_order i j v.0 w.0 less v.1 w.1 names))
 
     in_order : (i j : ℕ) (p q : NamedProduction) → i < j → slice_get (productions_from name_of 0 rows) i ≡ Some p →
         slice_get (productions_from name_of 0 rows) j ≡ Some q → p.nonterminal ≡ q.nonterminal → IsInOrder (origins_of rows) p q

@@ -242,7 +242,7 @@ call-listed g n args level o side (r ∷ []) e (inr m) =
     let many : length (closed_list args) ≡ length r.parameters = m.arguments ∙ ap (λ q. length q.parameters) same in
     let to_is : tighter r m.from ≡ Some m.to = ap (λ q. tighter q m.from) (sym same) ∙ m.to_is in
     let down : pass_down_of r n args level ≡ down_to n args (Some m.to) = ap (pass_down_of r n args) m.from_is
-        ∙ ap (down_to n args) to_is in
+    ∙ ap (down_to n args) to_is in
     go (length (closed_list args) == length r.parameters) (eq-eqb (length (closed_list args)) (length r.parameters) many)
     (subst (λ l. Among l (o, side)) (sym down)
     (inl (pair-is Origin.pass_down o (GrammarSymbol.nonterminal (Nonterminal.closed (Closed.call n args (Some m.to))) ∷ []) side
@@ -336,12 +336,12 @@ listed-call g n args level o side (r ∷ []) e i = go (length (closed_list args)
 
     of_alternative : length (closed_list args) ≡ length r.parameters →
         (p : Choice × Option Rank) × Among (ranked_choices r) p × (fits g r args level p ≡ true)
-            × (choice_of_side g r args p ≡ (o, side)) →
+        × (choice_of_side g r args p ≡ (o, side)) →
         ByAlternative g n args level o side
     of_alternative many w =
         let p = w.0 in
         let a = and_parts (same_bool (is_some p.1) (has_levels r)) (same_level (rank_level p.1) level
-            && holds g (bind r args) p.0.condition) w.2 in
+        && holds g (bind r args) p.0.condition) w.2 in
         let b = and_parts (same_level (rank_level p.1) level) (holds g (bind r args) p.0.condition) a.1 in
         record {
           rule = r;

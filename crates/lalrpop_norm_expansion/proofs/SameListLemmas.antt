@@ -133,7 +133,7 @@ apart-each to (z ∷ zs) h x y (inr i) (inl l) e =
 -- grammars that pass the test have one expansion
 pub same-expansion : (g h : EnabledGrammar) (to : Nonterminal → Nonterminal) (n : ℕ) (xs ys : List Nonterminal) →
     ((s : Text) → to (Nonterminal.start s) ≡ Nonterminal.start s) → is_all g xs ≡ true → are_reached g n xs ≡ true →
-        is_all h ys ≡ true →
+    is_all h ys ≡ true →
     are_reached h n ys ≡ true → is_same g h to xs ys ≡ true → SameExpansion g h to
 same-expansion g h to n xs ys starts all_g reached_g all_h reached_h test = record {
   apart = λ x y i j e. apart-each to xs one.0 x y (all-of g xs all_g x i) (all-of g xs all_g y j) e;

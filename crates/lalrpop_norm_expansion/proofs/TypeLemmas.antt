@@ -127,7 +127,7 @@ grounded_in_table g table a (suc k) Closed.faulty t h = h
 -- a call without a type in the table has no grounded type
 pub no_type_in_table : (g : EnabledGrammar) (table : Closed → Option GroundType) → IsAgreeing g table → (n : Text) (args : Closeds)
     (level : Option ℕ) → table (Closed.call n args level) ≡ None → (t : GroundType) →
-        IsGrounded g (Closed.call n args level) t → ⊥
+    IsGrounded g (Closed.call n args level) t → ⊥
 no_type_in_table g table a n args level e t (zero, h) = absurd h
 no_type_in_table g table a n args level e t (suc k, h) =
     let f : table (Closed.call n args level) ≡ Some t = grounded_in_table g table a (suc k) (Closed.call n args level) t h in cc
@@ -135,7 +135,7 @@ no_type_in_table g table a n args level e t (suc k, h) =
 -- a call has one grounded type at most
 pub one_type : (g : EnabledGrammar) (table : Closed → Option GroundType) → IsAgreeing g table → (n : Text) (args : Closeds)
     (level : Option ℕ) (t u : GroundType) → IsGrounded g (Closed.call n args level) t → IsGrounded g (Closed.call n args level) u →
-        t ≡ u
+    t ≡ u
 one_type g table a n args level t u (zero, h) (j, k) = absurd h
 one_type g table a n args level t u (suc i, h) (zero, k) = absurd k
 one_type g table a n args level t u (suc i, h) (suc j, k) =

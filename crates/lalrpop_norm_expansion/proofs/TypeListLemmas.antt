@@ -246,7 +246,7 @@ mutual
 
 choice-found : (g : EnabledGrammar) (table : TypeTable) (r : EnabledRule) (args : Closeds) (level : Option ℕ)
     (ps : List (Choice × Option Rank)) (p : Choice × Option Rank) → Among ps p →
-        (fits g r args level p && is_default p.0.action) ≡ true →
+    (fits g r args level p && is_default p.0.action) ≡ true →
     Among (by_choices g table r args level ps) (tuple_by table (chosen_or_all (right_side g r (bind r args) p)))
 choice-found g table r args level [] p i h = absurd i
 choice-found g table r args level (q ∷ ps) p (inl e) h =

@@ -137,8 +137,13 @@ rules = all-among (λ x. (q : EnabledRule) × IsRule after (f x) q × IsKeyRule 
       no_macro = refl;
       no_levels = refl;
       inlined = not_inlined rule_S (rule_between after_S) refl unmarked_S;
-      choices = (_, refl, refl, inl
-          (tt, _, [], refl, record { origin = refl; unconditional = refl; symbols = ((refl, tt), tt) }, refl, refl));
+      choices = (
+        _,
+        refl,
+        refl,
+        inl
+            (tt, _, [], refl, record { origin = refl; unconditional = refl; symbols = ((refl, tt), tt) }, refl, refl),
+      );
     },
   ),
   (

@@ -36,7 +36,7 @@ first_keeps_level = refl
 abbrev macros : EnabledGrammar
 macros = enabled_grammar finds [] (grammar (macro_of "E" ("E1" ∷ []) (with (level "1" ∷ []) (id "E1" ∷ [])
     ∷ with (level "2" ∷ side "left" ∷ []) (of_macro "E" (id "E1" ∷ []) ∷ lit "+" ∷ of_macro "E" (id "E1" ∷ []) ∷ [])
-        ∷ []) ∷ []))
+    ∷ []) ∷ []))
 
 abbrev a : Closed
 a = Closed.terminal (Terminal.quoted (codes "a"))
