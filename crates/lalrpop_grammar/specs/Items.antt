@@ -13,13 +13,6 @@ use Rattle.lalrpop_grammar.specs.declared.match_token.MatchItem.{MatchItem}
 use Rattle.lalrpop_grammar.specs.declared.match_token.MatchItem.TheVariants as entries
 use Rattle.lalrpop_grammar.specs.declared.match_token.MatchToken.{MatchToken}
 use Rattle.lalrpop_grammar.specs.declared.nonterminal.NonterminalData.{NonterminalData}
-use Rattle.lalrpop_grammar.specs.WrittenGrammar.{Attr}
-
--- the name and the text of an attribute `name = "text"`
-abbrev pub equal_of : Attr → Option (Text × Text)
-equal_of (Attr.empty place id) = None
-equal_of (Attr.paren place id parts) = None
-equal_of (Attr.equal place id text) = Some (id, text)
 
 abbrev pub span_of : MatchItem → Span
 span_of (entries.CatchAll span) = span

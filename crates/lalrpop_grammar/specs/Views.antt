@@ -23,21 +23,17 @@ use Rattle.lalrpop_grammar.specs.declared.match_token.MatchItem.TheVariants as e
 use Rattle.lalrpop_grammar.specs.declared.grammar.GrammarItem.{GrammarItem}
 use Rattle.lalrpop_grammar.specs.declared.grammar.GrammarItem.TheVariants as items
 use Rattle.lalrpop_grammar.specs.declared.grammar.Grammar.{Grammar}
-use Rattle.lalrpop_grammar.specs.declared.attribute.Attribute as attributes
-use Rattle.lalrpop_grammar.specs.declared.attribute.AttributeArg.TheOpen as attr_layer
-use Rattle.lalrpop_grammar.specs.declared.attribute.AttributeArg.TheFolds as attr_folds
-use Rattle.lalrpop_grammar.specs.declared.type_ref.TypeRef as types
-use Rattle.lalrpop_grammar.specs.declared.type_ref.TypeRef.TheOpen as type_layer
+use Rattle.lalrpop_grammar_types.specs.declared.attribute.Attribute as attributes
+use Rattle.lalrpop_grammar_types.specs.declared.attribute.AttributeArg.TheOpen as attr_layer
+use Rattle.lalrpop_grammar_types.specs.declared.attribute.AttributeArg.TheFolds as attr_folds
+use Rattle.lalrpop_grammar_types.specs.declared.type_ref.TypeRef as types
+use Rattle.lalrpop_grammar_types.specs.declared.type_ref.TypeRef.TheOpen as type_layer
 use Rattle.lalrpop_grammar.specs.declared.token.ScanToken.{ScanToken}
 use Rattle.lalrpop_grammar.specs.declared.tree.WrittenTree as written_trees
 use Rattle.lalrpop_grammar.specs.declared.tree.WrittenTree.TheOpen as tree_layer
 use Rattle.lalrpop_grammar.specs.Trees as pure_trees
 use Rattle.lalrpop_grammar.specs.WrittenGrammar as pure
 use Rattle.lalrpop_grammar.specs.WrittenGrammar.{Attr, Attrs}
-
--- a pair of texts behind references
-abbrev pub text_pair_view : Bor Text × Bor Text → Text × Text
-text_pair_view p = (p.0.now, p.1.now)
 
 abbrev pub attrs : List Attr → Attrs
 attrs [] = Attrs.none

@@ -5,7 +5,6 @@
 #![tactic(auto)]
 
 mod alternative;
-mod attribute;
 mod condition;
 mod extern_token;
 mod grammar;
@@ -17,11 +16,9 @@ mod origin;
 mod rules;
 mod token;
 mod tree;
-mod type_ref;
 mod walk;
 
 pub use alternative::{ActionKind, Alternative};
-pub use attribute::{Attribute, AttributeArg};
 pub use condition::{Condition, ConditionOp};
 pub use extern_token::{AssociatedType, Conversion, EnumToken, ExternToken};
 pub use grammar::{Grammar, GrammarItem};
@@ -34,6 +31,7 @@ pub use lalrpop_grammar_symbols::{
     RepeatSymbol, Span, Subsymbols, Symbol, SymbolKind, SymbolMap, TerminalLiteral, TerminalString,
     subsymbols_of,
 };
+pub use lalrpop_grammar_types::{Attribute, AttributeArg, NominalTypeRepr, TypeRef, TypeRepr};
 pub use leaves::{Leaf, Leaves};
 pub use match_token::{MatchContents, MatchItem, MatchMapping, MatchToken};
 pub use nonterminal::{NonterminalData, Visibility};
@@ -41,4 +39,3 @@ pub use origin::Origin;
 pub use rules::GrammarRules;
 pub use token::ScanToken;
 pub use tree::WrittenTree;
-pub use type_ref::TypeRef;

@@ -3,4 +3,3 @@ pub mod Maps
 pub mod NormErrorTexts
 pub mod Productions
 pub mod SymbolTypes
-pub mod TypeReprs

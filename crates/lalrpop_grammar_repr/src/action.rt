@@ -3,8 +3,8 @@
 ghost use Rattle.std.specs.Prelude.{◌≡◌, ◌<◌, ◌^◌, IfOk};
 
 use crate::production::{Symbol, clone_symbols};
-use crate::type_repr::TypeRepr;
 use lalrpop_grammar_symbols::{Atom, List};
+use lalrpop_grammar_types::TypeRepr;
 use std::alloc::{AllocError, Global};
 
 /// The number of an action.

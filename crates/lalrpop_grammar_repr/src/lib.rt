@@ -13,7 +13,6 @@ mod production;
 mod session;
 mod terminal_set;
 mod try_clone;
-mod type_repr;
 mod types;
 
 pub use action::{
@@ -22,11 +21,11 @@ pub use action::{
 };
 pub use algorithm::{Algorithm, read_algorithm};
 pub use grammar::Grammar;
+pub use lalrpop_grammar_types::{NominalTypeRepr, TypeRepr};
 pub use map::Map;
 pub use norm_error::{NormError, NormErrorKind};
 pub use production::{NonterminalData, Production, Symbol};
 pub use session::{NormFault, NormResult, Session};
 pub use terminal_set::TerminalSet;
 pub use try_clone::TryClone;
-pub use type_repr::{NominalTypeRepr, TypeRepr};
 pub use types::Types;

@@ -3,8 +3,8 @@
 ghost use Rattle.std.specs.Prelude.{◌≡◌, IfOk};
 
 use crate::production::NonterminalData;
-use crate::type_repr::TypeRepr;
 use lalrpop_grammar_symbols::{NonterminalString, TerminalString};
+use lalrpop_grammar_types::TypeRepr;
 use std::alloc::{AllocError, Global};
 
 /// What can be copied, where there is memory for it.

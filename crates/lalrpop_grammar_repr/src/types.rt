@@ -7,8 +7,8 @@ ghost use Rattle.std.specs.Option.{option_copied};
 
 use crate::map::Map;
 use crate::production::Symbol;
-use crate::type_repr::TypeRepr;
 use lalrpop_grammar_symbols::{NonterminalString, TerminalString};
+use lalrpop_grammar_types::TypeRepr;
 use std::alloc::{AllocError, Global};
 
 /// Which type each terminal and each nonterminal has.

@@ -1,11 +1,11 @@
 -- Which attributes have a spelling, by what stands behind their names: for the functions that tell it.
 use Rattle.std.proofs.Common.{◌≡◌, ◌↔◌, Bool, ℕ, ◌+◌, List, [], ◌∷◌, IsTrue, ap, sym, ◌∙◌}
-use Rattle.lalrpop_grammar.specs.declared.attribute.Attribute.{Attribute}
-use Rattle.lalrpop_grammar.specs.declared.attribute.AttributeArg.{AttributeArg}
-use Rattle.lalrpop_grammar.specs.declared.attribute.AttributeArg.TheOpen as layer
-use Rattle.lalrpop_grammar.specs.declared.attribute.AttributeArg.TheVariants as args
-use Rattle.lalrpop_grammar.specs.declared.attribute.AttributeArg.TheViews.{out-Attribute, roll-out-Attribute, out-AttributeArg}
-use Rattle.lalrpop_grammar.specs.declared.attribute.AttributeArg.TheViews.{roll-AttributeArg, out-roll-AttributeArg}
+use Rattle.lalrpop_grammar_types.specs.declared.attribute.Attribute.{Attribute}
+use Rattle.lalrpop_grammar_types.specs.declared.attribute.AttributeArg.{AttributeArg}
+use Rattle.lalrpop_grammar_types.specs.declared.attribute.AttributeArg.TheOpen as layer
+use Rattle.lalrpop_grammar_types.specs.declared.attribute.AttributeArg.TheVariants as args
+use Rattle.lalrpop_grammar_types.specs.declared.attribute.AttributeArg.TheViews.{out-Attribute, roll-out-Attribute, out-AttributeArg}
+use Rattle.lalrpop_grammar_types.specs.declared.attribute.AttributeArg.TheViews.{roll-AttributeArg, out-roll-AttributeArg}
 use Rattle.lalrpop_json_values.specs.Scalars.{is_name}
 use Rattle.lalrpop_json_values.specs.Spelled.{EachFrom, IsSpan}
 use Rattle.lalrpop_json_symbols.specs.Readable.{AreReadableAttributes, IsReadableAttribute, IsReadableArg}

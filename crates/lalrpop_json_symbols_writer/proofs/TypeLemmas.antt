@@ -1,9 +1,9 @@
 -- Which types have a spelling, by their forms: for the functions that tell it.
 use Rattle.std.proofs.Common.{◌≡◌, ◌↔◌, Bool, Option, ℕ, ◌+◌, List, [], ◌∷◌, IsTrue, ap, sym, ◌∙◌}
 use Rattle.lalrpop_grammar_symbols.specs.declared.symbol.Symbol.{Symbol}
-use Rattle.lalrpop_grammar.specs.declared.type_ref.TypeRef.{TypeRef, out-TypeRef, roll-TypeRef, out-roll-TypeRef}
-use Rattle.lalrpop_grammar.specs.declared.type_ref.TypeRef.TheOpen as layer
-use Rattle.lalrpop_grammar.specs.declared.type_ref.TypeRef.TheVariants as types
+use Rattle.lalrpop_grammar_types.specs.declared.type_ref.TypeRef.{TypeRef, out-TypeRef, roll-TypeRef, out-roll-TypeRef}
+use Rattle.lalrpop_grammar_types.specs.declared.type_ref.TypeRef.TheOpen as layer
+use Rattle.lalrpop_grammar_types.specs.declared.type_ref.TypeRef.TheVariants as types
 use Rattle.lalrpop_json_values.specs.Scalars.{is_name}
 use Rattle.lalrpop_json_values.specs.Spelled.{EachFrom}
 use Rattle.lalrpop_json_symbols.specs.Readable.{IsReadableSymbol, AreReadableTypes, IsReadableType}

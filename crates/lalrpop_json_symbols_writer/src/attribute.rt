@@ -7,7 +7,7 @@ ghost use Rattle.lalrpop_json_symbols.specs.Readable.{AreReadableAttributes, IsR
 ghost use Rattle.lalrpop_json_symbols.specs.Spelling.{arg_json, attribute_json};
 
 use crate::scalar::{is_readable_span, span_value};
-use lalrpop_grammar::{Attribute, AttributeArg};
+use lalrpop_grammar_types::{Attribute, AttributeArg};
 use lalrpop_json_values::is_name;
 use serde_json::{Value, json};
 use std::alloc::{AllocError, Global};

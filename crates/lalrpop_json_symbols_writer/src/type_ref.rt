@@ -8,8 +8,8 @@ ghost use Rattle.lalrpop_json_symbols.specs.Spelling.{nominal_json, ref_json, tu
 
 use crate::scalar::optional_text_value;
 use crate::symbol::{is_readable_symbol, symbol_value};
-use lalrpop_grammar::TypeRef;
 use lalrpop_grammar_symbols::Atom;
+use lalrpop_grammar_types::TypeRef;
 use lalrpop_json_values::is_name;
 use serde_json::{Value, json};
 use std::alloc::{AllocError, Global};

@@ -1,7 +1,9 @@
 //! Types that a written rule declares.
 
-ghost use Rattle.std.specs.Prelude.{◌≡◌, IfOk};
+ghost use Rattle.std.specs.Prelude.{◌≡◌, IfOk, map};
+ghost use Rattle.lalrpop_grammar_types.specs.Grounding.{all_types, type_repr_of};
 
+use crate::type_repr::{NominalTypeRepr, TypeRepr};
 use lalrpop_grammar_symbols::{Atom, Boxed, List, Symbol};
 use std::alloc::{AllocError, Global};
 
@@ -64,6 +66,48 @@ impl TypeRef {
             TypeRef::Opaque(text) => Ok(TypeRef::Opaque(text.try_clone()?)),
         }
     }
+
+    /// The type of the same shape, where a name is the type of that name without arguments. None where it is or holds the
+    /// type of a symbol.
+    #[cycle(type_reprs)]
+    pub fn type_repr(&self, alloc: Global) -> Result<Option<TypeRepr>, AllocError>
+        ensures { IfOk result (λ found. found ≡ type_repr_of self.now) }
+    {
+        match self {
+            TypeRef::Tuple(types) => match type_reprs(alloc, types.as_slice())? {
+                None => Ok(None),
+                Some(types) => Ok(Some(TypeRepr::Tuple(types))),
+            },
+            TypeRef::Nominal { path, types } => match type_reprs(alloc, types.as_slice())? {
+                None => Ok(None),
+                Some(types) => Ok(Some(TypeRepr::Nominal(NominalTypeRepr {
+                    path: path.try_clone()?,
+                    types,
+                }))),
+            },
+            TypeRef::Id(name) => Ok(Some(TypeRepr::Nominal(NominalTypeRepr {
+                path: name.try_clone()?,
+                types: List::new(alloc),
+            }))),
+            TypeRef::OfSymbol(_) => Ok(None),
+            TypeRef::Ref {
+                lifetime,
+                mutable,
+                referent,
+            } => match referent.get().type_repr(alloc)? {
+                None => Ok(None),
+                Some(found) => {
+                    let mutable = *mutable;
+                    Ok(Some(TypeRepr::Ref {
+                        lifetime: clone_lifetime(lifetime)?,
+                        mutable,
+                        referent: Boxed::new(alloc, found)?,
+                    }))
+                }
+            },
+            TypeRef::Opaque(text) => Ok(Some(TypeRepr::Opaque(text.try_clone()?))),
+        }
+    }
 }
 
 fn clone_lifetime(lifetime: &Option<Atom>) -> Result<Option<Atom>, AllocError>
@@ -85,4 +129,19 @@ fn clone_types(alloc: Global, types: &[TypeRef]) -> Result<List<TypeRef>, AllocE
         copy.push(type_ref.try_clone(alloc)?)?;
     }
     Ok(copy)
+}
+
+/// The types of the same shapes, in order; none where one of them has none.
+#[cycle(type_reprs)]
+fn type_reprs(alloc: Global, types: &[TypeRef]) -> Result<Option<List<TypeRepr>>, AllocError>
+    ensures { IfOk result (λ found. found ≡ all_types (map type_repr_of types.now)) }
+{
+    let mut found = List::new(alloc);
+    for written in types {
+        match written.type_repr(alloc)? {
+            None => return Ok(None),
+            Some(ty) => found.push(ty)?,
+        }
+    }
+    Ok(Some(found))
 }

@@ -1,9 +1,9 @@
 -- The types that a grammar's terminals and nonterminals have.
 use Rattle.std.specs.Prelude.{◌≡◌, []}
 use Rattle.lalrpop_grammar_symbols.specs.Symbols.{Text}
-use Rattle.lalrpop_grammar_repr.specs.declared.type_repr.TypeRepr.{TypeRepr}
-use Rattle.lalrpop_grammar_repr.specs.declared.type_repr.TypeRepr.TheVariants as types
-use Rattle.lalrpop_grammar_repr.specs.declared.type_repr.TypeRepr.TheViews.{roll-NominalTypeRepr}
+use Rattle.lalrpop_grammar_types.specs.declared.type_repr.TypeRepr.{TypeRepr}
+use Rattle.lalrpop_grammar_types.specs.declared.type_repr.TypeRepr.TheVariants as types
+use Rattle.lalrpop_grammar_types.specs.declared.type_repr.TypeRepr.TheViews.{roll-NominalTypeRepr}
 
 -- the empty tuple
 abbrev pub IsUnit : TypeRepr → Type 0

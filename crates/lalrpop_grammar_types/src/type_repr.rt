@@ -37,7 +37,7 @@ pub struct NominalTypeRepr {
 }
 
 impl TypeRepr {
-    ghost use Rattle.lalrpop_grammar_repr.specs.TypeReprs.{IsUnit, named_type};
+    ghost use Rattle.lalrpop_grammar_types.specs.TypeReprs.{IsUnit, named_type};
 
     /// Whether it is the empty tuple.
     pub fn is_unit(&self) -> bool
@@ -102,7 +102,7 @@ impl NominalTypeRepr {
     }
 }
 
-ghost use Rattle.lalrpop_grammar_repr.specs.TypeReprs.{named_type};
+ghost use Rattle.lalrpop_grammar_types.specs.TypeReprs.{named_type};
 
 /// The type of that name, without arguments.
 fn nominal_type(alloc: Global, name: &str) -> Result<TypeRepr, AllocError>

@@ -31,12 +31,11 @@ pub enum AttributeArg {
 
 impl Attribute {
     ghost use Rattle.std.specs.Option.{option_map};
-    ghost use Rattle.lalrpop_grammar.specs.Items.{equal_of};
-    ghost use Rattle.lalrpop_grammar.specs.Views.{attribute_view, text_pair_view};
+    ghost use Rattle.lalrpop_grammar_types.specs.Attributes.{equal_of, text_pair_view};
 
     /// The name and the text of `name = "text"`, where it has that shape.
     pub fn get_arg_equal(&self) -> Option<(&Atom, &Atom)>
-        ensures { option_map text_pair_view result ≡ equal_of (attribute_view self.now) }
+        ensures { option_map text_pair_view result ≡ equal_of self.now }
     {
         match &self.arg {
             AttributeArg::Equal(text) => Some((&self.id, text)),
@@ -75,7 +74,7 @@ impl AttributeArg {
 
 /// Copies of the attributes, in order.
 #[cycle(try_clone_attributes)]
-pub(crate) fn clone_attributes(
+pub fn clone_attributes(
     alloc: Global,
     attributes: &[Attribute],
 ) -> Result<List<Attribute>, AllocError>

@@ -1,0 +1,3 @@
+pub mod Attributes
+pub mod Grounding
+pub mod TypeReprs
