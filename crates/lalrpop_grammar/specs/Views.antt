@@ -20,6 +20,11 @@ use Rattle.lalrpop_grammar.specs.declared.match_token.MatchMapping.{MatchMapping
 use Rattle.lalrpop_grammar.specs.declared.match_token.MatchMapping.TheVariants as maps
 use Rattle.lalrpop_grammar.specs.declared.match_token.MatchItem.{MatchItem}
 use Rattle.lalrpop_grammar.specs.declared.match_token.MatchItem.TheVariants as entries
+use Rattle.lalrpop_grammar.specs.declared.extern_token.AssociatedType.{AssociatedType}
+use Rattle.lalrpop_grammar.specs.declared.extern_token.Conversion.{Conversion}
+use Rattle.lalrpop_grammar.specs.declared.extern_token.EnumToken.{EnumToken}
+use Rattle.lalrpop_grammar.specs.declared.extern_token.ExternToken.{ExternToken}
+use Rattle.lalrpop_grammar.specs.declared.intern_token.MatchEntry.{MatchEntry}
 use Rattle.lalrpop_grammar.specs.declared.grammar.GrammarItem.{GrammarItem}
 use Rattle.lalrpop_grammar.specs.declared.grammar.GrammarItem.TheVariants as items
 use Rattle.lalrpop_grammar.specs.declared.grammar.Grammar.{Grammar}
@@ -130,10 +135,37 @@ match_item_view (entries.CatchAll p) = pure.WrittenEntry.catch_all (span_view p)
 match_item_view (entries.Unmapped l p) = pure.WrittenEntry.unmapped (literal_view l) (span_view p)
 match_item_view (entries.Mapped l m p) = mapping_view l m p
 
+abbrev pub associated_type_view : AssociatedType → pure.AssociatedType
+associated_type_view a = record { name = a.name; type_text = a.type_text }
+
+abbrev pub conversion_view : Conversion → pure.Conversion
+conversion_view c = record { from = terminal_view c.from; to = c.to }
+
+abbrev pub enum_token_view : EnumToken → pure.EnumToken
+enum_token_view e = record { conversions = map conversion_view e.conversions; type_text = e.type_text }
+
+abbrev pub extern_view : ExternToken → pure.ExternBlock
+extern_view e = record {
+  span = span_view e.span;
+  associated_types = map associated_type_view e.associated_types;
+  enum_token = option_map enum_token_view e.enum_token;
+}
+
+abbrev pub entry_mapping_view : MatchMapping → pure.EntryMapping
+entry_mapping_view (maps.Terminal t) = pure.EntryMapping.terminal (terminal_view t)
+entry_mapping_view maps.Skip = pure.EntryMapping.skip
+
+abbrev pub intern_entry_view : MatchEntry → pure.InternEntry
+intern_entry_view e = record {
+  precedence = e.precedence;
+  literal = literal_view e.match_literal;
+  mapping = entry_mapping_view e.user_name;
+}
+
 abbrev pub item_view : GrammarItem → pure.WrittenItem
 item_view (items.MatchToken m) = pure.WrittenItem.match_token (map (λ c. map match_item_view c.items) m.contents) (span_view m.span)
-item_view (items.ExternToken e) = pure.WrittenItem.extern_token (span_view e.span)
-item_view (items.InternToken e) = pure.WrittenItem.intern_token
+item_view (items.ExternToken e) = pure.WrittenItem.extern_token (extern_view e)
+item_view (items.InternToken e) = pure.WrittenItem.intern_token (map intern_entry_view e.match_entries)
 item_view (items.Use t) = pure.WrittenItem.import t
 item_view (items.Nonterminal d) = pure.WrittenItem.nonterminal (nonterminal_view d)
 
@@ -141,6 +173,9 @@ abbrev pub grammar_view : Grammar → pure.Grammar
 grammar_view g = record {
   prefix = g.prefix;
   span = span_view g.span;
+  parameters = g.parameters;
+  type_parameters = g.type_parameters;
+  where_clauses = g.where_clauses;
   attributes = map attribute_view g.attributes;
   items = map item_view g.items;
 }

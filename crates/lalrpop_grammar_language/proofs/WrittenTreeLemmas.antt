@@ -125,7 +125,15 @@ maps l n = WrittenItem.match_token ((WrittenEntry.mapped (Terminal.quoted (codes
 
 -- the grammar of these items
 abbrev pub grammar : List WrittenItem → Grammar
-grammar items = record { prefix = codes "__"; span = here; attributes = []; items = items }
+grammar items = record {
+  prefix = codes "__";
+  span = here;
+  parameters = [];
+  type_parameters = [];
+  where_clauses = [];
+  attributes = [];
+  items = items;
+}
 
 -- trees
 

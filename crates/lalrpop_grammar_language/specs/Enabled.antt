@@ -117,8 +117,8 @@ abbrev pub bares_of : List WrittenItem → List Text
 bares_of [] = []
 bares_of (WrittenItem.match_token groups place ∷ items) = flat_map (flat_map bare_of) groups ++ bares_of items
 bares_of (WrittenItem.nonterminal r ∷ items) = bares_of items
-bares_of (WrittenItem.extern_token place ∷ items) = bares_of items
-bares_of (WrittenItem.intern_token ∷ items) = bares_of items
+bares_of (WrittenItem.extern_token block ∷ items) = bares_of items
+bares_of (WrittenItem.intern_token entries ∷ items) = bares_of items
 bares_of (WrittenItem.import text ∷ items) = bares_of items
 
 -- The enabled grammar of a written one, where `finds` says whether a pattern is found in a text.

@@ -64,8 +64,8 @@ same_text-sym (x ∷ xs) (y ∷ ys) = ap₂ ◌&&◌ (eqb-sym x y) (same_text-sy
 items_front : (i : WrittenItem) (is : List WrittenItem) → bares_of (i ∷ is) ≡ bares_of_item i ++ bares_of is
 items_front (WrittenItem.match_token groups place) is = refl
 items_front (WrittenItem.nonterminal r) is = refl
-items_front (WrittenItem.extern_token place) is = refl
-items_front WrittenItem.intern_token is = refl
+items_front (WrittenItem.extern_token block) is = refl
+items_front (WrittenItem.intern_token entries) is = refl
 items_front (WrittenItem.import text) is = refl
 
 -- the bare names of a grammar's item stand before those of the items behind it

@@ -87,8 +87,8 @@ bares_of_groups groups = flat_map (flat_map bare_of) (map (λ c. map match_item_
 abbrev pub bares_of_item : WrittenItem → List Text
 bares_of_item (WrittenItem.match_token groups place) = flat_map (flat_map bare_of) groups
 bares_of_item (WrittenItem.nonterminal r) = []
-bares_of_item (WrittenItem.extern_token place) = []
-bares_of_item WrittenItem.intern_token = []
+bares_of_item (WrittenItem.extern_token block) = []
+bares_of_item (WrittenItem.intern_token entries) = []
 bares_of_item (WrittenItem.import text) = []
 
 abbrev pub bares_of_items : List GrammarItem → List Text

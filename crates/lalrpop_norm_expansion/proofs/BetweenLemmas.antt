@@ -84,8 +84,8 @@ pub rules_left : (features : List Text) (items : List WrittenItem) → ((i : Wri
     ≡ map rule_without_cfg (map (enabled_rule features) (filter (λ r. is_active features r.attributes) (rules_of items)))
 rules_left features [] w = refl
 rules_left features (WrittenItem.match_token entries place ∷ items) w = rules_left features items (λ i h. w i (inr h))
-rules_left features (WrittenItem.extern_token place ∷ items) w = rules_left features items (λ i h. w i (inr h))
-rules_left features (WrittenItem.intern_token ∷ items) w = rules_left features items (λ i h. w i (inr h))
+rules_left features (WrittenItem.extern_token block ∷ items) w = rules_left features items (λ i h. w i (inr h))
+rules_left features (WrittenItem.intern_token entries ∷ items) w = rules_left features items (λ i h. w i (inr h))
 rules_left features (WrittenItem.import text ∷ items) w = rules_left features items (λ i h. w i (inr h))
 rules_left features (WrittenItem.nonterminal r ∷ items) w =
     go (is_active features r.attributes) (rule_left features r (w (WrittenItem.nonterminal r) (inl refl)))
@@ -110,8 +110,8 @@ pub bares_left : (features : List Text) (items : List WrittenItem) →
 bares_left features [] = refl
 bares_left features (WrittenItem.match_token entries place ∷ items) =
     ap (λ l. flat_map (flat_map bare_of) entries ++ l) (bares_left features items)
-bares_left features (WrittenItem.extern_token place ∷ items) = bares_left features items
-bares_left features (WrittenItem.intern_token ∷ items) = bares_left features items
+bares_left features (WrittenItem.extern_token block ∷ items) = bares_left features items
+bares_left features (WrittenItem.intern_token entries ∷ items) = bares_left features items
 bares_left features (WrittenItem.import text ∷ items) = bares_left features items
 bares_left features (WrittenItem.nonterminal r ∷ items) = go (is_active features r.attributes) (bares_left features items)
   where

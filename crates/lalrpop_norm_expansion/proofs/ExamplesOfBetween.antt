@@ -5,7 +5,7 @@ use Rattle.std.specs.Prelude.{Option, Some, None, codes, false, true, map, repli
 use Rattle.std.proofs.lemmas.Bool.{true≢false}
 use Rattle.lalrpop_grammar_symbols.specs.Symbols.{Closed, Closeds, Terminal, WrittenSymbol, Sym, syms, Op}
 use Rattle.lalrpop_grammar_symbols.specs.Subsymbols.{subsymbols_of}
-use Rattle.lalrpop_grammar.specs.WrittenGrammar.{Alternative, Rule, WrittenItem, WrittenEntry, Origin, Grammar}
+use Rattle.lalrpop_grammar.specs.WrittenGrammar.{Alternative, Rule, InternEntry, WrittenItem, WrittenEntry, Origin, Grammar}
 use Rattle.lalrpop_grammar_language.specs.Among.{Among}
 use Rattle.lalrpop_grammar_language.specs.Enabled.{EnabledGrammar, EnabledRule, Choice, IsRule, enabled_grammar}
 use Rattle.lalrpop_grammar_language.specs.Levels.{has_levels}
@@ -186,8 +186,9 @@ other_place_refused w = let e : ◌≡◌ {A = ℕ} 1 0 = ap place_of w.places i
 resolved_refused : IsReadForm (nonterminal "S") → ⊥
 resolved_refused h = h
 
-intern_refused : (items : List WrittenItem) → IsReadGrammar (grammar (WrittenItem.intern_token ∷ items)) → ⊥
-intern_refused items w = w.items WrittenItem.intern_token (inl refl)
+intern_refused : (entries : List InternEntry) (items : List WrittenItem)
+    → IsReadGrammar (grammar (WrittenItem.intern_token entries ∷ items)) → ⊥
+intern_refused entries items w = w.items (WrittenItem.intern_token entries) (inl refl)
 
 one_underscore_refused : (items : List WrittenItem) → IsReadGrammar (record (grammar items) { prefix = codes "_" }) → ⊥
 one_underscore_refused items w =

@@ -73,8 +73,8 @@ abbrev pub enabled_item : List Text → WrittenItem → Option WrittenItem
 enabled_item features (WrittenItem.nonterminal r) =
     if is_active features r.attributes then Some (WrittenItem.nonterminal (enabled_part features r)) else None
 enabled_item features (WrittenItem.match_token entries place) = Some (WrittenItem.match_token entries place)
-enabled_item features (WrittenItem.extern_token place) = Some (WrittenItem.extern_token place)
-enabled_item features WrittenItem.intern_token = Some WrittenItem.intern_token
+enabled_item features (WrittenItem.extern_token block) = Some (WrittenItem.extern_token block)
+enabled_item features (WrittenItem.intern_token entries) = Some (WrittenItem.intern_token entries)
 enabled_item features (WrittenItem.import text) = Some (WrittenItem.import text)
 
 -- The grammar without what is disabled under the features, and without the attributes that were asked.

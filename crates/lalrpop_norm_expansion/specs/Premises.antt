@@ -101,8 +101,8 @@ abbrev pub IsReadItem : WrittenItem → Type 0
 IsReadItem (WrittenItem.nonterminal r) = IsReadRule r
 IsReadItem (WrittenItem.match_token groups p) =
     (group : List WrittenEntry) → Among groups group → (e : WrittenEntry) → Among group e → IsReadEntry e
-IsReadItem (WrittenItem.extern_token p) = Unit {0}
-IsReadItem WrittenItem.intern_token = ⊥
+IsReadItem (WrittenItem.extern_token block) = Unit {0}
+IsReadItem (WrittenItem.intern_token entries) = ⊥
 IsReadItem (WrittenItem.import text) = Unit {0}
 
 -- A grammar as it is read, with any prefix of two or more underscores.
@@ -117,10 +117,10 @@ abbrev pub HasNoExtern : Grammar → Type 0
 HasNoExtern g = (i : WrittenItem) → Among g.items i → IsNoExtern i
   where
     IsNoExtern : WrittenItem → Type 0
-    IsNoExtern (WrittenItem.extern_token p) = ⊥
+    IsNoExtern (WrittenItem.extern_token block) = ⊥
     IsNoExtern (WrittenItem.nonterminal r) = Unit {0}
     IsNoExtern (WrittenItem.match_token groups p) = Unit {0}
-    IsNoExtern WrittenItem.intern_token = Unit {0}
+    IsNoExtern (WrittenItem.intern_token entries) = Unit {0}
     IsNoExtern (WrittenItem.import text) = Unit {0}
 
 abbrev pub IsNoRecovery : WrittenSymbol → Type 0

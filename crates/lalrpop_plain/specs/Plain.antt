@@ -70,8 +70,8 @@ in_rule r =
 
 abbrev pub in_item : WrittenItem → List Path
 in_item (WrittenItem.match_token entries place) = itself
-in_item (WrittenItem.extern_token place) = itself
-in_item WrittenItem.intern_token = []
+in_item (WrittenItem.extern_token block) = itself
+in_item (WrittenItem.intern_token entries) = []
 in_item (WrittenItem.nonterminal r) = in_rule r
 in_item (WrittenItem.import text) = []
 
