@@ -55,9 +55,9 @@ rule_case : (f : Text → ℕ → Text) (s t : Scope) → IsLeveledScope f s t �
     plain_name t j (occurrence_name f s k n) (name_meaning t.grammar (occurrence_name f s k n))
     ≡ by_level_names f (plain_name s k n (name_meaning s.grammar n))
 rule_case f s t w k j n r m =
-    let q = w.rules n r (call_level s k n r) m in
+    let q = w.rules k n r m in
     let c : occurrence_name f s k n ≡ level_name f n (call_level s k n r) = occurrence_is f s t w k n r m in
-    let mt : name_meaning t.grammar (occurrence_name f s k n) ≡ Meaning.rule q.0 = ap (λ a. name_meaning t.grammar a) c ∙ q.1 in
+    let mt : name_meaning t.grammar (occurrence_name f s k n) ≡ Meaning.rule q.0 = q.1 in
     let left : plain_name t j (occurrence_name f s k n) (name_meaning t.grammar (occurrence_name f s k n))
     ≡ if_plain q.0.parameters (Closed.call (occurrence_name f s k n) Closeds.none None) =
     ap (λ a. plain_name t j (occurrence_name f s k n) a) mt
@@ -75,9 +75,9 @@ macro_case : (f : Text → ℕ → Text) (s t : Scope) → IsLeveledScope f s t 
     plain_call t j (occurrence_name f s k n) renamed_args (name_meaning t.grammar (occurrence_name f s k n))
     ≡ by_level_names f (plain_call s k n args (name_meaning s.grammar n))
 macro_case f s t w k j n args renamed_args ab r m =
-    let q = w.rules n r (call_level s k n r) m in
+    let q = w.rules k n r m in
     let c : occurrence_name f s k n ≡ level_name f n (call_level s k n r) = occurrence_is f s t w k n r m in
-    let mt : name_meaning t.grammar (occurrence_name f s k n) ≡ Meaning.rule q.0 = ap (λ a. name_meaning t.grammar a) c ∙ q.1 in
+    let mt : name_meaning t.grammar (occurrence_name f s k n) ≡ Meaning.rule q.0 = q.1 in
     let left : plain_call t j (occurrence_name f s k n) renamed_args (name_meaning t.grammar (occurrence_name f s k n))
     ≡ if_macro q.0.parameters renamed_args (Closed.call (occurrence_name f s k n) renamed_args None) =
     ap (λ a. plain_call t j (occurrence_name f s k n) renamed_args a) mt
@@ -142,7 +142,8 @@ mutual
       ∙ ap (λ c. Closeds.more (by_level_names f (close s k x)) c) (close_all_leveled f s t w after there xs h.1)
 
 mutual
-  sound-renamed : (f : Text → ℕ → Text) (x : Closed) → is_sound (by_level_names f x) ≡ is_sound x
+  -- a symbol under the names of the levels is as sound
+  pub sound-renamed : (f : Text → ℕ → Text) (x : Closed) → is_sound (by_level_names f x) ≡ is_sound x
   sound-renamed f (Closed.terminal t) = refl
   sound-renamed f (Closed.call n args level) = all-sound-renamed f args
   sound-renamed f (Closed.repeat op x) = sound-renamed f x
@@ -153,7 +154,7 @@ mutual
   sound-renamed f Closed.lookbehind = refl
   sound-renamed f Closed.faulty = refl
 
-  all-sound-renamed : (f : Text → ℕ → Text) (xs : Closeds) → are_sound (all_by_level_names f xs) ≡ are_sound xs
+  pub all-sound-renamed : (f : Text → ℕ → Text) (xs : Closeds) → are_sound (all_by_level_names f xs) ≡ are_sound xs
   all-sound-renamed f Closeds.none = refl
   all-sound-renamed f (Closeds.more x xs) =
       ap (λ b. b && are_sound (all_by_level_names f xs)) (sound-renamed f x) ∙ ap (λ b. is_sound x && b) (all-sound-renamed f xs)

@@ -59,11 +59,12 @@ rename_listed_occurrences f s k (x ∷ xs) =
     rename_occurrences f s k x ∷ rename_listed_occurrences f s (k + occurrences s.binding s.owner x) xs
 
 -- A scope of the grammar with levels, and one of that where each level has a rule of its own, under that name: a rule's
--- loosest level keeps its name, parameters stay, and what they are bound to is renamed.
+-- loosest level keeps its name, each level that an occurrence may have is there, parameters stay, and what they are bound to is
+-- renamed.
 pub record IsLeveledScope (f : Text → ℕ → Text) (s t : Scope) : Type 0 where
   pub loosest_kept : (n : Text) (r : EnabledRule) → name_meaning s.grammar n ≡ Meaning.rule r → level_name f n (loosest r) ≡ n
-  pub rules : (n : Text) (r : EnabledRule) (level : Option ℕ) → name_meaning s.grammar n ≡ Meaning.rule r →
-      (q : EnabledRule) × (name_meaning t.grammar (level_name f n level) ≡ Meaning.rule q) × (q.parameters ≡ r.parameters)
+  pub rules : (k : ℕ) (n : Text) (r : EnabledRule) → name_meaning s.grammar n ≡ Meaning.rule r →
+      (q : EnabledRule) × (name_meaning t.grammar (occurrence_name f s k n) ≡ Meaning.rule q) × (q.parameters ≡ r.parameters)
       × (loosest q ≡ None)
   pub bares : t.grammar.bares ≡ s.grammar.bares
   pub bindings : (n : Text) → parameter_value t.binding n ≡ option_map (by_level_names f) (parameter_value s.binding n)

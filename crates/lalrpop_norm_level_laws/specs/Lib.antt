@@ -1,0 +1,4 @@
+pub mod LeveledGrammar
+pub mod LevelNames
+pub mod LevelFaults
+pub mod LevelLaws

@@ -1,0 +1,11 @@
+pub mod RuleChangeLemmas
+pub mod ClosedNameLemmas
+pub mod DroppingLemmas
+pub mod NameUseLemmas
+pub mod ResolvingLemmas
+pub mod ExamplesOfNames
+pub mod StayingLemmas
+pub mod FaultLemmas
+pub mod RightNameLemmas
+pub mod ResolvedLemmas
+pub mod RightAgainLemmas

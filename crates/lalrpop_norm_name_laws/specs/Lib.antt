@@ -1,0 +1,3 @@
+pub mod NameFaults
+pub mod NameLaws
+pub mod Resolving

@@ -1,0 +1,49 @@
+-- What the laws say of what is disabled and of names that are resolved.
+use Rattle.std.specs.Prelude.{◌≡◌, Bool, List, Option}
+use Rattle.lalrpop_grammar_symbols.specs.Symbols.{Text}
+use Rattle.lalrpop_grammar.specs.WrittenGrammar.{Grammar}
+use Rattle.lalrpop_grammar_language.specs.Enabled.{enabled_grammar}
+use Rattle.lalrpop_norm_expansion.specs.Between.{grammar_between, without_disabled}
+use Rattle.lalrpop_norm_expansion.specs.Premises.{IsReadGrammar, IsResolved}
+use Rattle.lalrpop_norm_expansion.specs.Same.{SameExpansion}
+use Rattle.lalrpop_norm_expansion.specs.Inlined.{SameInlined}
+use Rattle.lalrpop_norm_name_laws.specs.Resolving.{resolved_grammar}
+use Rattle.lalrpop_norm_name_laws.specs.NameFaults.{HasRightNames}
+
+-- what is left of a grammar that was read has the expansion of its enabled grammar
+abbrev pub DroppingKeeps : Type 0
+DroppingKeeps =
+    (finds : Text → Text → Option Bool) (features : List Text) (g : Grammar) → IsReadGrammar g →
+    SameExpansion (enabled_grammar finds features g) (grammar_between finds (without_disabled features g)) (λ x. x)
+
+-- with the same nonterminals inlined
+abbrev pub DroppingInlinesAlike : Type 0
+DroppingInlinesAlike =
+    (finds : Text → Text → Option Bool) (features : List Text) (g : Grammar) → IsReadGrammar g →
+    SameInlined (enabled_grammar finds features g) (grammar_between finds (without_disabled features g)) (λ x. x)
+
+-- where nothing is wrong with names, resolving them makes a resolved grammar
+abbrev pub ResolvingResolves : Type 0
+ResolvingResolves =
+    (finds : Text → Text → Option Bool) (g : Grammar) → HasRightNames g → IsResolved (grammar_between finds (resolved_grammar g))
+
+-- and the expansion stays, whatever is wrong with names
+abbrev pub ResolvingKeeps : Type 0
+ResolvingKeeps =
+    (finds : Text → Text → Option Bool) (g : Grammar) →
+    SameExpansion (grammar_between finds g) (grammar_between finds (resolved_grammar g)) (λ x. x)
+
+-- with the same nonterminals inlined
+abbrev pub ResolvingInlinesAlike : Type 0
+ResolvingInlinesAlike =
+    (finds : Text → Text → Option Bool) (g : Grammar) →
+    SameInlined (grammar_between finds g) (grammar_between finds (resolved_grammar g)) (λ x. x)
+
+-- a resolved grammar stays as it is
+abbrev pub ResolvedStays : Type 0
+ResolvedStays =
+    (finds : Text → Text → Option Bool) (g : Grammar) → IsResolved (grammar_between finds g) → resolved_grammar g ≡ g
+
+-- and nothing is wrong with its names
+abbrev pub ResolvedHasRightNames : Type 0
+ResolvedHasRightNames = (g : Grammar) → HasRightNames g → HasRightNames (resolved_grammar g)
