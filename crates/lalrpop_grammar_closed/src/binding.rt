@@ -53,7 +53,7 @@ pub fn bound_to<'c>(binding: Binding<'c>, name: &Atom) -> Bound<'c>
 }
 
 /// The sum of two counts of what stands in memory.
-pub(crate) fn sum(a: u64, b: u64) -> Result<u64, AllocError>
+pub fn sum(a: u64, b: u64) -> Result<u64, AllocError>
     ensures { IfOk result (λ s. s ≡ a + b) }
 {
     match a.checked_add(b) {
@@ -63,7 +63,7 @@ pub(crate) fn sum(a: u64, b: u64) -> Result<u64, AllocError>
 }
 
 /// 1 where the name is the owner's and no parameter hides it, else 0.
-pub(crate) fn owner_count(binding: Binding<'_>, owner: &Atom, name: &Atom) -> u64
+pub fn owner_count(binding: Binding<'_>, owner: &Atom, name: &Atom) -> u64
     ensures { result ≡ names_owner (binding_view binding.entry) owner.now name.now }
 {
     if name.as_str() != owner.as_str() {
@@ -77,7 +77,7 @@ pub(crate) fn owner_count(binding: Binding<'_>, owner: &Atom, name: &Atom) -> u6
 }
 
 /// 1 where the name of a rule is the owner's, else 0.
-pub(crate) fn rule_count(owner: &Atom, name: &Atom) -> u64
+pub fn rule_count(owner: &Atom, name: &Atom) -> u64
     ensures { result ≡ (if bytes_eq name.now owner.now then 1 else 0) }
 {
     if name.as_str() == owner.as_str() {
@@ -107,7 +107,7 @@ fn occurs_at(binding: Binding<'_>, owner: &Atom, symbol: &Symbol) -> u64
 }
 
 /// How many occurrences of the owner the symbols have, at any depth.
-pub(crate) fn occurrences_in(
+pub fn occurrences_in(
     alloc: Global,
     binding: Binding<'_>,
     owner: &Atom,

@@ -9,7 +9,7 @@ mod closing;
 mod comparing;
 mod condition;
 
-pub use binding::{Binding, Bound, bound_to};
+pub use binding::{Binding, Bound, bound_to, occurrences_in, owner_count, rule_count, sum};
 pub use closed_symbol::ClosedSymbol;
 pub use closing::right_side;
 pub use comparing::{same_name, same_terminal, show_as};

@@ -4,3 +4,4 @@ pub mod RankLemmas
 pub mod BareNameLemmas
 pub mod StartLemmas
 pub mod GreatestLemmas
+pub mod SideLemmas

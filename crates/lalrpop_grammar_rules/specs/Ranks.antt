@@ -1,5 +1,6 @@
 -- Ranks as the program holds them, and what attributes say of them.
-use Rattle.std.specs.Prelude.{ℕ, ◌+◌, ◌-◌, ◌*◌, ◌^◌, ◌&&◌, nat_le, nat_lt, List, Option, Some, None, option_map}
+use Rattle.std.specs.Prelude.{ℕ, ◌+◌, ◌-◌, ◌*◌, ◌^◌, ◌≡◌, ◌&&◌, nat_le, nat_lt, List, Option, Some, None, option_map}
+use Rattle.std.specs.Prelude.{option_and_then, Result, Ok, Err}
 use Rattle.std.specs.Str.{bytes_eq}
 use Rattle.std.specs.Prelude.{if◌then◌else◌, codes}
 use Rattle.lalrpop_grammar_symbols.specs.Symbols.{Text}
@@ -17,6 +18,23 @@ assoc_view sides.FullyAssoc = pure.Assoc.fully_assoc
 
 abbrev pub rank_view : Rank → pure.Rank
 rank_view r = record { level = r.level; side = assoc_view r.side }
+
+-- the side that a text names, if it is one of the four
+abbrev pub side_named : Text → Option pure.Assoc
+side_named t =
+    if bytes_eq t (codes "left") then Some pure.Assoc.left
+    else (if bytes_eq t (codes "right") then Some pure.Assoc.right
+    else (if bytes_eq t (codes "none") then Some pure.Assoc.non_assoc
+    else (if bytes_eq t (codes "all") then Some pure.Assoc.fully_assoc else None)))
+
+-- what reading a side answers
+abbrev pub IsSide : {E : Type 0} → Text → Result program.Assoc E → Type 0
+IsSide t (Ok side) = side_named t ≡ Some (assoc_view side)
+IsSide t (Err fault) = side_named t ≡ None
+
+-- the side that an attribute of the form id(side = "text") says, if it says one of the four
+abbrev pub side_in : Attr → Option pure.Assoc
+side_in a = option_and_then side_named (pure.value_of (codes "side") a)
 
 -- what attributes say of an alternative's level and of its side
 abbrev pub said_level : List Attr → Option (Option ℕ)

@@ -130,7 +130,7 @@ fn allows(features: &[Atom], attribute: &Attribute) -> bool
 }
 
 /// Whether one of the attributes has that name.
-pub(crate) fn has_attribute(id: &str, attributes: &[Attribute]) -> bool
+pub fn has_attribute(id: &str, attributes: &[Attribute]) -> bool
     ensures { result ≡ has_attr id.now (map attribute_view attributes.now) }
 {
     for attribute in attributes {
@@ -141,7 +141,8 @@ pub(crate) fn has_attribute(id: &str, attributes: &[Attribute]) -> bool
     false
 }
 
-pub(crate) fn is_named(attribute: &Attribute, id: &str) -> bool
+/// Whether the attribute has that name.
+pub fn is_named(attribute: &Attribute, id: &str) -> bool
     ensures { result ≡ bytes_eq (attr_id (attribute_view attribute.now)) id.now }
 {
     match &attribute.arg {

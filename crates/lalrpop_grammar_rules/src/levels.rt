@@ -4,13 +4,30 @@ ghost use Rattle.std.specs.Prelude.{◌≡◌, ◌<◌, ◌^◌, IfSome, map, op
 ghost use Rattle.std.specs.Option.{option_copied};
 ghost use Rattle.lalrpop_grammar.specs.Views.{attribute_view, attrs};
 ghost use Rattle.lalrpop_grammar_language.specs.Levels as pure;
-ghost use Rattle.lalrpop_grammar_rules.specs.Ranks.{next_level, assoc_view, rank_view, said_level, said_assoc, text_in, only_text};
+ghost use Rattle.lalrpop_grammar_rules.specs.Ranks.{IsSide, next_level, assoc_view, rank_view, said_level, said_assoc, side_in as side_in_attribute, side_named, text_in, only_text};
 
 use crate::enabling::is_named;
 use lalrpop_grammar::{Attribute, AttributeArg};
 use lalrpop_grammar_symbols::Atom;
+use std::str::FromStr;
 
-/// Which occurrences of a rule in one of its alternatives may have the alternative's own level.
+/// The attribute that says an alternative's level: `precedence(level = "1")`.
+pub const PREC_ATTR: &str = "precedence";
+
+/// The key of the level in it.
+pub const LVL_ARG: &str = "level";
+
+/// The attribute that says an alternative's side: `assoc(side = "left")`.
+pub const ASSOC_ATTR: &str = "assoc";
+
+/// The key of the side in it.
+pub const SIDE_ARG: &str = "side";
+
+/// The attribute of a rule whose productions are put in where it is named.
+pub const INLINE: &str = "inline";
+
+/// Which occurrences of a rule in one of its alternatives may have the alternative's own level. It is read from `left`,
+/// `right`, `none` or `all`.
 #[derive(Clone, Copy, Debug, PartialEq, Eq)]
 pub enum Assoc {
     /// The first.
@@ -32,8 +49,32 @@ pub struct Rank {
     pub side: Assoc,
 }
 
+/// A text that names no side.
+#[derive(Clone, Copy, Debug, PartialEq, Eq)]
+pub struct ParseAssocError;
+
+impl FromStr for Assoc {
+    type Err = ParseAssocError;
+
+    ghost from_str_gives = { IsSide };
+
+    fn from_str(text: &str) -> Result<Assoc, ParseAssocError> {
+        if text == "left" {
+            Ok(Assoc::Left)
+        } else if text == "right" {
+            Ok(Assoc::Right)
+        } else if text == "none" {
+            Ok(Assoc::NonAssoc)
+        } else if text == "all" {
+            Ok(Assoc::FullyAssoc)
+        } else {
+            Err(ParseAssocError)
+        }
+    }
+}
+
 /// The rank of an alternative with these attributes, after that of the enabled one before it in its rule.
-pub(crate) fn rank_after(last: Option<Rank>, attributes: &[Attribute]) -> Option<Rank>
+pub fn rank_after(last: Option<Rank>, attributes: &[Attribute]) -> Option<Rank>
     ensures { option_map rank_view result ≡ pure.rank_after (option_map rank_view last)
         (said_level (map attribute_view attributes.now)) (said_assoc (map attribute_view attributes.now)) }
 {
@@ -65,7 +106,7 @@ fn assoc_or(said: Option<Assoc>, other: Assoc) -> Assoc
 fn level_said(attributes: &[Attribute]) -> Option<Option<u32>>
     ensures { result ≡ said_level (map attribute_view attributes.now) }
 {
-    match first_named("precedence", attributes) {
+    match first_named(PREC_ATTR, attributes) {
         Some(attribute) => Some(level_in(attribute)),
         None => None,
     }
@@ -75,32 +116,42 @@ fn level_said(attributes: &[Attribute]) -> Option<Option<u32>>
 fn assoc_said(attributes: &[Attribute]) -> Option<Assoc>
     ensures { option_map assoc_view result ≡ said_assoc (map attribute_view attributes.now) }
 {
-    match first_named("assoc", attributes) {
+    match first_named(ASSOC_ATTR, attributes) {
         Some(attribute) => Some(assoc_in(attribute)),
         None => None,
     }
 }
 
-fn level_in(attribute: &Attribute) -> Option<u32>
+/// The level that the attribute says, if it says one that can be read.
+pub fn level_in(attribute: &Attribute) -> Option<u32>
     ensures { result ≡ pure.level_in (attribute_view attribute.now) }
 {
-    match value_of("level", attribute) {
+    match value_of(LVL_ARG, attribute) {
         Some(text) => level_of(text.as_str()),
         None => None,
     }
 }
 
-fn assoc_in(attribute: &Attribute) -> Assoc
-    ensures { assoc_view result ≡ pure.assoc_in (attribute_view attribute.now) }
+/// The side that the attribute says, if it says one of the four.
+pub fn side_in(attribute: &Attribute) -> Option<Assoc>
+    ensures { option_map assoc_view result ≡ side_in_attribute (attribute_view attribute.now) }
 {
-    match value_of("side", attribute) {
-        Some(text) => assoc_of(text.as_str()),
-        None => Assoc::NonAssoc,
+    match value_of(SIDE_ARG, attribute) {
+        Some(text) => side_of(text.as_str()),
+        None => None,
     }
 }
 
+/// The side that counts for the attribute. An unknown one gives the level to no one.
+#[tactic(auto, using(crate::proofs::SideLemmas::side_counts))]
+fn assoc_in(attribute: &Attribute) -> Assoc
+    ensures { assoc_view result ≡ pure.assoc_in (attribute_view attribute.now) }
+{
+    assoc_or(side_in(attribute), Assoc::NonAssoc)
+}
+
 /// The first attribute of that name.
-fn first_named<'a>(id: &str, attributes: &'a [Attribute]) -> Option<&'a Attribute>
+pub fn first_named<'a>(id: &str, attributes: &'a [Attribute]) -> Option<&'a Attribute>
     ensures { option_map (λ a. attribute_view a.now) result ≡ pure.first_attr id.now (map attribute_view attributes.now) }
 {
     for attribute in attributes {
@@ -149,19 +200,11 @@ fn text_of<'a>(key: &str, attribute: &'a Attribute) -> Option<&'a Atom>
     }
 }
 
-/// The side that a text names. An unknown one gives the level to no one.
-fn assoc_of(text: &str) -> Assoc
-    ensures { assoc_view result ≡ pure.assoc_of text.now }
+/// The side that a text names.
+fn side_of(text: &str) -> Option<Assoc>
+    ensures { option_map assoc_view result ≡ side_named text.now }
 {
-    if text == "left" {
-        Assoc::Left
-    } else if text == "right" {
-        Assoc::Right
-    } else if text == "all" {
-        Assoc::FullyAssoc
-    } else {
-        Assoc::NonAssoc
-    }
+    Assoc::from_str(text).ok()
 }
 
 /// The level that a text says: a number below 2^32, in decimal digits.

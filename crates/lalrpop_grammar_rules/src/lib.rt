@@ -9,8 +9,11 @@ mod rule;
 mod start;
 mod table;
 
-pub use enabling::cfg_active;
-pub use levels::{Assoc, Rank};
+pub use enabling::{cfg_active, has_attribute, is_named};
+pub use levels::{
+    ASSOC_ATTR, Assoc, INLINE, LVL_ARG, PREC_ATTR, ParseAssocError, Rank, SIDE_ARG, first_named,
+    level_in, rank_after, side_in,
+};
 pub use rule::{Choice, EnabledRule};
 pub use start::Start;
 pub use table::{Meaning, Rules};

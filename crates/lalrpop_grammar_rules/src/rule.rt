@@ -11,7 +11,7 @@ ghost use Rattle.lalrpop_grammar_rules.specs.Ranks.{rank_view};
 ghost use Rattle.lalrpop_grammar_rules.specs.Details.{IsRanked, details, is_leveled, last_of, ranked_level, levels_in, ranked_choices_from, ranked_view, kept_rule_view, with_tighter_level, tighter_in};
 
 use crate::enabling::{cfg_active, has_attribute};
-use crate::levels::{Rank, rank_after};
+use crate::levels::{PREC_ATTR, Rank, rank_after};
 use lalrpop_grammar::{Alternative, Atom, List, NonterminalData};
 use std::alloc::{AllocError, Global};
 
@@ -80,7 +80,7 @@ fn says_level(features: &[Atom], alternative: &Alternative) -> bool
     ensures { result ≡ is_leveled features.now (alternative_view alternative.now) }
 {
     let attributes = alternative.attributes.as_slice();
-    cfg_active(features, attributes) && has_attribute("precedence", attributes)
+    cfg_active(features, attributes) && has_attribute(PREC_ATTR, attributes)
 }
 
 /// An enabled alternative with its rank.
