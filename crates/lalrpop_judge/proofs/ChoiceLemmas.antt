@@ -23,7 +23,7 @@ use Rattle.lalrpop_grammar_closed.specs.Views.{binding_of, closed_view, closeds}
 use Rattle.lalrpop_grammar_closed.specs.declared.closed_symbol.ClosedSymbol.{ClosedSymbol}
 use Rattle.lalrpop_grammar_rules.specs.declared.levels.Rank.{Rank}
 use Rattle.lalrpop_grammar_rules.specs.declared.table.Rules as table
-use Rattle.lalrpop_judge.specs.Admitted.{IsSide}
+use Rattle.lalrpop_judge.specs.Admitted.{IsRightSideAt}
 use Rattle.lalrpop_grammar_closed.specs.Finding.{IsFault, IsRefusal, IsSearch, IsUndecided}
 use Rattle.lalrpop_grammar_closed.specs.declared.condition.ConditionFault.{ConditionFault}
 use Rattle.lalrpop_grammar_closed.specs.declared.condition.ConditionFault.TheVariants as faults
@@ -139,7 +139,7 @@ module _ (t : table.Rules) (n : Text) (place : ℕ) (p : Placed) (is : IsPlaced 
   pub side_of : (side : List Closed) → Stands
       → side ≡ right_side g r (binding_of parameters given)
       (choice_of (Origin.start, alternative_view p.choice.now.alternative.now), option_map rank_view p.choice.now.rank)
-      → IsSide g n args level place side
+      → IsRightSideAt g n args level place side
   side_of side s e = record {
     rule = r;
     choice = q;
@@ -150,7 +150,7 @@ module _ (t : table.Rules) (n : Text) (place : ℕ) (p : Placed) (is : IsPlaced 
   }
 
   -- no other alternative is asked for there
-  pub only_this : (side : List Closed) → IsSide g n args level place side → Stands
+  pub only_this : (side : List Closed) → IsRightSideAt g n args level place side → Stands
   only_this side i =
       let rule : i.rule ≡ r = cc (i.fits.rule, is.only.0) in
       let among : Among (pure.ranked_choices r) i.choice = rw rule at i.fits.written in

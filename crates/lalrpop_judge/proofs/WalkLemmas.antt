@@ -13,7 +13,7 @@ use Rattle.lalrpop_grammar_language.proofs.PlaceLemmas.{places_apart}
 use Rattle.lalrpop_grammar_rules.specs.RuleTable.{rules_with}
 use Rattle.lalrpop_grammar_rules.specs.declared.table.Rules as table
 use Rattle.lalrpop_grammar_closed.specs.Views.{closeds}
-use Rattle.lalrpop_judge.specs.Admitted.{Admitted, AdmittedAll, AdmittedEach, IsSide, MayBe}
+use Rattle.lalrpop_judge.specs.Admitted.{Admitted, AdmittedAll, AdmittedEach, IsRightSideAt, MayBe}
 
 -- `false` is not true, so anything follows
 pub never : {A : Type 0} → IsTrue false → A
@@ -109,7 +109,7 @@ module _ (g : EnabledGrammar) where
   -- a call admits a node whose children the call's right side admits
   pub node_to : (x : Closed) (n : Text) (args : List Argument) (place : ℕ) (ts : Trees) (given : Closeds) (level : Option ℕ)
       (side : List Closed)
-      → inner x ≡ Closed.call n given level → args ≡ argument_list g.spelled given → IsSide g n given level place side
+      → inner x ≡ Closed.call n given level → args ≡ argument_list g.spelled given → IsRightSideAt g n given level place side
       → AdmittedAll g side ts → Admitted g x (Tree.rule n args place ts)
   node_to x n args place ts given level side e f i a = record {
     given = given;
@@ -138,17 +138,17 @@ module _ (g : EnabledGrammar) where
     -- a call that admits a node has a right side that admits the node's children
     pub node_side : (m : Text) (given : Closeds) (level : Option ℕ) → inner x ≡ Closed.call m given level
         → Admitted g x (Tree.rule n args place ts)
-        → (side : List Closed) × IsSide g n given level place side × AdmittedAll g side ts
+        → (side : List Closed) × IsRightSideAt g n given level place side × AdmittedAll g side ts
     node_side m given level e a =
         let same = call-same m n given a.given level a.level (sym e ∙ a.symbol_is) in
-        let side : IsSide g n a.given a.level place (right_side g a.rule (bind a.rule a.given) a.choice) =
+        let side : IsRightSideAt g n a.given a.level place (right_side g a.rule (bind a.rule a.given) a.choice) =
         record { rule = a.rule; choice = a.choice; fits = a.fits; at = a.at; low = a.low; side_is = refl } in
         (right_side g a.rule (bind a.rule a.given) a.choice, rw (same.1, same.2) side, a.children)
 
 -- a call asks for the same at a place, whoever says it
 pub same_side : (finds : Text → Text → Option Bool) (t : table.Rules) (n : Text) (given : Closeds) (level : Option ℕ) (place : ℕ)
     (a b : List Closed)
-    → IsSide (rules_with finds t) n given level place a → IsSide (rules_with finds t) n given level place b → a ≡ b
+    → IsRightSideAt (rules_with finds t) n given level place a → IsRightSideAt (rules_with finds t) n given level place b → a ≡ b
 same_side finds t n given level place a b i j =
     let one = places_apart finds t.features.now (grammar_view t.grammar.now) n given i.rule j.rule i.choice j.choice i.fits j.fits
     (i.at ∙ sym j.at) in

@@ -26,7 +26,8 @@ MayBe Op.plus empty = empty ≡ false
 MayBe Op.question empty = ⊥
 
 -- the symbols that a call's alternative at the place asks for, where it may be chosen
-pub record IsSide (g : EnabledGrammar) (n : Text) (given : Closeds) (level : Option ℕ) (place : ℕ) (side : List Closed) : Type 0 where
+pub record IsRightSideAt (g : EnabledGrammar) (n : Text) (given : Closeds) (level : Option ℕ) (place : ℕ) (side : List Closed) :
+    Type 0 where
   pub rule : EnabledRule
   pub choice : Choice × Option Rank
   pub fits : Fits g n given rule choice

@@ -7,7 +7,7 @@ ghost use Rattle.lalrpop_grammar_language.specs.Closing.{right_side as right_sid
 ghost use Rattle.lalrpop_grammar_rules.specs.RuleTable.{IsTable, rules_with};
 ghost use Rattle.lalrpop_grammar_rules.specs.Ranks.{rank_view};
 ghost use Rattle.lalrpop_grammar_closed.specs.Views.{closed_view, closeds};
-ghost use Rattle.lalrpop_judge.specs.Admitted.{IsSide};
+ghost use Rattle.lalrpop_judge.specs.Admitted.{IsRightSideAt};
 ghost use Rattle.lalrpop_judge.specs.Faults.{NamesSearch, OnlyWhere};
 ghost use Rattle.lalrpop_judge.specs.Placed.{IsChoiceAt, IsPlacedAt, IsPlaced, placed_view, rule_in};
 
@@ -36,9 +36,9 @@ pub(crate) fn chosen_side<F: Finder>(
 ) -> Result<Option<List<ClosedSymbol>>, JudgeError>
     requires { IsTable rules.now }
     ensures some { IfOk result (λ found. IfSome found (λ side.
-        IsSide (rules_with (F.finds finder.now) rules.now) name.now (closeds (map closed_view given.now)) level place (map closed_view side))) }
+        IsRightSideAt (rules_with (F.finds finder.now) rules.now) name.now (closeds (map closed_view given.now)) level place (map closed_view side))) }
     ensures none { IfOk result (λ found. IfNone found ((side : List Closed) →
-        IsSide (rules_with (F.finds finder.now) rules.now) name.now (closeds (map closed_view given.now)) level place side → ⊥)) }
+        IsRightSideAt (rules_with (F.finds finder.now) rules.now) name.now (closeds (map closed_view given.now)) level place side → ⊥)) }
     ensures fault { IfErr result (OnlyWhere (NamesSearch (rules_with (F.finds finder.now) rules.now) name.now place)) }
 {
     let Some(placed) = placed_at(rules, name, place) else {

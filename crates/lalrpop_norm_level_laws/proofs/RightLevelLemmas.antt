@@ -18,7 +18,7 @@ use Rattle.lalrpop_grammar_language.proofs.PlaceLemmas.{among_filter}
 use Rattle.lalrpop_norm_expansion.specs.Between.{rule_between, with_origins}
 use Rattle.lalrpop_norm_expansion.proofs.LevelLemmas.{no_loosest}
 use Rattle.lalrpop_norm_level_laws.specs.LeveledGrammar.{ranked_alternatives}
-use Rattle.lalrpop_norm_level_laws.specs.LevelFaults.{LevelFault, fault_unless, side_in, value_place, faults_of_attr, faults_of_first}
+use Rattle.lalrpop_norm_level_laws.specs.LevelFaults.{LevelFault, fault_unless, side_in_attr, value_place, faults_of_attr, faults_of_first}
 use Rattle.lalrpop_norm_level_laws.specs.LevelFaults.{faults_of_tightest, level_faults_in, level_faults_in_rule}
 use Rattle.lalrpop_norm_level_laws.specs.LevelFaults.{HasRightLevels}
 use Rattle.lalrpop_norm_level_laws.proofs.LevelOrderLemmas.{greatest-among, loosest-among, has_greatest}
@@ -45,7 +45,7 @@ readable a e h = go (bytes_eq (attr_id a) (codes "precedence")) (level_in a) oth
 
     other : List LevelFault
     other = if bytes_eq (attr_id a) (codes "assoc") then
-        fault_unless (side_in a) (LevelFault.no_side (value_place (codes "side") a)) else []
+        fault_unless (side_in_attr a) (LevelFault.no_side (value_place (codes "side") a)) else []
 
     go : (b : Bool) (o : Option ℕ) (rest : List LevelFault) → b ≡ true → cond b (fault_unless o place) rest ≡ [] →
         (n : ℕ) × (o ≡ Some n)

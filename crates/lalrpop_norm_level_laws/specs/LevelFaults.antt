@@ -27,8 +27,8 @@ side_of t =
     else (if bytes_eq t (codes "none") then Some Assoc.non_assoc
     else (if bytes_eq t (codes "all") then Some Assoc.fully_assoc else None)))
 
-abbrev pub side_in : Attr → Option Assoc
-side_in a = option_and_then side_of (value_of (codes "side") a)
+abbrev pub side_in_attr : Attr → Option Assoc
+side_in_attr a = option_and_then side_of (value_of (codes "side") a)
 
 abbrev pub attr_place : Attr → TextSpan
 attr_place (Attr.empty place id) = place
@@ -51,7 +51,7 @@ faults_of_attr a =
     if bytes_eq (attr_id a) (codes "precedence") then
     fault_unless (level_in a) (LevelFault.no_number (value_place (codes "level") a))
     else (if bytes_eq (attr_id a) (codes "assoc") then
-    fault_unless (side_in a) (LevelFault.no_side (value_place (codes "side") a))
+    fault_unless (side_in_attr a) (LevelFault.no_side (value_place (codes "side") a))
     else [])
 
 abbrev pub fault_of_side : Option Attr → List LevelFault

@@ -9,7 +9,7 @@ use Rattle.lalrpop_grammar_language.specs.Closing.{inner}
 use Rattle.lalrpop_grammar_rules.specs.RuleTable.{rules_with}
 use Rattle.lalrpop_grammar_closed.specs.Views.{closed_view, closeds}
 use Rattle.lalrpop_grammar_closed.proofs.ArgumentLemmas.{args_to, args_from}
-use Rattle.lalrpop_judge.specs.Admitted.{Admitted, AdmittedAll, AdmittedEach, IsSide}
+use Rattle.lalrpop_judge.specs.Admitted.{Admitted, AdmittedAll, AdmittedEach, IsRightSideAt}
 use Rattle.lalrpop_judge.specs.Faults.{HaveSearch, OnlyWhere}
 use Rattle.lalrpop_judge.proofs.SearchLemmas.{one_of}
 use Rattle.lalrpop_judge.proofs.ViewLemmas.{seen-Rule, seen-List, seen-Group, seen-Opt}
@@ -185,7 +185,8 @@ pub admits_node-returns-in_default-2-clause-exact : goal.admits_node-returns-in_
 admits_node-returns-in_default-2-clause-exact g t c =
     let r = rules_with (g.F.Finder.finds c.args.finder.now) c.args.rules.now in
     let given : Closeds = closeds (map closed_view c.in-Some.call.args.now) in
-    let refused : (side : List Closed) → IsSide r c.args.rule.now given c.in-Some.call.level c.args.place side → ⊥ = search rules in (
+    let refused : (side : List Closed) → IsRightSideAt r c.args.rule.now given c.in-Some.call.level c.args.place side → ⊥ =
+    search rules in (
       λ e. never e,
       λ a.
           let s = node_side r (closed_view c.args.symbol.now) c.args.rule.now (map (λ s. without_marks (symbol_view s)) c.args.args.now)
@@ -203,7 +204,7 @@ admits_node-returns-clause-exact g t c =
     let args = map (λ s. without_marks (symbol_view s)) c.args.args.now in
     let ts = trees (map tree_view c.args.trees.now) in
     let side : List Closed = map closed_view c.in-Some-2.side in
-    let fits : IsSide r c.args.rule.now given level c.args.place side = rw c.in-Some-2.is at c.in_ok-side.ensures.some in
+    let fits : IsRightSideAt r c.args.rule.now given level c.args.place side = rw c.in-Some-2.is at c.in_ok-side.ensures.some in
     let name : c.in-Some.call.name.now ≡ c.args.rule.now = search rules in
     let shown : IsTrue c.show_as.result = search rules in
     let called : inner (closed_view c.args.symbol.now) ≡ Closed.call c.args.rule.now given level = rw name at c.in-Some.ensures.some in
