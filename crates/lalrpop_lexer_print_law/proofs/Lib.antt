@@ -1,0 +1,11 @@
+pub mod NumeralLemmas
+pub mod CharacterLemmas
+pub mod ClassTextLemmas
+pub mod ReadingLemmas
+pub mod GroupLemmas
+pub mod AlikeLemmas
+pub mod NestingLemmas
+pub mod PrintLemmas
+pub mod ComplementLemmas
+pub mod ExamplesOfPrints
+pub mod ExamplesOfComplements

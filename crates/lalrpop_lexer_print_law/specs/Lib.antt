@@ -1,0 +1,4 @@
+pub mod Printing
+pub mod Printable
+pub mod ReadBack
+pub mod Complements

@@ -1,0 +1,13 @@
+pub mod Productions
+pub mod Trees
+pub mod Spans
+pub mod Places
+pub mod FirstSets
+pub mod ValidItems
+pub mod Automata
+pub mod States
+pub mod Runs
+pub mod Answers
+pub mod CheckedStates
+pub mod CanonicalStates
+pub mod Laws

@@ -1,0 +1,10 @@
+mod AgainLemmas
+mod AttributeLemmas
+mod EntryLemmas
+mod ExamplesOfChecks
+mod ExamplesOfFaults
+mod FaultLemmas
+mod FirstLemmas
+mod NameLemmas
+mod SetLemmas
+mod StandingLemmas

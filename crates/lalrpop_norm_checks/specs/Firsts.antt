@@ -1,0 +1,6 @@
+-- The first of a list, where it has one.
+use Rattle.std.specs.Prelude.{List, [], ◌∷◌, Option, Some, None}
+
+abbrev pub first_of : {A : Type 0} → List A → Option A
+first_of [] = None
+first_of (x ∷ xs) = Some x

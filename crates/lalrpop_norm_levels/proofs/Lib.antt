@@ -1,0 +1,3 @@
+pub mod FirstFaultLemmas
+pub mod RankedLemmas
+pub mod ValuePlaceLemmas

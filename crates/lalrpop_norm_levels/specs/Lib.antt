@@ -1,0 +1,2 @@
+pub mod LevelErrors
+pub mod LevelSearch

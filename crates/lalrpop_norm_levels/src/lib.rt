@@ -1,0 +1,10 @@
+//! The pass of the normalizer that gives each level of a rule a rule of its own: which rules have levels, and what may be wrong
+//! with them.
+#![tactic(auto)]
+
+mod faults;
+
+pub use faults::{has_prec_attr, level_fault};
+pub use lalrpop_grammar_rules::{
+    ASSOC_ATTR, Assoc, INLINE, LVL_ARG, PREC_ATTR, ParseAssocError, SIDE_ARG,
+};
