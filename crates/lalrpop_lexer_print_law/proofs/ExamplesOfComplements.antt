@@ -1,13 +1,13 @@
 -- Examples of complements, and near misses, to test the definitions.
-use Rattle.std.proofs.Common.{◌≡◌, true, false, not, [], ◌∷◌, ◌++◌, Ok, refl, sym, ◌∙◌, arith, lit≤}
+use Rattle.std.proofs.Common.{◌≡◌, false, not, [], ◌∷◌, ◌++◌, Ok, refl, sym, ◌∙◌, arith, lit≤}
 use Rattle.std.proofs.Common.{true≢false}
-use Rattle.std.specs.Prelude.{ℕ, codes}
+use Rattle.std.specs.Prelude.{codes}
 use Rattle.std.specs.Fmt.{digits}
 use Rattle.lalrpop_lexer_pattern.specs.Matches.{Pattern}
 use Rattle.lalrpop_lexer_pattern.specs.Ranges.{InRanges}
 use Rattle.lalrpop_lexer_pattern.specs.Sets.{in_range, in_ranges}
 use Rattle.lalrpop_lexer_pattern.specs.declared.class.Range.{Range}
-use Rattle.lalrpop_lexer_print_law.specs.Complements.{IsReadAsTest, caret_text, letter_text, property_text, is_plain_name, ArePrinted}
+use Rattle.lalrpop_lexer_print_law.specs.Complements.{IsReadAsTest, caret_text, property_text, is_plain_name, ArePrinted}
 use Rattle.lalrpop_lexer_print_law.proofs.ComplementLemmas.{caret_rest}
 
 abbrev small_a : Range

@@ -1,7 +1,6 @@
 -- Sets of characters as a pattern writes them, and their complements, by the characters that they match.
-use Rattle.std.specs.Prelude.{◌≡◌, ◌↔◌, ◌≤◌, ℕ, Bool, true, false, not, ◌==◌, ◌&&◌}
-use Rattle.std.specs.Prelude.{List, [], ◌∷◌, ◌++◌, codes, Ok}
-use Rattle.std.specs.Prelude.{IfSome}
+use Rattle.std.specs.Prelude.{◌≡◌, ◌↔◌, ◌≤◌, ℕ, Bool, true, false, not, ◌==◌, ◌&&◌, List, [], ◌∷◌}
+use Rattle.std.specs.Prelude.{◌++◌, codes, Ok, IfSome}
 use Rattle.unicode.specs.Lookup.{by_name}
 use Rattle.unicode.specs.Loose.{normalize}
 use Rattle.unicode.specs.Sets.{in_set}

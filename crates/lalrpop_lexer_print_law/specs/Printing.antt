@@ -100,8 +100,9 @@ abbrev pub is_nothing : Pattern → Bool
 is_nothing (Pattern.class []) = true
 is_nothing _ = false
 
--- The pattern as a text, at its place. Groups stand only where the text would be read otherwise without them. A repetition
--- whose bounds fall matches nothing and prints as the class that does. An alternative that matches nothing is left out at the end.
+-- The pattern as a text, at its place. In front of a repetition a group stands around what isn't one piece, and among patterns
+-- one after another around bars. A repetition whose bounds fall matches nothing and prints as the class that does. An
+-- alternative that is that class is left out where it comes last.
 abbrev pub print : Pattern → Place → List ℕ
 print Pattern.empty place = group_if (is_repetition_place place) []
 print (Pattern.literal cs) place = group_if (is_repetition_place place && not (length cs == 1)) (literal_text cs)

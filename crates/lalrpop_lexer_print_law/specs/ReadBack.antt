@@ -5,8 +5,8 @@ use Rattle.lalrpop_lexer_pattern.specs.Refused.{refusal}
 use Rattle.lalrpop_lexer_regex.specs.Regex.{whole_pattern}
 use Rattle.lalrpop_lexer_print_law.specs.Printable.{IsPrintedInFull}
 
--- The text is read as a pattern that matches the same words. Where nothing was left out of the text, an automaton is refused
--- for the same cause too: the first name, lazy repetition or place in the text, in the order of the tree.
+-- The text is read as a pattern that matches the same words. Where nothing was left out of the text, both are also refused an
+-- automaton for the same cause, or neither: the first name, lazy repetition or place in the text, in the order of the tree.
 pub record IsReadBackAs (text : List ℕ) (p : Pattern) : Type 0 where
   pub pattern : Pattern
   pub read : whole_pattern text ≡ Ok pattern

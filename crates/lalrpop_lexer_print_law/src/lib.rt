@@ -18,8 +18,8 @@ ghost use Rattle.lalrpop_lexer_print_law.specs.Complements.{IsReadAsTest, IsRead
 /// The law that what a pattern prints as is read as a pattern that matches the same words.
 ///
 /// It holds of every pattern whose literals and ends of ranges are scalar values, whose counts are at most 1,000 and whose
-/// text has at most 250 brackets open at once. Where no name was left out and no bounds fall, the pattern that is read is
-/// also refused an automaton for the same cause, or not at all.
+/// text has at most 250 brackets open at once. Words don't tell of names, lazy repetitions and places in the text: of these,
+/// where no name was left out and no bounds fall, the first in the order of the tree that an automaton is refused for is kept.
 pub fn printed_patterns_are_read_back()
     ensures { (p : Pattern) → IsPrintable p → IsReadBackAs (print p Place.alone) p }
 {}

@@ -1,4 +1,4 @@
--- Where the states stop, and why.
+-- Where the states stop, and why: for the law on the ends of runs.
 use Rattle.std.proofs.Common.{◌≡◌, ℕ, zero, suc, ◌+◌, ◌-◌, ◌<◌, ◌≤◌, List, [], ◌∷◌, ◌++◌, length}
 use Rattle.std.proofs.Common.{take, Some, None, refl, sym, ap, ◌∙◌, subst, ⊎_elim, inl, inr, ◌⊎◌, arith, append_assoc}
 use Rattle.std.proofs.Common.{append-nil, length-append, Contains}
@@ -7,8 +7,8 @@ use Rattle.lalrpop_grammar_symbols.specs.Symbols.{Terminal, Text}
 use Rattle.lalrpop_lr1_theory.specs.Productions.{Next, Production, Symbol, first, nonterminal, terminal}
 use Rattle.lalrpop_lr1_theory.specs.Trees.{AreOver, Forest, IsTreeOf, Move, MovesLead, forest, leaf, node, nodes, none, reduce, roots}
 use Rattle.lalrpop_lr1_theory.specs.Trees.{shift, yield, ◌and◌}
-use Rattle.lalrpop_lr1_theory.specs.Automata.{IsCheckedAutomaton, Walk, goes, passes, stands}
-use Rattle.lalrpop_lr1_theory.specs.States.{HasEdge, HasItem, Item, Reduces, State}
+use Rattle.lalrpop_lr1_theory.specs.Automata.{IsCheckedAutomaton, Walk, goes, stands}
+use Rattle.lalrpop_lr1_theory.specs.States.{HasEdge, HasItem, Reduces, State}
 use Rattle.lalrpop_lr1_theory.specs.Runs.{Allows, Runs, RunsBy}
 use Rattle.lalrpop_lr1_theory.specs.Answers.{BeginsYieldOf, IsMoveOf, IsRightParseAnswer, IsRun, ParseAnswer, Passes, RunEnds}
 use Rattle.lalrpop_lr1_theory.specs.Answers.{over_limit, tree, wrong_end, wrong_token}
@@ -154,11 +154,11 @@ module _ (G : Production → Type 0) (s : Text) (Item : ℕ → Production → �
             (g ≡ forest ts (0 + length ms)) × (0 + length ms ≤ nodes ts) → ⊥
         go (inl h) fol =
             let d = allows-next G s Item Edge Reduce ok.automaton ts (0 + length ms) x h t (y ∙ ap (λ f. yield f ++ x) fol.0) in
-            let same : d.1 ≡ n = walk_one Edge ok.automaton.cover.one (roots g) d.1 n
-            (subst (λ f. Walk Edge (roots f) d.1) (sym fol.0) d.2)
+            let same : d.state ≡ n = walk_one Edge ok.automaton.cover.one (roots g) d.state n
+            (subst (λ f. Walk Edge (roots f) d.state) (sym fol.0) d.walk)
             walk in
-            none_can d.0 (subst (λ j. Allows Edge Reduce n j d.0) (sym c ∙ ap first (sym q))
-            (subst (λ j. Allows Edge Reduce j (first x) d.0) same d.3))
+            none_can d.move (subst (λ j. Allows Edge Reduce n j d.move) (sym c ∙ ap first (sym q))
+            (subst (λ j. Allows Edge Reduce j (first x) d.move) same d.allowed))
         go (inr h) fol =
             let j : 0 + length ms ≡ nodes ts = omega (arith, fol.1) in
             no_walk n (subst (λ i. Walk Edge i n) (ap roots (fol.0 ∙ ap (forest ts) j ∙ forest_all ts) ∙ t.0) walk)
@@ -207,7 +207,7 @@ module _ (G : Production → Type 0) (s : Text) (Item : ℕ → Production → �
         go (inl j) fol t =
             let w = rest_of G s Item Edge Reduce ok.automaton f (0 + length ms) j in
             let d = allows-next G s Item Edge Reduce ok.automaton f (0 + length ms) w.0 j t w.1 in
-            absurd (no_walk d.1 (subst (λ i. Walk Edge i d.1) (ap roots (sym fol.0) ∙ e) d.2))
+            absurd (no_walk d.state (subst (λ i. Walk Edge i d.state) (ap roots (sym fol.0) ∙ e) d.walk))
         go (inr j) fol t = omega (arith, h, j)
 
     pub shift_edge : (n : ℕ) (x : Next) (t : Terminal) → Allows Edge Reduce n x (shift t) → (m : ℕ) × Edge n (terminal t) m
@@ -225,19 +225,20 @@ module _ (G : Production → Type 0) (s : Text) (Item : ℕ → Production → �
         )
     next_walk (reduce p) f h v n o o' w d l =
         let c = can_reduce G s Item Edge Reduce ok f n p (first v) w d in
-        let same = and_ends l.0 c.0 l.1 c.1 (l.3 ∙ sym c.4) (sym l.2 ∙ c.3) in (
+        let same = and_ends l.kept c.kept l.children c.children (l.roots_are ∙ sym c.roots_are) (sym l.parts ∙ c.parts) in (
           item_over G s Item Edge ok.automaton.cover (roots f) n w p (length p.right) (ok.automaton.finished n p (first v) d),
           ⊎_elim
               (λ e. whole_passes h (
-                ap roots (sym l.4) ∙ ap (λ g. roots (g and node p l.1 none)) (same.0 ∙ e.0)
+                ap roots (sym l.rest) ∙ ap (λ g. roots (g and node p l.children none)) (same.0 ∙ e.0)
                     ∙ ap (λ A. nonterminal A ∷ []) e.1,
                 o',
               ))
               (λ e. passes_there G s Item Edge ok.automaton.cover ok.none_barren h e.0 o'
               (subst (λ g. Walk Edge g e.0)
-              (ap (λ g. roots g ++ nonterminal p.left ∷ []) (sym same.0) ∙ sym (roots-and l.0 (node p l.1 none)) ∙ ap roots l.4)
-              (goes (nonterminal p.left) e.0 c.5 e.1)))
-              c.6,
+              (ap (λ g. roots g ++ nonterminal p.left ∷ []) (sym same.0) ∙ sym (roots-and l.kept (node p l.children none))
+              ∙ ap roots l.rest)
+              (goes (nonterminal p.left) e.0 c.walk e.1)))
+              c.leads_on,
         )
 
     pub runs_pass : (ms : List Move) (f : Forest) (v : List Terminal) (g : Forest) (w : List Terminal) →

@@ -9,13 +9,12 @@ use Rattle.lalrpop_lr1_theory.specs.Trees.{AreOver, Forest, IsTreeOf, Move, leaf
 use Rattle.lalrpop_lr1_theory.specs.Places.{plug, under}
 use Rattle.lalrpop_lr1_theory.specs.FirstSets.{First0}
 use Rattle.lalrpop_lr1_theory.specs.ValidItems.{CarriesAlong, CarriesOn, IsValidItem, NoneBarren, begins, closes, shifts}
-use Rattle.lalrpop_lr1_theory.specs.Automata.{Carries, Closure, Finished, IsBegun, IsBegunBefore, IsCanonicalAutomaton, IsCover}
-use Rattle.lalrpop_lr1_theory.specs.Automata.{IsLr1Automaton, IsShifted, IsShiftedBefore, Marked, Walk, begins_with_end, brings, closed}
-use Rattle.lalrpop_lr1_theory.specs.Automata.{goes, has_next, in_kernel, passes, passes_next, shifts_next, stands, starts, starts_next}
-use Rattle.lalrpop_lr1_theory.specs.Automata.{there}
-use Rattle.lalrpop_lr1_theory.specs.States.{Item}
+use Rattle.lalrpop_lr1_theory.specs.Automata.{Carries, Closure, EndAlone, Finished, IsBegun, IsBegunBefore, IsCanonicalAutomaton}
+use Rattle.lalrpop_lr1_theory.specs.Automata.{IsCover, IsLr1Automaton, IsShifted, IsShiftedBefore, Marked, Walk, begins_with_end}
+use Rattle.lalrpop_lr1_theory.specs.Automata.{brings, closed, goes, has_next, in_kernel, passes, passes_next, shifts_next, stands}
+use Rattle.lalrpop_lr1_theory.specs.Automata.{starts, starts_next, there}
 use Rattle.lalrpop_lr1_theory.specs.Runs.{Allows}
-use Rattle.lalrpop_lr1_theory.specs.Answers.{BeginsYieldOf, IsLr1, IsValidMove, tree}
+use Rattle.lalrpop_lr1_theory.specs.Answers.{BeginsYieldOf, IsLr1, IsValidMove}
 use Rattle.lalrpop_lr1_theory.proofs.FirstLemmas.{AllReached, reached-append, reached_drop, reached_head, reached_right, trees_for}
 use Rattle.lalrpop_lr1_theory.proofs.MarkLemmas.{item_of, mark_of}
 use Rattle.lalrpop_lr1_theory.proofs.PassLemmas.{At, at_from_carried, first_leaf, some_carried}
@@ -92,7 +91,7 @@ module _ (G : Production → Type 0) (s : Text) (Item : ℕ → Production → �
   pub look_carried : NoneBarren G s → (g : List Symbol) (n : ℕ) → Walk Edge g n → (p : Production) (i : ℕ) (x : Next) →
       Look n p i x → CarriesOn G s g p i x
   look_carried nb g n stands p i x k =
-      marked_carried G s [] (IsBegun G s) (IsBegunBefore G s) (λ q j y u. u.0)
+      marked_carried G s [] (IsBegun G s) (IsBegunBefore EndAlone G s) (λ q j y u. u.0)
       (λ q j c. some_carried G s Item Edge can.cover nb [] 0 stands q j ((can.cover.start q j).1 c))
       (λ q j y u. subst (λ v. CarriesOn G s [] q v y) (sym u.0.2) (subst (CarriesOn G s [] q 0) (sym u.1) (begins q u.0.0 u.0.1)))
       p i (Some x) ((can.look_start p i x).0 k) x refl
@@ -109,7 +108,7 @@ module _ (G : Production → Type 0) (s : Text) (Item : ℕ → Production → �
       (t : Terminal) → Item n p i → drop i p.right ≡ nonterminal q.left ∷ b → G q → First0 G b (Some t) → Look n q 0 (Some t)
   look_starts g n stands p i b q t k d u f =
       (can.look_start q 0 (Some t)).1
-      (starts b q t refl (mark_of true G (IsBegun G s) (IsBegunBefore G s) ((can.cover.start p i).0 k)) d u f)
+      (starts b q t refl (mark_of true G (IsBegun G s) (IsBegunBefore EndAlone G s) ((can.cover.start p i).0 k)) d u f)
   look_starts g n (goes {g = h} {n = m} X m' w e) p i b q t k d u f =
       (can.look_next m X n e q 0 (Some t)).1
       (starts b q t refl (mark_of true G (IsShifted Item m X) (IsShiftedBefore Look m X) ((can.cover.next m X n e p i).0 k)) d u f)

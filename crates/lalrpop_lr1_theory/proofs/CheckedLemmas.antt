@@ -11,7 +11,6 @@ use Rattle.lalrpop_lr1_theory.specs.States.{HasEdge, HasItem, LookaheadSet, Redu
 use Rattle.lalrpop_lr1_theory.specs.CheckedStates.{AreCheckedStates, HasNoConflict}
 use Rattle.lalrpop_lr1_theory.specs.Laws.{NeverTwoMoves}
 use Rattle.lalrpop_lr1_theory.proofs.CanonicalLemmas.{along_carries}
-use Rattle.lalrpop_lr1_theory.proofs.ExampleLemmas.{production}
 use Rattle.lalrpop_lr1_theory.proofs.ListLemmas.{contains_get}
 use Rattle.lalrpop_lr1_theory.proofs.StepLemmas.{some_same}
 

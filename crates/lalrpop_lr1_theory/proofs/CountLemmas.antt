@@ -12,7 +12,6 @@ use Rattle.lalrpop_lr1_theory.specs.Automata.{Walk}
 use Rattle.lalrpop_lr1_theory.specs.States.{HasEdge, HasItem, HasLookahead, State}
 use Rattle.lalrpop_lr1_theory.specs.CanonicalStates.{AreCanonicalStates, HaveOneItemSet}
 use Rattle.lalrpop_lr1_theory.proofs.CanonicalLemmas.{canonical_valid, carried_look}
-use Rattle.lalrpop_lr1_theory.proofs.ExampleLemmas.{production}
 use Rattle.lalrpop_lr1_theory.proofs.ListLemmas.{get_front, get_split}
 use Rattle.lalrpop_lr1_theory.proofs.PassLemmas.{some_carried, some_item}
 use Rattle.lalrpop_lr1_theory.proofs.PlaceLemmas.{slice_get-append}

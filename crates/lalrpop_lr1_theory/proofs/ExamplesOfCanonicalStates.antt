@@ -5,17 +5,18 @@ use Rattle.std.proofs.Common.{◌+◌}
 use Rattle.std.proofs.lemmas.Option.{slice_get_within}
 use Rattle.std.specs.Prelude.{slice_get}
 use Rattle.std.proofs.Common.{false}
+use Rattle.std.proofs.Common.{◌*◌}
 use Rattle.lalrpop_grammar_symbols.specs.Symbols.{Terminal, Text}
 use Rattle.lalrpop_lr1_theory.specs.Productions.{Next, Production, Symbol, nonterminal, terminal}
 use Rattle.lalrpop_lr1_theory.specs.FirstSets.{ends}
 use Rattle.lalrpop_lr1_theory.specs.ValidItems.{CountsItemSets}
-use Rattle.lalrpop_lr1_theory.specs.Automata.{IsBegun, IsBegunBefore, IsCanonicalAutomaton, IsShifted, IsShiftedBefore, Marked, Walk}
-use Rattle.lalrpop_lr1_theory.specs.Automata.{brings, goes, has_next, passes, stands, starts, there}
+use Rattle.lalrpop_lr1_theory.specs.Automata.{EndAlone, IsBegun, IsBegunBefore, IsCanonicalAutomaton, IsShifted, IsShiftedBefore}
+use Rattle.lalrpop_lr1_theory.specs.Automata.{Marked, Walk, brings, goes, has_next, passes, stands, starts, there}
 use Rattle.lalrpop_lr1_theory.specs.States.{HasEdge, HasItem, HasLookahead, Item, Reduction, State, finished_reductions}
-use Rattle.lalrpop_lr1_theory.specs.CanonicalStates.{AreCanonicalStates, AreNumberedAsSeen, EdgeBefore, HasEdgeBefore, HaveOneItemSet}
-use Rattle.lalrpop_lr1_theory.specs.CanonicalStates.{SymbolBefore}
+use Rattle.lalrpop_lr1_theory.specs.CanonicalStates.{AreCanonicalStates, AreNumberedAsSeen, EdgeBefore, HasEdgeBefore}
+use Rattle.lalrpop_lr1_theory.specs.CanonicalStates.{HaveItemsAscending, HaveOneItemSet, SymbolBefore}
 use Rattle.lalrpop_lr1_theory.proofs.CountLemmas.{canonical_counted}
-use Rattle.lalrpop_lr1_theory.proofs.ExampleLemmas.{name, nothing_in, production, quoted}
+use Rattle.lalrpop_lr1_theory.proofs.ExampleLemmas.{name, nothing_in, quoted}
 use Rattle.lalrpop_lr1_theory.proofs.ExamplesOfCheckedStates.{by_a_alone, end_alone, end_and_a, has_a, has_s, one_alone}
 use Rattle.lalrpop_lr1_theory.proofs.ExamplesOfStates.{LeadsOn, StandsIn, a_done, a_first, a_given, after_dot, before_these, by_a}
 use Rattle.lalrpop_lr1_theory.proofs.ExamplesOfStates.{by_letter, by_s, by_start, derives_none, first_items, first_state, item_at}
@@ -103,7 +104,7 @@ abbrev Begun : Production → ℕ → Type 0
 Begun = IsBegun (Contains one_letter) (name letter_start)
 
 abbrev BegunBefore : Production → ℕ → Next → Type 0
-BegunBefore = IsBegunBefore (Contains one_letter) (name letter_start)
+BegunBefore = IsBegunBefore EndAlone (Contains one_letter) (name letter_start)
 
 start_stands : (p : Production) (i : ℕ) → Begun p i → StandsIn 0 p i
 start_stands p i u = subst (λ k. StandsIn 0 p k) (sym u.2) (subst (λ r. StandsIn 0 r 0) (by_start p u.0 u.1) s_first)
@@ -400,3 +401,38 @@ swapped_not_numbered h =
     go n x e (inl l) = omega (arith, l)
     go n (terminal t) e (inr (z, l)) = l
     go n (nonterminal A) e (inr (z, l)) = l
+
+-- The items of each state ascend by the letters of their names; the other way round they don't.
+abbrev first_letter : Text → ℕ
+first_letter [] = 0
+first_letter (x ∷ xs) = x
+
+abbrev ByName : Item → Item → Type 0
+ByName a b = first_letter a.production.left < first_letter b.production.left
+
+three_ascending : HaveItemsAscending ByName three_states
+three_ascending n st j k a b e l f g = in_order n st e j k a b l f g
+  where
+    letters : (j : ℕ) (a : Item) → slice_get first_items j ≡ Some a → first_letter a.production.left ≡ 83 + 12 * j
+    letters = all_places (λ j a. first_letter a.production.left ≡ 83 + 12 * j) first_items (refl, (refl, tt))
+
+    in_first : (j k : ℕ) (a b : Item) → j < k → slice_get first_items j ≡ Some a → slice_get first_items k ≡ Some b →
+        ByName a b
+    in_first j k a b l f g = omega (arith, letters j a f, letters k b g, l)
+
+    alone : (it : Item) (j k : ℕ) (a b : Item) → j < k → slice_get (it ∷ []) j ≡ Some a →
+        slice_get (it ∷ []) k ≡ Some b → ByName a b
+    alone it j k a b l f g = absurd (omega (arith, l, slice_get_within (it ∷ []) k b g))
+
+    in_order : (n : ℕ) (st : State) → slice_get three_states n ≡ Some st → (j k : ℕ) (a b : Item) → j < k →
+        slice_get st.items j ≡ Some a → slice_get st.items k ≡ Some b → ByName a b
+    in_order =
+        all_places
+        (λ n st. (j k : ℕ) (a b : Item) → j < k → slice_get st.items j ≡ Some a → slice_get st.items k ≡ Some b → ByName a b)
+        three_states (in_first, (alone (item_at starts_s 1), (alone (item_at s_is_a 1), tt)))
+
+descending : HaveItemsAscending ByName (states_with (item_at starts_s 0 ∷ item_at s_is_a 0 ∷ []) (end_alone ∷ [])) → ⊥
+descending h =
+    let l = h 0 (state_of 0 (item_at starts_s 0 ∷ item_at s_is_a 0 ∷ []) ((quoted letter_a, 2) ∷ []) ((name letter_s, 1) ∷ []) [])
+    0 1 (item_at starts_s 0) (item_at s_is_a 0) refl (omega arith) refl refl in
+    omega (arith, l)

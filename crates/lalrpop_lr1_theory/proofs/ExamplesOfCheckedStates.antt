@@ -9,9 +9,9 @@ use Rattle.lalrpop_lr1_theory.specs.Productions.{Next, Production, nonterminal, 
 use Rattle.lalrpop_lr1_theory.specs.FirstSets.{ends}
 use Rattle.lalrpop_lr1_theory.specs.Automata.{Carries, Closure, IsShifted, begins_with_end, closed, in_kernel, passes_next, shifts_next}
 use Rattle.lalrpop_lr1_theory.specs.Automata.{stands}
-use Rattle.lalrpop_lr1_theory.specs.States.{HasEdge, HasItem, Reduces, Reduction, State}
+use Rattle.lalrpop_lr1_theory.specs.States.{HasEdge, HasItem, Item, Reduces, Reduction, State}
 use Rattle.lalrpop_lr1_theory.specs.CheckedStates.{AreCheckedStates}
-use Rattle.lalrpop_lr1_theory.proofs.ExampleLemmas.{head_same, name, none_same, not_empty, not_nonterminal, nothing_in, production, quoted}
+use Rattle.lalrpop_lr1_theory.proofs.ExampleLemmas.{head_same, name, none_same, not_empty, not_nonterminal, nothing_in, quoted}
 use Rattle.lalrpop_lr1_theory.proofs.ExamplesOfStates.{StandsIn, a_first, a_given, before_these, first_items, first_state, item_at}
 use Rattle.lalrpop_lr1_theory.proofs.ExamplesOfStates.{items_first, letter_a, letter_s, letter_start, one_letter, reduction_before}
 use Rattle.lalrpop_lr1_theory.proofs.ExamplesOfStates.{reduction_with, s_first, s_is_a, second_state, start_given, starts_s, state_of}
@@ -212,6 +212,19 @@ not_too_many ok =
         not_nonterminal (quoted letter_a) (name letter_s)
         (head_same (terminal (quoted letter_a)) (nonterminal (name letter_s)) [] u.rest h)
     go p i (closed b q c d g) e f = omega (arith, f)
+
+-- a state reduces by what it hasn't finished
+abbrev unfinished : State
+unfinished =
+    state_of 0 first_items ((quoted letter_a, 2) ∷ []) ((name letter_s, 1) ∷ []) (reduction_before (None ∷ []) s_is_a ∷ [])
+
+not_unfinished : AreCheckedStates one_letter (name letter_start) (unfinished ∷ second_state ∷ third_state ∷ []) → ⊥
+not_unfinished ok =
+    let h = ok.finished 0 unfinished (reduction_before (None ∷ []) s_is_a) refl
+    (contains_here (reduction_before (None ∷ []) s_is_a) []) in
+    let it : Item = record { production = s_is_a; dot = 1; lookahead = h.lookahead } in
+    let same = some_same unfinished h.state h.at in
+    omega (arith, all_of (λ i. i.dot ≡ 0) first_items (refl, (refl, tt)) it (subst (λ st. Contains st.items it) (sym same) h.held))
 
 -- Without states nothing is checked.
 not_without_states : (grammar : List Production) (s : Text) → AreCheckedStates grammar s [] → ⊥

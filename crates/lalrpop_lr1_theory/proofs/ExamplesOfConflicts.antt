@@ -9,7 +9,7 @@ use Rattle.lalrpop_lr1_theory.specs.FirstSets.{ends, keeps}
 use Rattle.lalrpop_lr1_theory.specs.ValidItems.{IsBarren, itself}
 use Rattle.lalrpop_lr1_theory.specs.Automata.{Carries, in_kernel, shifts_next, starts_next}
 use Rattle.lalrpop_lr1_theory.specs.States.{HasEdge, HasItem, Reduces, State}
-use Rattle.lalrpop_lr1_theory.specs.Answers.{IsLr1, IsValidMove, tree}
+use Rattle.lalrpop_lr1_theory.specs.Answers.{IsLr1, IsValidMove}
 use Rattle.lalrpop_lr1_theory.specs.CheckedStates.{AreCheckedStates}
 use Rattle.lalrpop_lr1_theory.proofs.CheckedLemmas.{checked_automaton}
 use Rattle.lalrpop_lr1_theory.proofs.ExampleLemmas.{head_same, name, none_same, not_empty, not_nonterminal, production, quoted}

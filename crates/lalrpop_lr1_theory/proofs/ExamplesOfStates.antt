@@ -8,7 +8,7 @@ use Rattle.lalrpop_grammar_symbols.specs.Symbols.{Terminal, Text}
 use Rattle.lalrpop_lr1_theory.specs.Productions.{Next, Production, Symbol, nonterminal, terminal}
 use Rattle.lalrpop_lr1_theory.specs.Trees.{Forest, IsTreeOf, leaf, node, none}
 use Rattle.lalrpop_lr1_theory.specs.FirstSets.{Derives, ends, grows, keeps}
-use Rattle.lalrpop_lr1_theory.specs.ValidItems.{NoneBarren, itself, onward, shifts}
+use Rattle.lalrpop_lr1_theory.specs.ValidItems.{NoneBarren, itself, onward}
 use Rattle.lalrpop_lr1_theory.specs.Automata.{Carries, Closure, HasDotBefore, IsBegun, IsCover, IsShifted, begins_with_end, closed}
 use Rattle.lalrpop_lr1_theory.specs.Automata.{in_kernel, passes_next, shifts_next, starts_next}
 use Rattle.lalrpop_lr1_theory.specs.States.{HasEdge, HasItem, Item, LookaheadSet, Reduces, Reduction, State}

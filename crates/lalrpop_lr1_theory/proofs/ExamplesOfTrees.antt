@@ -1,9 +1,11 @@
 -- Computed examples of trees, moves and forests: the tree of `1+2`, and a tree that is none of the grammar.
 use Rattle.std.proofs.Common.{◌≡◌, ℕ, List, [], ◌∷◌, length, refl, ap, arith, Contains}
 use Rattle.std.specs.Prelude.{codes}
+use Rattle.std.proofs.Common.{◌+◌}
 use Rattle.lalrpop_grammar_symbols.specs.Symbols.{Terminal}
 use Rattle.lalrpop_lr1_theory.specs.Productions.{Production, Symbol, nonterminal, terminal}
 use Rattle.lalrpop_lr1_theory.specs.Trees.{AreOver, Forest, IsTreeOf, forest, leaf, moves, node, nodes, none, reduce, shift, yield}
+use Rattle.lalrpop_lr1_theory.specs.Spans.{SpannedForest, leaf_at, leaf_spans, node_at, none_at, without_spans}
 use Rattle.lalrpop_lr1_theory.proofs.ExampleLemmas.{production}
 
 abbrev number : Terminal
@@ -95,3 +97,17 @@ other_start h = omega (arith, ap heads h.0)
     heads [] = 0
     heads (terminal t ∷ xs) = 0
     heads (nonterminal A ∷ xs) = length A
+
+-- the same tree with spans, and what it is without them
+abbrev factor_at : ℕ → SpannedForest → SpannedForest
+factor_at n rest = node_at factor (node_at atom (node_at digits (leaf_at number (n, n + 1) none_at) none_at) none_at) rest
+
+abbrev one_plus_two_at : SpannedForest
+one_plus_two_at =
+    node_at whole (node_at sum (node_at summand (factor_at 0 none_at) (leaf_at plus (1, 2) (factor_at 2 none_at))) none_at) none_at
+
+its_tree_alone : without_spans one_plus_two_at ≡ one_plus_two
+its_tree_alone = refl
+
+its_spans : leaf_spans one_plus_two_at ≡ (0, 1) ∷ (1, 2) ∷ (2, 3) ∷ []
+its_spans = refl

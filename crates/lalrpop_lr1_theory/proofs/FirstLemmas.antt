@@ -1,4 +1,4 @@
--- Derivations and trees.
+-- Derivations and trees, and trees for symbols that the start reaches: for valid items.
 use Rattle.std.proofs.Common.{◌≡◌, ℕ, zero, suc, List, [], ◌∷◌, ◌++◌, map, drop, refl, sym, ap, ◌∙◌, subst, inl}
 use Rattle.std.proofs.Common.{inr, arith, Contains}
 use Rattle.lalrpop_grammar_symbols.specs.Symbols.{Terminal, Text}

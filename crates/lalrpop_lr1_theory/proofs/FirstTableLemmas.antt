@@ -1,4 +1,4 @@
--- A table of first sets, and what it means that it is the least.
+-- A table of first sets, and what it means that it is the least: for that law, and for the code that computes one.
 use Rattle.std.proofs.Common.{◌≡◌, List, [], ◌∷◌, ◌++◌, Some, None, refl, sym, ap, subst, ⊎_elim, append_assoc, inl}
 use Rattle.std.proofs.Common.{inr, ◌⊎◌}
 use Rattle.lalrpop_grammar_symbols.specs.Symbols.{Terminal, Text}

@@ -1,4 +1,4 @@
--- Each forest that the states make is one of a tree, and the tokens shifted so far begin a sentence.
+-- Each forest that the states make is one of a tree, and the tokens shifted so far begin a sentence: for the law on the ends of runs.
 use Rattle.std.proofs.Common.{◌≡◌, ℕ, suc, ◌+◌, List, [], ◌∷◌, ◌++◌, drop, Some, None, refl, sym, ap, ◌∙◌}
 use Rattle.std.proofs.Common.{subst, arith, append_assoc}
 use Rattle.lalrpop_grammar_symbols.specs.Symbols.{Terminal, Text}

@@ -1,4 +1,4 @@
--- Forests and places.
+-- Forests and places: what stands at a place in a tree after some moves. For all laws on moves.
 use Rattle.std.proofs.Common.{◌≡◌, ℕ, zero, suc, ◌+◌, ◌-◌, ◌<◌, ◌≤◌, leb, false, List, [], ◌∷◌}
 use Rattle.std.proofs.Common.{◌++◌, length, Some, refl, sym, ap, ◌∙◌, subst, inl, inr, ◌⊎◌, arith, append_assoc}
 use Rattle.std.proofs.Common.{append-nil, length-append, le-leb}

@@ -15,7 +15,6 @@ use Rattle.lalrpop_lr1_theory.specs.CheckedStates.{AreCheckedStates, HasNoConfli
 use Rattle.lalrpop_lr1_theory.specs.CanonicalStates.{AreCanonicalStates}
 use Rattle.lalrpop_lr1_theory.specs.Laws.{NeverTwoMoves}
 use Rattle.lalrpop_lr1_theory.proofs.CanonicalLemmas.{carries_look, finished_at_end}
-use Rattle.lalrpop_lr1_theory.proofs.ExampleLemmas.{production}
 use Rattle.lalrpop_lr1_theory.proofs.ListLemmas.{contains_get, contains_here, contains_later, contains_split, get_contains}
 use Rattle.lalrpop_lr1_theory.proofs.StepLemmas.{some_same}
 use Rattle.lalrpop_lr1_theory.proofs.TreeLemmas.{reduce_same, shift_not_reduce}

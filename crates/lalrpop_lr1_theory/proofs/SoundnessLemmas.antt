@@ -1,4 +1,4 @@
--- What the states make is made of the grammar's trees.
+-- What the states make is made of the grammar's trees: for the law on the ends of runs, and for the code that parses.
 use Rattle.std.proofs.Common.{◌≡◌, ℕ, zero, suc, List, [], ◌∷◌, ◌++◌, length, drop, take, None, refl, sym, ap}
 use Rattle.std.proofs.Common.{◌∙◌, subst, ⊎_elim, inl, inr, ◌⊎◌, arith, append_assoc, append-nil}
 use Rattle.std.proofs.lemmas.List.{take_all}
@@ -70,25 +70,35 @@ module _ (G : Production → Type 0) (s : Text) (Item : ℕ → Production → �
       go p i z (in_kernel q j u) = absurd (omega (arith, z, u.on))
       go p i z (closed {p = q} {i = j} b q' c d u) = inr (cover.onward n q j (nonterminal q'.left) b ((cover.next m x n e q j).1 c) d)
 
+-- The forest ends with the children of a node by the production, and the state behind them leads on with its nonterminal, or the
+-- whole is a tree from the start and the end comes next.
+pub record CanReduce (s : Text) (Edge : ℕ → Symbol → ℕ → Type 0) (f : Forest) (p : Production) (x : Next) : Type 0 where
+  pub kept : Forest
+  pub children : Forest
+  pub state : ℕ
+  pub parts : f ≡ kept and children
+  pub roots_are : roots children ≡ p.right
+  pub walk : Walk Edge (roots kept) state
+  pub leads_on : ((kept ≡ none) × (p.left ≡ s) × (x ≡ None)) ⊎ ((m : ℕ) × Edge state (nonterminal p.left) m)
+
 module _ (G : Production → Type 0) (s : Text) (Item : ℕ → Production → ℕ → Type 0)
     (Edge : ℕ → Symbol → ℕ → Type 0) (Reduce : ℕ → Production → Next → Type 0)
     (ok : IsCheckedAutomaton G s Item Edge Reduce) where
-  -- where a state reduces, the forest ends with the children, and the state behind them leads on or the whole is a tree
-  pub can_reduce : (f : Forest) (n : ℕ) (p : Production) (x : Next) → Walk Edge (roots f) n → Reduce n p x
-      → (rest cs : Forest) × (m : ℕ) × (f ≡ rest and cs) × (roots cs ≡ p.right) × Walk Edge (roots rest) m
-      × ((rest ≡ none) × (p.left ≡ s) × (x ≡ None) ⊎ ((k : ℕ) × Edge m (nonterminal p.left) k))
+  pub can_reduce : (f : Forest) (n : ℕ) (p : Production) (x : Next) → Walk Edge (roots f) n → Reduce n p x →
+      CanReduce s Edge f p x
   can_reduce f n p x w r =
       let b = item_back G s Item Edge ok.automaton.cover (roots f) n w p (length p.right) (ok.automaton.finished n p x r) in
-      let c = roots_split f b.0 p.right (b.2 ∙ ap (λ v. b.0 ++ v) (take_all (length p.right) p.right (omega arith))) in (
-        c.0,
-        c.1,
-        b.1,
-        c.2,
-        c.4,
-        subst (λ g. Walk Edge g b.1) (sym c.3) b.3,
-        ⊎_elim (λ e. inl (no_roots c.0 (c.3 ∙ e.0), e.1, ok.at_end n p x r e.1)) (λ e. inr e)
-            (item_front G s Item Edge ok.automaton.cover b.0 b.1 b.3 p b.4),
-      )
+      let c = roots_split f b.0 p.right (b.2 ∙ ap (λ v. b.0 ++ v) (take_all (length p.right) p.right (omega arith))) in
+      record {
+        kept = c.0;
+        children = c.1;
+        state = b.1;
+        parts = c.2;
+        roots_are = c.4;
+        walk = subst (λ g. Walk Edge g b.1) (sym c.3) b.3;
+        leads_on = ⊎_elim (λ e. inl (no_roots c.0 (c.3 ∙ e.0), e.1, ok.at_end n p x r e.1)) (λ e. inr e)
+            (item_front G s Item Edge ok.automaton.cover b.0 b.1 b.3 p b.4);
+      }
 
   pub runs_yield : (ms : List Move) (f : Forest) (v : List Terminal) (g : Forest) (w : List Terminal) →
       Runs Edge Reduce ms f v g w → yield f ++ v ≡ yield g ++ w
@@ -100,10 +110,11 @@ module _ (G : Production → Type 0) (s : Text) (Item : ℕ → Production → �
       sym a ∙ ap (λ x. yield x ++ r.left) r.leads ∙ runs_yield ms r.made r.left g w r.rest
   runs_yield (reduce p ∷ ms) f v g w r =
       let l = r.leads in
-      let a : yield (l.0 and node p l.1 none) ≡ yield f =
-      yield-and l.0 (node p l.1 none) ∙ ap (λ x. yield l.0 ++ x) (append-nil (yield l.1)) ∙ sym (yield-and l.0 l.1)
-      ∙ ap yield (sym l.2) in
-      ap (λ x. yield f ++ x) r.consumed ∙ ap (λ x. x ++ r.left) (sym a) ∙ ap (λ x. yield x ++ r.left) l.4
+      let a : yield (l.kept and node p l.children none) ≡ yield f =
+      yield-and l.kept (node p l.children none) ∙ ap (λ x. yield l.kept ++ x) (append-nil (yield l.children))
+      ∙ sym (yield-and l.kept l.children)
+      ∙ ap yield (sym l.parts) in
+      ap (λ x. yield f ++ x) r.consumed ∙ ap (λ x. x ++ r.left) (sym a) ∙ ap (λ x. yield x ++ r.left) l.rest
       ∙ runs_yield ms r.made r.left g w r.rest
 
   pub runs_over : (ms : List Move) (f : Forest) (v : List Terminal) (g : Forest) (w : List Terminal) → Runs Edge Reduce ms f v g w →
@@ -113,12 +124,12 @@ module _ (G : Production → Type 0) (s : Text) (Item : ℕ → Production → �
       (subst (AreOver G) r.leads (over-and G f (leaf t none) o tt))
   runs_over (reduce p ∷ ms) f v g w r o =
       let l = r.leads in
-      let k = over-split G l.0 l.1 (subst (AreOver G) l.2 o) in
+      let k = over-split G l.kept l.children (subst (AreOver G) l.parts o) in
       runs_over ms r.made r.left g w r.rest
-      (subst (AreOver G) l.4 (over-and G l.0 (node p l.1 none) k.0 (
+      (subst (AreOver G) l.rest (over-and G l.kept (node p l.children none) k.0 (
         item_over G s Item Edge ok.automaton.cover (roots f) r.state r.walk p (length p.right)
             (ok.automaton.finished r.state p (first v) r.allowed),
-        l.3,
+        l.roots_are,
         k.1,
         tt,
       )))

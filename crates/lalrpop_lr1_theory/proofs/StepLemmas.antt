@@ -1,4 +1,4 @@
--- From one forest of a tree to the next.
+-- From one forest of a tree to the next: for that law, and for all that follows a tree along its moves.
 use Rattle.std.proofs.Common.{◌≡◌, ℕ, suc, ◌+◌, [], ◌∷◌, Some, refl, sym, ap, ◌∙◌, subst, arith}
 use Rattle.std.specs.Prelude.{slice_get}
 use Rattle.std.proofs.lemmas.Option.{slice_get_within}
@@ -63,14 +63,14 @@ module _ (G : Production → Type 0) (s : Text) where
       go top l none (shift t) n e w = absurd n
       go (under c q p r) l none (shift t) n e w = absurd n
       go top l none (reduce p) n e w = absurd n
-      go (under c l p r) cs none (reduce q) n e w = (
-        lefts c and l,
-        cs,
-        refl,
-        ap roots (sym (and-none cs)) ∙ w.0.1
-            ∙ ap (λ x. x.right) (sym n),
-        sym (after_reduce c l p q cs r k n e),
-      )
+      go (under c l p r) cs none (reduce q) n e w =
+          record {
+            kept = lefts c and l;
+            children = cs;
+            parts = refl;
+            roots_are = ap roots (sym (and-none cs)) ∙ w.0.1 ∙ ap (λ x. x.right) (sym n);
+            rest = sym (after_reduce c l p q cs r k n e);
+          }
       go c l (leaf t r) (shift u) n e w = sym (after_shift c l t u r k n e)
       go c l (leaf t r) (reduce p) n e w = absurd n
       go c l (node p cs r) v n e w = absurd n

@@ -1,4 +1,4 @@
--- Lists of trees: joined, their roots, leaves, moves.
+-- Lists of trees: joined, their roots, leaves, moves. For all laws on trees.
 use Rattle.std.proofs.Common.{◌≡◌, suc, ◌+◌, ◌<◌, List, [], ◌∷◌, ◌++◌, length, refl, sym, ap, ◌∙◌, subst}
 use Rattle.std.proofs.Common.{arith, append_assoc, length-append}
 use Rattle.lalrpop_grammar_symbols.specs.Symbols.{Terminal}
@@ -61,14 +61,15 @@ module _ (G : Production → Type 0) where
       leads-moves ts h ms (f and leaf t none) g (subst (λ x. MovesLead ms x g) (sym (and-and f (leaf t none) ts)) l)
   leads-moves (node p cs ts) h ms f g l =
       subst (λ x. MovesLead x f g) (sym (append_assoc (moves cs) (reduce p ∷ moves ts) ms))
-      (leads-moves cs h.2 (reduce p ∷ moves ts ++ ms) f g (
-        f,
-        cs,
-        refl,
-        h.1,
-        leads-moves ts h.3 ms (f and node p cs none) g
-            (subst (λ x. MovesLead ms x g) (sym (and-and f (node p cs none) ts)) l),
-      ))
+      (leads-moves cs h.2 (reduce p ∷ moves ts ++ ms) f g
+      (record {
+        kept = f;
+        children = cs;
+        parts = refl;
+        roots_are = h.1;
+        rest = leads-moves ts h.3 ms (f and node p cs none) g
+            (subst (λ x. MovesLead ms x g) (sym (and-and f (node p cs none) ts)) l);
+      }))
 
 -- a list is no longer than its end with as many roots
 too_long : (g cs ds : Forest) → roots cs ≡ roots ds → cs ≡ g and ds → 0 < length (roots g) → ⊥
@@ -97,8 +98,10 @@ pub leads_one : (ms : List Move) (f g h : Forest) → MovesLead ms f g → Moves
 leads_one [] f g h a b = sym a ∙ b
 leads_one (shift t ∷ ms) f g h a b = leads_one ms (f and leaf t none) g h a b
 leads_one (reduce p ∷ ms) f g h a b =
-    let s = and_ends a.0 b.0 a.1 b.1 (a.3 ∙ sym b.3) (sym a.2 ∙ b.2) in
-    leads_one ms (a.0 and node p a.1 none) g h a.4 (subst (λ x. MovesLead ms x h) (cc) b.4)
+    let s = and_ends a.kept b.kept a.children b.children (a.roots_are ∙ sym b.roots_are) (sym a.parts ∙ b.parts) in
+    let e : b.kept and node p b.children none ≡ a.kept and node p a.children none =
+    ap (λ x. x and node p b.children none) (sym s.0) ∙ ap (λ x. a.kept and node p x none) (sym s.1) in
+    leads_one ms (a.kept and node p a.children none) g h a.rest (subst (λ x. MovesLead ms x h) e b.rest)
 
 -- a reduction tells its production, and is no shift
 pub reduce_same : (p q : Production) → reduce p ≡ reduce q → p ≡ q

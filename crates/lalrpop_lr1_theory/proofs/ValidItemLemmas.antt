@@ -1,4 +1,4 @@
--- Valid items are the carried ones.
+-- Valid items are the carried ones: for that law, and for the laws on canonical states.
 use Rattle.std.proofs.Common.{◌≡◌, ℕ, zero, suc, ◌+◌, List, [], ◌∷◌, ◌++◌, length, drop, refl, sym, ap, ◌∙◌}
 use Rattle.std.proofs.Common.{subst, arith, append_assoc, append-nil, length-append}
 use Rattle.lalrpop_grammar_symbols.specs.Symbols.{Text}

@@ -46,10 +46,10 @@ module _ (G : Production → Type 0) (s : Text) (Item : ℕ → Production → �
       let ts = v.tree in let k = v.count in let w = v.left in
       let less : k < nodes ts = omega (arith, length-moves ts, slice_get_within (moves ts) k m v.move_is) in
       let d = allows-next G s Item Edge Reduce ok ts k w less v.is_tree (v.leaves ∙ ap (λ g. yield g ++ w) (sym v.forest_is)) in (
-        d.1,
-        subst (λ g. Walk Edge (roots g) d.1) v.forest_is d.2,
-        subst (λ y. Allows Edge Reduce d.1 y m) v.next
-            (subst (Allows Edge Reduce d.1 (first w)) (some_same d.0 m (sym d.4 ∙ v.move_is)) d.3),
+        d.state,
+        subst (λ g. Walk Edge (roots g) d.state) v.forest_is d.walk,
+        subst (λ y. Allows Edge Reduce d.state y m) v.next
+            (subst (Allows Edge Reduce d.state (first w)) (some_same d.move m (sym d.move_is ∙ v.move_is)) d.allowed),
       )
 
   -- where such an automaton stands, the grammar is LR(1)

@@ -1,4 +1,4 @@
--- Walks along the states, and the items that are met.
+-- Walks along the states, the items that are met, and the moves that the states know: for the laws on parsing.
 use Rattle.std.proofs.Common.{◌≡◌, ℕ, zero, suc, ◌<◌, ◌≤◌, List, [], ◌∷◌, ◌++◌, length, drop, Some, None}
 use Rattle.std.proofs.Common.{refl, sym, ap, ◌∙◌, subst, inl, inr, ◌⊎◌, arith, append_assoc, append-nil, Contains}
 use Rattle.std.proofs.lemmas.List.{append_cancel_left}
@@ -93,6 +93,15 @@ no_leaf s t none r e = cc
 no_leaf s t (leaf u l) r e = too_many (terminal t) (roots l) (roots r) (cc)
 no_leaf s t (node p cs l) r e = too_many (terminal t) (roots l) (roots r) (cc)
 
+-- after k moves of a tree, with these tokens left, the states know the tree's next move
+pub record KnowsMove (Edge : ℕ → Symbol → ℕ → Type 0) (Reduce : ℕ → Production → Next → Type 0) (ts : Forest) (k : ℕ)
+    (w : List Terminal) : Type 0 where
+  pub move : Move
+  pub state : ℕ
+  pub walk : Walk Edge (roots (forest ts k)) state
+  pub allowed : Allows Edge Reduce state (first w) move
+  pub move_is : slice_get (moves ts) k ≡ Some move
+
 module _ (G : Production → Type 0) (s : Text) (Item : ℕ → Production → ℕ → Type 0)
     (Edge : ℕ → Symbol → ℕ → Type 0) (Reduce : ℕ → Production → Next → Type 0)
     (ok : IsLr1Automaton G s Item Edge Reduce) where
@@ -141,21 +150,20 @@ module _ (G : Production → Type 0) (s : Text) (Item : ℕ → Production → �
 
   -- after k moves of a tree, with w left, the states make the tree's next move
   pub allows-next : (ts : Forest) (k : ℕ) (w : List Terminal) → k < nodes ts → IsTreeOf G s ts →
-      yield ts ≡ yield (forest ts k) ++ w →
-      (v : Move) × (n : ℕ) × Walk Edge (roots (forest ts k)) n × Allows Edge Reduce n (first w) v
-      × (slice_get (moves ts) k ≡ Some v)
+      yield ts ≡ yield (forest ts k) ++ w → KnowsMove Edge Reduce ts k w
   allows-next ts k w h t e =
       let m : Moment ts k = moment ts top none k k h (omega arith) in
       let d = allows-place m.way m.done m.rest m.move m.next (subst (IsTreeOf G s) m.whole_is t) in
       let f = forest-moment ts k m in
       let r : yield (m.rest and rights m.way) ≡ w =
-      append_cancel_left (yield (forest ts k)) (yield (m.rest and rights m.way)) w (sym (rest-moment ts k m) ∙ e) in (
-        m.move,
-        d.0,
-        subst (λ v. Walk Edge (roots v) d.0) (sym f) d.1,
-        subst (λ v. Allows Edge Reduce d.0 (first v) m.move) r d.2,
-        next-moment ts k m,
-      )
+      append_cancel_left (yield (forest ts k)) (yield (m.rest and rights m.way)) w (sym (rest-moment ts k m) ∙ e) in
+      record {
+        move = m.move;
+        state = d.0;
+        walk = subst (λ v. Walk Edge (roots v) d.0) (sym f) d.1;
+        allowed = subst (λ v. Allows Edge Reduce d.0 (first v) m.move) r d.2;
+        move_is = next-moment ts k m;
+      }
 
   -- what is left of a tree's tokens after k moves
   pub rest_of : (ts : Forest) (k : ℕ) → k < nodes ts → (w : List Terminal) × (yield ts ≡ yield (forest ts k) ++ w)
@@ -168,10 +176,11 @@ module _ (G : Production → Type 0) (s : Text) (Item : ℕ → Production → �
       (h ≡ forest ts (suc k)) × (slice_get (moves ts) k ≡ Some v)
   step_same ts k f h w x n v less t e y z walk does leads =
       let d = allows-next ts k w less t (y ∙ ap (λ g. yield g ++ w) e) in
-      let n_same : d.1 ≡ n = walk_one Edge ok.cover.one (roots f) d.1 n (subst (λ g. Walk Edge (roots g) d.1) (sym e) d.2) walk in
-      let v_same : d.0 ≡ v = allows_one n (first x) d.0 v
-      (subst (λ j. Allows Edge Reduce j (first x) d.0) n_same (subst (λ j. Allows Edge Reduce d.1 j d.0) z d.3)) does in
-      let get : slice_get (moves ts) k ≡ Some v = d.4 ∙ ap Some v_same in (
+      let n_same : d.state ≡ n =
+      walk_one Edge ok.cover.one (roots f) d.state n (subst (λ g. Walk Edge (roots g) d.state) (sym e) d.walk) walk in
+      let v_same : d.move ≡ v = allows_one n (first x) d.move v
+      (subst (λ j. Allows Edge Reduce j (first x) d.move) n_same (subst (λ j. Allows Edge Reduce d.state j d.move) z d.allowed)) does in
+      let get : slice_get (moves ts) k ≡ Some v = d.move_is ∙ ap Some v_same in (
         leads_one (v ∷ []) f h (forest ts (suc k)) leads
             (subst (λ g. MovesLead (v ∷ []) g (forest ts (suc k))) (sym e) (step-forest G s ts k v t get)),
         get,
@@ -182,15 +191,15 @@ module _ (G : Production → Type 0) (s : Text) (Item : ℕ → Production → �
   same-forests-step ts us k a b e h j f =
       let w = rest_of us k j in
       let d = allows-next us k w.0 j b w.1 in
-      let st = step-forest G s us k d.0 b d.4 in
-      sym (step_same ts k (forest us k) (forest us (suc k)) w.0 w.0 d.1 d.0 h a (sym f) (e ∙ w.1) refl d.2 d.3 st).0
+      let st = step-forest G s us k d.move b d.move_is in
+      sym (step_same ts k (forest us k) (forest us (suc k)) w.0 w.0 d.state d.move h a (sym f) (e ∙ w.1) refl d.walk d.allowed st).0
 
   -- no state stands past a whole tree, where the start is on no right side
   ended : ((p : Production) → G p → Contains p.right (nonterminal s) → ⊥) → (ts : Forest) (k : ℕ) (us : Forest) →
       k < nodes ts → IsTreeOf G s ts → forest ts k ≡ us → IsTreeOf G s us → ⊥
   ended alone ts k us h t e u =
       let w = rest_of ts k h in let d = allows-next ts k w.0 h t w.1 in
-      let f = from_walk Edge (nonterminal s ∷ []) d.1 (subst (λ g. Walk Edge g d.1) (ap roots e ∙ u.0) d.2) in
+      let f = from_walk Edge (nonterminal s ∷ []) d.state (subst (λ g. Walk Edge g d.state) (ap roots e ∙ u.0) d.walk) in
       let o = ok.cover.only 0 (nonterminal s) f.0 f.1 in
       alone o.production (item_over G s Item Edge ok.cover [] 0 stands o.production o.dot o.item)
       (contains_after (nonterminal s) o.rest o.production.right o.dot o.before)

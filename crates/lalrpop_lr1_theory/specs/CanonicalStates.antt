@@ -1,8 +1,8 @@
 -- Canonical states, their order and their numbers: for the construction of states.
-use Rattle.std.specs.Prelude.{ℕ, ◌<◌, false, List, Some, ◌≡◌, ◌↔◌, ◌⊎◌, ⊤, Contains, slice_get}
+use Rattle.std.specs.Prelude.{ℕ, ◌<◌, Bool, true, false, List, Some, ◌≡◌, ◌↔◌, ◌⊎◌, ⊤, Contains, slice_get}
 use Rattle.lalrpop_grammar_symbols.specs.Symbols.{Text, Terminal}
 use Rattle.lalrpop_lr1_theory.specs.Productions.{Symbol, terminal, nonterminal, Production, Next}
-use Rattle.lalrpop_lr1_theory.specs.Automata.{Walk, IsCanonicalAutomaton}
+use Rattle.lalrpop_lr1_theory.specs.Automata.{Walk, IsConstructedAutomaton, EndAlone}
 use Rattle.lalrpop_lr1_theory.specs.States.{Item, State, HasItem, HasEdge, HasLookahead, finished_reductions}
 
 -- two states have the same items with the same lookaheads
@@ -10,11 +10,13 @@ pub record HaveOneItemSet (states : List State) (n m : ℕ) : Type 0 where
   pub items : (p : Production) (i : ℕ) → HasItem states n p i ↔ HasItem states m p i
   pub lookaheads : (p : Production) (i : ℕ) (x : Next) → HasLookahead states n p i x ↔ HasLookahead states m p i x
 
--- Canonical states: their items are exactly the closures, their lookaheads exactly what is marked, each state is reached and has
--- its place as its number, two with the same items and lookaheads are one, each item stands once in a state, no lookahead
--- holds the token of errors, and the reductions are those by the finished items.
-pub record AreCanonicalStates (grammar : List Production) (s : Text) (states : List State) : Type 0 where
-  pub automaton : IsCanonicalAutomaton (Contains grammar) s (HasItem states) (HasEdge states) (HasLookahead states)
+-- States as they are constructed: their items are exactly the closures, their lookaheads exactly what is marked, each state is
+-- reached and has its place as its number, two with the same items and lookaheads are one, each item stands once in a state, no
+-- lookahead holds the token of errors, and the reductions are those by the finished items.
+pub record AreConstructedStates (firsts : Bool) (Start : Next → Type 0) (grammar : List Production) (s : Text)
+    (states : List State) : Type 0 where
+  pub automaton : IsConstructedAutomaton firsts Start (Contains grammar) s (HasItem states) (HasEdge states)
+      (HasLookahead states)
   pub reached : (n : ℕ) (state : State) → slice_get states n ≡ Some state → (g : List Symbol) × Walk (HasEdge states) g n
   pub distinct : (n m : ℕ) (a b : State) → slice_get states n ≡ Some a → slice_get states m ≡ Some b →
       HaveOneItemSet states n m → n ≡ m
@@ -25,6 +27,14 @@ pub record AreCanonicalStates (grammar : List Production) (s : Text) (states : L
       item.lookahead.error ≡ false
   pub reductions : (n : ℕ) (state : State) → slice_get states n ≡ Some state → state.reductions ≡ finished_reductions state.items
   pub index : (n : ℕ) (state : State) → slice_get states n ≡ Some state → state.index ≡ n
+
+-- canonical states: with lookaheads, where the end alone follows the start
+abbrev pub AreCanonicalStates : List Production → Text → List State → Type 0
+AreCanonicalStates = AreConstructedStates true EndAlone
+
+-- states without lookaheads
+abbrev pub AreLr0States : List Production → Text → List State → Type 0
+AreLr0States = AreConstructedStates false (λ x. ⊥)
 
 -- symbols in order: nonterminals before terminals, each by an order of theirs
 abbrev pub SymbolBefore : (Text → Text → Type 0) → (Terminal → Terminal → Type 0) → Symbol → Symbol → Type 0
