@@ -1,0 +1,3 @@
+pub mod FoundFaults
+pub mod Searches
+pub mod NameViews

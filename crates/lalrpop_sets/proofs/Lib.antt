@@ -1,0 +1,6 @@
+pub mod EntryLemmas
+mod ExamplesOfSets
+pub mod OrderLemmas
+pub mod QueueLemmas
+pub mod TokenLemmas
+pub mod WordLemmas

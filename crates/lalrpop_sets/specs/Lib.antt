@@ -1,0 +1,6 @@
+pub mod Bits
+pub mod Collections
+pub mod IterLeft
+pub mod Queues
+pub mod Tokens
+pub mod TokensLeft
