@@ -1,14 +1,7 @@
-//! Tests of the grammar's layer that no table can hold: leaves and tokens, copies, small questions, walks over symbols and
-//! rules, the judge's calls, and texts of what the format can't spell.
+//! Tests of the grammar's layer that no table can hold: leaves and tokens, copies, and small questions.
 #![tactic(auto)]
 
 #[cfg(test)]
 mod grammars;
 #[cfg(test)]
-mod judging;
-#[cfg(test)]
 mod leaves;
-#[cfg(test)]
-mod symbol_walks;
-#[cfg(test)]
-mod symbols;

@@ -1,6 +1,6 @@
 //! Symbols and terminals: texts of what the format can't spell, and small questions.
 
-use lalrpop_grammar::{
+use lalrpop_grammar_symbols::{
     Atom, Boxed, ExprSymbol, List, MacroSymbol, Name, NonterminalString, RepeatOp, RepeatSymbol,
     Span, Symbol, SymbolKind, TerminalLiteral, TerminalString,
 };
