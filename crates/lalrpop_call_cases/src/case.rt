@@ -9,6 +9,9 @@ use serde_json::Value;
 pub(crate) struct Case {
     /// What the case shows.
     pub(crate) name: String,
+    /// The grammar of the call in short, for who reads the case.
+    #[serde(default)]
+    pub(crate) shows: Option<String>,
     /// The call.
     pub(crate) call: Call,
     /// What it has to answer.
@@ -55,4 +58,18 @@ pub(crate) enum Call {
     WriteGrammar(Value),
     /// The text of a tree.
     PrintTree(Value),
+    /// The first fault that a pass of the normalizer tells of a grammar, with its span, `null` where none does.
+    FirstFault(Written),
+}
+
+/// A written grammar for the passes.
+#[derive(Drop, Deserialize)]
+#[serde(deny_unknown_fields)]
+pub(crate) struct Written {
+    /// The grammar.
+    pub(crate) grammar: Value,
+    /// The features that are on.
+    pub(crate) features: Vec<String>,
+    /// The prefix that no name may begin with, where it isn't the one that reading finds.
+    pub(crate) prefix: Option<String>,
 }

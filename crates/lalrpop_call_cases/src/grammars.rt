@@ -35,7 +35,7 @@ pub(crate) fn tree_text(alloc: Global, tree: &Value) -> Result<Value> {
 }
 
 /// The grammar that the value spells.
-fn grammar_of(alloc: Global, value: &Value) -> Result<Grammar> {
+pub(crate) fn grammar_of(alloc: Global, value: &Value) -> Result<Grammar> {
     match read_grammar(alloc, value) {
         Ok(grammar) => Ok(grammar),
         Err(_) => bail!("no grammar"),

@@ -12,6 +12,7 @@ mod order;
 mod token;
 mod token_set;
 mod token_set_iter;
+mod token_text;
 mod words;
 
 pub use collection::Collection;

@@ -8,7 +8,7 @@ use lalrpop_grammar_symbols::TerminalString;
 use std::alloc::AllocError;
 
 /// What may come next: a terminal, the end of the text, or an error.
-#[derive(Debug, PartialEq, Eq, PartialOrd, Ord, Hash, Drop)]
+#[derive(PartialEq, Eq, PartialOrd, Ord, Hash, Drop)]
 pub enum Token {
     /// The end of the text.
     Eof,
@@ -19,7 +19,7 @@ pub enum Token {
 }
 
 /// A token of a set, whose terminal is lent.
-#[derive(Debug, Clone, Copy, PartialEq, Eq, PartialOrd, Ord, Hash)]
+#[derive(Clone, Copy, PartialEq, Eq, PartialOrd, Ord, Hash)]
 pub enum TokenRef<'s> {
     /// The end of the text.
     Eof,

@@ -16,10 +16,13 @@ ghost use Rattle.lalrpop_sets.specs.Tokens.{eof_number, has_number, is_number, l
 use crate::order::{compare, hash_numbers};
 use crate::token::Token;
 use crate::token_set_iter::TokenSetIter;
-use crate::words::{clear_bit, common, count, meets, or_into, set_bit, test_bit, widen};
+use crate::words::{
+    clear_bit, common, count, meets, or_into, set_bit, test_bit, widen, write_numbers,
+};
 use lalrpop_grammar_repr::TerminalSet;
 use std::alloc::{AllocError, Global};
 use std::cmp::Ordering;
+use std::fmt::{self, Debug, Formatter, Write};
 use std::hash::{Hash, Hasher};
 use std::marker::Model;
 
@@ -279,6 +282,15 @@ impl TokenSet {
         Ok(TokenSet {
             words: self.words.clone()?,
         })
+    }
+}
+
+/// The numbers of the tokens, `{0, 3}`.
+impl Debug for TokenSet {
+    fn fmt<W: Write>(&self, f: &mut Formatter<W>) -> fmt::Result {
+        f.write_str("{")?;
+        write_numbers(self.words.as_slice(), f)?;
+        f.write_str("}")
     }
 }
 

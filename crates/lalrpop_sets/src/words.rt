@@ -4,6 +4,7 @@ ghost use Rattle.std.specs.Prelude.{◌≡◌, ◌<◌, ◌≤◌, ◌||◌, ◌
 ghost use Rattle.lalrpop_sets.specs.Bits.{has_bit, bit_numbers};
 
 use std::alloc::{AllocError, Global};
+use std::fmt::{self, Formatter, Write};
 
 /// More words than a set ever has: memory for them is refused.
 pub(crate) const MOST_WORDS: usize = 1 << 57;
@@ -134,4 +135,21 @@ pub(crate) fn common(alloc: Global, words: &[u64], other: &[u64]) -> Result<Vec<
         both.push(words[i] & other[i])?;
     }
     Ok(both)
+}
+
+/// Writes the numbers of the bits that are set, between commas.
+pub(crate) fn write_numbers<W: Write>(words: &[u64], f: &mut Formatter<W>) -> fmt::Result
+    requires { length words.now ≤ MOST_WORDS }
+{
+    let mut is_first = true;
+    for k in 0..64 * words.len() {
+        if test_bit(words, k) {
+            if !is_first {
+                f.write_str(", ")?;
+            }
+            is_first = false;
+            write!(f, "{k}")?;
+        }
+    }
+    Ok(())
 }
