@@ -1,0 +1,10 @@
+mod AutomatonLemmas
+mod ExamplesOfEntries
+mod ExamplesOfTokenFaults
+mod FaultLemmas
+mod MakingLemmas
+mod NotingLemmas
+mod PlaceLemmas
+mod SearchLemmas
+mod UniqueLemmas
+mod UsedLemmas

@@ -1,0 +1,9 @@
+pub mod Blocks
+pub mod Checked
+pub mod EntryFaults
+pub mod Entries
+pub mod Faults
+pub mod KeptPlaces
+pub mod Noting
+pub mod Patterns
+pub mod Places

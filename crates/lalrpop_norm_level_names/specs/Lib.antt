@@ -1,0 +1,4 @@
+pub mod LevelTables
+pub mod TakenTimes
+pub mod TakenViews
+pub mod GivenNames
