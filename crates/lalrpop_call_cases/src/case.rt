@@ -58,8 +58,11 @@ pub(crate) enum Call {
     WriteGrammar(Value),
     /// The text of a tree.
     PrintTree(Value),
-    /// The first fault that a pass of the normalizer tells of a grammar, with its span, `null` where none does.
+    /// The first fault that a pass of the normalizer tells of a grammar, up to the levels, with its span, `null` where none
+    /// does.
     FirstFault(Written),
+    /// The same up to the token check, of a grammar without levels and macros.
+    TokenFault(Written),
 }
 
 /// A written grammar for the passes.

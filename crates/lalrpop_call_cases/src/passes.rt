@@ -6,6 +6,7 @@ use anyhow::{Result, bail};
 use lalrpop_grammar::{Atom, Grammar};
 use lalrpop_grammar_repr::{NormFault, NormResult, Session};
 use lalrpop_norm_checks::prevalidate::validate;
+use lalrpop_norm_entries::{LiteralPlaces, token_check};
 use lalrpop_norm_levels::level_fault;
 use lalrpop_norm_names::resolve;
 use lalrpop_norm_resolve::remove_disabled_decls;
@@ -15,21 +16,44 @@ use std::alloc::{AllocError, Global};
 /// How deep macros may stand in macros, where no case says it.
 const MACRO_LIMIT: u16 = 200;
 
-/// The first fault that a pass tells, with its span, `null` where none does.
+/// The first fault that a pass tells, up to the levels, with its span, `null` where none does.
 pub(crate) fn first_fault(alloc: Global, written: &Written) -> Result<Value> {
+    let grammar = prefixed(alloc, written)?;
+    let session = session_of(alloc, &written.features)?;
+    match checked(alloc, &session, grammar) {
+        Ok(_) => Ok(Value::Null),
+        Err(fault) => fault_value(alloc, fault),
+    }
+}
+
+/// The same up to the token check, of a grammar without levels and macros.
+pub(crate) fn token_fault(alloc: Global, written: &Written) -> Result<Value> {
+    let grammar = prefixed(alloc, written)?;
+    let session = session_of(alloc, &written.features)?;
+    match tokenized(alloc, &session, grammar) {
+        Ok(()) => Ok(Value::Null),
+        Err(fault) => fault_value(alloc, fault),
+    }
+}
+
+/// The grammar, with the prefix of the case where it has one.
+fn prefixed(alloc: Global, written: &Written) -> Result<Grammar> {
     let mut grammar = grammar_of(alloc, &written.grammar)?;
     if let Some(prefix) = &written.prefix {
         grammar.prefix = Atom::new(alloc, prefix)?;
     }
-    let session = session_of(alloc, &written.features)?;
-    match checked(alloc, &session, grammar) {
-        Ok(()) => Ok(Value::Null),
-        Err(NormFault::Norm(error)) => {
+    Ok(grammar)
+}
+
+/// The text of the fault behind its span.
+fn fault_value(alloc: Global, fault: NormFault) -> Result<Value> {
+    match fault {
+        NormFault::Norm(error) => {
             let text = format!(in alloc; "{}..{}: {error}", error.span.0, error.span.1)?;
             Ok(Value::from(text))
         }
-        Err(NormFault::ConditionLimit) => bail!("condition limit"),
-        Err(NormFault::Memory) => Err(AllocError.into()),
+        NormFault::ConditionLimit => bail!("condition limit"),
+        NormFault::Memory => Err(AllocError.into()),
     }
 }
 
@@ -45,13 +69,21 @@ fn session_of(alloc: Global, features: &[String]) -> Result<Session, AllocError>
     })
 }
 
-/// Whether all passes take the grammar.
-fn checked(alloc: Global, session: &Session, grammar: Grammar) -> NormResult<()> {
+/// The grammar without what is disabled and with names resolved, where the passes up to the levels take it.
+fn checked(alloc: Global, session: &Session, grammar: Grammar) -> NormResult<Grammar> {
     validate(alloc, &grammar)?;
     let enabled = remove_disabled_decls(alloc, session, grammar)?;
     let resolved = resolve(alloc, enabled)?;
     match level_fault(&resolved) {
         Some(error) => Err(NormFault::Norm(error)),
-        None => Ok(()),
+        None => Ok(resolved),
     }
+}
+
+/// Whether the passes up to the token check take the grammar.
+fn tokenized(alloc: Global, session: &Session, grammar: Grammar) -> NormResult<()> {
+    let resolved = checked(alloc, session, grammar)?;
+    let places = LiteralPlaces::new(alloc, &resolved)?;
+    token_check::validate(alloc, resolved, &places)?;
+    Ok(())
 }

@@ -45,7 +45,8 @@ abbrev pub scope_after : (Text → Text → Option Bool) → Grammar → (Text �
 scope_after finds g f q args c =
     scope_of (after finds g f) q (bind q (all_by_level_names f args)) c None
 
-leveled_scope : (finds : Text → Text → Option Bool) (g : Grammar) (f : Text → ℕ → Text) → IsLevelable finds g f → (r : Rule)
+pub leveled_scope : (finds : Text → Text → Option Bool) (g : Grammar) (f : Text → ℕ → Text) → IsLevelable finds g f →
+    (r : Rule)
     (args : Closeds) (c : Choice) (rank : Option Rank) → (q : EnabledRule) → q.parameters ≡ r.parameters →
     has_levels q ≡ false →
     (d : Choice) → NamesAreThere f (scope_before finds g r args c rank) (after finds g f) r.parameters →
@@ -60,7 +61,7 @@ leveled_scope finds g f w r args c rank q e flat d names = record {
   no_levels = λ k. no_loosest q flat;
 }
 
-binds : (finds : Text → Text → Option Bool) (g : Grammar) (f : Text → ℕ → Text) (r : Rule) (args : Closeds) (c : Choice)
+pub binds : (finds : Text → Text → Option Bool) (g : Grammar) (f : Text → ℕ → Text) (r : Rule) (args : Closeds) (c : Choice)
     (rank : Option Rank) (q : EnabledRule) → q.parameters ≡ r.parameters → length (closed_list args) ≡ length r.parameters →
     (d : Choice) →
     BindsParameters (scope_before finds g r args c rank) (scope_after finds g f q args d) r.parameters

@@ -31,7 +31,8 @@ use Rattle.lalrpop_norm_level_laws.proofs.LevelClosingLemmas.{scope_before}
 use Rattle.lalrpop_norm_level_laws.proofs.LevelBindingLemmas.{renamed_list}
 use Rattle.lalrpop_norm_level_laws.proofs.WellLeveledLemmas.{IsWell, AreWell, IsWellOrFaulty, IsWellScope, well_listed}
 use Rattle.lalrpop_norm_level_laws.proofs.WellLeveledLemmas.{part_well, close_list_well, values_well, well_apart}
-use Rattle.lalrpop_norm_level_laws.proofs.LevelProductionLemmas.{nt, symbol-by_level, side-by_level, IsCallOf, ProducedFrom}
+use Rattle.lalrpop_norm_level_laws.proofs.LevelFitLemmas.{IsCallOf}
+use Rattle.lalrpop_norm_level_laws.proofs.LevelProductionLemmas.{nt, symbol-by_level, side-by_level, MadeThere, MadeFrom}
 use Rattle.lalrpop_norm_level_laws.proofs.LevelProductionLemmas.{call_forth, call_back}
 
 -- nonterminals of the expansion are well
@@ -40,7 +41,8 @@ abbrev IsWellNonterminal : EnabledGrammar → Nonterminal → Type 0
 IsWellNonterminal g (Nonterminal.start n) = Unit {0}
 IsWellNonterminal g (Nonterminal.closed x) = IsWellOrFaulty g x
 
-well_scope : (finds : Text → Text → Option Bool) (g : Grammar) (f : Text → ℕ → Text) → IsLevelable finds g f → (r : Rule) →
+pub well_scope : (finds : Text → Text → Option Bool) (g : Grammar) (f : Text → ℕ → Text) → IsLevelable finds g f →
+    (r : Rule) →
     Among (rules_of g.items) r → (args : Closeds) → AreWell (before finds g) args → (c : Choice) (rank : Option Rank) →
     IsRankOf (rule_between r) rank → IsWellScope (scope_before finds g r args c rank)
 well_scope finds g f w r i args well c rank ranked = record {
@@ -61,7 +63,7 @@ well_scope finds g f w r i args well c rank ranked = record {
     at_call k n m is false e = loosest_there finds g f w n m is
 
 -- a call by the written rule
-call_of : (finds : Text → Text → Option Bool) (g : Grammar) (n : Text) (args : Closeds) (level : Option ℕ) →
+pub call_of : (finds : Text → Text → Option Bool) (g : Grammar) (n : Text) (args : Closeds) (level : Option ℕ) →
     IsWell (before finds g) (Closed.call n args level) → (r : Rule) × IsCallOf finds g r args level × (r.name ≡ n)
 call_of finds g n args level w =
     let u = written_rule finds g n w.0.rule w.0.is_rule in (
@@ -75,7 +77,7 @@ call_of finds g n args level w =
       u.3,
     )
 
-well_call : (finds : Text → Text → Option Bool) (g : Grammar) (f : Text → ℕ → Text) → IsLevelable finds g f →
+pub well_call : (finds : Text → Text → Option Bool) (g : Grammar) (f : Text → ℕ → Text) → IsLevelable finds g f →
     (r : Rule) (args : Closeds)
     (level : Option ℕ) → IsCallOf finds g r args level → IsWell (before finds g) (Closed.call r.name args level)
 well_call finds g f w r args level call = (
@@ -210,7 +212,7 @@ reached_well finds g f w (suc n) (Nonterminal.closed x) (Nonterminal.closed y, o
     go (inl e) = absurd (faulty_produces (before finds g) y o side e k)
     go (inr h) = produced_well finds g f w y h o side k x i
 
-well_in : (finds : Text → Text → Option Bool) (g : Grammar) (f : Text → ℕ → Text) → IsLevelable finds g f →
+pub well_in : (finds : Text → Text → Option Bool) (g : Grammar) (f : Text → ℕ → Text) → IsLevelable finds g f →
     (x : Nonterminal) →
     InExpansion (before finds g) x → IsWellNonterminal (before finds g) x
 well_in finds g f w x i = reached_well finds g f w i.0 x i.1
@@ -235,53 +237,58 @@ kept_group : (f : Text → ℕ → Text) (xs : Closeds) →
 kept_group f xs = ap (map grammar_symbol) (renamed_list f xs) ∙ side-by_level f (closed_list xs)
 
 closed_forth : (finds : Text → Text → Option Bool) (g : Grammar) (f : Text → ℕ → Text) → IsLevelable finds g f →
-    TellsOwnRules g →
     (x : Closed) → IsWell (before finds g) x → (o : Origin) (side : RightSide) →
     Produces (before finds g) (Nonterminal.closed x) o side →
-    Produces (after finds g f) (Nonterminal.closed (by_level_names f x)) o (rename_side (nonterminal_by_level f) side)
-closed_forth finds g f w tells (Closed.terminal t) h o side m = absurd m
-closed_forth finds g f w tells (Closed.call n args level) h o side m =
+    MadeThere finds g f (Nonterminal.closed x) o side
+closed_forth finds g f w (Closed.terminal t) h o side m = absurd m
+closed_forth finds g f w (Closed.call n args level) h o side m =
     let u = call_of finds g n args level h in
-    inl (subst (λ t. ByAlternative (after finds g f) (level_name f t level) (all_by_level_names f args) None o
-    (rename_side (nonterminal_by_level f) side)) u.2
-    (call_forth finds g f w tells u.0 args level u.1 o side
-    (subst (λ t. Produces (before finds g) (Nonterminal.closed (Closed.call t args level)) o side) (sym u.2) m)))
-closed_forth finds g f w tells (Closed.repeat Op.plus x) h o side (inl m) = inl (m.0, kept_repeat f x side m.1)
-closed_forth finds g f w tells (Closed.repeat Op.plus x) h o side (inr m) = inr (m.0, kept_more f x side m.1)
-closed_forth finds g f w tells (Closed.repeat Op.star x) h o side (inl m) = inl (m.0, ap (rename_side (nonterminal_by_level f)) m.1)
-closed_forth finds g f w tells (Closed.repeat Op.star x) h o side (inr m) = inr (m.0, ap (rename_side (nonterminal_by_level f)) m.1)
-closed_forth finds g f w tells (Closed.repeat Op.question x) h o side (inl m) = inl (m.0, ap (rename_side (nonterminal_by_level f)) m.1)
-closed_forth finds g f w tells (Closed.repeat Op.question x) h o side (inr m) = inr (m.0, kept_repeat f x side m.1)
-closed_forth finds g f w tells (Closed.group xs) h o side m =
-    (m.0, ap (rename_side (nonterminal_by_level f)) m.1 ∙ sym (kept_group f xs))
-closed_forth finds g f w tells (Closed.choose x) h o side m = absurd m
-closed_forth finds g f w tells (Closed.name a n x) h o side m = absurd m
-closed_forth finds g f w tells Closed.lookahead h o side m = (m.0, ap (rename_side (nonterminal_by_level f)) m.1)
-closed_forth finds g f w tells Closed.lookbehind h o side m = (m.0, ap (rename_side (nonterminal_by_level f)) m.1)
-closed_forth finds g f w tells Closed.faulty h o side m = absurd m
+    subst (λ t. MadeThere finds g f (Nonterminal.closed (Closed.call t args level)) o side) u.2
+    (call_forth finds g f w u.0 args level u.1 o side
+    (subst (λ t. Produces (before finds g) (Nonterminal.closed (Closed.call t args level)) o side) (sym u.2) m))
+closed_forth finds g f w (Closed.repeat Op.plus x) h o side (inl m) = (o, inl (m.0, kept_repeat f x side m.1), λ tells. refl)
+closed_forth finds g f w (Closed.repeat Op.plus x) h o side (inr m) = (o, inr (m.0, kept_more f x side m.1), λ tells. refl)
+closed_forth finds g f w (Closed.repeat Op.star x) h o side (inl m) =
+    (o, inl (m.0, ap (rename_side (nonterminal_by_level f)) m.1), λ tells. refl)
+closed_forth finds g f w (Closed.repeat Op.star x) h o side (inr m) =
+    (o, inr (m.0, ap (rename_side (nonterminal_by_level f)) m.1), λ tells. refl)
+closed_forth finds g f w (Closed.repeat Op.question x) h o side (inl m) =
+    (o, inl (m.0, ap (rename_side (nonterminal_by_level f)) m.1), λ tells. refl)
+closed_forth finds g f w (Closed.repeat Op.question x) h o side (inr m) = (o, inr (m.0, kept_repeat f x side m.1), λ tells. refl)
+closed_forth finds g f w (Closed.group xs) h o side m =
+    (o, (m.0, ap (rename_side (nonterminal_by_level f)) m.1 ∙ sym (kept_group f xs)), λ tells. refl)
+closed_forth finds g f w (Closed.choose x) h o side m = absurd m
+closed_forth finds g f w (Closed.name a n x) h o side m = absurd m
+closed_forth finds g f w Closed.lookahead h o side m = (o, (m.0, ap (rename_side (nonterminal_by_level f)) m.1), λ tells. refl)
+closed_forth finds g f w Closed.lookbehind h o side m = (o, (m.0, ap (rename_side (nonterminal_by_level f)) m.1), λ tells. refl)
+closed_forth finds g f w Closed.faulty h o side m = absurd m
 
 -- a start stays a start
 start_forth : (finds : Text → Text → Option Bool) (g : Grammar) (f : Text → ℕ → Text) → IsLevelable finds g f →
     (n : Text) (o : Origin)
     (side : RightSide) → Produces (before finds g) (Nonterminal.start n) o side →
-    Produces (after finds g f) (Nonterminal.start n) o (rename_side (nonterminal_by_level f) side)
+    MadeThere finds g f (Nonterminal.start n) o side
 start_forth finds g f w n o side m =
     let q = rule_stays finds g f w n m.0 m.1 in
     let there = rule_there (after finds g f) n q.0 q.1 in
     let own = rule_there (before finds g) n m.0 m.1 in (
-      q.0,
-      q.1,
-      q.2 ∙ m.2,
-      (public_as_written finds g f w q.0 there.0).1 (m.0, own.0, own.1 ∙ sym there.1, m.3),
-      m.4,
-      ap (rename_side (nonterminal_by_level f)) m.5
-          ∙ ap (λ t. nt (Closed.call t Closeds.none None) ∷ []) (loosest_name finds g f w n m.0 m.1)
-          ∙ ap (λ l. nt (Closed.call n Closeds.none l) ∷ []) (sym (no_loosest q.0 q.3)),
+      o,
+      (
+        q.0,
+        q.1,
+        q.2 ∙ m.2,
+        (public_as_written finds g f w q.0 there.0).1 (m.0, own.0, own.1 ∙ sym there.1, m.3),
+        m.4,
+        ap (rename_side (nonterminal_by_level f)) m.5
+            ∙ ap (λ t. nt (Closed.call t Closeds.none None) ∷ []) (loosest_name finds g f w n m.0 m.1)
+            ∙ ap (λ l. nt (Closed.call n Closeds.none l) ∷ []) (sym (no_loosest q.0 q.3)),
+      ),
+      λ tells. refl,
     )
 
 start_back : (finds : Text → Text → Option Bool) (g : Grammar) (f : Text → ℕ → Text) → IsLevelable finds g f →
     (n : Text) (o : Origin)
-    (side : RightSide) → Produces (after finds g f) (Nonterminal.start n) o side → ProducedFrom finds g f (Nonterminal.start n) o side
+    (side : RightSide) → Produces (after finds g f) (Nonterminal.start n) o side → MadeFrom finds g f (Nonterminal.start n) o side
 start_back finds g f w n o side m =
     let there = rule_there (after finds g f) n m.0 m.1 in
     let u = (public_as_written finds g f w m.0 there.0).0 m.3 in
@@ -289,10 +296,12 @@ start_back finds g f w n o side m =
     subst (λ t. IsRule (before finds g) t u.0) (u.2 ∙ there.1) (w.resolved.rules u.0 u.1) in
     let q = rule_stays finds g f w n u.0 own in
     let same : q.0 ≡ m.0 = one_rule (after finds g f) n q.0 m.0 q.1 m.1 in (
+      o,
       nt (Closed.call n Closeds.none (loosest u.0)) ∷ [],
       (u.0, own, sym q.2 ∙ ap (λ e. e.parameters) same ∙ m.2, u.3, m.4, refl),
       m.5 ∙ ap (λ l. nt (Closed.call n Closeds.none l) ∷ []) (ap loosest (sym same) ∙ no_loosest q.0 q.3)
           ∙ ap (λ t. nt (Closed.call t Closeds.none None) ∷ []) (sym (loosest_name finds g f w n u.0 own)),
+      λ tells. refl,
     )
 
 -- and there are no others
@@ -302,61 +311,69 @@ back_repeat : (f : Text → ℕ → Text) (x : Closed) (side : RightSide) → si
 back_repeat f x side e = e ∙ ap (λ p. p ∷ []) (symbol-by_level f x)
 
 closed_back : (finds : Text → Text → Option Bool) (g : Grammar) (f : Text → ℕ → Text) → IsLevelable finds g f →
-    TellsOwnRules g →
     (x : Closed) → IsWell (before finds g) x → (o : Origin) (side : RightSide) →
-    Produces (after finds g f) (Nonterminal.closed (by_level_names f x)) o side → ProducedFrom finds g f (Nonterminal.closed x) o side
-closed_back finds g f w tells (Closed.terminal t) h o side m = absurd m
-closed_back finds g f w tells (Closed.call n args level) h o side (inl m) =
+    Produces (after finds g f) (Nonterminal.closed (by_level_names f x)) o side → MadeFrom finds g f (Nonterminal.closed x) o side
+closed_back finds g f w (Closed.terminal t) h o side m = absurd m
+closed_back finds g f w (Closed.call n args level) h o side (inl m) =
     let u = call_of finds g n args level h in
-    subst (λ t. ProducedFrom finds g f (Nonterminal.closed (Closed.call t args level)) o side) u.2
-    (call_back finds g f w tells u.0 args level u.1 o side
+    subst (λ t. MadeFrom finds g f (Nonterminal.closed (Closed.call t args level)) o side) u.2
+    (call_back finds g f w u.0 args level u.1 o side
     (subst (λ t. ByAlternative (after finds g f) (level_name f t level) (all_by_level_names f args) None o side) (sym u.2) m))
-closed_back finds g f w tells (Closed.call n args level) h o side (inr m) = let e : None ≡ Some m.from = m.from_is in cc
-closed_back finds g f w tells (Closed.repeat Op.plus x) h o side (inl m) =
-    (grammar_symbol x ∷ [], inl (m.0, refl), back_repeat f x side m.1)
-closed_back finds g f w tells (Closed.repeat Op.plus x) h o side (inr m) = (
+closed_back finds g f w (Closed.call n args level) h o side (inr m) = let e : None ≡ Some m.from = m.from_is in cc
+closed_back finds g f w (Closed.repeat Op.plus x) h o side (inl m) =
+    (o, grammar_symbol x ∷ [], inl (m.0, refl), back_repeat f x side m.1, λ tells. refl)
+closed_back finds g f w (Closed.repeat Op.plus x) h o side (inr m) = (
+  o,
   nt (Closed.repeat Op.plus x) ∷ grammar_symbol x ∷ [],
   inr (m.0, refl),
   m.1 ∙ ap (λ p. nt (Closed.repeat Op.plus (by_level_names f x)) ∷ p ∷ []) (symbol-by_level f x),
+  λ tells. refl,
 )
-closed_back finds g f w tells (Closed.repeat Op.star x) h o side (inl m) = ([], inl (m.0, refl), m.1)
-closed_back finds g f w tells (Closed.repeat Op.star x) h o side (inr m) = (nt (Closed.repeat Op.plus x) ∷ [], inr (m.0, refl), m.1)
-closed_back finds g f w tells (Closed.repeat Op.question x) h o side (inl m) = ([], inl (m.0, refl), m.1)
-closed_back finds g f w tells (Closed.repeat Op.question x) h o side (inr m) =
-    (grammar_symbol x ∷ [], inr (m.0, refl), back_repeat f x side m.1)
-closed_back finds g f w tells (Closed.group xs) h o side m =
-    (map grammar_symbol (closed_list xs), (m.0, refl), m.1 ∙ kept_group f xs)
-closed_back finds g f w tells (Closed.choose x) h o side m = absurd m
-closed_back finds g f w tells (Closed.name a n x) h o side m = absurd m
-closed_back finds g f w tells Closed.lookahead h o side m = ([], (m.0, refl), m.1)
-closed_back finds g f w tells Closed.lookbehind h o side m = ([], (m.0, refl), m.1)
-closed_back finds g f w tells Closed.faulty h o side m = absurd m
+closed_back finds g f w (Closed.repeat Op.star x) h o side (inl m) = (o, [], inl (m.0, refl), m.1, λ tells. refl)
+closed_back finds g f w (Closed.repeat Op.star x) h o side (inr m) =
+    (o, nt (Closed.repeat Op.plus x) ∷ [], inr (m.0, refl), m.1, λ tells. refl)
+closed_back finds g f w (Closed.repeat Op.question x) h o side (inl m) = (o, [], inl (m.0, refl), m.1, λ tells. refl)
+closed_back finds g f w (Closed.repeat Op.question x) h o side (inr m) =
+    (o, grammar_symbol x ∷ [], inr (m.0, refl), back_repeat f x side m.1, λ tells. refl)
+closed_back finds g f w (Closed.group xs) h o side m =
+    (o, map grammar_symbol (closed_list xs), (m.0, refl), m.1 ∙ kept_group f xs, λ tells. refl)
+closed_back finds g f w (Closed.choose x) h o side m = absurd m
+closed_back finds g f w (Closed.name a n x) h o side m = absurd m
+closed_back finds g f w Closed.lookahead h o side m = (o, [], (m.0, refl), m.1, λ tells. refl)
+closed_back finds g f w Closed.lookbehind h o side m = (o, [], (m.0, refl), m.1, λ tells. refl)
+closed_back finds g f w Closed.faulty h o side m = absurd m
 
 -- both, of nonterminals that are well
 
-forth : (finds : Text → Text → Option Bool) (g : Grammar) (f : Text → ℕ → Text) → IsLevelable finds g f → TellsOwnRules g →
+pub forth : (finds : Text → Text → Option Bool) (g : Grammar) (f : Text → ℕ → Text) → IsLevelable finds g f →
     (x : Nonterminal) → IsWellNonterminal (before finds g) x → (o : Origin) (side : RightSide) →
     Produces (before finds g) x o side →
-    Produces (after finds g f) (nonterminal_by_level f x) o (rename_side (nonterminal_by_level f) side)
-forth finds g f w tells (Nonterminal.start n) h o side m = start_forth finds g f w n o side m
-forth finds g f w tells (Nonterminal.closed x) (inl e) o side m = absurd (faulty_produces (before finds g) x o side e m)
-forth finds g f w tells (Nonterminal.closed x) (inr h) o side m = closed_forth finds g f w tells x h o side m
+    MadeThere finds g f x o side
+forth finds g f w (Nonterminal.start n) h o side m = start_forth finds g f w n o side m
+forth finds g f w (Nonterminal.closed x) (inl e) o side m = absurd (faulty_produces (before finds g) x o side e m)
+forth finds g f w (Nonterminal.closed x) (inr h) o side m = closed_forth finds g f w x h o side m
 
-back : (finds : Text → Text → Option Bool) (g : Grammar) (f : Text → ℕ → Text) → IsLevelable finds g f → TellsOwnRules g →
+pub back : (finds : Text → Text → Option Bool) (g : Grammar) (f : Text → ℕ → Text) → IsLevelable finds g f →
     (x : Nonterminal) → IsWellNonterminal (before finds g) x → (o : Origin) (side : RightSide) →
-    Produces (after finds g f) (nonterminal_by_level f x) o side → ProducedFrom finds g f x o side
-back finds g f w tells (Nonterminal.start n) h o side m = start_back finds g f w n o side m
-back finds g f w tells (Nonterminal.closed x) (inl e) o side m =
+    Produces (after finds g f) (nonterminal_by_level f x) o side → MadeFrom finds g f x o side
+back finds g f w (Nonterminal.start n) h o side m = start_back finds g f w n o side m
+back finds g f w (Nonterminal.closed x) (inl e) o side m =
     absurd (faulty_produces (after finds g f) (by_level_names f x) o side (ap (by_level_names f) e) m)
-back finds g f w tells (Nonterminal.closed x) (inr h) o side m = closed_back finds g f w tells x h o side m
+back finds g f w (Nonterminal.closed x) (inr h) o side m = closed_back finds g f w x h o side m
 
 -- roots
 
-root_forth : (finds : Text → Text → Option Bool) (g : Grammar) (f : Text → ℕ → Text) → IsLevelable finds g f →
+by_start : (g : EnabledGrammar) (n : Text) (o : Origin) (side : RightSide) → Produces g (Nonterminal.start n) o side →
+    Produces g (Nonterminal.start n) Origin.start side
+by_start g n o side m = (m.0, m.1, m.2, m.3, refl, m.5)
+
+pub root_forth : (finds : Text → Text → Option Bool) (g : Grammar) (f : Text → ℕ → Text) → IsLevelable finds g f →
     (x : Nonterminal) →
     IsRoot (before finds g) x → IsRoot (after finds g f) (nonterminal_by_level f x)
 root_forth finds g f w x (inl b) =
-    inl (b.0, rename_side (nonterminal_by_level f) b.1, ap (nonterminal_by_level f) b.2, start_forth finds g f w b.0 Origin.start b.1 b.3)
+    let u = start_forth finds g f w b.0 Origin.start b.1 b.3 in
+    let side = rename_side (nonterminal_by_level f) b.1 in
+    inl (b.0, side, ap (nonterminal_by_level f) b.2, by_start (after finds g f) b.0 u.0 side u.1)
 root_forth finds g f w x (inr b) =
     let u = written_rule finds g b.0.name b.0 b.2 in
     let has : HasLevel (rule_between u.0) b.1 = subst (λ e. HasLevel e b.1) (sym u.2) b.4 in
@@ -374,19 +391,19 @@ root_forth finds g f w x (inr b) =
           ∙ ap (λ t. Nonterminal.closed (Closed.call t Closeds.none None)) (sym name_is),
     )
 
-abbrev From : (Text → Text → Option Bool) → Grammar → (Text → ℕ → Text) → Nonterminal → Type 0
+abbrev pub From : (Text → Text → Option Bool) → Grammar → (Text → ℕ → Text) → Nonterminal → Type 0
 From finds g f y = (x : Nonterminal) × InExpansion (before finds g) x × (y ≡ nonterminal_by_level f x)
 
 no_level_there : (r : EnabledRule) (level : Option ℕ) → has_levels r ≡ false → HasLevel r level → level ≡ None
 no_level_there r None e h = refl
 no_level_there r (Some l) e h = absurd (subst (λ ls. Among ls l) (no_levels r e) h)
 
-root_back : (finds : Text → Text → Option Bool) (g : Grammar) (f : Text → ℕ → Text) → IsLevelable finds g f →
+pub root_back : (finds : Text → Text → Option Bool) (g : Grammar) (f : Text → ℕ → Text) → IsLevelable finds g f →
     (y : Nonterminal) →
-    IsRoot (after finds g f) y → From finds g f y
+    IsRoot (after finds g f) y → (x : Nonterminal) × IsRoot (before finds g) x × (y ≡ nonterminal_by_level f x)
 root_back finds g f w y (inl b) =
     let u = start_back finds g f w b.0 Origin.start b.1 b.3 in
-    (Nonterminal.start b.0, (zero, inl (b.0, u.0, refl, u.1)), b.2)
+    (Nonterminal.start b.0, inl (b.0, u.1, refl, by_start (before finds g) b.0 u.0 u.1 u.2), b.2)
 root_back finds g f w y (inr b) =
     let there = rule_there (after finds g f) b.0.name b.0 b.2 in
     let u = rule_key finds g f b.0 there.0 in
@@ -399,16 +416,13 @@ root_back finds g f w y (inr b) =
     ap (λ e. e.name) (sym same)
     ∙ (rule_there (after finds g f) (level_name f r.name u.2.level) (rule_between (rule_of_key f r u.2.level)) named).1 in (
       Nonterminal.closed (Closed.call r.name Closeds.none u.2.level),
-      (
-        zero,
-        inr (
-          rule_between r,
-          u.2.level,
-          own_rule finds g f w r u.2.among,
-          sym (key_parameters f r u.2.level) ∙ ap (λ e. e.parameters) same ∙ b.3,
-          u.2.has_level,
-          refl,
-        ),
+      inr (
+        rule_between r,
+        u.2.level,
+        own_rule finds g f w r u.2.among,
+        sym (key_parameters f r u.2.level) ∙ ap (λ e. e.parameters) same ∙ b.3,
+        u.2.has_level,
+        refl,
       ),
       b.5 ∙ ap (λ l. Nonterminal.closed (Closed.call b.0.name Closeds.none l)) lev
           ∙ ap (λ t. Nonterminal.closed (Closed.call t Closeds.none None)) name_is,
@@ -416,41 +430,38 @@ root_back finds g f w y (inr b) =
 
 -- what is reached
 
-reached_there : (finds : Text → Text → Option Bool) (g : Grammar) (f : Text → ℕ → Text) → IsLevelable finds g f →
-    TellsOwnRules g →
+-- a nonterminal of the expansion is one of the leveled grammar's
+pub reached_there : (finds : Text → Text → Option Bool) (g : Grammar) (f : Text → ℕ → Text) → IsLevelable finds g f →
     (n : ℕ) (x : Nonterminal) → IsReachedIn (before finds g) n x → IsReachedIn (after finds g f) n (nonterminal_by_level f x)
-reached_there finds g f w tells zero x i = root_forth finds g f w x i
-reached_there finds g f w tells (suc n) x (y, o, side, r, m, i) = (
-  nonterminal_by_level f y,
-  o,
-  rename_side (nonterminal_by_level f) side,
-  reached_there finds g f w tells n y r,
-  forth finds g f w tells y (reached_well finds g f w n y r) o side m,
-  map_among (rename_symbol (nonterminal_by_level f)) side (GrammarSymbol.nonterminal x) i,
-)
+reached_there finds g f w zero x i = root_forth finds g f w x i
+reached_there finds g f w (suc n) x (y, o, side, r, m, i) =
+    let u = forth finds g f w y (reached_well finds g f w n y r) o side m in (
+      nonterminal_by_level f y,
+      u.0,
+      rename_side (nonterminal_by_level f) side,
+      reached_there finds g f w n y r,
+      u.1,
+      map_among (rename_symbol (nonterminal_by_level f)) side (GrammarSymbol.nonterminal x) i,
+    )
 
-reached_from : (finds : Text → Text → Option Bool) (g : Grammar) (f : Text → ℕ → Text) → IsLevelable finds g f →
-    TellsOwnRules g →
+-- and there is no other
+pub reached_from : (finds : Text → Text → Option Bool) (g : Grammar) (f : Text → ℕ → Text) → IsLevelable finds g f →
     (n : ℕ) (y : Nonterminal) → IsReachedIn (after finds g f) n y → From finds g f y
-reached_from finds g f w tells zero y i = root_back finds g f w y i
-reached_from finds g f w tells (suc n) y (z, o, side, r, m, i) =
-    let p = reached_from finds g f w tells n z r in
-    let b = back finds g f w tells p.0 (well_in finds g f w p.0 p.1) o side (subst (λ a. Produces (after finds g f) a o side) p.2 m) in
-    go p.0 p.1 b.0 b.1 (among_map (rename_symbol (nonterminal_by_level f)) b.0 (GrammarSymbol.nonterminal y)
-    (subst (λ s. Among s (GrammarSymbol.nonterminal y)) b.2 i))
+reached_from finds g f w zero y i = let b = root_back finds g f w y i in (b.0, (zero, b.1), b.2)
+reached_from finds g f w (suc n) y (z, o, side, r, m, i) =
+    let p = reached_from finds g f w n z r in
+    let b = back finds g f w p.0 (well_in finds g f w p.0 p.1) o side (subst (λ a. Produces (after finds g f) a o side) p.2 m) in
+    let s = among_map (rename_symbol (nonterminal_by_level f)) b.1 (GrammarSymbol.nonterminal y)
+    (subst (λ l. Among l (GrammarSymbol.nonterminal y)) b.3 i) in
+    of_symbol p.0 p.1 b.0 b.1 b.2 s.0 s.1 s.2
   where
-    of_symbol : (x : Nonterminal) → InExpansion (before finds g) x → (from : RightSide) → Produces (before finds g) x o from →
-        (q : GrammarSymbol Nonterminal) → Among from q → rename_symbol (nonterminal_by_level f) q ≡ GrammarSymbol.nonterminal y →
-        From finds g f y
-    of_symbol x i from m (GrammarSymbol.terminal t) j e = cc
-    of_symbol x i from m (GrammarSymbol.nonterminal v) j e =
+    of_symbol : (x : Nonterminal) → InExpansion (before finds g) x → (c : Origin) (from : RightSide) →
+        Produces (before finds g) x c from → (q : GrammarSymbol Nonterminal) → Among from q →
+        rename_symbol (nonterminal_by_level f) q ≡ GrammarSymbol.nonterminal y → From finds g f y
+    of_symbol x i c from m (GrammarSymbol.terminal t) j e = cc
+    of_symbol x i c from m (GrammarSymbol.nonterminal v) j e =
         let same : nonterminal_by_level f v ≡ y = cc in
-        (v, (suc i.0, (x, o, from, i.1, m, j)), sym same)
-
-    go : (x : Nonterminal) → InExpansion (before finds g) x → (from : RightSide) → Produces (before finds g) x o from →
-        (q : GrammarSymbol Nonterminal) × Among from q × (rename_symbol (nonterminal_by_level f) q ≡ GrammarSymbol.nonterminal y) →
-        From finds g f y
-    go x i from m q = of_symbol x i from m q.0 q.1 q.2
+        (v, (suc i.0, (x, c, from, i.1, m, j)), sym same)
 
 nonterminals_apart : (finds : Text → Text → Option Bool) (g : Grammar) (f : Text → ℕ → Text) → IsLevelable finds g f →
     (x y : Nonterminal) →
@@ -469,10 +480,12 @@ pub levels_keep : (finds : Text → Text → Option Bool) (g : Grammar) (f : Tex
 levels_keep finds g f w tells = record {
   apart = λ x y i j e. nonterminals_apart finds g f w x y (well_in finds g f w x i) (well_in finds g f w y j) e;
   starts = λ n. refl;
-  there = λ x i. (i.0, reached_there finds g f w tells i.0 x i.1);
-  no_other = λ y i. reached_from finds g f w tells i.0 y i.1;
-  produces = λ x o side i m. forth finds g f w tells x (well_in finds g f w x i) o side m;
-  produces_no_other = λ x o side i m. back finds g f w tells x (well_in finds g f w x i) o side m;
+  there = λ x i. (i.0, reached_there finds g f w i.0 x i.1);
+  no_other = λ y i. reached_from finds g f w i.0 y i.1;
+  produces = λ x o side i m. let u = forth finds g f w x (well_in finds g f w x i) o side m in
+      subst (λ p. Produces (after finds g f) (nonterminal_by_level f x) p (rename_side (nonterminal_by_level f) side)) (u.2 tells) u.1;
+  produces_no_other = λ x o side i m. let u = back finds g f w x (well_in finds g f w x i) o side m in
+      (u.1, subst (λ p. Produces (before finds g) x p u.1) (u.4 tells) u.2, u.3);
 }
 
 -- and so are the nonterminals that are inlined

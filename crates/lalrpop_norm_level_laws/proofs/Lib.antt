@@ -11,6 +11,7 @@ pub mod LevelBindingLemmas
 pub mod WellLeveledLemmas
 pub mod LevelClosingLemmas
 pub mod LevelSpellingLemmas
+pub mod LevelFitLemmas
 pub mod LevelProductionLemmas
 pub mod LevelExpansionLemmas
 pub mod PackedNameLemmas

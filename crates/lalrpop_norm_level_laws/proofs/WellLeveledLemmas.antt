@@ -252,11 +252,11 @@ values_well g ps args w n c e h = go (map (λ p. p.1) (filter test pairs)) all e
 
 -- the levels' names tell such symbols apart
 
-abbrev key_named : (Text → ℕ → Text) → List LeveledKey → Text → LeveledKey
+abbrev pub key_named : (Text → ℕ → Text) → List LeveledKey → Text → LeveledKey
 key_named f [] m = (m, None)
 key_named f (k ∷ ks) m = if bytes_eq (name_of_leveled_key f k) m then k else key_named f ks m
 
-key_found : (f : Text → ℕ → Text) (ks : List LeveledKey) (k : LeveledKey) → AreDifferent (map (name_of_leveled_key f) ks) →
+pub key_found : (f : Text → ℕ → Text) (ks : List LeveledKey) (k : LeveledKey) → AreDifferent (map (name_of_leveled_key f) ks) →
     Among ks k →
     key_named f ks (name_of_leveled_key f k) ≡ k
 key_found f [] k d i = absurd i
@@ -279,7 +279,7 @@ key_found f (l ∷ ks) k d (inr i) =
         absurd (true≢false (sym (subst (λ t. has_text t (map (name_of_leveled_key f) ks) ≡ true) (sym same) there) ∙ d.0))
     go false g ih = ih
 
-key_of_rule : (r : Rule) (level : Option ℕ) → HasLevel (rule_between r) level →
+pub key_of_rule : (r : Rule) (level : Option ℕ) → HasLevel (rule_between r) level →
     Among {A = LeveledKey} (leveled_keys_of r) (r.name, level)
 key_of_rule r None h =
     subst (λ b. Among {A = LeveledKey} (cond b (map (λ j. (r.name, Some j)) (levels_in_order (rule_between r))) ((r.name, None) ∷ []))

@@ -1,17 +1,17 @@
 -- What the laws say of the grammar in which each level has a rule of its own.
 use Rattle.std.specs.Prelude.{ℕ, ◌≡◌, ◌↔◌, true, Bool, List, [], Option}
-use Rattle.lalrpop_grammar_symbols.specs.Symbols.{Text, Closed}
+use Rattle.lalrpop_grammar_symbols.specs.Symbols.{Text}
 use Rattle.lalrpop_grammar.specs.WrittenGrammar.{Alternative, Rule, Grammar, Origin, rules_of}
 use Rattle.lalrpop_grammar_language.specs.Among.{Among}
 use Rattle.lalrpop_grammar_language.specs.Enabled.{EnabledRule}
 use Rattle.lalrpop_grammar_language.specs.Levels.{assoc_of, or_assoc, Assoc}
-use Rattle.lalrpop_grammar_language.specs.Expansion.{Nonterminal, InExpansion}
+use Rattle.lalrpop_grammar_language.specs.Expansion.{Nonterminal}
 use Rattle.lalrpop_norm_expansion.specs.Between.{grammar_between, without_disabled}
 use Rattle.lalrpop_norm_expansion.specs.Premises.{IsReadGrammar, IsResolved, HasNoLevels}
 use Rattle.lalrpop_norm_expansion.specs.Same.{SameExpansion}
 use Rattle.lalrpop_norm_expansion.specs.Inlined.{SameInlined}
 use Rattle.lalrpop_norm_expansion.specs.Keys.{leveled_key_text, flat_key_text, IsNaming}
-use Rattle.lalrpop_norm_expansion.specs.Types.{GroundType, IsGrounded}
+use Rattle.lalrpop_norm_expansion.specs.Types.{SameTypes}
 use Rattle.lalrpop_norm_pass_laws.specs.LevelRules.{by_level_names}
 use Rattle.lalrpop_norm_level_laws.specs.LeveledGrammar.{leveled_grammar}
 use Rattle.lalrpop_norm_level_laws.specs.LevelNames.{AreLevelNames, HasNoTildes, HasPackedNames}
@@ -62,13 +62,11 @@ LevelsInlineAlike =
     (finds : Text → Text → Option Bool) (g : Grammar) (f : Text → ℕ → Text) → IsLevelable finds g f
     → SameInlined (grammar_between finds g) (grammar_between finds (leveled_grammar f g)) (nonterminal_by_level f)
 
--- and the types; no clause says this yet
+-- and the types
 abbrev pub LevelsKeepTypes : Type 0
 LevelsKeepTypes =
-    (finds : Text → Text → Option Bool) (g : Grammar) (f : Text → ℕ → Text) → IsLevelable finds g f →
-    (x : Closed) (t : GroundType)
-    → InExpansion (grammar_between finds g) (Nonterminal.closed x)
-    → IsGrounded (grammar_between finds g) x t ↔ IsGrounded (grammar_between finds (leveled_grammar f g)) (by_level_names f x) t
+    (finds : Text → Text → Option Bool) (g : Grammar) (f : Text → ℕ → Text) → IsLevelable finds g f
+    → SameTypes (grammar_between finds g) (grammar_between finds (leveled_grammar f g)) (by_level_names f)
 
 -- A rule is public just where it has the name of a public written one: of the levels the loosest alone.
 abbrev pub LoosestAloneIsPublic : Type 0
@@ -93,8 +91,7 @@ LeveledNamesArePacked =
     (finds : Text → Text → Option Bool) (g : Grammar) (f : Text → ℕ → Text) → IsLevelable finds g f → HasNoTildes g
     → HasPackedNames (grammar_between finds (leveled_grammar f g))
 
--- names of the leveled grammar's expansion are names of the written one's, whose keys print with their levels; no clause says this
--- yet
+-- names of the leveled grammar's expansion are names of the written one's, whose keys print with their levels
 abbrev pub LeveledNamesGoBack : Type 0
 LeveledNamesGoBack =
     (finds : Text → Text → Option Bool) (g : Grammar) (f : Text → ℕ → Text) (prefix : Text) (name_of : Nonterminal → Text)

@@ -1,14 +1,14 @@
 -- What is left of a grammar that was read has the expansion of its enabled grammar; for dropping what is disabled.
 use Rattle.std.specs.Str.{bytes_eq}
 use Rattle.std.proofs.Common.{◌≡◌, ℕ, ◌+◌, List, [], ◌∷◌, refl, ap, sym, ◌∙◌, cond, Bool, true, false, inl, inr}
-use Rattle.std.specs.Prelude.{Option, Some, None, map, filter, filter_map, not, codes, ◌||◌, if◌then◌else◌}
+use Rattle.std.specs.Prelude.{Option, Some, None, ◌↔◌, option_map, map, filter, filter_map, not, codes, ◌||◌, if◌then◌else◌}
 use Rattle.std.specs.List.{cons_option}
-use Rattle.lalrpop_grammar_symbols.specs.Symbols.{Text, Sym, WrittenSymbol, TextSpan}
-use Rattle.lalrpop_grammar.specs.WrittenGrammar.{Attr, attr_id, Alternative, Origin, WrittenItem, Grammar, rules_of}
+use Rattle.lalrpop_grammar_symbols.specs.Symbols.{Text, Sym, WrittenSymbol, TextSpan, Closed}
+use Rattle.lalrpop_grammar.specs.WrittenGrammar.{Attr, attr_id, Alternative, Origin, WrittenItem, Grammar, rules_of, Ty}
 use Rattle.lalrpop_grammar_language.specs.Among.{Among}
 use Rattle.lalrpop_grammar_language.specs.Enabled.{EnabledGrammar, has_attr, is_active, at_places, enabled_grammar}
 use Rattle.lalrpop_grammar_language.specs.Levels.{first_attr}
-use Rattle.lalrpop_grammar_language.specs.Closing.{parameter_value, name_or}
+use Rattle.lalrpop_grammar_language.specs.Closing.{parameter_value, name_or, close, sound_or_faulty}
 use Rattle.lalrpop_grammar_language.specs.Admitting.{bind}
 use Rattle.lalrpop_grammar_language.proofs.PlaceLemmas.{same_text-eq}
 use Rattle.lalrpop_norm_expansion.specs.Between.{with_origins, name_in_origins, written_name, grammar_between, is_cfg, without_cfg}
@@ -16,10 +16,17 @@ use Rattle.lalrpop_norm_expansion.specs.Between.{alternative_without_cfg, enable
 use Rattle.lalrpop_norm_expansion.specs.Premises.{IsReadItem, IsReadRule, IsReadGrammar}
 use Rattle.lalrpop_norm_expansion.specs.Same.{SameExpansion}
 use Rattle.lalrpop_norm_expansion.specs.Inlined.{SameInlined}
+use Rattle.lalrpop_norm_expansion.specs.Types.{SameTypes, type_scope}
+use Rattle.lalrpop_norm_expansion.specs.Depth.{HasCallChain}
+use Rattle.lalrpop_norm_expansion.specs.Keys.{leveled_key_text, IsNaming}
+use Rattle.lalrpop_grammar_language.specs.Expansion.{Nonterminal}
+use Rattle.lalrpop_norm_name_laws.proofs.NamingChangeLemmas.{changed_naming}
 use Rattle.lalrpop_norm_expansion.proofs.BetweenLemmas.{rules_left, bares_left}
-use Rattle.lalrpop_norm_name_laws.proofs.RuleChangeLemmas.{RuleChange, KeepsRanks, HasChangedRules, KeepsSides}
+use Rattle.lalrpop_norm_name_laws.proofs.RuleChangeLemmas.{RuleChange, changed_rule, KeepsRanks, HasChangedRules, KeepsSides}
 use Rattle.lalrpop_norm_name_laws.proofs.RuleChangeLemmas.{changed_expansion, changed_inlined}
-use Rattle.lalrpop_norm_name_laws.proofs.ClosedNameLemmas.{name_closed, side_kept, listed_stay}
+use Rattle.lalrpop_norm_name_laws.proofs.ClosedNameLemmas.{name_closed, side_kept, listed_stay, symbol_stays}
+use Rattle.lalrpop_norm_name_laws.proofs.TypeChangeLemmas.{mapped_type, mapped_by_itself, KeepsDeclared, symbol_kept, changed_types}
+use Rattle.lalrpop_norm_name_laws.proofs.TypeChangeLemmas.{changed_chains}
 
 -- ranks aren't asked of cfg attributes
 
@@ -141,3 +148,42 @@ pub dropping_inlined : (finds : Text → Text → Option Bool) (features : List 
 dropping_inlined finds features g w x i =
     changed_inlined cfg_change (enabled_grammar finds features g) (grammar_between finds (without_disabled features g))
     (rules_changed finds features g w) x
+
+types_kept : (g h : EnabledGrammar) → HasChangedRules cfg_change g h → KeepsDeclared cfg_change g h (λ r x. x)
+types_kept g h k n r i = record {
+  declared = all_mapped r.declared;
+  closed = λ args x. ap (λ y. sound_or_faulty (close (type_scope h (changed_rule cfg_change r) args) 0 y))
+      (sym (symbol_stays name_itself x (λ q m j. refl)))
+      ∙ symbol_kept cfg_change g h k r name_itself args (λ q m. refl)
+      (λ e j q m. ap (name_or (parameter_value (bind r args) m)) (name_closed cfg_change g h k (bind r args) r.name e j m)) x;
+}
+  where
+    all_mapped : (o : Option Ty) → o ≡ option_map (mapped_type (λ x. x)) o
+    all_mapped None = refl
+    all_mapped (Some y) = ap Some (sym (mapped_by_itself y))
+
+pub dropping_types : (finds : Text → Text → Option Bool) (features : List Text) (g : Grammar) → IsReadGrammar g →
+    SameTypes (enabled_grammar finds features g) (grammar_between finds (without_disabled features g)) (λ x. x)
+dropping_types finds features g w =
+    let k = rules_changed finds features g w in
+    changed_types cfg_change (enabled_grammar finds features g) (grammar_between finds (without_disabled features g)) k
+    (sides_kept (enabled_grammar finds features g) (grammar_between finds (without_disabled features g)) k) (λ r x. x)
+    (types_kept (enabled_grammar finds features g) (grammar_between finds (without_disabled features g)) k)
+
+pub dropping_chains : (finds : Text → Text → Option Bool) (features : List Text) (g : Grammar) → IsReadGrammar g →
+    (k : ℕ) (x : Closed) →
+    HasCallChain (enabled_grammar finds features g) k x ↔ HasCallChain (grammar_between finds (without_disabled features g)) k x
+dropping_chains finds features g w n x =
+    let k = rules_changed finds features g w in
+    changed_chains cfg_change (enabled_grammar finds features g) (grammar_between finds (without_disabled features g)) k
+    (sides_kept (enabled_grammar finds features g) (grammar_between finds (without_disabled features g)) k) n x
+
+pub dropped_names : (finds : Text → Text → Option Bool) (features : List Text) (g : Grammar) (prefix : Text)
+    (name_of : Nonterminal → Text) → IsReadGrammar g →
+    IsNaming (leveled_key_text (grammar_between finds (without_disabled features g))) prefix
+    (grammar_between finds (without_disabled features g)) name_of →
+    IsNaming (leveled_key_text (enabled_grammar finds features g)) prefix (enabled_grammar finds features g) name_of
+dropped_names finds features g prefix name_of w a =
+    let k = rules_changed finds features g w in
+    changed_naming cfg_change (enabled_grammar finds features g) (grammar_between finds (without_disabled features g)) k
+    (sides_kept (enabled_grammar finds features g) (grammar_between finds (without_disabled features g)) k) prefix name_of a

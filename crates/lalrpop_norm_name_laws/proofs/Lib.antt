@@ -1,5 +1,7 @@
 pub mod RuleChangeLemmas
 pub mod ClosedNameLemmas
+pub mod TypeChangeLemmas
+pub mod NamingChangeLemmas
 pub mod DroppingLemmas
 pub mod NameUseLemmas
 pub mod ResolvingLemmas

@@ -2,9 +2,9 @@
 use Rattle.std.specs.Str.{bytes_eq}
 use Rattle.std.proofs.Common.{◌≡◌, ℕ, ◌+◌, List, [], ◌∷◌, ◌++◌, refl}
 use Rattle.std.proofs.Common.{ap, sym, ◌∙◌, subst, Bool, true, false, inl}
-use Rattle.std.specs.Prelude.{Option, None, map, flat_map, option_map, not, is_some, ◌&&◌, if◌then◌else◌}
+use Rattle.std.specs.Prelude.{Option, Some, None, ◌↔◌, map, flat_map, option_map, not, is_some, ◌&&◌, if◌then◌else◌}
 use Rattle.lalrpop_grammar_symbols.specs.Symbols.{Text, TextSpan, Terminal, Sym, WrittenSymbol, Closed, Closeds, closed_list}
-use Rattle.lalrpop_grammar.specs.WrittenGrammar.{Alternative, Rule, Origin, WrittenItem, Grammar, rules_of}
+use Rattle.lalrpop_grammar.specs.WrittenGrammar.{Alternative, Rule, Origin, WrittenItem, Grammar, rules_of, Ty, Tys}
 use Rattle.lalrpop_grammar_language.specs.Among.{Among}
 use Rattle.lalrpop_grammar_language.specs.Enabled.{EnabledGrammar, EnabledRule, Choice, IsRule, has_text, has_name, rules_named}
 use Rattle.lalrpop_grammar_language.specs.Enabled.{choice_of, bares_of, bare_of}
@@ -15,11 +15,19 @@ use Rattle.lalrpop_grammar_language.proofs.PlaceLemmas.{same_text-eq, among_filt
 use Rattle.lalrpop_norm_expansion.specs.Between.{with_origins, rule_between, name_in_origins, written_name, grammar_between}
 use Rattle.lalrpop_norm_expansion.specs.Same.{SameExpansion}
 use Rattle.lalrpop_norm_expansion.specs.Inlined.{SameInlined}
+use Rattle.lalrpop_norm_expansion.specs.Types.{SameTypes}
+use Rattle.lalrpop_norm_expansion.specs.Depth.{HasCallChain}
+use Rattle.lalrpop_norm_expansion.specs.Keys.{leveled_key_text, IsNaming}
+use Rattle.lalrpop_grammar_language.specs.Expansion.{Nonterminal}
+use Rattle.lalrpop_norm_name_laws.proofs.NamingChangeLemmas.{changed_naming}
 use Rattle.lalrpop_norm_name_laws.specs.Resolving.{DefinedNames, defined_names, NameUse, use_of_name, resolved_name, resolved_symbol}
-use Rattle.lalrpop_norm_name_laws.specs.Resolving.{resolved_type, resolved_alternative, resolved_rule, resolved_item, resolved_grammar}
+use Rattle.lalrpop_norm_name_laws.specs.Resolving.{resolved_type, resolved_types, resolved_alternative, resolved_rule, resolved_item}
+use Rattle.lalrpop_norm_name_laws.specs.Resolving.{resolved_grammar}
 use Rattle.lalrpop_norm_name_laws.proofs.RuleChangeLemmas.{RuleChange, changed_choice, changed_rule, HasChangedRules}
 use Rattle.lalrpop_norm_name_laws.proofs.RuleChangeLemmas.{KeepsSides, changed_expansion, changed_inlined}
-use Rattle.lalrpop_norm_name_laws.proofs.ClosedNameLemmas.{scope_in, name_closed, side_kept}
+use Rattle.lalrpop_norm_name_laws.proofs.ClosedNameLemmas.{scope_in, name_closed, side_kept, CountsAlike, ClosesAlike}
+use Rattle.lalrpop_norm_name_laws.proofs.TypeChangeLemmas.{mapped_type, mapped_types, KeepsDeclared, symbol_kept, changed_types}
+use Rattle.lalrpop_norm_name_laws.proofs.TypeChangeLemmas.{changed_chains}
 use Rattle.lalrpop_norm_name_laws.proofs.NameUseLemmas.{IsUse, use_is, no_value, no_rule_named}
 
 -- rules with resolved names
@@ -179,14 +187,56 @@ module _ (finds : Text → Text → Option Bool) (g : Grammar) (m : Text) (r : E
       ap (λ (b : Bool). (if b && not (is_some (parameter_value (bind r args) n)) then 1 else 0) + 0)
       (sym (not_owner n (none_named finds g r.parameters n w) (bytes_eq n r.name) refl))
 
+counts_alike : (finds : Text → Text → Option Bool) (g : Grammar) (n : Text) (r : EnabledRule) →
+    IsRule (grammar_between finds g) n r →
+    (args : Closeds) → CountsAlike (replacement (defined_names g) r.parameters) (bind r args) r.name
+counts_alike finds g n r i args = λ q m.
+    counted_by_use finds g n r i args (use_of_name (defined_names g) r.parameters m) q m (use_is (defined_names g) r.parameters m)
+
+closes_alike : (finds : Text → Text → Option Bool) (g : Grammar) (n : Text) (r : EnabledRule) →
+    IsRule (grammar_between finds g) n r →
+    (args : Closeds) → ClosesAlike (replacement (defined_names g) r.parameters) (grammar_between finds g)
+    (grammar_between finds (resolved_grammar g)) (bind r args) r.name
+closes_alike finds g n r i args = λ e k q m.
+    closed_by_use finds g n r i args (use_of_name (defined_names g) r.parameters m) e k q m (use_is (defined_names g) r.parameters m)
+
 sides_kept : (finds : Text → Text → Option Bool) (g : Grammar) →
     KeepsSides (name_change (defined_names g)) (grammar_between finds g) (grammar_between finds (resolved_grammar g))
 sides_kept finds g n r i args p =
     side_kept (name_change (defined_names g)) (grammar_between finds g) (grammar_between finds (resolved_grammar g))
     (rules_changed finds g) r (replacement (defined_names g) r.parameters) (λ c. refl) (bind r args)
-    (λ q m. counted_by_use finds g n r i args (use_of_name (defined_names g) r.parameters m) q m (use_is (defined_names g) r.parameters m))
-    (λ e k q m. closed_by_use finds g n r i args (use_of_name (defined_names g) r.parameters m) e k q m
-    (use_is (defined_names g) r.parameters m)) p
+    (counts_alike finds g n r i args) (closes_alike finds g n r i args) p
+
+-- the symbols of declared types are resolved, one by one
+mutual
+  type_mapped : (d : DefinedNames) (ps : List Text) (y : Ty) → resolved_type d ps y ≡ mapped_type (resolved_symbol d ps) y
+  type_mapped d ps (Ty.tuple ys) = ap Ty.tuple (types_mapped d ps ys)
+  type_mapped d ps (Ty.nominal path ys) = ap (Ty.nominal path) (types_mapped d ps ys)
+  type_mapped d ps (Ty.id n) = refl
+  type_mapped d ps (Ty.of_symbol x) = refl
+  type_mapped d ps (Ty.ref lifetime mutable y) = ap (Ty.ref lifetime mutable) (type_mapped d ps y)
+  type_mapped d ps (Ty.opaque text) = refl
+
+  types_mapped : (d : DefinedNames) (ps : List Text) (ys : Tys) → resolved_types d ps ys ≡ mapped_types (resolved_symbol d ps) ys
+  types_mapped d ps Tys.none = refl
+  types_mapped d ps (Tys.more y ys) =
+      ap (λ z. Tys.more z (resolved_types d ps ys)) (type_mapped d ps y)
+      ∙ ap (Tys.more (mapped_type (resolved_symbol d ps) y)) (types_mapped d ps ys)
+
+declared_mapped : (d : DefinedNames) (ps : List Text) (o : Option Ty) →
+    option_map (resolved_type d ps) o ≡ option_map (mapped_type (resolved_symbol d ps)) o
+declared_mapped d ps None = refl
+declared_mapped d ps (Some y) = ap Some (type_mapped d ps y)
+
+types_kept : (finds : Text → Text → Option Bool) (g : Grammar) →
+    KeepsDeclared (name_change (defined_names g)) (grammar_between finds g) (grammar_between finds (resolved_grammar g))
+    (λ r. resolved_symbol (defined_names g) r.parameters)
+types_kept finds g n r i = record {
+  declared = declared_mapped (defined_names g) r.parameters r.declared;
+  closed = λ args x. symbol_kept (name_change (defined_names g)) (grammar_between finds g) (grammar_between finds (resolved_grammar g))
+      (rules_changed finds g) r (replacement (defined_names g) r.parameters) args (counts_alike finds g n r i args)
+      (closes_alike finds g n r i args) x;
+}
 
 pub resolving_expansion : (finds : Text → Text → Option Bool) (g : Grammar) →
     SameExpansion (grammar_between finds g) (grammar_between finds (resolved_grammar g)) (λ x. x)
@@ -199,3 +249,22 @@ pub resolving_inlined : (finds : Text → Text → Option Bool) (g : Grammar) �
 resolving_inlined finds g x i =
     changed_inlined (name_change (defined_names g)) (grammar_between finds g) (grammar_between finds (resolved_grammar g))
     (rules_changed finds g) x
+
+pub resolving_types : (finds : Text → Text → Option Bool) (g : Grammar) →
+    SameTypes (grammar_between finds g) (grammar_between finds (resolved_grammar g)) (λ x. x)
+resolving_types finds g =
+    changed_types (name_change (defined_names g)) (grammar_between finds g) (grammar_between finds (resolved_grammar g))
+    (rules_changed finds g) (sides_kept finds g) (λ r. resolved_symbol (defined_names g) r.parameters) (types_kept finds g)
+
+pub resolving_chains : (finds : Text → Text → Option Bool) (g : Grammar) (k : ℕ) (x : Closed) →
+    HasCallChain (grammar_between finds g) k x ↔ HasCallChain (grammar_between finds (resolved_grammar g)) k x
+resolving_chains finds g k x =
+    changed_chains (name_change (defined_names g)) (grammar_between finds g) (grammar_between finds (resolved_grammar g))
+    (rules_changed finds g) (sides_kept finds g) k x
+
+pub resolved_names : (finds : Text → Text → Option Bool) (g : Grammar) (prefix : Text) (name_of : Nonterminal → Text) →
+    IsNaming (leveled_key_text (grammar_between finds (resolved_grammar g))) prefix (grammar_between finds (resolved_grammar g)) name_of →
+    IsNaming (leveled_key_text (grammar_between finds g)) prefix (grammar_between finds g) name_of
+resolved_names finds g prefix name_of a =
+    changed_naming (name_change (defined_names g)) (grammar_between finds g) (grammar_between finds (resolved_grammar g))
+    (rules_changed finds g) (sides_kept finds g) prefix name_of a

@@ -152,7 +152,7 @@ pub named_kept : (w : RuleChange) (g h : EnabledGrammar) → HasChangedRules w g
     rules_named h n ≡ map (changed_rule w) (rules_named g n)
 named_kept w g h k n = ap (filter (has_name n)) k.rules ∙ among_named w n g.rules
 
-rule_after : (w : RuleChange) (g h : EnabledGrammar) → HasChangedRules w g h → (n : Text) (r : EnabledRule) → IsRule g n r →
+pub rule_after : (w : RuleChange) (g h : EnabledGrammar) → HasChangedRules w g h → (n : Text) (r : EnabledRule) → IsRule g n r →
     IsRule h n (changed_rule w r)
 rule_after w g h k n r e = named_kept w g h k n ∙ ap (map (changed_rule w)) e
 
@@ -165,7 +165,7 @@ only_of_map f [] y e = cc
 only_of_map f (x ∷ []) y e = (x, refl, ap (first_or y) e)
 only_of_map f (x ∷ z ∷ xs) y e = cc
 
-rule_before : (w : RuleChange) (g h : EnabledGrammar) → HasChangedRules w g h → (n : Text) (q : EnabledRule) → IsRule h n q →
+pub rule_before : (w : RuleChange) (g h : EnabledGrammar) → HasChangedRules w g h → (n : Text) (q : EnabledRule) → IsRule h n q →
     (r : EnabledRule) × IsRule g n r × (changed_rule w r ≡ q)
 rule_before w g h k n q e = only_of_map (changed_rule w) (rules_named g n) q (sym (named_kept w g h k n) ∙ e)
 
@@ -196,7 +196,7 @@ holds_with g h e b (Some c) m = of_value (parameter_value b c.parameter) m
     of_value (Some Closed.faulty) p = p
     of_value None p = p
 
-fits_after : (w : RuleChange) (g h : EnabledGrammar) → HasChangedRules w g h → (n : Text) (args : Closeds) (r : EnabledRule)
+pub fits_after : (w : RuleChange) (g h : EnabledGrammar) → HasChangedRules w g h → (n : Text) (args : Closeds) (r : EnabledRule)
     (p : Choice × Option Rank) → Fits g n args r p → Fits h n args (changed_rule w r) (changed_pair w r p)
 fits_after w g h k n args r p f = record {
   rule = rule_after w g h k n r f.rule;
@@ -207,7 +207,7 @@ fits_after w g h k n args r p f = record {
   holds = holds_with g h k.finds (bind r args) p.0.condition f.holds;
 }
 
-fits_before : (w : RuleChange) (g h : EnabledGrammar) → HasChangedRules w g h → (n : Text) (args : Closeds) (r : EnabledRule)
+pub fits_before : (w : RuleChange) (g h : EnabledGrammar) → HasChangedRules w g h → (n : Text) (args : Closeds) (r : EnabledRule)
     (p : Choice × Option Rank) → IsRule g n r → Among (ranked_choices r) p
     → Fits h n args (changed_rule w r) (changed_pair w r p) → Fits g n args r p
 fits_before w g h k n args r p i m f = record {
@@ -289,7 +289,7 @@ pass_down_before w g h k n args level o side b =
       side_is = b.side_is;
     }
 
-produces_after : (w : RuleChange) (g h : EnabledGrammar) → HasChangedRules w g h → KeepsSides w g h → (x : Nonterminal)
+pub produces_after : (w : RuleChange) (g h : EnabledGrammar) → HasChangedRules w g h → KeepsSides w g h → (x : Nonterminal)
     (o : Origin) (side : RightSide) → Produces g x o side → Produces h x o side
 produces_after w g h k s (Nonterminal.start n) o side m = (
   changed_rule w m.0,
@@ -315,7 +315,7 @@ produces_after w g h k s (Nonterminal.closed (Closed.choose x)) o side m = m
 produces_after w g h k s (Nonterminal.closed (Closed.name mutable n x)) o side m = m
 produces_after w g h k s (Nonterminal.closed Closed.faulty) o side m = m
 
-produces_before : (w : RuleChange) (g h : EnabledGrammar) → HasChangedRules w g h → KeepsSides w g h → (x : Nonterminal)
+pub produces_before : (w : RuleChange) (g h : EnabledGrammar) → HasChangedRules w g h → KeepsSides w g h → (x : Nonterminal)
     (o : Origin) (side : RightSide) → Produces h x o side → Produces g x o side
 produces_before w g h k s (Nonterminal.start n) o side m =
     let b = rule_before w g h k n m.0 m.1 in (
@@ -356,13 +356,13 @@ level_before : (w : RuleChange) → KeepsRanks w.attributes → (r : EnabledRule
 level_before w k r None m = sym (levels_kept w k r) ∙ m
 level_before w k r (Some l) m = subst (λ ls. Among ls l) (same_levels w k r) m
 
-root_after : (w : RuleChange) (g h : EnabledGrammar) → HasChangedRules w g h → KeepsSides w g h → (x : Nonterminal) →
+pub root_after : (w : RuleChange) (g h : EnabledGrammar) → HasChangedRules w g h → KeepsSides w g h → (x : Nonterminal) →
     IsRoot g x → IsRoot h x
 root_after w g h k s x (inl (n, side, e, m)) = inl (n, side, e, produces_after w g h k s (Nonterminal.start n) Origin.start side m)
 root_after w g h k s x (inr (r, level, i, p, l, e)) =
     inr (changed_rule w r, level, rule_after w g h k r.name r i, p, level_after w k.ranks r level l, e)
 
-root_before : (w : RuleChange) (g h : EnabledGrammar) → HasChangedRules w g h → KeepsSides w g h → (x : Nonterminal) →
+pub root_before : (w : RuleChange) (g h : EnabledGrammar) → HasChangedRules w g h → KeepsSides w g h → (x : Nonterminal) →
     IsRoot h x → IsRoot g x
 root_before w g h k s x (inl (n, side, e, m)) = inl (n, side, e, produces_before w g h k s (Nonterminal.start n) Origin.start side m)
 root_before w g h k s x (inr (q, level, i, p, l, e)) =

@@ -1,12 +1,16 @@
 -- What the laws say of what is disabled and of names that are resolved.
-use Rattle.std.specs.Prelude.{◌≡◌, Bool, List, Option}
-use Rattle.lalrpop_grammar_symbols.specs.Symbols.{Text}
+use Rattle.std.specs.Prelude.{ℕ, ◌≡◌, ◌↔◌, Bool, List, Option}
+use Rattle.lalrpop_grammar_symbols.specs.Symbols.{Text, Closed}
 use Rattle.lalrpop_grammar.specs.WrittenGrammar.{Grammar}
 use Rattle.lalrpop_grammar_language.specs.Enabled.{enabled_grammar}
+use Rattle.lalrpop_grammar_language.specs.Expansion.{Nonterminal}
 use Rattle.lalrpop_norm_expansion.specs.Between.{grammar_between, without_disabled}
 use Rattle.lalrpop_norm_expansion.specs.Premises.{IsReadGrammar, IsResolved}
 use Rattle.lalrpop_norm_expansion.specs.Same.{SameExpansion}
 use Rattle.lalrpop_norm_expansion.specs.Inlined.{SameInlined}
+use Rattle.lalrpop_norm_expansion.specs.Types.{SameTypes}
+use Rattle.lalrpop_norm_expansion.specs.Depth.{HasCallChain}
+use Rattle.lalrpop_norm_expansion.specs.Keys.{leveled_key_text, IsNaming}
 use Rattle.lalrpop_norm_name_laws.specs.Resolving.{resolved_grammar}
 use Rattle.lalrpop_norm_name_laws.specs.NameFaults.{HasRightNames}
 
@@ -21,6 +25,27 @@ abbrev pub DroppingInlinesAlike : Type 0
 DroppingInlinesAlike =
     (finds : Text → Text → Option Bool) (features : List Text) (g : Grammar) → IsReadGrammar g →
     SameInlined (enabled_grammar finds features g) (grammar_between finds (without_disabled features g)) (λ x. x)
+
+-- with the same types
+abbrev pub DroppingKeepsTypes : Type 0
+DroppingKeepsTypes =
+    (finds : Text → Text → Option Bool) (features : List Text) (g : Grammar) → IsReadGrammar g →
+    SameTypes (enabled_grammar finds features g) (grammar_between finds (without_disabled features g)) (λ x. x)
+
+-- and the same chains of macro calls
+abbrev pub DroppingKeepsChains : Type 0
+DroppingKeepsChains =
+    (finds : Text → Text → Option Bool) (features : List Text) (g : Grammar) → IsReadGrammar g → (k : ℕ) (x : Closed) →
+    HasCallChain (enabled_grammar finds features g) k x ↔ HasCallChain (grammar_between finds (without_disabled features g)) k x
+
+-- names of what is left are names of the enabled grammar
+abbrev pub DroppedNamesGoBack : Type 0
+DroppedNamesGoBack =
+    (finds : Text → Text → Option Bool) (features : List Text) (g : Grammar) (prefix : Text) (name_of : Nonterminal → Text) →
+    IsReadGrammar g →
+    IsNaming (leveled_key_text (grammar_between finds (without_disabled features g))) prefix
+    (grammar_between finds (without_disabled features g)) name_of →
+    IsNaming (leveled_key_text (enabled_grammar finds features g)) prefix (enabled_grammar finds features g) name_of
 
 -- where nothing is wrong with names, resolving them makes a resolved grammar
 abbrev pub ResolvingResolves : Type 0
@@ -38,6 +63,25 @@ abbrev pub ResolvingInlinesAlike : Type 0
 ResolvingInlinesAlike =
     (finds : Text → Text → Option Bool) (g : Grammar) →
     SameInlined (grammar_between finds g) (grammar_between finds (resolved_grammar g)) (λ x. x)
+
+-- with the same types
+abbrev pub ResolvingKeepsTypes : Type 0
+ResolvingKeepsTypes =
+    (finds : Text → Text → Option Bool) (g : Grammar) →
+    SameTypes (grammar_between finds g) (grammar_between finds (resolved_grammar g)) (λ x. x)
+
+-- and the same chains of macro calls
+abbrev pub ResolvingKeepsChains : Type 0
+ResolvingKeepsChains =
+    (finds : Text → Text → Option Bool) (g : Grammar) (k : ℕ) (x : Closed) →
+    HasCallChain (grammar_between finds g) k x ↔ HasCallChain (grammar_between finds (resolved_grammar g)) k x
+
+-- names of the grammar with its names resolved are names of the written one
+abbrev pub ResolvedNamesGoBack : Type 0
+ResolvedNamesGoBack =
+    (finds : Text → Text → Option Bool) (g : Grammar) (prefix : Text) (name_of : Nonterminal → Text) →
+    IsNaming (leveled_key_text (grammar_between finds (resolved_grammar g))) prefix (grammar_between finds (resolved_grammar g)) name_of →
+    IsNaming (leveled_key_text (grammar_between finds g)) prefix (grammar_between finds g) name_of
 
 -- a resolved grammar stays as it is
 abbrev pub ResolvedStays : Type 0

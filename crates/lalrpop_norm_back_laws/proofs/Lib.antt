@@ -1,0 +1,14 @@
+pub mod ReachLemmas
+pub mod TypeListLemmas
+pub mod DeclaredLemmas
+pub mod LevelTypeLemmas
+pub mod LevelTextLemmas
+pub mod LastLemmas
+pub mod NameBackLemmas
+pub mod ChainLemmas
+pub mod KeyClosingLemmas
+pub mod KeyTypeLemmas
+pub mod MacroTypeLemmas
+pub mod KeyStepLemmas
+pub mod ComposedTypeLemmas
+pub mod ExamplesOfKeyTypes
