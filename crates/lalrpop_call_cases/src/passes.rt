@@ -7,7 +7,7 @@ use lalrpop_grammar::{Atom, Grammar};
 use lalrpop_grammar_repr::{NormFault, NormResult, Session};
 use lalrpop_norm_checks::prevalidate::validate;
 use lalrpop_norm_entries::{LiteralPlaces, token_check};
-use lalrpop_norm_levels::level_fault;
+use lalrpop_norm_level_faults::level_fault;
 use lalrpop_norm_names::resolve;
 use lalrpop_norm_resolve::remove_disabled_decls;
 use serde_json::Value;

@@ -2,9 +2,7 @@
 //! with them.
 #![tactic(auto)]
 
-mod faults;
-
-pub use faults::{has_prec_attr, level_fault};
 pub use lalrpop_grammar_rules::{
     ASSOC_ATTR, Assoc, INLINE, LVL_ARG, PREC_ATTR, ParseAssocError, SIDE_ARG,
 };
+pub use lalrpop_norm_level_faults::{has_prec_attr, level_fault};

@@ -3,7 +3,7 @@ use Rattle.std.proofs.Common.{◌≡◌, refl}
 use Rattle.lalrpop_grammar_symbols.specs.Symbols.{Text, TextSpan}
 use Rattle.lalrpop_grammar.specs.WrittenGrammar.{Attr, Attrs}
 use Rattle.lalrpop_norm_level_laws.specs.LevelFaults.{value_place}
-use Rattle.lalrpop_norm_levels.specs.LevelSearch.{place_of_only}
+use Rattle.lalrpop_norm_level_faults.specs.LevelSearch.{place_of_only}
 
 -- of parts in parentheses the one that says the text tells the place
 pub place_in_parts : (key : Text) (place : TextSpan) (id : Text) (parts : Attrs)

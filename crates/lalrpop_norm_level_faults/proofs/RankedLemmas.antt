@@ -1,22 +1,20 @@
 -- Ranks alternative by alternative, and the tightest level; for the search for what is wrong with a rule's levels.
-use Rattle.std.specs.Str.{bytes_eq}
-use Rattle.std.proofs.Common.{◌≡◌, ℕ, ◌<◌, ◌≤◌, Bool, true, false, List, [], ◌∷◌, ◌++◌, ◌⊎◌, inl, inr}
+use Rattle.std.proofs.Common.{◌≡◌, ℕ, Bool, true, false, List, [], ◌∷◌, ◌++◌}
 use Rattle.std.proofs.Common.{refl, ap, sym, ◌∙◌, cond, arith}
 use Rattle.std.specs.Prelude.{Option, Some, None, is_some, map, flat_map, filter, filter_map, zip, option_map, nat_lt, codes, ◌||◌}
 use Rattle.std.specs.Prelude.{if◌then◌else◌}
 use Rattle.std.specs.List.{list_any, cons_option}
-use Rattle.std.proofs.lemmas.Bool.{cases_lt}
 use Rattle.lalrpop_grammar.specs.WrittenGrammar.{Attr, Alternative, Rule}
 use Rattle.lalrpop_grammar_language.specs.Enabled.{choice_of, has_attr}
-use Rattle.lalrpop_grammar_language.specs.Levels.{Rank, has_levels, levels, greatest, larger, tighter, ranked_choices, with_ranks}
+use Rattle.lalrpop_grammar_language.specs.Levels.{Rank, has_levels, levels, greatest, larger, tighter, with_ranks}
 use Rattle.lalrpop_grammar_language.specs.Levels.{first_attr}
 use Rattle.lalrpop_norm_expansion.specs.Between.{rule_between, with_origins}
 use Rattle.lalrpop_norm_level_laws.specs.LeveledGrammar.{ranked_alternatives}
 use Rattle.lalrpop_norm_level_laws.specs.LevelFaults.{LevelFault, faults_of_attr, fault_of_side, fault_of_tightest_side, faults_of_tightest}
 use Rattle.lalrpop_norm_level_laws.specs.LevelFaults.{faults_of_first, level_faults_in, level_faults_in_rule}
-use Rattle.lalrpop_norm_levels.specs.LevelSearch.{says_level, next_rank_of, smaller_level, least_from, is_tighter}
-use Rattle.lalrpop_norm_levels.specs.LevelSearch.{faults_of_side, faults_at}
-use Rattle.lalrpop_norm_levels.specs.LevelSearch.{faults_from}
+use Rattle.lalrpop_norm_level_faults.specs.LevelSearch.{says_level, next_rank_of, smaller_level, least_from, is_tighter}
+use Rattle.lalrpop_norm_level_faults.specs.LevelSearch.{faults_of_side, faults_at}
+use Rattle.lalrpop_norm_level_faults.specs.LevelSearch.{faults_from}
 
 -- which rules have levels
 
@@ -31,7 +29,7 @@ levels_said r = said_by_choices r.alternatives
 
 -- the ranks of alternatives
 
-abbrev ranks_after : Option Rank → List Alternative → List (Option Rank)
+abbrev pub ranks_after : Option Rank → List Alternative → List (Option Rank)
 ranks_after last [] = []
 ranks_after last (a ∷ alts) = next_rank_of last a ∷ ranks_after (next_rank_of last a) alts
 
@@ -113,7 +111,8 @@ abbrev leveled_parts : Rule → Bool → List (Option Rank)
 leveled_parts r b = map (λ p. p.1)
     (if b then with_ranks None (rule_between r).choices else map (λ c. (c, None)) (rule_between r).choices)
 
-ranked_is : (r : Rule) → has_levels (rule_between r) ≡ true
+-- the alternatives of a rule with levels, each beside its rank
+pub ranked_is : (r : Rule) → has_levels (rule_between r) ≡ true
     → ranked_alternatives r ≡ zip r.alternatives (ranks_after None r.alternatives)
 ranked_is r e =
     ap (λ b. zip r.alternatives (leveled_parts r b)) e ∙ ap (zip r.alternatives) (ranks_of_choices None r.alternatives)

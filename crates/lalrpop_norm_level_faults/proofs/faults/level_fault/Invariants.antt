@@ -4,8 +4,8 @@ use Rattle.lalrpop_grammar.specs.RulesLeft.{rules_left}
 use Rattle.lalrpop_grammar.specs.Views.{grammar_view}
 use Rattle.lalrpop_grammar.specs.WrittenGrammar.{rules_of}
 use Rattle.lalrpop_norm_level_laws.specs.LevelFaults.{level_faults_in_rule}
-use Rattle.lalrpop_norm_levels.specs.LevelErrors.{first_fault}
-use Rattle.lalrpop_norm_levels.proofs.faults.level_fault.Given as goal
+use Rattle.lalrpop_norm_level_faults.specs.LevelErrors.{first_fault}
+use Rattle.lalrpop_norm_level_faults.proofs.faults.level_fault.Given as goal
 
 abbrev pub invariant-loop-rule : goal.invariant-loop-rule
 invariant-loop-rule l =

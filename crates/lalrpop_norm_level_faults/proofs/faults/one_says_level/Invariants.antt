@@ -1,8 +1,8 @@
 use Rattle.std.proofs.Common.{◌≡◌, map, drop}
 use Rattle.std.specs.List.{list_any}
 use Rattle.lalrpop_grammar.specs.Views.{alternative_view}
-use Rattle.lalrpop_norm_levels.specs.LevelSearch.{says_level}
-use Rattle.lalrpop_norm_levels.proofs.faults.one_says_level.Given as goal
+use Rattle.lalrpop_norm_level_faults.specs.LevelSearch.{says_level}
+use Rattle.lalrpop_norm_level_faults.proofs.faults.one_says_level.Given as goal
 
 abbrev pub invariant-loop-alternative : goal.invariant-loop-alternative
 invariant-loop-alternative l =

@@ -3,9 +3,9 @@ use Rattle.std.proofs.lemmas.List.{drop_more}
 use Rattle.std.specs.Prelude.{flat_map, option_map}
 use Rattle.lalrpop_grammar.specs.Views.{attribute_view}
 use Rattle.lalrpop_norm_level_laws.specs.LevelFaults.{faults_of_attr}
-use Rattle.lalrpop_norm_levels.specs.LevelErrors.{error_view, first_fault}
-use Rattle.lalrpop_norm_levels.proofs.FirstFaultLemmas.{first_found_here, first_none_here}
-use Rattle.lalrpop_norm_levels.proofs.faults.fault_in_attributes.Goals as goal
+use Rattle.lalrpop_norm_level_faults.specs.LevelErrors.{error_view, first_fault}
+use Rattle.lalrpop_norm_level_faults.proofs.FirstFaultLemmas.{first_found_here, first_none_here}
+use Rattle.lalrpop_norm_level_faults.proofs.faults.fault_in_attributes.Goals as goal
 
 pub returns-in-Some : goal.returns-in-Some
 returns-in-Some c =

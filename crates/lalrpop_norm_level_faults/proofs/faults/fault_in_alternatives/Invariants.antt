@@ -2,9 +2,9 @@ use Rattle.std.proofs.Common.{◌≡◌, map, drop}
 use Rattle.std.specs.Prelude.{None, option_map}
 use Rattle.lalrpop_grammar.specs.Views.{alternative_view}
 use Rattle.lalrpop_grammar_rules.specs.Ranks.{rank_view}
-use Rattle.lalrpop_norm_levels.specs.LevelErrors.{first_fault}
-use Rattle.lalrpop_norm_levels.specs.LevelSearch.{faults_from}
-use Rattle.lalrpop_norm_levels.proofs.faults.fault_in_alternatives.Given as goal
+use Rattle.lalrpop_norm_level_faults.specs.LevelErrors.{first_fault}
+use Rattle.lalrpop_norm_level_faults.specs.LevelSearch.{faults_from}
+use Rattle.lalrpop_norm_level_faults.proofs.faults.fault_in_alternatives.Given as goal
 
 abbrev pub invariant-loop-alternative : goal.invariant-loop-alternative
 invariant-loop-alternative l =

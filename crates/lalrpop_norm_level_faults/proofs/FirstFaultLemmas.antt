@@ -3,7 +3,7 @@ use Rattle.std.proofs.Common.{◌≡◌, ap, sym, ◌∙◌, List, [], ◌∷◌
 use Rattle.std.specs.Prelude.{Option, Some, None}
 use Rattle.lalrpop_grammar.specs.Items.{first_of_two}
 use Rattle.lalrpop_norm_level_laws.specs.LevelFaults.{LevelFault}
-use Rattle.lalrpop_norm_levels.specs.LevelErrors.{ToldFault, first_fault}
+use Rattle.lalrpop_norm_level_faults.specs.LevelErrors.{ToldFault, first_fault}
 
 -- the first fault of two lists is the first one's, or else the second one's
 pub first_of_both : (xs ys : List LevelFault) → first_fault (xs ++ ys) ≡ first_of_two (first_fault xs) (first_fault ys)

@@ -15,8 +15,8 @@ ghost use Rattle.lalrpop_norm_level_laws.specs.LevelFaults.{
   level_faults_in_rule,
   level_faults,
 };
-ghost use Rattle.lalrpop_norm_levels.specs.LevelErrors.{error_view, first_fault};
-ghost use Rattle.lalrpop_norm_levels.specs.LevelSearch.{
+ghost use Rattle.lalrpop_norm_level_faults.specs.LevelErrors.{error_view, first_fault};
+ghost use Rattle.lalrpop_norm_level_faults.specs.LevelSearch.{
   says_level,
   place_of_text,
   place_of_only,
@@ -267,7 +267,7 @@ fn fault_of_rule(rule: &NonterminalData) -> Option<NormError>
     fault_in_alternatives(tightest(alternatives), alternatives)
 }
 
-/// What is wrong with the levels of a grammar without what is disabled: the first fault in reading order. It takes no memory.
+/// What is wrong with the levels of a grammar without what is disabled: the first of `level_faults`. It takes no memory.
 pub fn level_fault(grammar: &Grammar) -> Option<NormError>
     ensures { option_map error_view result ≡ first_fault (level_faults (grammar_view grammar.now)) }
 {

@@ -1,9 +1,9 @@
 use Rattle.std.proofs.Common.{◌≡◌, ap, sym, ◌∙◌, map}
 use Rattle.std.specs.List.{list_any}
 use Rattle.lalrpop_grammar.specs.Views.{alternative_view, nonterminal_view}
-use Rattle.lalrpop_norm_levels.specs.LevelSearch.{says_level}
-use Rattle.lalrpop_norm_levels.proofs.RankedLemmas.{levels_said}
-use Rattle.lalrpop_norm_levels.proofs.faults.has_prec_attr.Goals as goal
+use Rattle.lalrpop_norm_level_faults.specs.LevelSearch.{says_level}
+use Rattle.lalrpop_norm_level_faults.proofs.RankedLemmas.{levels_said}
+use Rattle.lalrpop_norm_level_faults.proofs.faults.has_prec_attr.Goals as goal
 
 pub returns : goal.returns
 returns c =

@@ -4,8 +4,8 @@ use Rattle.lalrpop_grammar_symbols.specs.Symbols.{Text, TextSpan}
 use Rattle.lalrpop_grammar_symbols.specs.Views.{span_view}
 use Rattle.lalrpop_grammar.specs.WrittenGrammar.{Attr}
 use Rattle.lalrpop_grammar.specs.Views.{attribute_view, attrs}
-use Rattle.lalrpop_norm_levels.specs.LevelSearch.{place_of_only}
-use Rattle.lalrpop_norm_levels.proofs.faults.only_place.Goals as goal
+use Rattle.lalrpop_norm_level_faults.specs.LevelSearch.{place_of_only}
+use Rattle.lalrpop_norm_level_faults.proofs.faults.only_place.Goals as goal
 
 -- of two parts or more none tells the place
 place_of_two : (key : Text) (parts : List Attr) (other : TextSpan) → 2 ≤ length parts

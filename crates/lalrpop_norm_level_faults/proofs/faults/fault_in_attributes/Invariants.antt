@@ -2,8 +2,8 @@ use Rattle.std.proofs.Common.{◌≡◌, map, drop}
 use Rattle.std.specs.Prelude.{flat_map}
 use Rattle.lalrpop_grammar.specs.Views.{attribute_view}
 use Rattle.lalrpop_norm_level_laws.specs.LevelFaults.{faults_of_attr}
-use Rattle.lalrpop_norm_levels.specs.LevelErrors.{first_fault}
-use Rattle.lalrpop_norm_levels.proofs.faults.fault_in_attributes.Given as goal
+use Rattle.lalrpop_norm_level_faults.specs.LevelErrors.{first_fault}
+use Rattle.lalrpop_norm_level_faults.proofs.faults.fault_in_attributes.Given as goal
 
 abbrev pub invariant-loop-attribute : goal.invariant-loop-attribute
 invariant-loop-attribute l =
