@@ -1,0 +1,12 @@
+pub mod ClosedTypeLemmas
+pub mod SourceTypeLemmas
+pub mod ExpandedLemmas
+pub mod EquationLemmas
+pub mod TableLemmas
+pub mod FrontLemmas
+pub mod GroundLemmas
+pub mod SearchLemmas
+pub mod SameLemmas
+pub mod UntypedLemmas
+pub mod TerminalLemmas
+pub mod ExamplesOfTypeEquations

@@ -1,0 +1,43 @@
+-- What definitions see of the names, equations and tables of the search for types.
+use Rattle.std.specs.Prelude.{◌≡◌, List, Some, map, option_map}
+use Rattle.lalrpop_grammar_symbols.specs.Symbols.{Text}
+use Rattle.lalrpop_grammar_symbols.specs.Views.{symbol_view}
+use Rattle.lalrpop_grammar_symbols.specs.declared.names.NonterminalString.{NonterminalString}
+use Rattle.lalrpop_grammar.specs.Views.{grammar_view, nonterminal_view, type_view}
+use Rattle.lalrpop_grammar.specs.WrittenGrammar as pure
+use Rattle.lalrpop_grammar_repr.specs.Maps.{at_name}
+use Rattle.lalrpop_grammar_types.specs.declared.type_repr.TypeRepr.{TypeRepr}
+use Rattle.lalrpop_norm_expansion.specs.Types.{GroundType, IsGrounded}
+use Rattle.lalrpop_norm_types.specs.GroundViews.{type_repr_view}
+use Rattle.lalrpop_norm_types.specs.TypesByTable.{KnownNames, RuleTypes, known_names}
+use Rattle.lalrpop_norm_types.specs.Equations.{TypeEquation, TypeSource as PureSource, type_equations}
+use Rattle.lalrpop_norm_types.specs.TypeFaults.{WhereExpanded, nonterminal_of, rule_symbol}
+use Rattle.lalrpop_norm_types.specs.declared.equations.Equation.{Equation}
+use Rattle.lalrpop_norm_types.specs.declared.equations.TypeSource.{TypeSource}
+use Rattle.lalrpop_norm_types.specs.declared.equations.TypeSource.TheVariants as sources
+use Rattle.lalrpop_norm_types.specs.declared.names.Names.{Names}
+
+-- the table as a function
+abbrev pub rule_types : List (NonterminalString × TypeRepr) → RuleTypes
+rule_types es n = option_map type_repr_view (at_name (nonterminal_of n) es)
+
+abbrev pub grammar_of : Names → pure.Grammar
+grammar_of names = grammar_view names.grammar.now
+
+abbrev pub names_view : Names → KnownNames
+names_view names = known_names (grammar_of names)
+
+abbrev pub source_view : TypeSource → PureSource
+source_view (sources.Declared y) = PureSource.declared (type_view y.now)
+source_view (sources.Symbols xs) = PureSource.symbols (map symbol_view xs.now)
+
+abbrev pub equation_view : Equation → TypeEquation
+equation_view e = record { rule = nonterminal_view e.rule.now; source = source_view e.source }
+
+-- the equations are those of the grammar
+abbrev pub AreEquations : Names → List Equation → Type 0
+AreEquations names es = map equation_view es ≡ type_equations (grammar_of names)
+
+-- each type in the table is one that its rule has
+abbrev pub IsRightTable : pure.Grammar → RuleTypes → Type 0
+IsRightTable g table = WhereExpanded g (λ e. (n : Text) (t : GroundType) → table n ≡ Some t → IsGrounded e (rule_symbol n) t)
