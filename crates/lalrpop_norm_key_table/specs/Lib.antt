@@ -1,0 +1,3 @@
+pub mod KeyTexts
+pub mod Standing
+pub mod Tables

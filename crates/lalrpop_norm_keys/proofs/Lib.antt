@@ -1,0 +1,12 @@
+pub mod SymbolLemmas
+pub mod SideLemmas
+pub mod InstanceLemmas
+pub mod FoundLemmas
+pub mod OriginLemmas
+pub mod PlainGrammarLemmas
+pub mod RightCallLemmas
+pub mod KeyLemmas
+pub mod ArityLemmas
+pub mod FaultLemmas
+pub mod ExamplesOfSearches
+pub mod PremiseLemmas

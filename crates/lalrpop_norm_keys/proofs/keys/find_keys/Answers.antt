@@ -1,0 +1,54 @@
+use Rattle.std.proofs.Common.{[], ap, map, subst, sym}
+use Rattle.std.specs.Prelude.{filter}
+use Rattle.std.proofs.lemmas.Result.{err_from_is_err_and}
+use Rattle.lalrpop_grammar.specs.Views.{grammar_view}
+use Rattle.lalrpop_grammar.specs.WrittenGrammar.{rules_of}
+use Rattle.lalrpop_grammar_language.specs.Enabled.{enabled_rule, is_active}
+use Rattle.lalrpop_grammar_rules.specs.RuleTable.{rules_with}
+use Rattle.lalrpop_norm_key_table.specs.Tables.{table_keys}
+use Rattle.lalrpop_norm_keys.specs.FoundCalls.{AreCalls, plain_calls}
+use Rattle.lalrpop_norm_keys.specs.FoundKeys.{FindsKeys}
+use Rattle.lalrpop_norm_keys.proofs.FoundLemmas.{told_of_rules, told_of_walked, walked_are_calls}
+use Rattle.lalrpop_norm_keys.proofs.KeyLemmas.{keys_found, keys_together}
+use Rattle.lalrpop_norm_keys.proofs.keys.find_keys.Goals as goal
+
+pub returns-in_err-add_keys_of_rules-clause-fault : goal.returns-in_err-add_keys_of_rules-clause-fault
+returns-in_err-add_keys_of_rules-clause-fault g c =
+    let features = c.args.rules.now.features.now in
+    let p = err_from_is_err_and c.from_residual.result c.from_residual.ensures.1 in
+    rw (p.1, p.2)
+    (told_of_rules (rules_with (g.F.Finder.finds c.args.finder.now) c.args.rules.now) features
+    (rules_of (grammar_view c.args.grammar.now).items)
+    (ap (λ w. map (enabled_rule features) (filter (λ r. is_active features r.attributes) (rules_of w.items)))
+    c.requires.of_grammar) c.requires.enabled c.requires.single c.requires.flat (g.F.Finder.too_deep c.args.finder.now) _
+    c.in_err-add_keys_of_rules.ensures.fault)
+
+pub add_keys_of_calls-requires-clause-calls : goal.add_keys_of_calls-requires-clause-calls
+add_keys_of_calls-requires-clause-calls g c =
+    subst AreCalls (sym c.keys.ensures)
+    (walked_are_calls (rules_with (g.F.Finder.finds c.args.finder.now) c.args.rules.now) c.requires.calls.0 (table_keys c.args.calls.now)
+    [] c.requires.calls.1)
+
+pub returns-in_err-add_keys_of_calls-clause-fault : goal.returns-in_err-add_keys_of_calls-clause-fault
+returns-in_err-add_keys_of_calls-clause-fault g c =
+    let t = rules_with (g.F.Finder.finds c.args.finder.now) c.args.rules.now in
+    let deep = g.F.Finder.too_deep c.args.finder.now in
+    let p = err_from_is_err_and c.from_residual-in_err-add_keys_of_calls.result c.from_residual-in_err-add_keys_of_calls.ensures.1 in
+    rw (p.1, p.2)
+    (told_of_walked t c.requires.calls.0 (table_keys c.args.calls.now) [] c.requires.calls.1 deep _
+    (rw c.keys.ensures at c.in_err-add_keys_of_calls.ensures.fault))
+
+pub returns-clause-keys : goal.returns-clause-keys
+returns-clause-keys g c =
+    let t = rules_with (g.F.Finder.finds c.args.finder.now) c.args.rules.now in
+    let features = c.args.rules.now.features.now in
+    let rs = rules_of (grammar_view c.args.grammar.now).items in
+    let calls = table_keys c.args.calls.now in
+    let mid = table_keys c.add_keys_of_rules.new.keys in
+    let all = table_keys c.add_keys_of_calls.new.keys in
+    let first = subst (λ l. FindsKeys t (plain_calls rs) l mid) c.new-keys.ensures.empty c.in_ok-add_keys_of_rules.ensures.found in
+    let second = subst (λ l. FindsKeys t l mid all) c.keys.ensures c.in_ok-add_keys_of_calls.ensures.found in
+    keys_found t features rs
+    (ap (λ w. map (enabled_rule features) (filter (λ r. is_active features r.attributes) (rules_of w.items)))
+    c.requires.of_grammar) c.requires.enabled c.requires.single c.requires.flat c.requires.calls.0 calls c.requires.calls.1 all
+    (keys_together t (plain_calls rs) calls [] mid all first second)

@@ -1,0 +1,41 @@
+use Rattle.std.proofs.Common.{[], ◌∷◌, map, subst, sym, take}
+use Rattle.std.proofs.lemmas.Result.{err_from_is_err_and}
+use Rattle.lalrpop_grammar_rules.specs.RuleTable.{rules_with}
+use Rattle.lalrpop_grammar_closed.specs.Views.{closed_view}
+use Rattle.lalrpop_norm_key_table.specs.Tables.{table_keys}
+use Rattle.lalrpop_norm_key_table.proofs.TableLemmas.{take_next}
+use Rattle.lalrpop_norm_keys.specs.FoundCalls.{FindsCalls}
+use Rattle.lalrpop_norm_keys.proofs.FoundLemmas.{found_together, item_among, told_wider}
+use Rattle.lalrpop_norm_keys.proofs.rounds.add_round.Goals as goal
+
+pub add_calls_of_call-requires-clause-call : goal.add_calls_of_call-requires-clause-call
+add_calls_of_call-requires-clause-call g c = λ y i k.
+    c.requires.next y
+    (item_among closed_view c.args.next.now c.loop-call.call-index c.call-item.result y c.loop-call-test.true c.call-item.is i) k
+
+pub returns-in_err-add_calls_of_call-clause-fault : goal.returns-in_err-add_calls_of_call-clause-fault
+returns-in_err-add_calls_of_call-clause-fault g c =
+    let t = rules_with (g.F.Finder.finds c.args.finder.now) c.args.rules.now in
+    let next = c.args.next.now in
+    let x = c.call-item.result in
+    let p = err_from_is_err_and c.from_residual.result c.from_residual.ensures.1 in
+    rw (p.1, p.2)
+    (told_wider t (g.F.Finder.too_deep c.args.finder.now) (closed_view x ∷ []) (map closed_view next)
+    (λ y i. item_among closed_view next c.loop-call.call-index x y c.loop-call-test.true c.call-item.is i) _
+    c.in_err-add_calls_of_call.ensures.fault)
+
+pub loop-call-preserved : goal.loop-call-preserved
+loop-call-preserved g c =
+    let t = rules_with (g.F.Finder.finds c.args.finder.now) c.args.rules.now in
+    let next = c.args.next.now in
+    let i = c.loop-call.call-index in
+    let x = c.call-item.result in
+    let old = table_keys c.args.calls.now in
+    let mid = table_keys c.loop-call.calls in
+    let new = table_keys c.add_calls_of_call.new.calls in
+    record {
+      index = c.in_ok-add_calls_of_call.ensures.index;
+      found = subst (λ ys. FindsCalls t ys old new) (sym (take_next closed_view next i x c.loop-call-test.true c.call-item.is))
+          (found_together t (map closed_view (take i next)) (closed_view x ∷ []) old mid new c.loop-call.invariant.found
+          c.in_ok-add_calls_of_call.ensures.found);
+    }

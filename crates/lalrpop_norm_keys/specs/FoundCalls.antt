@@ -1,0 +1,56 @@
+-- Calls that are found in rules and in calls, and put behind those that are known.
+use Rattle.std.specs.Prelude.{ℕ, ◌≡◌, ◌⊎◌, Bool, List, [], ◌∷◌, ◌++◌, None}
+use Rattle.lalrpop_grammar_symbols.specs.Symbols.{Text, Closed, Closeds}
+use Rattle.lalrpop_grammar.specs.WrittenGrammar.{Rule}
+use Rattle.lalrpop_grammar_language.specs.Among.{Among}
+use Rattle.lalrpop_grammar_language.specs.Enabled.{EnabledGrammar}
+use Rattle.lalrpop_grammar_language.specs.Expansion.{Nonterminal, IsRoot}
+use Rattle.lalrpop_norm_expansion.specs.Depth.{CallOccursIn, HasCallChain, IsTooDeep}
+use Rattle.lalrpop_norm_expansion.specs.Rounds.{AreCallsToDepth}
+use Rattle.lalrpop_norm_pass_laws.specs.KeyTables.{IsNoCall}
+use Rattle.lalrpop_grammar_repr.specs.declared.session.NormFault.{NormFault}
+use Rattle.lalrpop_grammar_repr.specs.declared.session.NormFault.TheVariants as faults
+use Rattle.lalrpop_grammar_closed.specs.Views.{closed_view}
+use Rattle.lalrpop_norm_key_table.specs.Tables.{IsKeyIndex, table_keys}
+use Rattle.lalrpop_norm_keys.specs.Instances.{TellsOfCall}
+use Rattle.lalrpop_norm_keys.specs.declared.rounds.FoundCalls.{FoundCalls}
+use Rattle.lalrpop_norm_keys.specs.declared.rounds.FoundCalls.TheVariants as found
+
+-- Behind the known calls stand those that occur in these symbols and weren't known, and no others.
+pub record FindsCalls (g : EnabledGrammar) (ys known all : List Closed) : Type 0 where
+  pub found : List Closed
+  pub all_is : all ≡ known ++ found
+  pub occurs : (x : Closed) → Among found x → (y : Closed) × Among ys y × CallOccursIn g y x
+  pub fresh : (x : Closed) → Among found x → Among known x → ⊥
+  pub complete : (y x : Closed) → Among ys y → CallOccursIn g y x → Among all x
+
+-- the rules without parameters, as calls
+abbrev pub plain_call_of : Rule → List Text → List Closed
+plain_call_of r [] = Closed.call r.name Closeds.none None ∷ []
+plain_call_of r (p ∷ ps) = []
+
+abbrev pub plain_calls : List Rule → List Closed
+plain_calls [] = []
+plain_calls (r ∷ rs) = plain_call_of r r.parameters ++ plain_calls rs
+
+-- each of the symbols is a call
+abbrev pub AreCalls : List Closed → Type 0
+AreCalls ys = (y : Closed) → Among ys y → IsNoCall y → ⊥
+
+-- something is wrong with a condition of one of the called rules, or memory ran out
+abbrev pub TellsOfOneCall : EnabledGrammar → (Text → Bool) → List Closed → NormFault → Type 0
+TellsOfOneCall g deep ys faults.Memory = Unit {0}
+TellsOfOneCall g deep ys fault =
+    (n : Text) × (args : Closeds) × Among ys (Closed.call n args None) × TellsOfCall g deep n args fault
+
+-- the calls of the grammar, each once, or one that is too deep
+abbrev pub HasFoundCalls : EnabledGrammar → ℕ → FoundCalls → Type 0
+HasFoundCalls g limit (found.All calls) = IsKeyIndex calls × AreCallsToDepth g limit (table_keys calls) []
+HasFoundCalls g limit (found.TooDeep x) = IsTooDeep g limit (closed_view x)
+
+-- a condition of a call that is made, or of a rule, can't be asked; or memory ran out
+abbrev pub TellsOfMadeCall : EnabledGrammar → (Text → Bool) → NormFault → Type 0
+TellsOfMadeCall g deep faults.Memory = Unit {0}
+TellsOfMadeCall g deep fault =
+    (n : Text) × (args : Closeds) × (IsRoot g (Nonterminal.closed (Closed.call n args None))
+    ⊎ ((k : ℕ) × HasCallChain g k (Closed.call n args None))) × TellsOfCall g deep n args fault

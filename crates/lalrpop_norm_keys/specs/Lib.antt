@@ -1,0 +1,6 @@
+pub mod MacroFaults
+pub mod Instances
+pub mod FoundCalls
+pub mod FoundKeys
+pub mod Arity
+pub mod TableLaws

@@ -1,0 +1,190 @@
+//! The keys of a grammar: its rules that are no macros, the calls of macros that it makes, and the repeats, groups and lookarounds
+//! that stand in these.
+
+ghost use Rattle.std.specs.Prelude.{ℕ, ◌≡◌, [], ◌∷◌, IfErr, IfOk, OnOk, None, map, true};
+ghost use Rattle.lalrpop_grammar_symbols.specs.Symbols.{Closed, Closeds};
+ghost use Rattle.lalrpop_grammar.specs.Views.{grammar_view, nonterminal_view};
+ghost use Rattle.lalrpop_grammar.specs.WrittenGrammar.{Rule, rules_of};
+ghost use Rattle.lalrpop_grammar_language.specs.Among.{Among};
+ghost use Rattle.lalrpop_grammar_language.specs.Enabled.{EnabledRule, IsRule, is_active};
+ghost use Rattle.lalrpop_grammar_rules.specs.RuleTable.{IsTable, rules_view, rules_with};
+ghost use Rattle.lalrpop_grammar_closed.specs.Views.{closed_view, closeds};
+ghost use Rattle.lalrpop_norm_expansion.specs.Premises.{HasNoLevels};
+ghost use Rattle.lalrpop_norm_expansion.specs.Rounds.{AreCallsToDepth};
+ghost use Rattle.lalrpop_norm_pass_laws.specs.KeyTables.{IsKeyTable};
+ghost use Rattle.lalrpop_norm_key_table.specs.Tables.{IsKeyIndex, table_keys};
+ghost use Rattle.lalrpop_norm_keys.specs.FoundCalls.{AreCalls, TellsOfMadeCall, TellsOfOneCall, plain_call_of, plain_calls};
+ghost use Rattle.lalrpop_norm_keys.specs.FoundKeys.{AddsStanding, FindsKeys};
+ghost use Rattle.lalrpop_norm_keys.specs.Instances.{TellsOfCall};
+
+use crate::called::unleveled_call;
+use crate::instances::symbols_of;
+use lalrpop_grammar::{Grammar, NonterminalData};
+use lalrpop_grammar_closed::{ClosedSymbol, Finder};
+use lalrpop_grammar_repr::NormFault;
+use lalrpop_grammar_rules::Rules;
+use lalrpop_grammar_symbols::{Atom, List};
+use lalrpop_norm_key_table::{KeyTable, keys_in_symbols};
+use std::alloc::{AllocError, Global};
+
+/// Adds the keys that stand in the call of a rule.
+fn add_standing<F: Finder>(
+    alloc: Global,
+    finder: &F,
+    rules: &Rules<'_>,
+    name: &Atom,
+    args: &[ClosedSymbol],
+    keys: &mut KeyTable,
+) -> Result<(), NormFault>
+    requires table { IsTable rules.now }
+    requires flat { HasNoLevels (rules_view rules.now) }
+    requires index { IsKeyIndex keys.old }
+    ensures index { OnOk result (IsKeyIndex keys.new) }
+    ensures found { OnOk result (AddsStanding (rules_with (F.finds finder.now) rules.now)
+        (Closed.call name.now (closeds (map closed_view args.now)) None) (table_keys keys.old) (table_keys keys.new)) }
+    ensures fault { IfErr result (TellsOfCall (rules_with (F.finds finder.now) rules.now) (F.too_deep finder.now)
+        name.now (closeds (map closed_view args.now))) }
+{
+    let symbols = symbols_of(alloc, finder, rules, name, args)?;
+    let found = keys_in_symbols(alloc, symbols.as_slice())?;
+    keys.add_all(alloc, found.as_slice())?;
+    Ok(())
+}
+
+/// Adds the call and the keys that stand in it. In one at a level nothing stands.
+fn add_keys_of<F: Finder>(
+    alloc: Global,
+    finder: &F,
+    rules: &Rules<'_>,
+    call: &ClosedSymbol,
+    keys: &mut KeyTable,
+) -> Result<(), NormFault>
+    requires table { IsTable rules.now }
+    requires flat { HasNoLevels (rules_view rules.now) }
+    requires call { AreCalls (closed_view call.now ∷ []) }
+    requires index { IsKeyIndex keys.old }
+    ensures index { OnOk result (IsKeyIndex keys.new) }
+    ensures found { OnOk result (FindsKeys (rules_with (F.finds finder.now) rules.now)
+        (closed_view call.now ∷ []) (table_keys keys.old) (table_keys keys.new)) }
+    ensures fault { IfErr result (TellsOfOneCall (rules_with (F.finds finder.now) rules.now) (F.too_deep finder.now)
+        (closed_view call.now ∷ [])) }
+{
+    keys.add(alloc, call)?;
+    let Some(called) = unleveled_call(call) else {
+        return Ok(());
+    };
+    add_standing(alloc, finder, rules, called.name, called.args, keys)
+}
+
+/// The call of a rule without arguments.
+fn plain_call(alloc: Global, name: &Atom) -> Result<ClosedSymbol, AllocError>
+    ensures { IfOk result (λ call. closed_view call ≡ Closed.call name.now Closeds.none None) }
+{
+    Ok(ClosedSymbol::Call(name.try_clone()?, List::new(alloc), None))
+}
+
+/// Adds the rule and the keys that stand in it, where it is no macro.
+fn add_keys_of_rule<F: Finder>(
+    alloc: Global,
+    finder: &F,
+    rules: &Rules<'_>,
+    rule: &NonterminalData,
+    keys: &mut KeyTable,
+) -> Result<(), NormFault>
+    requires table { IsTable rules.now }
+    requires flat { HasNoLevels (rules_view rules.now) }
+    requires index { IsKeyIndex keys.old }
+    ensures index { OnOk result (IsKeyIndex keys.new) }
+    ensures found { OnOk result (FindsKeys (rules_with (F.finds finder.now) rules.now)
+        (plain_call_of (nonterminal_view rule.now) (nonterminal_view rule.now).parameters)
+        (table_keys keys.old) (table_keys keys.new)) }
+    ensures fault { IfErr result (TellsOfOneCall (rules_with (F.finds finder.now) rules.now) (F.too_deep finder.now)
+        (plain_call_of (nonterminal_view rule.now) (nonterminal_view rule.now).parameters)) }
+{
+    match rule.args.as_slice() {
+        [] => {
+            let call = plain_call(alloc, &rule.name.0)?;
+            add_keys_of(alloc, finder, rules, &call, keys)
+        }
+        [_, ..] => Ok(()),
+    }
+}
+
+/// Adds the rules that are no macros, and the keys that stand in them.
+fn add_keys_of_rules<F: Finder>(
+    alloc: Global,
+    finder: &F,
+    rules: &Rules<'_>,
+    grammar: &Grammar,
+    keys: &mut KeyTable,
+) -> Result<(), NormFault>
+    requires table { IsTable rules.now }
+    requires flat { HasNoLevels (rules_view rules.now) }
+    requires index { IsKeyIndex keys.old }
+    ensures index { OnOk result (IsKeyIndex keys.new) }
+    ensures found { OnOk result (FindsKeys (rules_with (F.finds finder.now) rules.now)
+        (plain_calls (rules_of (grammar_view grammar.now).items)) (table_keys keys.old) (table_keys keys.new)) }
+    ensures fault { IfErr result (TellsOfOneCall (rules_with (F.finds finder.now) rules.now) (F.too_deep finder.now)
+        (plain_calls (rules_of (grammar_view grammar.now).items))) }
+{
+    for rule in grammar.rules() {
+        add_keys_of_rule(alloc, finder, rules, rule, keys)?;
+    }
+    Ok(())
+}
+
+/// Adds the calls, and the keys that stand in them.
+fn add_keys_of_calls<F: Finder>(
+    alloc: Global,
+    finder: &F,
+    rules: &Rules<'_>,
+    calls: &[ClosedSymbol],
+    keys: &mut KeyTable,
+) -> Result<(), NormFault>
+    requires table { IsTable rules.now }
+    requires flat { HasNoLevels (rules_view rules.now) }
+    requires calls { AreCalls (map closed_view calls.now) }
+    requires index { IsKeyIndex keys.old }
+    ensures index { OnOk result (IsKeyIndex keys.new) }
+    ensures found { OnOk result (FindsKeys (rules_with (F.finds finder.now) rules.now)
+        (map closed_view calls.now) (table_keys keys.old) (table_keys keys.new)) }
+    ensures fault { IfErr result (TellsOfOneCall (rules_with (F.finds finder.now) rules.now) (F.too_deep finder.now)
+        (map closed_view calls.now)) }
+{
+    for call in calls {
+        add_keys_of(alloc, finder, rules, call, keys)?;
+    }
+    Ok(())
+}
+
+/// The keys of the grammar, each once: its rules that are no macros, these calls, and what stands in both. The calls are all that
+/// the grammar makes.
+///
+/// # Errors
+///
+/// A condition can't be asked, or memory runs out.
+pub fn find_keys<F: Finder>(
+    alloc: Global,
+    finder: &F,
+    grammar: &Grammar,
+    rules: &Rules<'_>,
+    calls: &KeyTable,
+) -> Result<KeyTable, NormFault>
+    requires table { IsTable rules.now }
+    requires of_grammar { grammar_view rules.now.grammar.now ≡ grammar_view grammar.now }
+    requires flat { HasNoLevels (rules_view rules.now) }
+    requires single { (r : EnabledRule) → Among (rules_view rules.now).rules r → IsRule (rules_view rules.now) r.name r }
+    requires enabled { (r : Rule) → Among (rules_of (grammar_view grammar.now).items) r
+        → is_active rules.now.features.now r.attributes ≡ true }
+    requires calls { (depth : ℕ)
+        × AreCallsToDepth (rules_with (F.finds finder.now) rules.now) depth (table_keys calls.now) [] }
+    ensures index { IfOk result IsKeyIndex }
+    ensures keys { IfOk result (λ keys. IsKeyTable (rules_with (F.finds finder.now) rules.now)
+        (table_keys calls.now) (table_keys keys)) }
+    ensures fault { IfErr result (TellsOfMadeCall (rules_with (F.finds finder.now) rules.now) (F.too_deep finder.now)) }
+{
+    let mut keys = KeyTable::new(alloc);
+    add_keys_of_rules(alloc, finder, rules, grammar, &mut keys)?;
+    add_keys_of_calls(alloc, finder, rules, calls.keys(), &mut keys)?;
+    Ok(keys)
+}

@@ -1,0 +1,16 @@
+//! The search for the calls of macros that a grammar makes, by least depth, and for its keys, that is for the symbols that have a
+//! rule of their own once macros are expanded.
+#![tactic(auto)]
+
+mod arity;
+mod called;
+mod conditions;
+mod instances;
+mod keys;
+mod laws;
+mod rounds;
+
+pub use arity::check_arity;
+pub use keys::find_keys;
+pub use laws::tables_are_between;
+pub use rounds::{FoundCalls, find_calls};

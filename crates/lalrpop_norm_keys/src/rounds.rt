@@ -1,0 +1,218 @@
+//! The calls of macros that a grammar makes, found by least depth, round by round.
+
+ghost use Rattle.std.specs.Prelude.{◌≡◌, [], ◌∷◌, IfErr, IfOk, OnOk, None, drop, map, true};
+ghost use Rattle.lalrpop_grammar_symbols.specs.Symbols.{Closed};
+ghost use Rattle.lalrpop_grammar.specs.Views.{grammar_view, nonterminal_view};
+ghost use Rattle.lalrpop_grammar.specs.WrittenGrammar.{rules_of};
+ghost use Rattle.lalrpop_grammar.specs.WrittenGrammar.{Rule};
+ghost use Rattle.lalrpop_grammar_language.specs.Among.{Among};
+ghost use Rattle.lalrpop_grammar_language.specs.Enabled.{EnabledRule, IsRule, is_active};
+ghost use Rattle.lalrpop_grammar_rules.specs.RuleTable.{IsTable, rules_view, rules_with};
+ghost use Rattle.lalrpop_grammar_closed.specs.Views.{closed_view, closeds};
+ghost use Rattle.lalrpop_norm_expansion.specs.Premises.{HasNoLevels};
+ghost use Rattle.lalrpop_norm_key_table.specs.Tables.{IsKeyIndex, table_keys};
+ghost use Rattle.lalrpop_norm_keys.specs.FoundCalls.{AreCalls, FindsCalls, HasFoundCalls, TellsOfMadeCall, TellsOfOneCall, plain_call_of};
+ghost use Rattle.lalrpop_norm_keys.specs.FoundCalls.{plain_calls};
+ghost use Rattle.lalrpop_norm_keys.specs.Instances.{TellsOfCall};
+
+use crate::called::unleveled_call;
+use crate::instances::symbols_of;
+use lalrpop_grammar::{Grammar, NonterminalData};
+use lalrpop_grammar_closed::{ClosedSymbol, Finder};
+use lalrpop_grammar_repr::NormFault;
+use lalrpop_grammar_rules::Rules;
+use lalrpop_grammar_symbols::{Atom, List};
+use lalrpop_norm_key_table::{KeyTable, calls_in_symbols};
+use std::alloc::{AllocError, Global};
+
+/// What the search for calls finds.
+#[derive(Drop)]
+pub enum FoundCalls {
+    /// All calls, none of them deeper than the limit.
+    All(KeyTable),
+    /// A call that is deeper than the limit.
+    TooDeep(ClosedSymbol),
+}
+
+/// Puts the calls that occur in the call of a rule behind the known ones.
+fn add_calls_of<F: Finder>(
+    alloc: Global,
+    finder: &F,
+    rules: &Rules<'_>,
+    name: &Atom,
+    args: &[ClosedSymbol],
+    calls: &mut KeyTable,
+) -> Result<(), NormFault>
+    requires table { IsTable rules.now }
+    requires flat { HasNoLevels (rules_view rules.now) }
+    requires index { IsKeyIndex calls.old }
+    ensures index { OnOk result (IsKeyIndex calls.new) }
+    ensures found { OnOk result (FindsCalls (rules_with (F.finds finder.now) rules.now)
+        (Closed.call name.now (closeds (map closed_view args.now)) None ∷ []) (table_keys calls.old) (table_keys calls.new)) }
+    ensures fault { IfErr result (TellsOfCall (rules_with (F.finds finder.now) rules.now) (F.too_deep finder.now)
+        name.now (closeds (map closed_view args.now))) }
+{
+    let symbols = symbols_of(alloc, finder, rules, name, args)?;
+    let found = calls_in_symbols(alloc, symbols.as_slice())?;
+    calls.add_all(alloc, found.as_slice())?;
+    Ok(())
+}
+
+/// Puts the calls that occur in the rule behind the known ones, where it is no macro.
+fn add_calls_of_rule<F: Finder>(
+    alloc: Global,
+    finder: &F,
+    rules: &Rules<'_>,
+    rule: &NonterminalData,
+    calls: &mut KeyTable,
+) -> Result<(), NormFault>
+    requires table { IsTable rules.now }
+    requires flat { HasNoLevels (rules_view rules.now) }
+    requires index { IsKeyIndex calls.old }
+    ensures index { OnOk result (IsKeyIndex calls.new) }
+    ensures found { OnOk result (FindsCalls (rules_with (F.finds finder.now) rules.now)
+        (plain_call_of (nonterminal_view rule.now) (nonterminal_view rule.now).parameters)
+        (table_keys calls.old) (table_keys calls.new)) }
+    ensures fault { IfErr result (TellsOfOneCall (rules_with (F.finds finder.now) rules.now) (F.too_deep finder.now)
+        (plain_call_of (nonterminal_view rule.now) (nonterminal_view rule.now).parameters)) }
+{
+    match rule.args.as_slice() {
+        [] => add_calls_of(alloc, finder, rules, &rule.name.0, &[], calls),
+        [_, ..] => Ok(()),
+    }
+}
+
+/// Puts the calls that occur in the rules that are no macros behind the known ones.
+fn add_calls_of_rules<F: Finder>(
+    alloc: Global,
+    finder: &F,
+    rules: &Rules<'_>,
+    grammar: &Grammar,
+    calls: &mut KeyTable,
+) -> Result<(), NormFault>
+    requires table { IsTable rules.now }
+    requires flat { HasNoLevels (rules_view rules.now) }
+    requires index { IsKeyIndex calls.old }
+    ensures index { OnOk result (IsKeyIndex calls.new) }
+    ensures found { OnOk result (FindsCalls (rules_with (F.finds finder.now) rules.now)
+        (plain_calls (rules_of (grammar_view grammar.now).items)) (table_keys calls.old) (table_keys calls.new)) }
+    ensures fault { IfErr result (TellsOfOneCall (rules_with (F.finds finder.now) rules.now) (F.too_deep finder.now)
+        (plain_calls (rules_of (grammar_view grammar.now).items))) }
+{
+    for rule in grammar.rules() {
+        add_calls_of_rule(alloc, finder, rules, rule, calls)?;
+    }
+    Ok(())
+}
+
+/// Puts the calls that occur in the call behind the known ones. In one at a level nothing occurs.
+fn add_calls_of_call<F: Finder>(
+    alloc: Global,
+    finder: &F,
+    rules: &Rules<'_>,
+    call: &ClosedSymbol,
+    calls: &mut KeyTable,
+) -> Result<(), NormFault>
+    requires table { IsTable rules.now }
+    requires flat { HasNoLevels (rules_view rules.now) }
+    requires call { AreCalls (closed_view call.now ∷ []) }
+    requires index { IsKeyIndex calls.old }
+    ensures index { OnOk result (IsKeyIndex calls.new) }
+    ensures found { OnOk result (FindsCalls (rules_with (F.finds finder.now) rules.now)
+        (closed_view call.now ∷ []) (table_keys calls.old) (table_keys calls.new)) }
+    ensures fault { IfErr result (TellsOfOneCall (rules_with (F.finds finder.now) rules.now) (F.too_deep finder.now)
+        (closed_view call.now ∷ [])) }
+{
+    let Some(called) = unleveled_call(call) else {
+        return Ok(());
+    };
+    add_calls_of(alloc, finder, rules, called.name, called.args, calls)
+}
+
+/// One round: puts the calls that occur in the next ones behind the known ones.
+fn add_round<F: Finder>(
+    alloc: Global,
+    finder: &F,
+    rules: &Rules<'_>,
+    next: &[ClosedSymbol],
+    calls: &mut KeyTable,
+) -> Result<(), NormFault>
+    requires table { IsTable rules.now }
+    requires flat { HasNoLevels (rules_view rules.now) }
+    requires next { AreCalls (map closed_view next.now) }
+    requires index { IsKeyIndex calls.old }
+    ensures index { OnOk result (IsKeyIndex calls.new) }
+    ensures found { OnOk result (FindsCalls (rules_with (F.finds finder.now) rules.now)
+        (map closed_view next.now) (table_keys calls.old) (table_keys calls.new)) }
+    ensures fault { IfErr result (TellsOfOneCall (rules_with (F.finds finder.now) rules.now) (F.too_deep finder.now)
+        (map closed_view next.now)) }
+{
+    for call in next {
+        add_calls_of_call(alloc, finder, rules, call, calls)?;
+    }
+    Ok(())
+}
+
+/// Copies of the symbols.
+fn copies(alloc: Global, symbols: &[ClosedSymbol]) -> Result<List<ClosedSymbol>, AllocError>
+    ensures { IfOk result (λ copies. copies ≡ symbols.now) }
+{
+    let mut copies = List::new(alloc);
+    for symbol in symbols {
+        copies.push(symbol.try_clone(alloc)?)?;
+    }
+    Ok(copies)
+}
+
+/// Copies of the symbols from that place on.
+fn copies_from(
+    alloc: Global,
+    symbols: &[ClosedSymbol],
+    from: usize,
+) -> Result<List<ClosedSymbol>, AllocError>
+    ensures { IfOk result (λ copies. copies ≡ drop from symbols.now) }
+{
+    if symbols.len() < from {
+        return Ok(List::new(alloc));
+    }
+    copies(alloc, &symbols[from..])
+}
+
+/// The calls that the grammar makes, by least depth: round by round those that occur in what was found before. They are all,
+/// unless one is deeper than the limit.
+///
+/// # Errors
+///
+/// A condition is asked of something else than a quoted literal, or its pattern isn't read, or the search for a pattern is refused,
+/// or memory runs out.
+pub fn find_calls<F: Finder>(
+    alloc: Global,
+    finder: &F,
+    grammar: &Grammar,
+    rules: &Rules<'_>,
+    limit: u16,
+) -> Result<FoundCalls, NormFault>
+    requires table { IsTable rules.now }
+    requires of_grammar { grammar_view rules.now.grammar.now ≡ grammar_view grammar.now }
+    requires flat { HasNoLevels (rules_view rules.now) }
+    requires single { (r : EnabledRule) → Among (rules_view rules.now).rules r → IsRule (rules_view rules.now) r.name r }
+    requires enabled { (r : Rule) → Among (rules_of (grammar_view grammar.now).items) r
+        → is_active rules.now.features.now r.attributes ≡ true }
+    ensures found { IfOk result (HasFoundCalls (rules_with (F.finds finder.now) rules.now) limit) }
+    ensures fault { IfErr result (TellsOfMadeCall (rules_with (F.finds finder.now) rules.now) (F.too_deep finder.now)) }
+{
+    let mut calls = KeyTable::new(alloc);
+    add_calls_of_rules(alloc, finder, rules, grammar, &mut calls)?;
+    let mut next = copies_from(alloc, calls.keys(), 0)?;
+    let mut round = 0;
+    while round < limit {
+        let known = calls.keys().len();
+        add_round(alloc, finder, rules, next.as_slice(), &mut calls)?;
+        next = copies_from(alloc, calls.keys(), known)?;
+        round += 1;
+    }
+    match next.as_slice().split_first() {
+        None => Ok(FoundCalls::All(calls)),
+        Some((call, _)) => Ok(FoundCalls::TooDeep(call.try_clone(alloc)?)),
+    }
+}
