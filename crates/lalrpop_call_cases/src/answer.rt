@@ -3,7 +3,7 @@
 use crate::automata::{dfa_answer, longest_front, matched_words, pieces};
 use crate::case::Call;
 use crate::grammars::{scan_answer, symbol_text, terminal_text, tree_text, written_grammar};
-use crate::passes::{first_fault, token_fault};
+use crate::passes::{first_fault, leveled_rules, token_fault};
 use crate::pattern::{regex_fault, regex_tree};
 use anyhow::Result;
 use serde_json::Value;
@@ -25,5 +25,6 @@ pub(crate) fn answer_of(alloc: Global, call: &Call) -> Result<Value> {
         Call::PrintTree(tree) => tree_text(alloc, tree),
         Call::FirstFault(written) => first_fault(alloc, written),
         Call::TokenFault(written) => token_fault(alloc, written),
+        Call::LeveledRules(written) => leveled_rules(alloc, written),
     }
 }

@@ -63,6 +63,9 @@ pub(crate) enum Call {
     FirstFault(Written),
     /// The same up to the token check, of a grammar without levels and macros.
     TokenFault(Written),
+    /// The rules of a grammar in which each level has a rule of its own, each by its name, whether it is public, and the
+    /// texts of its symbols, alternative by alternative.
+    LeveledRules(Written),
 }
 
 /// A written grammar for the passes.

@@ -3,14 +3,14 @@
 use crate::case::Written;
 use crate::grammars::grammar_of;
 use anyhow::{Result, bail};
-use lalrpop_grammar::{Atom, Grammar};
+use lalrpop_grammar::{Atom, Grammar, NonterminalData, Symbol};
 use lalrpop_grammar_repr::{NormFault, NormResult, Session};
 use lalrpop_norm_checks::prevalidate::validate;
 use lalrpop_norm_entries::{LiteralPlaces, token_check};
-use lalrpop_norm_level_faults::level_fault;
+use lalrpop_norm_levels::{expand_precedence, level_fault};
 use lalrpop_norm_names::resolve;
 use lalrpop_norm_resolve::remove_disabled_decls;
-use serde_json::Value;
+use serde_json::{Value, json};
 use std::alloc::{AllocError, Global};
 
 /// How deep macros may stand in macros, where no case says it.
@@ -32,6 +32,17 @@ pub(crate) fn token_fault(alloc: Global, written: &Written) -> Result<Value> {
     let session = session_of(alloc, &written.features)?;
     match tokenized(alloc, &session, grammar) {
         Ok(()) => Ok(Value::Null),
+        Err(fault) => fault_value(alloc, fault),
+    }
+}
+
+/// The rules of the grammar in which each level has a rule of its own, each by its name and the texts of its symbols,
+/// alternative by alternative; or the fault.
+pub(crate) fn leveled_rules(alloc: Global, written: &Written) -> Result<Value> {
+    let grammar = prefixed(alloc, written)?;
+    let session = session_of(alloc, &written.features)?;
+    match leveled(alloc, &session, grammar) {
+        Ok(grammar) => Ok(rules_value(alloc, &grammar)?),
         Err(fault) => fault_value(alloc, fault),
     }
 }
@@ -80,10 +91,43 @@ fn checked(alloc: Global, session: &Session, grammar: Grammar) -> NormResult<Gra
     }
 }
 
+/// The grammar in which each level has a rule of its own, where the passes up to that take it.
+fn leveled(alloc: Global, session: &Session, grammar: Grammar) -> NormResult<Grammar> {
+    let resolved = checked(alloc, session, grammar)?;
+    expand_precedence(alloc, resolved)
+}
+
 /// Whether the passes up to the token check take the grammar.
 fn tokenized(alloc: Global, session: &Session, grammar: Grammar) -> NormResult<()> {
     let resolved = checked(alloc, session, grammar)?;
     let places = LiteralPlaces::new(alloc, &resolved)?;
     token_check::validate(alloc, resolved, &places)?;
     Ok(())
+}
+
+/// The rules, each by its name and its alternatives.
+fn rules_value(alloc: Global, grammar: &Grammar) -> Result<Value, AllocError> {
+    let mut rules = Vec::new(alloc);
+    for rule in grammar.rules() {
+        rules.push(rule_value(alloc, rule)?)?;
+    }
+    Ok(Value::Array(rules))
+}
+
+fn rule_value(alloc: Global, rule: &NonterminalData) -> Result<Value, AllocError> {
+    let mut alternatives = Vec::new(alloc);
+    for alternative in rule.alternatives.as_slice() {
+        alternatives.push(symbols_value(alloc, alternative.expr.as_slice())?)?;
+    }
+    let name = rule.name.to_string(alloc)?;
+    Ok(json!(in alloc; [name, rule.visibility.is_pub(), alternatives])?)
+}
+
+/// The texts of the symbols.
+fn symbols_value(alloc: Global, symbols: &[Symbol]) -> Result<Value, AllocError> {
+    let mut texts = Vec::new(alloc);
+    for symbol in symbols {
+        texts.push(Value::from(symbol.canonical_form(alloc)?))?;
+    }
+    Ok(Value::Array(texts))
 }
