@@ -1,0 +1,4 @@
+pub mod ItemLemmas
+pub mod NameLemmas
+pub mod SymbolLemmas
+pub mod ViewLemmas
