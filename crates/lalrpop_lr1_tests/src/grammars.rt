@@ -1,0 +1,43 @@
+//! Grammars from lines, and their parts by name.
+
+use lalrpop_grammar_repr::{Grammar, Production, Symbol};
+use lalrpop_grammar_symbols::{Atom, NonterminalString, TerminalString};
+use lalrpop_lr1_lines::{LinesError, read_lines};
+use lalrpop_sets::Token;
+use std::alloc::{AllocError, Global};
+
+/// The grammar of the lines.
+pub(crate) fn grammar_of(alloc: Global, lines: &str) -> Result<Grammar, LinesError> {
+    read_lines(alloc, lines)
+}
+
+/// The nonterminal of that name.
+pub(crate) fn name_of(alloc: Global, name: &str) -> Result<NonterminalString, AllocError> {
+    Ok(NonterminalString(Atom::new(alloc, name)?))
+}
+
+/// The token of a quoted terminal.
+pub(crate) fn token_of(alloc: Global, text: &str) -> Result<Token, AllocError> {
+    Ok(Token::Terminal(terminal_of(alloc, text)?))
+}
+
+/// The quoted terminal.
+pub(crate) fn terminal_of(alloc: Global, text: &str) -> Result<TerminalString, AllocError> {
+    Ok(TerminalString::quoted(Atom::new(alloc, text)?))
+}
+
+/// The symbol of a quoted terminal.
+pub(crate) fn terminal_symbol(alloc: Global, text: &str) -> Result<Symbol, AllocError> {
+    Ok(Symbol::Terminal(terminal_of(alloc, text)?))
+}
+
+/// The production of the nonterminal at that place.
+pub(crate) fn production_at<'g>(
+    alloc: Global,
+    grammar: &'g Grammar,
+    name: &str,
+    place: usize,
+) -> Result<Option<&'g Production>, AllocError> {
+    let name = name_of(alloc, name)?;
+    Ok(grammar.productions_for(&name).get(place))
+}
