@@ -1,0 +1,3 @@
+pub mod KeyNames
+pub mod OrderedNames
+pub mod TextTimes
