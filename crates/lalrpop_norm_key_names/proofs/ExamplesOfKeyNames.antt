@@ -3,9 +3,9 @@ use Prim.Native.String.{String}
 use Rattle.std.specs.Fmt.{digits}
 use Rattle.std.specs.Str.{bytes_eq}
 use Rattle.std.proofs.Common.{◌≡◌, ◌≢◌, ℕ, suc, ◌+◌, ◌≤◌, List, [], ◌∷◌, length, refl, ap, sym}
-use Rattle.std.proofs.Common.{◌∙◌, subst, cond}
+use Rattle.std.proofs.Common.{◌∙◌, ◌++◌, ◌<◌, zero, subst, cond}
 use Rattle.std.proofs.Common.{Bool, true, false, inl, inr, ◌⊎◌, arith}
-use Rattle.std.specs.Prelude.{Option, Some, None, codes, filter, map}
+use Rattle.std.specs.Prelude.{◌==◌, Option, Some, None, codes, filter, map}
 use Rattle.std.proofs.lemmas.Bool.{true≢false}
 use Rattle.lalrpop_grammar_symbols.specs.Symbols.{Text, Closed, Closeds, Op, Terminal}
 use Rattle.lalrpop_grammar_symbols.specs.Texts.{escape_byte}
@@ -15,7 +15,7 @@ use Rattle.lalrpop_grammar_language.specs.Enabled.{EnabledGrammar, EnabledRule, 
 use Rattle.lalrpop_grammar_language.proofs.WrittenTreeLemmas.{alt, finds, grammar, lit, texts}
 use Rattle.lalrpop_grammar_language.proofs.WrittenTreeLemmas.{here}
 use Rattle.lalrpop_norm_expansion.specs.Between.{grammar_between, with_origins}
-use Rattle.lalrpop_norm_expansion.specs.Keys.{before_tilde, flat_key_text}
+use Rattle.lalrpop_norm_expansion.specs.Keys.{before_tilde, flat_key_text, with_number}
 use Rattle.lalrpop_norm_expansion.proofs.ExpansionListLemmas.{rule_there}
 use Rattle.lalrpop_norm_pass_laws.specs.KeyTables.{IsPlainKey}
 use Rattle.lalrpop_norm_level_laws.specs.LevelNames.{times_taken}
@@ -26,6 +26,7 @@ use Rattle.lalrpop_norm_key_names.specs.KeyNames.{AreKeyNames, HasNumberBelow, H
 use Rattle.lalrpop_norm_key_names.specs.KeyNames.{times_by_rules}
 use Rattle.lalrpop_norm_key_names.specs.OrderedNames.{key_names_of, rule_alone, rule_text}
 use Rattle.lalrpop_norm_key_names.specs.OrderedNames.{taken_behind_keys, taken_unless}
+use Rattle.lalrpop_norm_key_names.specs.NameLaws.{LeavesPrefix}
 use Rattle.lalrpop_norm_key_names.proofs.NamingLemmas.{names_hold}
 
 -- a rule with these parameters
@@ -300,3 +301,43 @@ gap_refused number none w = go 2 w refl
     go _ IsNextAmongKeys.first e = omega (arith, e)
     go _ (IsNextAmongKeys.after_key {k = k} y i f h) e = none y (h ∙ (let g : k ≡ 1 = omega (arith, e) in g))
     go _ (IsNextAmongKeys.after_macro r i ps f) e = omega (arith, e)
+
+-- what names of keys rest on, and what is refused
+
+-- a rule E2~3 beside no other of the text E2
+number_refused : HasNumberBelow (between (plain "E2~3" ∷ [])) (enabled "E2~3") → ⊥
+number_refused w = go w.number w.below w.is
+  where
+    go : (k : ℕ) → k < 1 → codes "E2~3" ≡ with_number (codes "E2") k → ⊥
+    go zero lt e = cc
+    go (suc k) lt e = omega (arith, lt)
+
+-- E2~2 beside a macro E2
+beside_macro : HasNumberBelow (between (with_parameters "E2" ("T" ∷ []) ∷ plain "E2~2" ∷ [])) (enabled "E2~2")
+unfolding digits
+beside_macro = record { number = 1; is = refl; below = omega arith }
+
+-- the prefix begins no name of `two`, but it does that of a rule `__x`
+begins_with_line : Text → Bool
+begins_with_line [] = false
+begins_with_line (c ∷ cs) = c == 95
+
+prefix_left : LeavesPrefix (codes "__") two
+unfolding begins_with_line
+prefix_left = record {
+  underscores = 2;
+  some = omega arith;
+  prefix_is = refl;
+  rules = λ r t i e. none r t i e;
+  bares = λ n t i e. i;
+}
+  where
+    none : (r : EnabledRule) (t : Text) → Among two.rules r → r.name ≡ codes "__" ++ t → ⊥
+    none r t (inl i) e = true≢false (sym (ap begins_with_line (ap (λ q. q.name) i ∙ e)))
+    none r t (inr (inl i)) e = true≢false (sym (ap begins_with_line (ap (λ q. q.name) i ∙ e)))
+    none r t (inr (inr (inl i))) e = true≢false (sym (ap begins_with_line (ap (λ q. q.name) i ∙ e)))
+    none r t (inr (inr (inr (inl i)))) e = true≢false (sym (ap begins_with_line (ap (λ q. q.name) i ∙ e)))
+    none r t (inr (inr (inr (inr i)))) e = i
+
+prefix_refused : LeavesPrefix (codes "__") (between (plain "__x" ∷ [])) → ⊥
+prefix_refused p = p.rules (enabled "__x") (codes "x") (inl refl) refl

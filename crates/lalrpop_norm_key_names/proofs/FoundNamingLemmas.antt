@@ -33,7 +33,7 @@ argued_call key n args ys level is same some =
     go (x ∷ xs) lt = refl
 
 -- the rules of a grammar between passes take the texts of the written ones
-texts_between : (rs : List Rule) → rule_texts rs ≡ map text_of (map rule_between rs)
+pub texts_between : (rs : List Rule) → rule_texts rs ≡ map text_of (map rule_between rs)
 texts_between [] = refl
 texts_between (r ∷ rs) = ap (λ l. rule_text r.parameters r.name ∷ l) (texts_between rs)
 

@@ -71,7 +71,7 @@ decimal_clear n = numbered_stays [] n refl
 number_end : (t : Text) (k : ℕ) → ends_in_digit (with_number t (suc k)) ≡ true
 number_end t k = numbered_end (t ++ codes "~") (k + 2) 0
 
-spread : (t : Text) (k : ℕ) → with_number t (suc k) ≡ t ++ (126 ∷ decimal (k + 2))
+pub spread : (t : Text) (k : ℕ) → with_number t (suc k) ≡ t ++ (126 ∷ decimal (k + 2))
 spread t k = append_assoc t (codes "~") (decimal (k + 2))
 
 both_numbered : (t u : Text) (k m : ℕ) → with_number t (suc k) ≡ with_number u (suc m) → t ≡ u

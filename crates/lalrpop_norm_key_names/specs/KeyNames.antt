@@ -60,8 +60,8 @@ pub record IsLevelName (n : Text) : Type 0 where
   pub plain : before_tilde base ≡ base
   pub is : n ≡ with_number (numbered_text base level) number
 
--- No two rules share a name. What is called by one text without parameters has numbers that leave none out, and macros have
--- names without a tilde, or those of levels. Grammars are so once levels are expanded.
+-- No two rules share a name. The numbers of rules without parameters leave none out, since each is below how often its text is
+-- taken. Macros have names without a tilde, or those of levels. Grammars are so once levels are expanded.
 pub record IsNameable (g : EnabledGrammar) : Type 0 where
   pub rules : AreDifferent (map (λ r. r.name) g.rules)
   pub numbers : (r : EnabledRule) → Among g.rules r → r.parameters ≡ [] → HasNumberBelow g r

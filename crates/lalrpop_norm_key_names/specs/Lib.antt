@@ -1,3 +1,4 @@
 pub mod KeyNames
+pub mod NameLaws
 pub mod OrderedNames
 pub mod TextTimes

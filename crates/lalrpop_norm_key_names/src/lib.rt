@@ -4,7 +4,9 @@
 //! Where the text is taken, by a rule, a macro or a key before it, a number follows behind a tilde: `E1<"a">~2`.
 #![tactic(auto)]
 
+mod laws;
 mod names;
 mod taken;
 
+pub use laws::{grammars_are_nameable, key_names_name_expansions};
 pub use names::key_names;
