@@ -2,13 +2,17 @@
 
 use lalrpop_grammar_repr::{Grammar, Production, Symbol};
 use lalrpop_grammar_symbols::{Atom, NonterminalString, TerminalString};
-use lalrpop_lr1_lines::{LinesError, read_lines};
+use lalrpop_lr1_lines::read_lines;
 use lalrpop_sets::Token;
 use std::alloc::{AllocError, Global};
+use std::test::Fail;
 
 /// The grammar of the lines.
-pub(crate) fn grammar_of(alloc: Global, lines: &str) -> Result<Grammar, LinesError> {
-    read_lines(alloc, lines)
+pub(crate) fn grammar_of(alloc: Global, lines: &str) -> Result<Grammar, Fail> {
+    match read_lines(alloc, lines) {
+        Ok(grammar) => Ok(grammar),
+        Err(error) => Err(Fail::new(error)),
+    }
 }
 
 /// The nonterminal of that name.
@@ -37,7 +41,10 @@ pub(crate) fn production_at<'g>(
     grammar: &'g Grammar,
     name: &str,
     place: usize,
-) -> Result<Option<&'g Production>, AllocError> {
+) -> Result<&'g Production, Fail> {
     let name = name_of(alloc, name)?;
-    Ok(grammar.productions_for(&name).get(place))
+    match grammar.productions_for(&name).get(place) {
+        Some(production) => Ok(production),
+        None => Err(Fail::new("no such production")),
+    }
 }

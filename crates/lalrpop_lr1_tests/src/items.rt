@@ -1,28 +1,24 @@
 //! Items: their questions and texts.
 
 use crate::grammars::{grammar_of, name_of, production_at, token_of};
+use lalrpop_grammar_repr::{Grammar, Production};
 use lalrpop_lr1_items::{Item, StateIndex};
 use lalrpop_sets::TokenSet;
+use std::alloc::{AllocError, Global};
+use std::process::Abort;
 use std::test::Fail;
 
 const LINES: &str = "E: E \"+\" T\nE: T\nT: \"n\"\nT:\n";
 
-#[test]
-fn questions_of_an_item(rt: HostRuntime) -> Result<(), Fail> {
-    let alloc = rt.alloc();
-    let grammar = grammar_of(alloc, LINES).unwrap();
-    let production = production_at(alloc, &grammar, "E", 0)?.unwrap();
+/// Whether the item with its dot in front shifts the nonterminal of this name.
+fn shifts(alloc: Global, production: &Production, name: &str) -> Result<bool, AllocError> {
+    Ok(Item::lr0(production, 0).can_shift_nonterminal(&name_of(alloc, name)?))
+}
+
+fn answers(rt: &impl Abort, alloc: Global, production: &Production) -> Result<(), Fail> {
     let front = Item::lr0(production, 0);
-    assert!(rt; front.can_shift() && !front.can_reduce());
-    assert!(rt; front.can_shift_nonterminal(&name_of(alloc, "E")?));
-    assert!(rt; !front.can_shift_nonterminal(&name_of(alloc, "T")?));
-    assert!(rt; front.prefix().is_empty());
-    let (symbol, behind) = front.shift_symbol().unwrap();
-    assert!(rt; format!(in alloc; "{symbol:?}")?.as_str() != "" && behind.len() == 2);
-    let (_, next) = front.shifted_item()?.unwrap();
-    assert!(rt; next.index == 1 && next.prefix().len() == 1);
-    let sets = next.symbol_sets();
-    assert!(rt; sets.prefix.len() == 1 && sets.cursor.is_some() && sets.suffix.len() == 1);
+    assert!(rt; front.can_shift() && !front.can_reduce() && front.prefix().is_empty());
+    assert!(rt; shifts(alloc, production, "E")? && !shifts(alloc, production, "T")?);
     let end = Item::lr0(production, 3);
     assert!(rt; end.can_reduce() && !end.can_shift());
     assert!(rt; end.shift_symbol().is_none() && end.shifted_item()?.is_none());
@@ -30,20 +26,76 @@ fn questions_of_an_item(rt: HostRuntime) -> Result<(), Fail> {
 }
 
 #[test]
-fn texts_of_items(rt: HostRuntime) -> Result<(), Fail> {
-    let alloc = rt.alloc();
-    let grammar = grammar_of(alloc, LINES).unwrap();
-    let sum = production_at(alloc, &grammar, "E", 0)?.unwrap();
-    let item = Item::lr0(sum, 1);
-    assert!(rt; format!(in alloc; "{item:?}")?.as_str() == "E = E (*) \"+\" T");
-    let empty = production_at(alloc, &grammar, "T", 1)?.unwrap();
-    let item = Item::lr0(empty, 0);
-    assert!(rt; format!(in alloc; "{item:?}")?.as_str() == "T = (*)");
-    let plus = TokenSet::from_token(alloc, &token_of(alloc, "n")?, &grammar.terminals)?;
-    let ahead = item.with_lookahead(plus);
+fn questions_of_an_item(rt: HostRuntime) -> Result<(), Fail> {
+    let grammar = grammar_of(rt.alloc(), LINES)?;
+    answers(
+        &rt,
+        rt.alloc(),
+        production_at(rt.alloc(), &grammar, "E", 0)?,
+    )
+}
+
+/// How many symbols stand behind the one at the dot.
+fn behind_dot(production: &Production, dot: usize) -> Option<usize> {
+    let (_, behind) = Item::lr0(production, dot).shift_symbol()?;
+    Some(behind.len())
+}
+
+/// Where the dot stands once the symbol at it is shifted.
+fn dot_behind(production: &Production, dot: usize) -> Result<Option<usize>, AllocError> {
+    match Item::lr0(production, dot).shifted_item()? {
+        Some((_, next)) => Ok(Some(next.index)),
+        None => Ok(None),
+    }
+}
+
+fn moves(rt: &impl Abort, production: &Production) -> Result<(), Fail> {
+    assert!(rt; behind_dot(production, 0) == Some(2) && behind_dot(production, 3).is_none());
+    assert!(rt; dot_behind(production, 2)? == Some(3));
+    let sets = Item::lr0(production, 1).symbol_sets();
+    assert!(rt; sets.prefix.len() == 1 && sets.cursor.is_some() && sets.suffix.len() == 1);
+    Ok(())
+}
+
+#[test]
+fn a_dot_that_moves(rt: HostRuntime) -> Result<(), Fail> {
+    let grammar = grammar_of(rt.alloc(), LINES)?;
+    moves(&rt, production_at(rt.alloc(), &grammar, "E", 0)?)
+}
+
+/// Whether this is the text of the item without a lookahead.
+fn is_text(
+    alloc: Global,
+    production: &Production,
+    dot: usize,
+    text: &str,
+) -> Result<bool, AllocError> {
+    let item = Item::lr0(production, dot);
+    Ok(format!(in alloc; "{item:?}")?.as_str() == text)
+}
+
+fn prints(rt: &impl Abort, alloc: Global, grammar: &Grammar) -> Result<(), Fail> {
+    let sum = production_at(alloc, grammar, "E", 0)?;
+    assert!(rt; is_text(alloc, sum, 1, "E = E (*) \"+\" T")?);
+    let empty = production_at(alloc, grammar, "T", 1)?;
+    assert!(rt; is_text(alloc, empty, 0, "T = (*)")?);
+    let n = TokenSet::from_token(alloc, &token_of(alloc, "n")?, &grammar.terminals)?;
+    let ahead = Item::lr0(empty, 0).with_lookahead(n);
     assert!(rt; format!(in alloc; "{ahead:?}")?.as_str() == "T = (*) {1}");
-    assert!(rt; ahead.to_lr0() == item);
-    assert!(rt; ahead.try_clone()? == ahead);
-    assert!(rt; format!(in alloc; "{}", StateIndex(7))?.as_str() == "7");
+    assert!(rt; ahead.to_lr0() == Item::lr0(empty, 0) && ahead.try_clone()? == ahead);
+    Ok(())
+}
+
+#[test]
+fn texts_of_items(rt: HostRuntime) -> Result<(), Fail> {
+    let grammar = grammar_of(rt.alloc(), LINES)?;
+    prints(&rt, rt.alloc(), &grammar)
+}
+
+#[test]
+fn texts_of_numbers_of_states(rt: HostRuntime) -> Result<(), Fail> {
+    let alloc = rt.alloc();
+    let text = format!(in alloc; "{} {:?}", StateIndex(7), StateIndex(7))?;
+    assert!(rt; text.as_str() == "7 S7");
     Ok(())
 }

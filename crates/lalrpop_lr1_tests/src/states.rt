@@ -2,13 +2,14 @@
 
 use crate::grammars::{grammar_of, name_of, production_at, terminal_of, terminal_symbol, token_of};
 use lalrpop_grammar_repr::{Grammar, Map, Production, TerminalSet};
-use lalrpop_grammar_symbols::{List, TerminalString};
+use lalrpop_grammar_symbols::List;
 use lalrpop_lr1_items::{
-    Action, Item, Items, Lookahead, LookaheadInterpret, Lr0State, Lr1State, State, StateGraph,
-    StateIndex,
+    Action, Item, Items, Lookahead, LookaheadInterpret, Lr0State, Lr1Conflict, Lr1State, State,
+    StateGraph, StateIndex,
 };
 use lalrpop_sets::{Nil, Token, TokenSet};
 use std::alloc::{AllocError, Global};
+use std::process::Abort;
 use std::test::Fail;
 
 /// Three productions with the same right side, and the terminals x and y.
@@ -49,17 +50,28 @@ fn state_of<'g, L: Drop>(
     })
 }
 
+/// A reduction of a state.
+type Reduction<'g> = (TokenSet, &'g Production);
+
+/// The reduction by the production of the nonterminal before these tokens.
+fn reduction_of<'g>(
+    alloc: Global,
+    grammar: &'g Grammar,
+    name: &str,
+    texts: &[&str],
+    eof: bool,
+) -> Result<Reduction<'g>, Fail> {
+    let production = production_at(alloc, grammar, name, 0)?;
+    Ok((set_of(alloc, texts, eof, &grammar.terminals)?, production))
+}
+
 /// A state that shifts y, and reduces by A before x and y, by B before y, and by C before x and the end.
-fn three_reductions<'g>(alloc: Global, grammar: &'g Grammar) -> Result<Lr1State<'g>, AllocError> {
+fn three_reductions<'g>(alloc: Global, grammar: &'g Grammar) -> Result<Lr1State<'g>, Fail> {
     let mut reductions = List::new(alloc);
-    let terminals = &grammar.terminals;
-    let a = production_at(alloc, grammar, "A", 0)?.unwrap();
-    let b = production_at(alloc, grammar, "B", 0)?.unwrap();
-    let c = production_at(alloc, grammar, "C", 0)?.unwrap();
-    reductions.push((set_of(alloc, &["x", "y"], false, terminals)?, a))?;
-    reductions.push((set_of(alloc, &["y"], false, terminals)?, b))?;
-    reductions.push((set_of(alloc, &["x"], true, terminals)?, c))?;
-    state_of(alloc, reductions)
+    reductions.push(reduction_of(alloc, grammar, "A", &["x", "y"], false)?)?;
+    reductions.push(reduction_of(alloc, grammar, "B", &["y"], false)?)?;
+    reductions.push(reduction_of(alloc, grammar, "C", &["x"], true)?)?;
+    Ok(state_of(alloc, reductions)?)
 }
 
 /// The text of an action: the state to which it leads, or the nonterminal to which it reduces.
@@ -70,58 +82,91 @@ fn action_text(alloc: Global, action: &Action<'_>) -> Result<String, AllocError>
     }
 }
 
+/// The text of a conflict.
+fn conflict_text(
+    alloc: Global,
+    conflict: &Lr1Conflict<'_>,
+    terminals: &TerminalSet,
+) -> Result<String, AllocError> {
+    let shared = conflict.lookahead.shown(alloc, terminals)?;
+    let action = action_text(alloc, &conflict.action)?;
+    let name = &conflict.production.nonterminal;
+    Ok(format!(in alloc; "{} {name} {shared} {action}; ", conflict.state)?)
+}
+
+/// The texts of the conflicts of the state.
+fn conflict_texts(
+    alloc: Global,
+    state: &Lr1State<'_>,
+    terminals: &TerminalSet,
+) -> Result<String, AllocError> {
+    let mut text = String::new(alloc);
+    for conflict in Lookahead::conflicts(alloc, terminals, state)? {
+        text.push_str(conflict_text(alloc, &conflict, terminals)?.as_str())?;
+    }
+    Ok(text)
+}
+
+/// The conflicts of the state with three reductions.
+const CONFLICTS: &str = "2 A [\"y\"] \"y\" 5; 2 B [\"y\"] \"y\" 5; 2 A [\"y\"] B; 2 A [\"x\"] C; ";
+
+fn conflicts_of_three(rt: &impl Abort, alloc: Global, grammar: &Grammar) -> Result<(), Fail> {
+    let state = three_reductions(alloc, grammar)?;
+    let text = conflict_texts(alloc, &state, &grammar.terminals)?;
+    assert!(rt; text.as_str() == CONFLICTS);
+    Ok(())
+}
+
 #[test]
 fn conflicts_with_lookaheads(rt: HostRuntime) -> Result<(), Fail> {
-    let alloc = rt.alloc();
-    let grammar = grammar_of(alloc, LINES).unwrap();
-    let terminals = &grammar.terminals;
-    let state = three_reductions(alloc, &grammar)?;
-    let mut text = String::new(alloc);
-    for conflict in Lookahead::conflicts(alloc, terminals, &state)? {
-        let shared = conflict.lookahead.shown(alloc, terminals)?;
-        let action = action_text(alloc, &conflict.action)?;
-        text.push_str(format!(in alloc;
-            "{} {} {shared} {action}; ",
-            conflict.state, conflict.production.nonterminal
-        )?
-        .as_str())?;
+    let grammar = grammar_of(rt.alloc(), LINES)?;
+    conflicts_of_three(&rt, rt.alloc(), &grammar)
+}
+
+/// A state that shifts y, and reduces by A, B and C.
+fn three_without<'g>(alloc: Global, grammar: &'g Grammar) -> Result<Lr0State<'g>, Fail> {
+    let mut reductions = List::new(alloc);
+    for name in ["A", "B", "C"] {
+        reductions.push((Nil, production_at(alloc, grammar, name, 0)?))?;
     }
-    assert_eq!(rt;
-        text.as_str(),
-        "2 A [\"y\"] \"y\" 5; 2 B [\"y\"] \"y\" 5; 2 A [\"y\"] B; 2 A [\"x\"] C; "
-    );
+    Ok(state_of(alloc, reductions)?)
+}
+
+fn conflicts_without(rt: &impl Abort, alloc: Global, grammar: &Grammar) -> Result<(), Fail> {
+    let state = three_without(alloc, grammar)?;
+    assert!(rt; Lookahead::conflicts(alloc, &grammar.terminals, &state)?.len() == 5);
     Ok(())
 }
 
 #[test]
 fn conflicts_without_lookaheads(rt: HostRuntime) -> Result<(), Fail> {
-    let alloc = rt.alloc();
-    let grammar = grammar_of(alloc, LINES).unwrap();
-    let mut reductions = List::new(alloc);
-    for name in ["A", "B", "C"] {
-        reductions.push((Nil, production_at(alloc, &grammar, name, 0)?.unwrap()))?;
-    }
-    let state: Lr0State<'_> = state_of(alloc, reductions)?;
-    let conflicts = Lookahead::conflicts(alloc, &grammar.terminals, &state)?;
-    assert_eq!(rt; conflicts.len(), 5);
+    let grammar = grammar_of(rt.alloc(), LINES)?;
+    conflicts_without(&rt, rt.alloc(), &grammar)
+}
+
+/// The name of the nonterminal to which the state reduces before the token.
+fn reduced_before<'g>(
+    state: &Lr1State<'g>,
+    token: &Token,
+    terminals: &TerminalSet,
+) -> Option<&'g str> {
+    let production = LookaheadInterpret::reduction(state, token, terminals)?;
+    Some(production.nonterminal.0.as_str())
+}
+
+fn reduces(rt: &impl Abort, alloc: Global, grammar: &Grammar) -> Result<(), Fail> {
+    let state = three_reductions(alloc, grammar)?;
+    let terminals = &grammar.terminals;
+    assert!(rt; reduced_before(&state, &Token::Eof, terminals) == Some("C"));
+    assert!(rt; reduced_before(&state, &token_of(alloc, "y")?, terminals) == Some("A"));
+    assert!(rt; reduced_before(&state, &token_of(alloc, "a")?, terminals).is_none());
     Ok(())
 }
 
 #[test]
 fn the_production_before_a_token(rt: HostRuntime) -> Result<(), Fail> {
-    let alloc = rt.alloc();
-    let grammar = grammar_of(alloc, LINES).unwrap();
-    let terminals = &grammar.terminals;
-    let state = three_reductions(alloc, &grammar)?;
-    let c = production_at(alloc, &grammar, "C", 0)?.unwrap();
-    let b = production_at(alloc, &grammar, "A", 0)?.unwrap();
-    let before_end = LookaheadInterpret::reduction(&state, &Token::Eof, terminals);
-    assert!(rt; before_end.unwrap() == c);
-    let before_y = LookaheadInterpret::reduction(&state, &token_of(alloc, "y")?, terminals);
-    assert!(rt; before_y.unwrap() == b);
-    let before_a = LookaheadInterpret::reduction(&state, &token_of(alloc, "a")?, terminals);
-    assert!(rt; before_a.is_none());
-    Ok(())
+    let grammar = grammar_of(rt.alloc(), LINES)?;
+    reduces(&rt, rt.alloc(), &grammar)
 }
 
 /// The grammar of two nonterminals in a row.
@@ -138,21 +183,26 @@ fn state_with<'g>(alloc: Global, vec: List<Item<'g, Nil>>) -> Lr0State<'g> {
     }
 }
 
-#[test]
-fn questions_of_a_state(rt: HostRuntime) -> Result<(), Fail> {
-    let alloc = rt.alloc();
-    let grammar = grammar_of(alloc, ROW).unwrap();
-    let row = production_at(alloc, &grammar, "S", 0)?.unwrap();
+/// A state with the dot behind the first C of S, and in front of the c of C.
+fn middle_state<'g>(alloc: Global, grammar: &'g Grammar) -> Result<Lr0State<'g>, Fail> {
     let mut vec = List::new(alloc);
-    vec.push(Item::lr0(row, 1))?;
-    vec.push(Item::lr0(production_at(alloc, &grammar, "C", 0)?.unwrap(), 0))?;
-    let state = state_with(alloc, vec);
-    assert_eq!(rt; state.max_prefix().len(), 1);
-    assert_eq!(rt; state.will_pop().len(), 1);
-    assert_eq!(rt; state.will_push().len(), 1);
-    assert!(rt; state.will_produce().unwrap() == &name_of(alloc, "S")?);
+    vec.push(Item::lr0(production_at(alloc, grammar, "S", 0)?, 1))?;
+    vec.push(Item::lr0(production_at(alloc, grammar, "C", 0)?, 0))?;
+    Ok(state_with(alloc, vec))
+}
+
+fn answers(rt: &impl Abort, alloc: Global, state: &Lr0State<'_>) -> Result<(), Fail> {
+    assert!(rt; state.max_prefix().len() == 1 && state.will_pop().len() == 1);
+    assert!(rt; state.will_push().len() == 1);
+    assert!(rt; state.will_produce().map(|name| name.0.as_str()) == Some("S"));
     assert!(rt; state.try_clone(alloc)?.items == state.items);
     Ok(())
+}
+
+#[test]
+fn questions_of_a_state(rt: HostRuntime) -> Result<(), Fail> {
+    let grammar = grammar_of(rt.alloc(), ROW)?;
+    answers(&rt, rt.alloc(), &middle_state(rt.alloc(), &grammar)?)
 }
 
 /// A state whose terminal c leads to itself and d to 1, and whose goto by C leads to 2.
@@ -174,36 +224,48 @@ fn graph_of(alloc: Global) -> Result<StateGraph, AllocError> {
     StateGraph::new(alloc, states.as_slice())
 }
 
+/// The states from which these terminals lead to the state.
+fn ways_back(
+    alloc: Global,
+    graph: &StateGraph,
+    state: usize,
+    texts: &[&str],
+) -> Result<Vec<StateIndex>, AllocError> {
+    let mut symbols = Vec::new(alloc);
+    for text in texts {
+        symbols.push(terminal_symbol(alloc, text)?)?;
+    }
+    graph.trace_back(alloc, StateIndex(state), symbols.as_slice())
+}
+
 #[test]
 fn ways_back_in_a_graph(rt: HostRuntime) -> Result<(), Fail> {
     let alloc = rt.alloc();
     let graph = graph_of(alloc)?;
-    let mut symbols = Vec::new(alloc);
-    symbols.push(terminal_symbol(alloc, "c")?)?;
-    symbols.push(terminal_symbol(alloc, "d")?)?;
-    let found = graph.trace_back(alloc, StateIndex(1), symbols.as_slice())?;
-    assert!(rt; found.as_slice() == [StateIndex(0)].as_slice());
-    let found = graph.trace_back(alloc, StateIndex(1), &symbols.as_slice()[1..])?;
-    assert!(rt; found.as_slice() == [StateIndex(0), StateIndex(2)].as_slice());
-    let found = graph.trace_back(alloc, StateIndex(1), &[])?;
-    assert!(rt; found.as_slice() == [StateIndex(1)].as_slice());
+    assert!(rt; ways_back(alloc, &graph, 1, &["c", "d"])?.as_slice() == [StateIndex(0)].as_slice());
+    let both = ways_back(alloc, &graph, 1, &["d"])?;
+    assert!(rt; both.as_slice() == [StateIndex(0), StateIndex(2)].as_slice());
+    assert!(rt; ways_back(alloc, &graph, 1, &[])?.as_slice() == [StateIndex(1)].as_slice());
     Ok(())
 }
 
 #[test]
-fn neighbours_in_a_graph(rt: HostRuntime) -> Result<(), Fail> {
+fn states_behind_a_state(rt: HostRuntime) -> Result<(), Fail> {
     let alloc = rt.alloc();
     let graph = graph_of(alloc)?;
-    let mut after = Vec::new(alloc);
-    for state in graph.successors(StateIndex(0)) {
-        after.push(state)?;
-    }
-    assert!(rt; after.as_slice() == [StateIndex(2), StateIndex(1), StateIndex(0)].as_slice());
+    let mut after = graph.successors(StateIndex(0));
+    assert!(rt; after.next() == Some(StateIndex(2)) && after.next() == Some(StateIndex(1)));
+    assert!(rt; after.next() == Some(StateIndex(0)) && after.next().is_none());
+    Ok(())
+}
+
+#[test]
+fn states_before_a_state(rt: HostRuntime) -> Result<(), Fail> {
+    let alloc = rt.alloc();
+    let graph = graph_of(alloc)?;
     let d = terminal_symbol(alloc, "d")?;
-    let mut before = Vec::new(alloc);
-    for state in graph.predecessors(StateIndex(1), &d) {
-        before.push(state)?;
-    }
-    assert!(rt; before.as_slice() == [StateIndex(2), StateIndex(0)].as_slice());
+    let mut before = graph.predecessors(StateIndex(1), &d);
+    assert!(rt; before.next() == Some(StateIndex(2)) && before.next() == Some(StateIndex(0)));
+    assert!(rt; before.next().is_none());
     Ok(())
 }
