@@ -1,14 +1,9 @@
 -- Computed examples of what lowering makes, and answers that are refused.
 use Prim.Native.String.{String}
-use Rattle.std.specs.Prelude.{Bool, Option, Some, None, codes, flat_map, is_some, map, slice_get, option_map}
-use Rattle.std.proofs.Common.{◌≡◌, ◌⊎◌, ◌∙◌, ℕ, ◌+◌, List, [], ◌∷◌, ◌++◌, refl, ap, sym, subst, inl}
-use Rattle.std.proofs.Common.{inr, true, false, arith}
+use Rattle.std.specs.Prelude.{Bool, Some, None, codes, flat_map, slice_get, option_map}
+use Rattle.std.proofs.Common.{◌≡◌, ◌∙◌, ℕ, List, [], ◌∷◌, refl, ap, sym, subst, inl, inr, true, false, arith}
 use Rattle.lalrpop_grammar_symbols.specs.Symbols.{Sym, Terminal, Text, WrittenSymbol}
-use Rattle.lalrpop_grammar_symbols.specs.Views.{terminal_view}
 use Rattle.lalrpop_grammar_symbols.specs.declared.names.NonterminalString.{NonterminalString}
-use Rattle.lalrpop_grammar_symbols.specs.declared.terminal.TerminalLiteral.TheVariants as literal
-use Rattle.lalrpop_grammar_symbols.specs.declared.terminal.TerminalString.{TerminalString}
-use Rattle.lalrpop_grammar_symbols.specs.declared.terminal.TerminalString.TheVariants as terminal
 use Rattle.lalrpop_grammar.specs.Views.{origin_view}
 use Rattle.lalrpop_grammar.specs.WrittenGrammar.{Action, Alternative, Grammar, Origin, Rule, WrittenItem, rules_of}
 use Rattle.lalrpop_grammar_language.specs.Among.{Among}
@@ -16,7 +11,6 @@ use Rattle.lalrpop_grammar_language.specs.Enabled.{Choice, EnabledRule, IsRule}
 use Rattle.lalrpop_grammar_language.specs.Levels.{has_levels}
 use Rattle.lalrpop_grammar_language.specs.Expansion.{GrammarSymbol}
 use Rattle.lalrpop_grammar_language.proofs.WrittenTreeLemmas.{finds, grammar, here, lit}
-use Rattle.lalrpop_grammar_repr.specs.Maps.{at_name}
 use Rattle.lalrpop_grammar_repr.specs.declared.production.Production.{Production}
 use Rattle.lalrpop_grammar_types.specs.TypeReprs.{named_type}
 use Rattle.lalrpop_grammar_types.specs.declared.type_repr.TypeRepr.{TypeRepr}
@@ -72,7 +66,8 @@ productions_made w = flat_map entry_productions (lowered_entries w.prefix (rules
 abbrev list : Grammar
 list = grammar (rule_named true "L" (by (at 0) (to_rule "\"a\"*" ∷ []) ∷ [])
     ∷ rule_named false "\"a\"*" (by Origin.star_none [] ∷ by Origin.star_some (to_rule "\"a\"+" ∷ []) ∷ [])
-    ∷ rule_named false "\"a\"+" (by Origin.plus_one (lit "a" ∷ []) ∷ by Origin.plus_more (to_rule "\"a\"+" ∷ lit "a" ∷ []) ∷ []) ∷ [])
+    ∷ rule_named false "\"a\"+" (by Origin.plus_one (lit "a" ∷ [])
+    ∷ by Origin.plus_more (to_rule "\"a\"+" ∷ lit "a" ∷ []) ∷ []) ∷ [])
 
 -- six productions with six actions, the start's first
 six_productions : productions_made list ≡ production "__L" (nt "L" ∷ []) 0 ∷ production "L" (nt "\"a\"*" ∷ []) 1
@@ -101,7 +96,8 @@ one_production = refl
 
 -- two equal alternatives are two productions, with actions of their own
 abbrev alike : Grammar
-alike = grammar (rule_named true "L" (by (at 0) (lit "a" ∷ []) ∷ acting (Action.fallible (codes "f()")) (at 1) (lit "a" ∷ []) ∷ []) ∷ [])
+alike = grammar (rule_named true "L" (by (at 0) (lit "a" ∷ [])
+    ∷ acting (Action.fallible (codes "f()")) (at 1) (lit "a" ∷ []) ∷ []) ∷ [])
 
 two_alike : productions_made alike ≡ production "__L" (nt "L" ∷ []) 0 ∷ production "L" (word "a" ∷ []) 1
     ∷ production "L" (word "a" ∷ []) 2 ∷ []
@@ -118,12 +114,13 @@ three_definitions = refl
 
 -- what lowering rests on can be had
 
-two_ordered : AreChoicesInOrder (record { origin = at 0; expr = []; condition = None; action = Action.default; attributes = [] }
-    ∷ record { origin = at 1; expr = []; condition = None; action = Action.default; attributes = [] } ∷ [])
+abbrev choice_at : ℕ → Choice
+choice_at i = record { origin = at i; expr = []; condition = None; action = Action.default; attributes = [] }
+
+two_ordered : AreChoicesInOrder (choice_at 0 ∷ choice_at 1 ∷ [])
 two_ordered = (λ c i. later c i, ((λ c i. absurd i), tt))
   where
-    later : (c : Choice) → Among (record { origin = at 1; expr = []; condition = None; action = Action.default; attributes = [] } ∷ []) c
-        → IsOriginBefore (at 0) c.origin
+    later : (c : Choice) → Among (choice_at 1 ∷ []) c → IsOriginBefore (at 0) c.origin
     later c (inl e) = subst (λ (d : Choice). IsOriginBefore (at 0) d.origin) e (omega arith)
     later c (inr i) = absurd i
 

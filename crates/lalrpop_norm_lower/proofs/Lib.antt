@@ -7,6 +7,7 @@ pub mod NumberedLemmas
 pub mod EntryLemmas
 pub mod MapLemmas
 pub mod NonterminalLemmas
+pub mod InlineLemmas
 pub mod ListedLemmas
 pub mod LoweredLemmas
 pub mod ExamplesOfLowering

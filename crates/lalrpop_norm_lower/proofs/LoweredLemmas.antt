@@ -29,6 +29,7 @@ use Rattle.lalrpop_norm_lower.specs.LoweredSymbols.{lowered_name, named_producti
 use Rattle.lalrpop_norm_lower.specs.MadeLists.{IsMadeOfLists}
 use Rattle.lalrpop_norm_lower.specs.declared.lowering.Normalized.{Normalized}
 use Rattle.lalrpop_norm_lower.proofs.ExpansionRowLemmas.{names_apart}
+use Rattle.lalrpop_norm_lower.proofs.InlineLemmas.{inlined_as_marked}
 use Rattle.lalrpop_norm_lower.proofs.ListedLemmas.{starts_listed, terminals_lowered, types_lowered}
 use Rattle.lalrpop_norm_lower.proofs.MapLemmas.{lowered_productions}
 use Rattle.lalrpop_norm_lower.proofs.NonterminalLemmas.{IsKnownSymbol, known_production, nonterminals_lowered}
@@ -118,6 +119,7 @@ module _ (finds : Text → Text → Option Bool) (w : Grammar) (types : Types) (
   made_lowered = record {
     productions = productions;
     nonterminals = nonterminals_lowered finds w types l made m;
+    inlined = inlined_as_marked finds w types l made types.nonterminal_types (nonterminals_lowered finds w types l made m);
     starts = subst (AreListedStarts w) (sym m.starts) (starts_listed w (names_apart finds w l.expanded l.ordered l.free_prefix));
     types_are = types_lowered w (names_apart finds w l.expanded l.ordered l.free_prefix) types made.grammar.types l.typed
         m.terminal_types m.nonterminal_types;

@@ -94,7 +94,7 @@ module _ (finds : Text → Text → Option Bool) (w : Grammar) (expanded : IsExp
   known_symbol (Sym.lookbehind p) h k y i = absurd h
   known_symbol (Sym.error p) h k y i = absurd h
 
-  known_side : (r : Rule) (a : Alternative) → Among (rules_of w.items) r → Among r.alternatives a
+  pub known_side : (r : Rule) (a : Alternative) → Among (rules_of w.items) r → Among r.alternatives a
       → (y : GrammarSymbol Text) → Among (lowered_side a.expr) y → IsKnownSymbol y
   known_side r a i j y k =
       let m = among_flat_map lowered_symbol a.expr y k in

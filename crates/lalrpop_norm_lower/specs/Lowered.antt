@@ -1,6 +1,6 @@
 -- What the lowered grammar of an expanded one is.
 use Rattle.std.specs.Prelude.{◌≡◌, ◌⊎◌, ◌↔◌, ◌<◌, Bool, true, List, [], ◌∷◌, ◌++◌, IsSomeAnd, Option}
-use Rattle.std.specs.Prelude.{Some, None, is_some, length, map, option_map, slice_get}
+use Rattle.std.specs.Prelude.{codes, Some, None, is_some, length, map, option_map, slice_get}
 use Rattle.std.specs.List.Sorted.{IsStrictlySortedBy}
 use Rattle.lalrpop_grammar_symbols.specs.Symbols.{Text}
 use Rattle.lalrpop_grammar_symbols.specs.Views.{span_view, terminal_view}
@@ -14,8 +14,8 @@ use Rattle.lalrpop_grammar.specs.declared.grammar.Grammar as written
 use Rattle.lalrpop_grammar.specs.declared.intern_token.InternToken.{InternToken}
 use Rattle.lalrpop_grammar.specs.declared.intern_token.MatchEntry.{MatchEntry}
 use Rattle.lalrpop_grammar_language.specs.Among.{Among}
-use Rattle.lalrpop_grammar_language.specs.Enabled.{Choice, EnabledGrammar, EnabledRule}
-use Rattle.lalrpop_grammar_language.specs.Expansion.{GrammarSymbol}
+use Rattle.lalrpop_grammar_language.specs.Enabled.{Choice, EnabledGrammar, EnabledRule, has_attr}
+use Rattle.lalrpop_grammar_language.specs.Expansion.{GrammarSymbol, InExpansion, Nonterminal}
 use Rattle.lalrpop_grammar_repr.specs.Algorithms.{has_lalr}
 use Rattle.lalrpop_grammar_repr.specs.Maps.{at_name}
 use Rattle.lalrpop_grammar_repr.specs.Productions.{IsAlone}
@@ -25,6 +25,7 @@ use Rattle.lalrpop_grammar_repr.specs.declared.terminal_set.TerminalSet.{Termina
 use Rattle.lalrpop_grammar_repr.specs.declared.types.Types.{Types}
 use Rattle.lalrpop_grammar_types.specs.declared.type_repr.TypeRepr.{TypeRepr}
 use Rattle.lalrpop_norm_expansion.specs.Between.{grammar_between}
+use Rattle.lalrpop_norm_expansion.specs.Inlined.{IsInlined}
 use Rattle.lalrpop_norm_expansion.specs.Premises.{IsExpanded}
 use Rattle.lalrpop_norm_expansion.specs.Productions.{AreProductions, IsOriginBefore, NamedProduction}
 use Rattle.lalrpop_norm_types.specs.TerminalTypes.{HasTerminalTypes, grammar_terminals}
@@ -118,6 +119,16 @@ pub record AreLoweredNonterminals (w : Grammar) (table : List (NonterminalString
   pub no_other : (n : NonterminalString) (d : NonterminalData) → at_name n made.grammar.nonterminals ≡ Some d → IsLoweredName w n
   pub alone : (r : Rule) → Among (rules_of w.items) r → IsAlone (start_of w r) made.grammar.nonterminals
 
+-- its attributes say that it is inlined
+abbrev pub says_inline : NonterminalData → Bool
+says_inline d = has_attr (codes "inline") (map attribute_view d.attributes)
+
+-- each nonterminal of the expansion is there, and says so exactly where it is inlined
+abbrev pub AreInlinedAsMarked : EnabledGrammar → Text → List (NonterminalString × NonterminalData) → Type 0
+AreInlinedAsMarked g prefix nonterminals =
+    (x : Nonterminal) → InExpansion g x
+    → IsSomeAnd (at_name (nonterminal_of (lowered_name prefix x)) nonterminals) (λ d. (says_inline d ≡ true) ↔ IsInlined g x)
+
 -- which starts are listed, by the names of their rules
 pub record AreListedStarts (w : Grammar) (listed : List (NonterminalString × NonterminalString)) : Type 0 where
   pub every : (r : Rule) → Among (rules_of w.items) r → gets_start r ≡ true
@@ -158,6 +169,7 @@ pub record IsLowered (g : EnabledGrammar) (w : Grammar) (types : Types) (made : 
   pub productions : AreProductions g (lowered_name w.prefix) (named_productions made.grammar.nonterminals)
       (map origin_view made.origins)
   pub nonterminals : AreLoweredNonterminals w types.nonterminal_types made
+  pub inlined : AreInlinedAsMarked g w.prefix made.grammar.nonterminals
   pub starts : AreListedStarts w made.grammar.start_nonterminals
   pub types_are : AreLoweredTypes w types made.grammar.types
   pub terminals : AreLoweredTerminals w made.grammar.terminals
