@@ -1,10 +1,19 @@
 -- Computed examples of what lowering makes, and answers that are refused.
 use Prim.Native.String.{String}
-use Rattle.std.specs.Prelude.{Bool, Some, None, codes, flat_map, slice_get, option_map}
-use Rattle.std.proofs.Common.{◌≡◌, ◌∙◌, ℕ, List, [], ◌∷◌, refl, ap, sym, subst, inl, inr, true, false, arith}
+use Rattle.std.specs.Prelude.{IsSomeAnd, is_some, Bool, Some, None, codes, flat_map, slice_get, option_map}
+use Rattle.std.proofs.Common.{◌≡◌, ◌∙◌, ℕ, List, [], ◌∷◌, ◌++◌, refl, ap, sym, subst, inl, inr, true, false}
+use Rattle.std.proofs.Common.{arith}
 use Rattle.lalrpop_grammar_symbols.specs.Symbols.{Sym, Terminal, Text, WrittenSymbol}
 use Rattle.lalrpop_grammar_symbols.specs.declared.names.NonterminalString.{NonterminalString}
 use Rattle.lalrpop_grammar.specs.Views.{origin_view}
+use Rattle.lalrpop_grammar_symbols.specs.declared.terminal.TerminalLiteral.TheVariants as literal
+use Rattle.lalrpop_grammar_symbols.specs.declared.terminal.TerminalString.{TerminalString}
+use Rattle.lalrpop_grammar_symbols.specs.declared.terminal.TerminalString.TheVariants as terminal
+use Rattle.lalrpop_grammar_symbols.specs.contracts.terminal.TerminalStringOrd.TheImpl as terminal_order
+use Rattle.lalrpop_grammar_symbols.specs.Views.{terminal_view}
+use Rattle.lalrpop_grammar_repr.specs.Maps.{at_name, at_terminal}
+use Rattle.lalrpop_norm_lower.specs.Lowered.{IsLowerable, AreChoicesInOrder, AreListedStarts, AreLoweredAlternatives, HasStartNamed}
+use Rattle.lalrpop_norm_lower.specs.Lowered.{IsLoweredAlternative}
 use Rattle.lalrpop_grammar.specs.WrittenGrammar.{Action, Alternative, Grammar, Origin, Rule, WrittenItem, rules_of}
 use Rattle.lalrpop_grammar_language.specs.Among.{Among}
 use Rattle.lalrpop_grammar_language.specs.Enabled.{Choice, EnabledRule, IsRule}
@@ -12,15 +21,21 @@ use Rattle.lalrpop_grammar_language.specs.Levels.{has_levels}
 use Rattle.lalrpop_grammar_language.specs.Expansion.{GrammarSymbol}
 use Rattle.lalrpop_grammar_language.proofs.WrittenTreeLemmas.{finds, grammar, here, lit}
 use Rattle.lalrpop_grammar_repr.specs.declared.production.Production.{Production}
+use Rattle.lalrpop_grammar_repr.specs.declared.types.Types.{Types}
 use Rattle.lalrpop_grammar_types.specs.TypeReprs.{named_type}
 use Rattle.lalrpop_grammar_types.specs.declared.type_repr.TypeRepr.{TypeRepr}
+use Rattle.lalrpop_grammar_types.specs.declared.type_repr.TypeRepr.TheVariants as types
+use Rattle.lalrpop_norm_expansion.specs.Types.{GroundType, text_type}
+use Rattle.lalrpop_norm_types.specs.GroundViews.{type_repr_view}
+use Rattle.lalrpop_norm_types.specs.TerminalTypes.{grammar_terminals}
+use Rattle.lalrpop_norm_types.proofs.GroundLemmas.{view-nominal, view-ref}
+use Rattle.lalrpop_norm_lower.proofs.OrderLemmas.{equal_terminals}
+use Rattle.lalrpop_norm_lower.proofs.PutLemmas.{found_among}
 use Rattle.lalrpop_norm_expansion.specs.Between.{grammar_between, rule_between}
 use Rattle.lalrpop_norm_expansion.specs.Premises.{IsExpanded, IsExpandedChoice, IsExpandedSymbol}
 use Rattle.lalrpop_norm_expansion.specs.Productions.{IsOriginBefore, NamedProduction}
 use Rattle.lalrpop_norm_types.specs.TypeFaults.{nonterminal_of}
 use Rattle.lalrpop_norm_lower.specs.Definitions.{definition_of}
-use Rattle.lalrpop_norm_lower.specs.Lowered.{AreChoicesInOrder, AreListedStarts, AreLoweredAlternatives, HasStartNamed}
-use Rattle.lalrpop_norm_lower.specs.Lowered.{IsLoweredAlternative}
 use Rattle.lalrpop_norm_lower.specs.LoweredLists.{count_actions, gets_start, lowered_definitions, lowered_entries, lowered_origins}
 use Rattle.lalrpop_norm_lower.specs.declared.lowering.Normalized.{Normalized}
 use Rattle.lalrpop_norm_lower.proofs.NumberedLemmas.{entry_productions}
@@ -174,6 +189,69 @@ small_expanded = record {
         → IsExpandedChoice (grammar_between finds small) c
     choices r c (inl e) j = one_choice c (subst (λ (q : EnabledRule). Among q.choices c) (sym e) j)
     choices r c (inr i) j = absurd i
+
+-- the types that it may be given: a terminal's is a text's
+abbrev terminal_a : TerminalString
+terminal_a = terminal.Literal (literal.Quoted (codes "a"))
+
+abbrev text_reference : TypeRepr
+text_reference = types.Ref (Some (codes "'input")) false (named_type (codes "str"))
+
+abbrev small_types : Types
+small_types = record { terminal_types = (terminal_a, text_reference) ∷ []; nonterminal_types = types_of_L }
+
+is_text : type_repr_view text_reference ≡ text_type
+is_text =
+    view-ref (Some (codes "'input")) false (named_type (codes "str"))
+    ∙ ap (λ t. GroundType.ref (Some (codes "'input")) false t) (view-nominal (codes "str") [])
+
+-- the terminal that is seen so
+only_a : (t : TerminalString) → Terminal.quoted (codes "a") ≡ terminal_view t → terminal_a ≡ t
+only_a (terminal.Literal (literal.Quoted s)) e =
+    let same : codes "a" ≡ s = cc in ap (λ x. terminal.Literal (literal.Quoted x)) same
+only_a (terminal.Literal (literal.Regex s)) e = absurd (let wrong : ⊥ = cc in wrong)
+only_a (terminal.Bare n) e = absurd (let wrong : ⊥ = cc in wrong)
+only_a terminal.Error e = absurd (let wrong : ⊥ = cc in wrong)
+
+-- so what lowering rests on can be met
+small_lowerable : IsLowerable finds small small_types
+small_lowerable = record {
+  expanded = small_expanded;
+  ordered = λ r i. ordered r i;
+  free_prefix = λ r n i e. free_prefix r n i e;
+  terminals = record { typed = λ t i. typed t i; only = λ t u e. only t u e };
+  typed = λ r i. rule_typed r i;
+}
+  where
+    ordered : (r : EnabledRule) → Among (only_rule ∷ []) r → AreChoicesInOrder r.choices
+    ordered r (inl e) = subst (λ (q : EnabledRule). AreChoicesInOrder q.choices) e ((λ c i. absurd i), tt)
+    ordered r (inr i) = absurd i
+
+    free_prefix : (r : Rule) (n : Text) → Among (rules_of small.items) r → r.name ≡ codes "__" ++ n → ⊥
+    free_prefix r n (inl e) f =
+        let same : codes "L" ≡ codes "__" ++ n = ap (λ (q : Rule). q.name) e ∙ f in
+        let byte : ◌≡◌ {A = ℕ} 76 95 = cc in omega (arith, byte)
+    free_prefix r n (inr i) f = absurd i
+
+    typed : (t : TerminalString) → Among (grammar_terminals small) (terminal_view t)
+        → IsSomeAnd (at_terminal t small_types.terminal_types) (λ u. type_repr_view u ≡ text_type)
+    typed t (inl e) =
+        subst (λ x. IsSomeAnd (at_terminal x small_types.terminal_types) (λ u. type_repr_view u ≡ text_type)) (only_a t e) is_text
+    typed t (inr i) = absurd i
+
+    only : (t : TerminalString) (u : TypeRepr) → at_terminal t small_types.terminal_types ≡ Some u
+        → Among (grammar_terminals small) (terminal_view t)
+    only t u e = go (found_among (terminal_order.ghosts).cmp equal_terminals small_types.terminal_types t u e)
+      where
+        go : Among small_types.terminal_types (t, u) → Among (grammar_terminals small) (terminal_view t)
+        go (inl same) = inl (ap (λ (x : TerminalString × TypeRepr). terminal_view x.0) same)
+        go (inr i) = absurd i
+
+    rule_typed : (r : Rule) → Among (rules_of small.items) r
+        → is_some (at_name (nonterminal_of r.name) small_types.nonterminal_types) ≡ true
+    rule_typed r (inl e) =
+        ap (λ (q : Rule). is_some (at_name (nonterminal_of q.name) small_types.nonterminal_types)) (sym e)
+    rule_typed r (inr i) = absurd i
 
 -- what is refused
 

@@ -1,16 +1,18 @@
 -- What lowering makes is the lowered grammar; for the pass.
 use Rattle.std.specs.Prelude.{Bool, IsSomeAnd, Option, Some, None, is_some, map, slice_get}
-use Rattle.std.proofs.Common.{◌≡◌, ◌∙◌, ℕ, zero, suc, ◌<◌, List, [], ◌∷◌, refl, ap, sym, subst, true, length}
-use Rattle.std.proofs.Common.{length-append, arith}
+use Rattle.std.proofs.Common.{inl, inr, ◌≡◌, ◌∙◌, ℕ, zero, suc, ◌<◌, List, [], ◌∷◌, refl, ap, sym, subst, true}
+use Rattle.std.proofs.Common.{length, length-append, arith}
 use Rattle.lalrpop_grammar_symbols.specs.Symbols.{Text}
 use Rattle.lalrpop_grammar_symbols.specs.Views.{terminal_view}
+use Rattle.lalrpop_grammar_symbols.specs.contracts.terminal.TerminalStringOrd.TheImpl as terminal_order
 use Rattle.lalrpop_grammar_symbols.specs.declared.names.NonterminalString.{NonterminalString}
+use Rattle.lalrpop_grammar_symbols.specs.declared.terminal.TerminalString.{TerminalString}
 use Rattle.lalrpop_grammar.specs.Views.{origin_view}
 use Rattle.lalrpop_grammar.specs.WrittenGrammar.{Alternative, Grammar, Rule, rules_of}
 use Rattle.lalrpop_grammar_language.specs.Among.{Among}
 use Rattle.lalrpop_grammar_language.specs.Expansion.{GrammarSymbol}
 use Rattle.lalrpop_grammar_language.proofs.PlaceLemmas.{among_map}
-use Rattle.lalrpop_grammar_repr.specs.Maps.{at_name}
+use Rattle.lalrpop_grammar_repr.specs.Maps.{at_name, at_terminal}
 use Rattle.lalrpop_grammar_repr.specs.declared.production.Symbol.{Symbol}
 use Rattle.lalrpop_grammar_repr.specs.declared.production.Symbol.TheVariants as symbols
 use Rattle.lalrpop_grammar_repr.specs.declared.types.Types.{Types}
@@ -22,16 +24,19 @@ use Rattle.lalrpop_norm_types.specs.TerminalTypes.{terminals_of_items, terminals
 use Rattle.lalrpop_norm_types.specs.TypeFaults.{nonterminal_of}
 use Rattle.lalrpop_norm_lower.specs.Definitions.{definition_of, type_in_table}
 use Rattle.lalrpop_norm_lower.specs.Lowered.{AreListedStarts, AreLoweredTerminals, IsLowerable, IsLowered, IsLoweredRule}
-use Rattle.lalrpop_norm_lower.specs.Lowered.{IsLoweredSymbol}
+use Rattle.lalrpop_norm_lower.specs.Lowered.{AreLoweredTypes, IsLoweredName, IsLoweredSymbol}
 use Rattle.lalrpop_norm_lower.specs.LoweredLists.{lowered_definitions, lowered_origins, rule_definitions, rule_origins}
 use Rattle.lalrpop_norm_lower.specs.LoweredLists.{rules_with_starts, start_definitions, start_origins}
 use Rattle.lalrpop_norm_lower.specs.LoweredSymbols.{lowered_name, named_production, named_productions, named_symbol, productions_at}
 use Rattle.lalrpop_norm_lower.specs.MadeLists.{IsMadeOfLists}
 use Rattle.lalrpop_norm_lower.specs.declared.lowering.Normalized.{Normalized}
-use Rattle.lalrpop_norm_lower.proofs.ExpansionRowLemmas.{names_apart}
+use Rattle.lalrpop_norm_lower.proofs.EarlierLemmas.{Earlier}
+use Rattle.lalrpop_norm_lower.proofs.ExpansionRowLemmas.{HaveOwnNames, names_apart}
 use Rattle.lalrpop_norm_lower.proofs.InlineLemmas.{inlined_as_marked}
 use Rattle.lalrpop_norm_lower.proofs.ListedLemmas.{starts_listed, terminals_lowered, types_lowered}
 use Rattle.lalrpop_norm_lower.proofs.MapLemmas.{lowered_productions}
+use Rattle.lalrpop_norm_lower.proofs.OrderLemmas.{equal_terminals}
+use Rattle.lalrpop_norm_lower.proofs.PutLemmas.{key_found}
 use Rattle.lalrpop_norm_lower.proofs.NonterminalLemmas.{IsKnownSymbol, known_production, nonterminals_lowered}
 
 mapped_many : {A B : Type 0} (f : A → B) (xs : List A) → length (map f xs) ≡ length xs
@@ -101,6 +106,30 @@ module _ (finds : Text → Text → Option Bool) (w : Grammar) (types : Types) (
       (symbol_there s.0 (subst (IsKnownSymbol finds w l.expanded) (sym s.2)
       (known_production finds w types l made m e.0 e.1 q.0 q.1 x there)))
 
+  rows_apart : Earlier HaveOwnNames (rules_of w.items)
+  rows_apart = names_apart finds w l.expanded l.ordered l.free_prefix
+
+  types_made : AreLoweredTypes w types made.grammar.types
+  types_made =
+      types_lowered w rows_apart types made.grammar.types l.typed m.terminal_types m.nonterminal_types
+
+  name_typed : (n : NonterminalString) → IsLoweredName w n → is_some (at_name n made.grammar.types.nonterminal_types) ≡ true
+  name_typed n (inl h) =
+      subst (λ k. is_some (at_name k made.grammar.types.nonterminal_types) ≡ true) (sym h.2)
+      (ap is_some (types_made.others (nonterminal_of h.0.name)
+      (λ q s. l.free_prefix h.0 q.name h.1 (ap (λ (k : NonterminalString). k.0) s.name_is)))
+      ∙ l.typed h.0 h.1)
+  name_typed n (inr h) =
+      subst (λ k. is_some (at_name k made.grammar.types.nonterminal_types) ≡ true) (sym h.1.name_is)
+      (ap is_some (types_made.starts h.0 h.1.rule h.1.starts) ∙ l.typed h.0 h.1.rule)
+
+  terminal_typed : (t : TerminalString) → Among made.grammar.terminals.all t
+      → is_some (at_terminal t made.grammar.types.terminal_types) ≡ true
+  terminal_typed t i =
+      ap (λ (es : List (TerminalString × TypeRepr)). is_some (at_terminal t es)) m.terminal_types
+      ∙ some_is (λ v. Among types.terminal_types (t, v)) (at_terminal t types.terminal_types)
+      (key_found (terminal_order.ghosts).cmp equal_terminals types.terminal_types t (subst (λ k. Among k t) m.terminals.all_are i))
+
   as_many : length made.grammar.action_fn_defns ≡ length made.origins
   as_many =
       ap length m.definitions ∙ lists_as_many types.nonterminal_types (rules_of w.items) ∙ sym (ap length m.origins)
@@ -120,9 +149,12 @@ module _ (finds : Text → Text → Option Bool) (w : Grammar) (types : Types) (
     productions = productions;
     nonterminals = nonterminals_lowered finds w types l made m;
     inlined = inlined_as_marked finds w types l made types.nonterminal_types (nonterminals_lowered finds w types l made m);
-    starts = subst (AreListedStarts w) (sym m.starts) (starts_listed w (names_apart finds w l.expanded l.ordered l.free_prefix));
-    types_are = types_lowered w (names_apart finds w l.expanded l.ordered l.free_prefix) types made.grammar.types l.typed
-        m.terminal_types m.nonterminal_types;
+    starts = subst (AreListedStarts w) (sym m.starts) (starts_listed w rows_apart);
+    types_are = types_made;
+    typed = record {
+      nonterminals = λ n d e. name_typed n ((nonterminals_lowered finds w types l made m).no_other n d e);
+      terminals = terminal_typed;
+    };
     terminals = terminals;
     sides = record { symbols = side_there; actions = action_there; as_many = as_many };
   }

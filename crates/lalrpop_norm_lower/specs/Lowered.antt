@@ -17,7 +17,7 @@ use Rattle.lalrpop_grammar_language.specs.Among.{Among}
 use Rattle.lalrpop_grammar_language.specs.Enabled.{Choice, EnabledGrammar, EnabledRule, has_attr}
 use Rattle.lalrpop_grammar_language.specs.Expansion.{GrammarSymbol, InExpansion, Nonterminal}
 use Rattle.lalrpop_grammar_repr.specs.Algorithms.{has_lalr}
-use Rattle.lalrpop_grammar_repr.specs.Maps.{at_name}
+use Rattle.lalrpop_grammar_repr.specs.Maps.{at_name, at_terminal}
 use Rattle.lalrpop_grammar_repr.specs.Productions.{IsAlone}
 use Rattle.lalrpop_grammar_repr.specs.declared.production.NonterminalData.{NonterminalData}
 use Rattle.lalrpop_grammar_repr.specs.declared.production.Production.{Production}
@@ -164,6 +164,13 @@ pub record AreSidesThere (made : Normalized) : Type 0 where
       → p.action < length made.grammar.action_fn_defns
   pub as_many : length made.grammar.action_fn_defns ≡ length made.origins
 
+-- each nonterminal and each terminal has a type
+pub record HasTypesOfAll (made : Normalized) : Type 0 where
+  pub nonterminals : (n : NonterminalString) (d : NonterminalData) → at_name n made.grammar.nonterminals ≡ Some d
+      → is_some (at_name n made.grammar.types.nonterminal_types) ≡ true
+  pub terminals : (t : TerminalString) → Among made.grammar.terminals.all t
+      → is_some (at_terminal t made.grammar.types.terminal_types) ≡ true
+
 -- The lowered grammar of an expanded one.
 pub record IsLowered (g : EnabledGrammar) (w : Grammar) (types : Types) (made : Normalized) : Type 0 where
   pub productions : AreProductions g (lowered_name w.prefix) (named_productions made.grammar.nonterminals)
@@ -172,6 +179,7 @@ pub record IsLowered (g : EnabledGrammar) (w : Grammar) (types : Types) (made : 
   pub inlined : AreInlinedAsMarked g w.prefix made.grammar.nonterminals
   pub starts : AreListedStarts w made.grammar.start_nonterminals
   pub types_are : AreLoweredTypes w types made.grammar.types
+  pub typed : HasTypesOfAll made
   pub terminals : AreLoweredTerminals w made.grammar.terminals
   pub sides : AreSidesThere made
 
