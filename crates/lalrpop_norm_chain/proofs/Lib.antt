@@ -1,0 +1,11 @@
+pub mod SourceLemmas
+pub mod PlainNameLemmas
+pub mod ActiveLemmas
+pub mod SubsymbolLemmas
+pub mod RecoveryLemmas
+pub mod PrefixLemmas
+pub mod KeyPrefixLemmas
+pub mod OrderLemmas
+pub mod ItemLemmas
+pub mod UsedLiteralLemmas
+pub mod ChainLemmas

@@ -1,0 +1,54 @@
+-- The passes one after the other, with what each promises of the grammar that it got; for the chain of all passes.
+use Rattle.std.specs.Prelude.{◌≡◌, Bool, List, Option}
+use Rattle.lalrpop_grammar_symbols.specs.Symbols.{Text, Closed}
+use Rattle.lalrpop_grammar_symbols.specs.declared.names.NonterminalString.{NonterminalString}
+use Rattle.lalrpop_grammar.specs.WrittenGrammar.{Grammar, rules_of}
+use Rattle.lalrpop_grammar_language.specs.Among.{Among}
+use Rattle.lalrpop_grammar_language.specs.Expansion.{Nonterminal}
+use Rattle.lalrpop_grammar_types.specs.declared.type_repr.TypeRepr.{TypeRepr}
+use Rattle.lalrpop_norm_expansion.specs.Between.{grammar_between, without_disabled}
+use Rattle.lalrpop_norm_expansion.specs.Premises.{IsReadGrammar, IsExpanded}
+use Rattle.lalrpop_norm_expansion.specs.Keys.{flat_key_text, IsNaming}
+use Rattle.lalrpop_norm_pass_laws.specs.KeyRules.{IsMacroExpansion}
+use Rattle.lalrpop_norm_back_laws.specs.KeyTypes.{DeclareKeyTypes}
+use Rattle.lalrpop_norm_name_laws.specs.NameFaults.{HasRightNames}
+use Rattle.lalrpop_norm_level_laws.specs.LevelFaults.{HasRightLevels}
+use Rattle.lalrpop_norm_levels.specs.LevelExpansions.{IsLevelExpansion}
+use Rattle.lalrpop_norm_entries.specs.Blocks.{block_groups}
+use Rattle.lalrpop_norm_entries.specs.Checked.{IsTokenChecked}
+use Rattle.lalrpop_norm_entries.specs.Places.{FirstPlaces}
+use Rattle.lalrpop_norm_types.specs.TypeFaults.{HasRuleTypes}
+use Rattle.lalrpop_norm_chain.specs.PremiseLaws.{resolved_part, entries_of_items}
+use Rattle.lalrpop_norm_chain.specs.Lowered.{LoweredGrammar, IsLoweredFrom}
+
+-- What the pass over macros makes of a leveled grammar: a rule for each key under a name of its own. All else stays.
+pub record IsMacroResult (finds : Text → Text → Option Bool) (g made : Grammar) : Type 0 where
+  pub key_of : Closed → Text
+  pub keys : List Closed
+  pub expansion : IsMacroExpansion (grammar_between finds g) (grammar_between finds made) key_of keys
+  pub types : DeclareKeyTypes (grammar_between finds g) (grammar_between finds made) key_of keys
+  pub expanded : IsExpanded (grammar_between finds made)
+  -- the keys' names, with those of starts, are names of the expansion
+  pub name_of : Nonterminal → Text
+  pub naming : IsNaming flat_key_text g.prefix (grammar_between finds g) name_of
+  pub named : (x : Closed) → Among keys x → name_of (Nonterminal.closed x) ≡ key_of x
+  pub prefix : made.prefix ≡ g.prefix
+  pub attributes : made.attributes ≡ g.attributes
+  pub block : block_groups made.items ≡ block_groups g.items
+  pub entries : entries_of_items made.items ≡ entries_of_items g.items
+
+-- The passes over what is disabled, names, levels, macros, tokens and types, and lowering, on a grammar that was read.
+pub record IsChain (finds : Text → Text → Option Bool) (features : List Text) (w : Grammar) (v : LoweredGrammar) : Type 0 where
+  pub read : IsReadGrammar w
+  pub right_names : HasRightNames (without_disabled features w)
+  pub right_levels : HasRightLevels (resolved_part features w)
+  pub leveled : Grammar
+  pub levels : IsLevelExpansion finds (resolved_part features w) leveled
+  pub expanded : Grammar
+  pub macros : IsMacroResult finds leveled expanded
+  pub first : FirstPlaces
+  pub checked : Grammar
+  pub tokens : IsTokenChecked first expanded checked
+  pub inferred : List (NonterminalString × TypeRepr)
+  pub types : HasRuleTypes (grammar_between finds checked) (rules_of checked.items) inferred
+  pub lowered : IsLoweredFrom checked (grammar_between finds checked) inferred v

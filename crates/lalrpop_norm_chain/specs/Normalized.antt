@@ -1,0 +1,64 @@
+-- What a normalized grammar is, over the written grammar and the features; and that the passes one after the other make one.
+use Rattle.std.specs.Prelude.{◌≡◌, ◌↔◌, Bool, List, Option, None, IsSomeAnd, codes}
+use Rattle.lalrpop_grammar_symbols.specs.Symbols.{Text, Terminal, Closed, Closeds}
+use Rattle.lalrpop_grammar_symbols.specs.declared.names.NonterminalString.{NonterminalString}
+use Rattle.lalrpop_grammar.specs.WrittenGrammar.{Grammar}
+use Rattle.lalrpop_grammar_language.specs.Among.{Among}
+use Rattle.lalrpop_grammar_language.specs.Enabled.{EnabledGrammar, EnabledRule, IsRule, has_attr, enabled_grammar}
+use Rattle.lalrpop_grammar_language.specs.Levels.{loosest}
+use Rattle.lalrpop_grammar_language.specs.Expansion.{GrammarSymbol, Nonterminal, InExpansion}
+use Rattle.lalrpop_grammar_repr.specs.Maps.{at_name}
+use Rattle.lalrpop_grammar_types.specs.declared.type_repr.TypeRepr.{TypeRepr}
+use Rattle.lalrpop_lexer_pattern.specs.Wins.{HasNoTie}
+use Rattle.lalrpop_norm_expansion.specs.Keys.{leveled_key_text, IsNaming}
+use Rattle.lalrpop_norm_expansion.specs.Productions.{NamedProduction, AreProductions}
+use Rattle.lalrpop_norm_expansion.specs.Inlined.{IsInlined}
+use Rattle.lalrpop_norm_expansion.specs.Types.{GroundType, IsGrounded}
+use Rattle.lalrpop_norm_entries.specs.Blocks.{block_groups}
+use Rattle.lalrpop_norm_entries.specs.Patterns.{first_refused, entry_patterns, entry_precedences}
+use Rattle.lalrpop_norm_types.specs.GroundViews.{type_repr_view}
+use Rattle.lalrpop_norm_types.specs.TypeFaults.{nonterminal_of}
+use Rattle.lalrpop_norm_chain.specs.UsedLiterals.{AreFullExpansionEntries}
+use Rattle.lalrpop_norm_chain.specs.Lowered.{LoweredGrammar, start_name, IsTerminalOf}
+use Rattle.lalrpop_norm_chain.specs.Chains.{IsChain}
+
+-- The table has the type of each nonterminal by its name: the one that it can have, and a start its rule's.
+pub record HasExpansionTypes (g : EnabledGrammar) (name_of : Nonterminal → Text) (table : List (NonterminalString × TypeRepr)) :
+    Type 0 where
+  pub typed : (x : Closed) → InExpansion g (Nonterminal.closed x)
+      → IsSomeAnd (at_name (nonterminal_of (name_of (Nonterminal.closed x))) table) (λ t. IsGrounded g x (type_repr_view t))
+  pub once : (x : Closed) (t u : GroundType) → InExpansion g (Nonterminal.closed x) → IsGrounded g x t → IsGrounded g x u → t ≡ u
+  pub starts : (n : Text) (r : EnabledRule) → InExpansion g (Nonterminal.start n) → IsRule g n r
+      → at_name (nonterminal_of (name_of (Nonterminal.start n))) table
+      ≡ at_name (nonterminal_of (name_of (Nonterminal.closed (Closed.call n Closeds.none (loosest r))))) table
+
+-- The lowered grammar is the written one's, with what the features leave of it.
+pub record IsNormalized (finds : Text → Text → Option Bool) (features : List Text) (w : Grammar) (v : LoweredGrammar) : Type 0 where
+  -- names of the expansion's nonterminals, which the fields below speak by
+  pub name_of : Nonterminal → Text
+  pub naming : IsNaming (leveled_key_text (enabled_grammar finds features w)) w.prefix (enabled_grammar finds features w) name_of
+  pub prefix : v.prefix ≡ w.prefix
+  -- one production, origin and action for each written choice
+  pub productions : AreProductions (enabled_grammar finds features w) name_of v.productions v.origins
+  pub nonterminals : (n : Text) → Among v.nonterminals n
+      ↔ ((x : Nonterminal) × InExpansion (enabled_grammar finds features w) x × (name_of x ≡ n))
+  -- a start for each public rule that is no macro, and none on a right side
+  pub starts : (n m : Text) → Among v.starts (n, m)
+      ↔ (InExpansion (enabled_grammar finds features w) (Nonterminal.start n) × (m ≡ start_name w.prefix n))
+  pub starts_alone : (n : Text) (p : NamedProduction) → InExpansion (enabled_grammar finds features w) (Nonterminal.start n)
+      → Among v.productions p → Among p.symbols (GrammarSymbol.nonterminal (start_name w.prefix n)) → ⊥
+  pub inlined : (x : Nonterminal) → InExpansion (enabled_grammar finds features w) x
+      → Among v.inlined (name_of x) ↔ IsInlined (enabled_grammar finds features w) x
+  pub terminals : (t : Terminal) → Among v.terminals t ↔ IsTerminalOf v t
+  pub types : HasExpansionTypes (enabled_grammar finds features w) name_of v.types
+  pub lalr : v.lalr ≡ has_attr (codes "LALR") w.attributes
+  -- the tokenizer's entries, none of which is refused, and no two tie
+  pub entries : AreFullExpansionEntries (enabled_grammar finds features w) (block_groups w.items) v.entries
+  pub none_refused : first_refused v.entries ≡ None
+  pub unambiguous : HasNoTie (entry_patterns v.entries) (entry_precedences v.entries)
+
+-- where each pass says what it promises, the last one's grammar is normalized
+abbrev pub ChainsNormalize : Type 0
+ChainsNormalize =
+    (finds : Text → Text → Option Bool) (features : List Text) (w : Grammar) (v : LoweredGrammar) → IsChain finds features w v
+    → IsNormalized finds features w v
