@@ -84,7 +84,8 @@ zip_front (x ∷ xs) [] p i = absurd i
 zip_front (x ∷ xs) (y ∷ ys) p (inl e) = inl (ap (λ z. z.0) e)
 zip_front (x ∷ xs) (y ∷ ys) p (inr i) = inr (zip_front xs ys p i)
 
-leveled_asks : (f : Text → ℕ → Text) (g : Grammar) → ((r : Rule) → Among (rules_of g.items) r → AsksNothing r) → (r : Rule) →
+leveled_asks : (f : Text → ℕ → Text) (g : Grammar) → ((r : Rule) → Among (rules_of g.items) r → AsksNothing r) →
+    (r : Rule) →
     Among (rules_of (leveled_grammar f g).items) r → AsksNothing r
 leveled_asks f g h r i =
     let u = leveled_source f g r i in subst AsksNothing u.is_it (of_key u.rule u.level (h u.rule u.among))

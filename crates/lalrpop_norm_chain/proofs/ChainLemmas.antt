@@ -1,5 +1,6 @@
 -- The passes one after the other make a normalized grammar; for the law of chains.
-use Rattle.std.proofs.Common.{◌≡◌, ℕ, zero, suc, List, [], ◌∷◌, ◌++◌, refl, ap, ap₂, sym, ◌∙◌, subst, Bool, false, inl, inr}
+use Rattle.std.proofs.Common.{◌≡◌, ℕ, zero, suc, List, [], ◌∷◌, ◌++◌, refl, ap, ap₂, sym, ◌∙◌, subst}
+use Rattle.std.proofs.Common.{Bool, false, inl, inr}
 use Rattle.std.specs.Prelude.{Option, Some, None, IsSomeAnd, codes, map, flat_map, ◌↔◌}
 use Rattle.std.proofs.lemmas.List.{append-nil, append_assoc}
 use Rattle.lalrpop_grammar_symbols.specs.Symbols.{Text, Op, Closed, Closeds, closed_list}
@@ -17,7 +18,7 @@ use Rattle.lalrpop_norm_level_laws.proofs.LevelOrderLemmas.{one_rule}
 use Rattle.lalrpop_norm_entries.specs.Patterns.{first_refused, entry_patterns, entry_precedences}
 use Rattle.lalrpop_norm_chain.specs.UsedLiterals.{AreFullExpansionEntries}
 use Rattle.lalrpop_norm_chain.proofs.PlainNameLemmas.{names_plain, read_tells_resolved}
-use Rattle.lalrpop_norm_chain.proofs.ItemLemmas.{block_stays, no_tokenizer}
+use Rattle.lalrpop_norm_chain.proofs.ItemLemmas.{no_tokenizer}
 use Rattle.lalrpop_norm_chain.proofs.UsedLiteralLemmas.{full_entries}
 use Rattle.lalrpop_grammar_language.specs.Levels.{loosest, has_levels}
 use Rattle.lalrpop_grammar_language.specs.Expansion.{GrammarSymbol, Nonterminal, RightSide, InExpansion, HasLevel, Produces}
@@ -31,19 +32,15 @@ use Rattle.lalrpop_norm_expansion.specs.Keys.{leveled_key_text, flat_key_text, I
 use Rattle.lalrpop_norm_expansion.specs.Inlined.{IsInlined, SameInlined}
 use Rattle.lalrpop_norm_expansion.specs.Productions.{NamedProduction}
 use Rattle.lalrpop_norm_expansion.specs.Types.{IsGrounded, SameTypes}
-use Rattle.lalrpop_norm_expansion.proofs.PassLemmas.{SameExpansion-trans, productions_before}
+use Rattle.lalrpop_norm_expansion.proofs.PassLemmas.{productions_before}
 use Rattle.lalrpop_norm_expansion.proofs.ExpansionListLemmas.{rule_there}
 use Rattle.lalrpop_norm_pass_laws.specs.KeyRules.{by_name, nonterminal_by_name}
 use Rattle.lalrpop_norm_pass_laws.specs.LevelRules.{by_level_names}
-use Rattle.lalrpop_norm_pass_laws.proofs.KeyRuleLemmas.{key_called, in_keys, expanded, expanded_inlined}
-use Rattle.lalrpop_norm_name_laws.proofs.DroppingLemmas.{dropping_expansion, dropping_inlined, dropping_types, dropped_names}
-use Rattle.lalrpop_norm_name_laws.proofs.ResolvingLemmas.{resolving_expansion, resolving_inlined, resolving_types, resolved_names}
-use Rattle.lalrpop_norm_name_laws.proofs.ResolvedLemmas.{right_names_resolve}
-use Rattle.lalrpop_norm_level_laws.specs.LevelLaws.{nonterminal_by_level, IsLevelable}
-use Rattle.lalrpop_norm_back_laws.proofs.LevelTypeLemmas.{levels_keep}
+use Rattle.lalrpop_norm_pass_laws.proofs.KeyRuleLemmas.{key_called, in_keys}
+use Rattle.lalrpop_norm_name_laws.proofs.DroppingLemmas.{dropped_names}
+use Rattle.lalrpop_norm_name_laws.proofs.ResolvingLemmas.{resolved_names}
+use Rattle.lalrpop_norm_level_laws.specs.LevelLaws.{nonterminal_by_level}
 use Rattle.lalrpop_norm_back_laws.proofs.NameBackLemmas.{names_back}
-use Rattle.lalrpop_norm_back_laws.proofs.KeyStepLemmas.{macros_keep_types}
-use Rattle.lalrpop_norm_back_laws.proofs.ComposedTypeLemmas.{types_composed}
 use Rattle.lalrpop_norm_entries.specs.Blocks.{block_groups}
 use Rattle.lalrpop_norm_entries.specs.Entries.{with_entries}
 use Rattle.lalrpop_norm_types.specs.GroundViews.{type_repr_view}
@@ -51,6 +48,8 @@ use Rattle.lalrpop_norm_types.specs.TypeFaults.{nonterminal_of, rule_symbol}
 use Rattle.lalrpop_norm_chain.specs.PremiseLaws.{resolved_part, entries_of_items}
 use Rattle.lalrpop_norm_chain.specs.Lowered.{LoweredGrammar, start_name}
 use Rattle.lalrpop_norm_chain.specs.Chains.{IsChain}
+use Rattle.lalrpop_norm_chain.proofs.FrontLemmas.{levelable, same_leveled, same_expanded, prefix_leveled, block_is, inlined_expanded}
+use Rattle.lalrpop_norm_chain.proofs.FrontLemmas.{types_expanded}
 use Rattle.lalrpop_norm_chain.specs.Normalized.{HasExpansionTypes, IsNormalized}
 
 -- the tokenizer behind the items
@@ -141,7 +140,8 @@ no_start_inside g x o side n p i =
     part-whole z.0 n z.2
 
 -- a start is a root, so its rule has no parameters
-start_plain : (g : EnabledGrammar) (n : Text) (r : EnabledRule) → InExpansion g (Nonterminal.start n) → IsRule g n r → r.parameters ≡ []
+start_plain : (g : EnabledGrammar) (n : Text) (r : EnabledRule) → InExpansion g (Nonterminal.start n) → IsRule g n r →
+    r.parameters ≡ []
 start_plain g n r (zero, inl b) is =
     let p : Produces g (Nonterminal.start b.0) Origin.start b.1 = b.3 in
     let same : n ≡ b.0 = start_is n b.0 b.2 in
@@ -157,22 +157,12 @@ some_so : {A : Type 0} (o : Option A) (P Q : A → Type 0) → ((a : A) → P a 
 some_so None P Q f h = absurd h
 some_so (Some a) P Q f h = f a h
 
-inlined_trans : (g h k : EnabledGrammar) (f e : Nonterminal → Nonterminal) → SameExpansion g h f → SameInlined g h f →
-    SameInlined h k e → SameInlined g k (λ x. e (f x))
-inlined_trans g h k f e s a b x i = (
-  λ j. (b (f x) (s.there x i)).0 ((a x i).0 j),
-  λ j. (a x i).1 ((b (f x) (s.there x i)).1 j),
-)
-
 -- the chain
 
 module _ (finds : Text → Text → Option Bool) (features : List Text) (w : Grammar) (v : LoweredGrammar) (c : IsChain finds features w v)
   where
     abbrev written : EnabledGrammar
     written = enabled_grammar finds features w
-
-    abbrev left : EnabledGrammar
-    left = grammar_between finds (without_disabled features w)
 
     abbrev resolved : EnabledGrammar
     resolved = grammar_between finds (resolved_part features w)
@@ -187,10 +177,10 @@ module _ (finds : Text → Text → Option Bool) (features : List Text) (w : Gra
     checked = grammar_between finds c.checked
 
     abbrev level_of : Text → ℕ → Text
-    level_of = c.levels.names
+    level_of = c.front.levels.names
 
     abbrev key_of : Closed → Text
-    key_of = c.macros.key_of
+    key_of = c.front.macros.key_of
 
     abbrev to : Nonterminal → Nonterminal
     to x = nonterminal_by_name key_of (nonterminal_by_level level_of x)
@@ -201,84 +191,69 @@ module _ (finds : Text → Text → Option Bool) (features : List Text) (w : Gra
     checked_is : checked ≡ expanded_one
     checked_is = ap (grammar_between finds) c.tokens.whole ∙ between_behind finds c.tokens.entries c.expanded
 
-    levelable : IsLevelable finds (resolved_part features w) level_of
-    levelable = record {
-      resolved = right_names_resolve finds (without_disabled features w) c.right_names;
-      right = c.right_levels;
-      names = c.levels.are_names;
-    }
-
-    same_resolved : SameExpansion written resolved (λ x. x)
-    same_resolved =
-        SameExpansion-trans written left resolved (λ x. x) (λ x. x) (dropping_expansion finds features w c.read)
-        (resolving_expansion finds (without_disabled features w))
-
-    same_leveled : SameExpansion written leveled (nonterminal_by_level level_of)
-    same_leveled =
-        SameExpansion-trans written resolved leveled (λ x. x) (nonterminal_by_level level_of) same_resolved
-        (c.levels.expansion (read_tells_resolved features w c.read))
-
-    key_expansion : SameExpansion leveled expanded_one (nonterminal_by_name key_of)
-    key_expansion = expanded leveled expanded_one key_of c.macros.keys c.macros.expansion
-
-    same_expanded : SameExpansion written expanded_one to
-    same_expanded =
-        SameExpansion-trans written leveled expanded_one (nonterminal_by_level level_of) (nonterminal_by_name key_of) same_leveled
-        key_expansion
-
     pub same_checked : SameExpansion written checked to
-    same_checked = subst (λ (g : EnabledGrammar). SameExpansion written g to) (sym checked_is) same_expanded
+    same_checked = subst (λ (g : EnabledGrammar). SameExpansion written g to) (sym checked_is)
+        (same_expanded finds features w c.leveled c.expanded c.front)
 
     expanded_still : IsExpanded checked
-    expanded_still = subst IsExpanded (sym checked_is) c.macros.expanded
+    expanded_still = subst IsExpanded (sym checked_is) c.front.macros.expanded
 
     -- prefixes
 
-    prefix_leveled : c.leveled.prefix ≡ w.prefix
-    prefix_leveled = ap (λ (g : Grammar). g.prefix) c.levels.value
-
     prefix_lowered : v.prefix ≡ c.leveled.prefix
-    prefix_lowered = c.lowered.prefix_is ∙ ap (λ (g : Grammar). g.prefix) c.tokens.whole ∙ c.macros.prefix
+    prefix_lowered = c.lowered.prefix_is ∙ ap (λ (g : Grammar). g.prefix) c.tokens.whole ∙ c.front.macros.prefix
+
+    prefix_written : v.prefix ≡ w.prefix
+    prefix_written = prefix_lowered ∙ prefix_leveled finds features w c.leveled c.expanded c.front
+
+    attributes_are : c.checked.attributes ≡ w.attributes
+    attributes_are =
+        ap (λ (g : Grammar). g.attributes) c.tokens.whole ∙ c.front.macros.attributes
+        ∙ ap (λ (g : Grammar). g.attributes) c.front.levels.value
 
     -- names
 
     abbrev name_of : Nonterminal → Text
     name_of x = c.lowered.name_of (to x)
 
-    key_name : (x : Closed) → Among c.macros.keys x → c.lowered.name_of (Nonterminal.closed (by_name key_of x)) ≡ key_of x
+    key_name : (x : Closed) → Among c.front.macros.keys x → c.lowered.name_of (Nonterminal.closed (by_name key_of x)) ≡ key_of x
     key_name x k =
-        ap (λ (y : Closed). c.lowered.name_of (Nonterminal.closed y)) (key_called key_of x (c.macros.expansion.keys_only x k))
+        ap (λ (y : Closed). c.lowered.name_of (Nonterminal.closed y)) (key_called key_of x (c.front.macros.expansion.keys_only x k))
         ∙ c.lowered.rule_names (key_of x)
 
-    names_agree : (x : Nonterminal) → InExpansion leveled x → c.macros.name_of x ≡ c.lowered.name_of (nonterminal_by_name key_of x)
+    names_agree : (x : Nonterminal) → InExpansion leveled x →
+        c.front.macros.name_of x ≡ c.lowered.name_of (nonterminal_by_name key_of x)
     names_agree (Nonterminal.start n) i =
-        c.macros.naming.starts n i ∙ ap (λ (p : Text). p ++ n) (sym prefix_lowered) ∙ sym (c.lowered.start_names n)
+        c.front.macros.naming.starts n i ∙ ap (λ (p : Text). p ++ n) (sym prefix_lowered) ∙ sym (c.lowered.start_names n)
     names_agree (Nonterminal.closed x) i =
-        let k = in_keys leveled expanded_one key_of c.macros.keys c.macros.expansion x i in c.macros.named x k ∙ sym (key_name x k)
+        let k = in_keys leveled expanded_one key_of c.front.macros.keys c.front.macros.expansion x i in
+        c.front.macros.named x k ∙ sym (key_name x k)
 
     rule_reached : (r : EnabledRule) → IsRule leveled r.name r → r.parameters ≡ [] →
         InExpansion leveled (Nonterminal.closed (Closed.call r.name Closeds.none (loosest r)))
     rule_reached r is ps =
-        let flat : has_levels r ≡ false = c.levels.flat r (rule_there leveled r.name r is).0 in
+        let flat : has_levels r ≡ false = c.front.levels.flat r (rule_there leveled r.name r is).0 in
         (zero, inr (r, loosest r, is, ps, subst (HasLevel r) (sym (no_loosest r flat)) flat, refl))
 
     named_leveled : IsNaming flat_key_text c.leveled.prefix leveled (λ x. c.lowered.name_of (nonterminal_by_name key_of x))
     named_leveled =
-        naming_same flat_key_text c.leveled.prefix leveled c.macros.name_of (λ x. c.lowered.name_of (nonterminal_by_name key_of x))
-        names_agree rule_reached c.macros.naming
+        naming_same flat_key_text c.leveled.prefix leveled c.front.macros.name_of (λ x. c.lowered.name_of (nonterminal_by_name key_of x))
+        names_agree rule_reached c.front.macros.naming
 
     named_resolved : IsNaming (leveled_key_text resolved) w.prefix resolved name_of
     named_resolved =
-        names_back finds (resolved_part features w) level_of w.prefix (λ x. c.lowered.name_of (nonterminal_by_name key_of x)) levelable
-        (read_tells_resolved features w c.read) (names_plain features w c.read)
+        names_back finds (resolved_part features w) level_of w.prefix (λ x. c.lowered.name_of (nonterminal_by_name key_of x))
+        (levelable finds features w c.leveled c.expanded c.front)
+        (read_tells_resolved features w c.front.read) (names_plain features w c.front.read)
         (subst (λ (g : Grammar). IsNaming flat_key_text w.prefix (grammar_between finds g)
-        (λ x. c.lowered.name_of (nonterminal_by_name key_of x))) c.levels.value
-        (subst (λ (p : Text). IsNaming flat_key_text p leveled (λ x. c.lowered.name_of (nonterminal_by_name key_of x))) prefix_leveled
+        (λ x. c.lowered.name_of (nonterminal_by_name key_of x))) c.front.levels.value
+        (subst (λ (p : Text). IsNaming flat_key_text p leveled (λ x. c.lowered.name_of (nonterminal_by_name key_of x)))
+        (prefix_leveled finds features w c.leveled c.expanded c.front)
         named_leveled))
 
     named : IsNaming (leveled_key_text written) w.prefix written name_of
     named =
-        dropped_names finds features w w.prefix name_of c.read
+        dropped_names finds features w w.prefix name_of c.front.read
         (resolved_names finds (without_disabled features w) w.prefix name_of named_resolved)
 
     -- what stands for a nonterminal of the expanded grammar
@@ -293,13 +268,14 @@ module _ (finds : Text → Text → Option Bool) (features : List Text) (w : Gra
     has_rule : (x : Closed) → InExpansion written (Nonterminal.closed x) → HasRule x
     has_rule x i =
         let y = by_level_names level_of x in
-        let k = in_keys leveled expanded_one key_of c.macros.keys c.macros.expansion y (same_leveled.there (Nonterminal.closed x) i) in
-        let u = c.macros.expansion.rules y k in
+        let k = in_keys leveled expanded_one key_of c.front.macros.keys c.front.macros.expansion y
+        ((same_leveled finds features w c.leveled c.expanded c.front).there (Nonterminal.closed x) i) in
+        let u = c.front.macros.expansion.rules y k in
         record {
           name = key_of y;
           rule = u.0;
           is_rule = subst (λ (g : EnabledGrammar). IsRule g (key_of y) u.0) (sym checked_is) u.1;
-          becomes = key_called key_of y (c.macros.expansion.keys_only y k);
+          becomes = key_called key_of y (c.front.macros.expansion.keys_only y k);
         }
 
     name_is : (x : Closed) (u : HasRule x) → name_of (Nonterminal.closed x) ≡ u.name
@@ -341,11 +317,7 @@ module _ (finds : Text → Text → Option Bool) (features : List Text) (w : Gra
     inlined_checked : SameInlined written checked to
     inlined_checked =
         subst (λ (g : EnabledGrammar). SameInlined written g to) (sym checked_is)
-        (inlined_trans written leveled expanded_one (nonterminal_by_level level_of) (nonterminal_by_name key_of) same_leveled
-        (inlined_trans written resolved leveled (λ x. x) (nonterminal_by_level level_of) same_resolved
-        (inlined_trans written left resolved (λ x. x) (λ x. x) (dropping_expansion finds features w c.read)
-        (dropping_inlined finds features w c.read) (resolving_inlined finds (without_disabled features w))) c.levels.inlined)
-        (expanded_inlined leveled expanded_one key_of c.macros.keys c.macros.expansion))
+        (inlined_expanded finds features w c.leveled c.expanded c.front)
 
     inlined_alike : (x : Nonterminal) → InExpansion written x → Among v.inlined (name_of x) ↔ IsInlined written x
     inlined_alike (Nonterminal.start n) i = (
@@ -368,27 +340,13 @@ module _ (finds : Text → Text → Option Bool) (features : List Text) (w : Gra
 
     -- types
 
-    types_resolved : SameTypes written resolved (λ x. x)
-    types_resolved =
-        types_composed written left resolved (λ x. x) (λ x. x)
-        (λ x i. (dropping_expansion finds features w c.read).there (Nonterminal.closed x) i)
-        (dropping_types finds features w c.read) (resolving_types finds (without_disabled features w))
-
-    types_leveled : SameTypes written leveled (by_level_names level_of)
-    types_leveled =
-        types_composed written resolved leveled (λ x. x) (by_level_names level_of)
-        (λ x i. same_resolved.there (Nonterminal.closed x) i) types_resolved
-        (subst (λ (g : Grammar). SameTypes resolved (grammar_between finds g) (by_level_names level_of)) (sym c.levels.value)
-        (λ x t i. levels_keep finds (resolved_part features w) level_of levelable x t i))
-
     pub types_checked : SameTypes written checked closed_to
     types_checked =
         subst (λ (g : EnabledGrammar). SameTypes written g closed_to) (sym checked_is)
-        (types_composed written leveled expanded_one (by_level_names level_of) (by_name key_of)
-        (λ x i. same_leveled.there (Nonterminal.closed x) i) types_leveled
-        (macros_keep_types leveled expanded_one key_of c.macros.keys c.macros.expansion c.macros.types))
+        (types_expanded finds features w c.leveled c.expanded c.front)
 
-    written_rule_of : (n : Text) (r : EnabledRule) → IsRule checked n r → (q : Rule) × Among (rules_of c.checked.items) q × (q.name ≡ n)
+    written_rule_of : (n : Text) (r : EnabledRule) → IsRule checked n r →
+        (q : Rule) × Among (rules_of c.checked.items) q × (q.name ≡ n)
     written_rule_of n r is =
         let there = rule_there checked n r is in
         let q = among_map rule_between (rules_of c.checked.items) r there.0 in
@@ -435,23 +393,22 @@ module _ (finds : Text → Text → Option Bool) (features : List Text) (w : Gra
         c.lowered.entries ∙ ap (λ (g : Grammar). entries_of_items g.items) c.tokens.whole
         ∙ entries_behind c.expanded.items c.tokens.entries
         ∙ ap (λ l. l ++ c.tokens.entries)
-        (c.macros.entries ∙ ap (λ (g : Grammar). entries_of_items g.items) c.levels.value ∙ no_tokenizer features w level_of c.read)
-
-    block_is : block_groups c.expanded.items ≡ block_groups w.items
-    block_is =
-        c.macros.block ∙ ap (λ (g : Grammar). block_groups g.items) c.levels.value ∙ block_stays features w level_of
+        (c.front.macros.entries ∙ ap (λ (g : Grammar). entries_of_items g.items) c.front.levels.value
+        ∙ no_tokenizer features w level_of c.front.read)
 
     entries_full : AreFullExpansionEntries written (block_groups w.items) v.entries
     entries_full =
         subst (λ (es : List InternEntry). AreFullExpansionEntries written (block_groups w.items) es) (sym entries_are)
-        (subst (λ (b : Option (List (List WrittenEntry))). AreFullExpansionEntries written b c.tokens.entries) block_is
-        (full_entries finds c.expanded c.macros.expanded written to same_expanded c.tokens.entries c.tokens.are_checked.are_full))
+        (subst (λ (b : Option (List (List WrittenEntry))). AreFullExpansionEntries written b c.tokens.entries)
+        (block_is finds features w c.leveled c.expanded c.front)
+        (full_entries finds c.expanded c.front.macros.expanded written to (same_expanded finds features w c.leveled c.expanded c.front)
+        c.tokens.entries c.tokens.are_checked.are_full))
 
     pub normalized : IsNormalized finds features w v
     normalized = record {
       name_of = name_of;
       naming = named;
-      prefix = prefix_lowered ∙ prefix_leveled;
+      prefix = prefix_written;
       productions = productions_before written checked to c.lowered.name_of v.productions v.origins same_checked c.lowered.productions;
       nonterminals = λ n. (
         λ a. let y = (c.lowered.nonterminals n).0 a in
@@ -461,16 +418,15 @@ module _ (finds : Text → Text → Option Bool) (features : List Text) (w : Gra
       );
       starts = λ n m. (
         λ a. let u = (c.lowered.starts n m).0 a in
-            (start_from n u.0, u.1 ∙ ap (λ (p : Text). start_name p n) (prefix_lowered ∙ prefix_leveled)),
+            (start_from n u.0, u.1 ∙ ap (λ (p : Text). start_name p n) prefix_written),
         λ a. (c.lowered.starts n m).1
-            (same_checked.there (Nonterminal.start n) a.0, a.1 ∙ ap (λ (p : Text). start_name p n) (sym (prefix_lowered ∙ prefix_leveled))),
+            (same_checked.there (Nonterminal.start n) a.0, a.1 ∙ ap (λ (p : Text). start_name p n) (sym prefix_written)),
       );
       starts_alone = alone;
       inlined = inlined_alike;
       terminals = c.lowered.terminals;
       types = types_are;
-      lalr = c.lowered.lalr ∙ ap (has_attr (codes "LALR"))
-          (ap (λ (g : Grammar). g.attributes) c.tokens.whole ∙ c.macros.attributes ∙ ap (λ (g : Grammar). g.attributes) c.levels.value);
+      lalr = c.lowered.lalr ∙ ap (has_attr (codes "LALR")) attributes_are;
       entries = entries_full;
       none_refused = ap first_refused entries_are ∙ c.tokens.are_checked.none_refused;
       unambiguous = subst (λ (es : List InternEntry). HasNoTie (entry_patterns es) (entry_precedences es)) (sym entries_are)

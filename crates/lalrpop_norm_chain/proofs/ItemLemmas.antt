@@ -44,7 +44,8 @@ rules_alone : (rs : List Rule) (items : List WrittenItem) → block_groups (map 
 rules_alone [] items = refl
 rules_alone (r ∷ rs) items = rules_alone rs items
 
-block_leveled : (f : Text → ℕ → Text) (items : List WrittenItem) → block_groups (flat_map (leveled_item f) items) ≡ block_groups items
+block_leveled : (f : Text → ℕ → Text) (items : List WrittenItem) →
+    block_groups (flat_map (leveled_item f) items) ≡ block_groups items
 block_leveled f [] = refl
 block_leveled f (WrittenItem.match_token groups place ∷ items) = refl
 block_leveled f (WrittenItem.extern_token block ∷ items) = block_leveled f items

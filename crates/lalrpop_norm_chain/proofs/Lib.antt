@@ -8,4 +8,5 @@ pub mod KeyPrefixLemmas
 pub mod OrderLemmas
 pub mod ItemLemmas
 pub mod UsedLiteralLemmas
+pub mod FrontLemmas
 pub mod ChainLemmas

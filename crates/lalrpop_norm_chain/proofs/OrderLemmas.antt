@@ -1,6 +1,6 @@
 -- Alternatives stand by their origins, from the reading to the rules of keys; for the laws of what passes leave.
-use Rattle.std.proofs.Common.{◌≡◌, ℕ, suc, ◌≤◌, ◌<◌, ◌+◌, List, [], ◌∷◌, ◌++◌, refl, ap, sym, ◌∙◌, subst, cond}
-use Rattle.std.proofs.Common.{Bool, true, false, inl, inr, ◌⊎◌, arith}
+use Rattle.std.proofs.Common.{◌≡◌, ℕ, suc, ◌≤◌, ◌<◌, ◌+◌, List, [], ◌∷◌, ◌++◌, refl, ap, sym, ◌∙◌}
+use Rattle.std.proofs.Common.{subst, cond, Bool, true, false, inl, inr, ◌⊎◌, arith}
 use Rattle.std.specs.Prelude.{Option, Some, None, map, filter, zip}
 use Rattle.lalrpop_grammar_symbols.specs.Symbols.{Text, Argument, Op, Closed, Closeds}
 use Rattle.lalrpop_grammar.specs.WrittenGrammar.{Alternative, Origin, Rule, Grammar, rules_of}

@@ -72,7 +72,8 @@ pub record IsRenamed (f : Text → ℕ → Text) (s : Scope) (xs : List WrittenS
   pub among : Among xs from
   pub is_it : rename_occurrences f s after from ≡ y
 
-inside : (f : Text → ℕ → Text) (s : Scope) (x : WrittenSymbol) (xs : List WrittenSymbol) (y : WrittenSymbol) → IsRenamed f s xs y →
+inside : (f : Text → ℕ → Text) (s : Scope) (x : WrittenSymbol) (xs : List WrittenSymbol) (y : WrittenSymbol) →
+    IsRenamed f s xs y →
     IsRenamed f s (x ∷ xs) y
 inside f s x xs y u = record { from = u.from; after = u.after; among = inr u.among; is_it = u.is_it }
 

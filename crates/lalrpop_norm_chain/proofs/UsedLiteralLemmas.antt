@@ -27,7 +27,7 @@ use Rattle.lalrpop_lexer_scan.specs.Literals.{first_span, IsBefore, IsAscending}
 use Rattle.lalrpop_norm_entries.specs.Blocks.{block_groups}
 use Rattle.lalrpop_norm_entries.specs.Entries.{AreUsed, AreEntries, AreFullEntries}
 use Rattle.lalrpop_norm_types.proofs.ExpandedLemmas.{rule_among, ranked_among, IsRuleKey, reached_key}
-use Rattle.lalrpop_norm_chain.specs.UsedLiterals.{IsLiteral, IsUsedLiteral, AreAscending, AreUsedLiterals, AreExpansionEntries}
+use Rattle.lalrpop_norm_chain.specs.UsedLiterals.{IsLiteralTerminal, IsUsedLiteral, AreAscending, AreUsedLiterals, AreExpansionEntries}
 use Rattle.lalrpop_norm_chain.specs.UsedLiterals.{AreFullExpansionEntries}
 
 -- lists of literals
@@ -48,7 +48,8 @@ same_is (Terminal.bare s) (Terminal.bare t) h = ap Terminal.bare (same_text-eq s
 same_is Terminal.error Terminal.error h = refl
 same_is _ _ h = cc
 
-found : (us : List LiteralUse) (t : Terminal) (o : Option (ℕ × ℕ)) → first_span us t ≡ o → is_some o ≡ true → Among (literals us) t
+found : (us : List LiteralUse) (t : Terminal) (o : Option (ℕ × ℕ)) → first_span us t ≡ o → is_some o ≡ true →
+    Among (literals us) t
 found [] t o e s = let wrong : None ≡ o = e in absurd (none_some o wrong s)
   where
     none_some : (o : Option (ℕ × ℕ)) → None ≡ o → is_some o ≡ true → ⊥
@@ -122,7 +123,7 @@ among_close s k (z ∷ xs) c (inr i) =
 
 -- a literal in an expanded symbol, and what that closes to
 pub record StandsThere (c : Closed) (t : Terminal) : Type 0 where
-  pub literal : IsLiteral t
+  pub literal : IsLiteralTerminal t
   pub closed : grammar_symbol c ≡ GrammarSymbol.terminal t
   pub sound : is_sound c ≡ true
 
@@ -158,7 +159,7 @@ module _ (h : EnabledGrammar) where
   abbrev terminal_symbol : Terminal → GrammarSymbol Nonterminal
   terminal_symbol t = GrammarSymbol.terminal t
 
-  no_literal : (n : Text) (t : Terminal) → IsLiteral t → terminal_symbol (Terminal.bare n) ≡ terminal_symbol t → ⊥
+  no_literal : (n : Text) (t : Terminal) → IsLiteralTerminal t → terminal_symbol (Terminal.bare n) ≡ terminal_symbol t → ⊥
   no_literal n (Terminal.quoted s) l e = cc
   no_literal n (Terminal.regex s) l e = cc
   no_literal n (Terminal.bare s) l e = l
@@ -169,18 +170,18 @@ module _ (h : EnabledGrammar) where
   no_plain n level [] t e = cc
   no_plain n level (p ∷ ps) t e = cc
 
-  no_meaning : (s : Scope) (k : ℕ) (n : Text) (m : Meaning) (t : Terminal) → IsLiteral t →
+  no_meaning : (s : Scope) (k : ℕ) (n : Text) (m : Meaning) (t : Terminal) → IsLiteralTerminal t →
       grammar_symbol (plain_name s k n m) ≡ GrammarSymbol.terminal t → ⊥
   no_meaning s k n (Meaning.rule r) t l e = no_plain n (call_level s k n r) r.parameters t e
   no_meaning s k n Meaning.terminal t l e = no_literal n t l e
   no_meaning s k n Meaning.unclear t l e = cc
 
-  bare_meaning : (b : Bool) (n : Text) (t : Terminal) → IsLiteral t →
+  bare_meaning : (b : Bool) (n : Text) (t : Terminal) → IsLiteralTerminal t →
       grammar_symbol (cond b (Closed.terminal (Terminal.bare n)) Closed.faulty) ≡ GrammarSymbol.terminal t → ⊥
   bare_meaning true n t l e = no_literal n t l e
   bare_meaning false n t l e = cc
 
-  stands_use : (s : Scope) (k : ℕ) (x : WrittenSymbol) (t : Terminal) → IsExpandedSymbol h x → IsLiteral t →
+  stands_use : (s : Scope) (k : ℕ) (x : WrittenSymbol) (t : Terminal) → IsExpandedSymbol h x → IsLiteralTerminal t →
       grammar_symbol (close s k x) ≡ GrammarSymbol.terminal t → IsUse x t
   stands_use s k (Sym.terminal p (Terminal.quoted a)) t e l f =
       let same : Terminal.quoted a ≡ t = cc in (record { literal = Terminal.quoted a; span = p }, inl refl, same)
@@ -276,7 +277,7 @@ module _ (finds : Text → Text → Option Bool) (m : Grammar) (w : IsExpanded (
       subst (IsUsedLiteral after) u.2 (use_produced q.0 q.1 a.0 a.1 u.0 a.2)
 
   -- and back
-  of_alternative : (n : Text) (o : Origin) (side : RightSide) (t : Terminal) → IsLiteral t →
+  of_alternative : (n : Text) (o : Origin) (side : RightSide) (t : Terminal) → IsLiteralTerminal t →
       ByAlternative after n Closeds.none None o side → Among side (GrammarSymbol.terminal t) →
       Among (literals (uses_in_grammar m)) t
   of_alternative n o side t l b i =
@@ -304,7 +305,7 @@ module _ (finds : Text → Text → Option Bool) (m : Grammar) (w : IsExpanded (
   no_pass : (n : Text) (o : Origin) (side : RightSide) → ByPassDown after n Closeds.none None o side → ⊥
   no_pass n o side b = let e : None ≡ Some b.from = b.from_is in cc
 
-  from_head : (x : Nonterminal) → IsRuleKey x → (o : Origin) (side : RightSide) (t : Terminal) → IsLiteral t →
+  from_head : (x : Nonterminal) → IsRuleKey x → (o : Origin) (side : RightSide) (t : Terminal) → IsLiteralTerminal t →
       Produces after x o side → Among side (GrammarSymbol.terminal t) → Among (literals (uses_in_grammar m)) t
   from_head (Nonterminal.start n) k o side t l p i = only (subst (λ (r : RightSide). Among r (GrammarSymbol.terminal t)) p.5 i)
     where
@@ -341,8 +342,8 @@ terminal_from to side t i =
     go (GrammarSymbol.terminal v) j e = subst (Among side) e j
     go (GrammarSymbol.nonterminal x) j e = cc
 
-pub used_forth : (g h : EnabledGrammar) (to : Nonterminal → Nonterminal) → SameExpansion g h to → (t : Terminal) → IsUsedLiteral g t →
-    IsUsedLiteral h t
+pub used_forth : (g h : EnabledGrammar) (to : Nonterminal → Nonterminal) → SameExpansion g h to → (t : Terminal) →
+    IsUsedLiteral g t → IsUsedLiteral h t
 used_forth g h to s t u = record {
   literal = u.literal;
   head = to u.head;
@@ -353,8 +354,8 @@ used_forth g h to s t u = record {
   among = map_among (rename_symbol to) u.side (GrammarSymbol.terminal t) u.among;
 }
 
-pub used_back : (g h : EnabledGrammar) (to : Nonterminal → Nonterminal) → SameExpansion g h to → (t : Terminal) → IsUsedLiteral h t →
-    IsUsedLiteral g t
+pub used_back : (g h : EnabledGrammar) (to : Nonterminal → Nonterminal) → SameExpansion g h to → (t : Terminal) →
+    IsUsedLiteral h t → IsUsedLiteral g t
 used_back g h to s t u =
     let x = s.no_other u.head u.in_expansion in
     let p = s.produces_no_other x.0 u.origin u.side x.1 (subst (λ (y : Nonterminal). Produces h y u.origin u.side) x.2 u.produced) in

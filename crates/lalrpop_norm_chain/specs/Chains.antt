@@ -1,8 +1,8 @@
 -- The passes one after the other, with what each promises of the grammar that it got; for the chain of all passes.
-use Rattle.std.specs.Prelude.{◌≡◌, Bool, List, Option}
-use Rattle.lalrpop_grammar_symbols.specs.Symbols.{Text, Closed}
+use Rattle.std.specs.Prelude.{◌≡◌, Bool, List, Option, None}
+use Rattle.lalrpop_grammar_symbols.specs.Symbols.{Text, Closed, Closeds}
 use Rattle.lalrpop_grammar_symbols.specs.declared.names.NonterminalString.{NonterminalString}
-use Rattle.lalrpop_grammar.specs.WrittenGrammar.{Grammar, rules_of}
+use Rattle.lalrpop_grammar.specs.WrittenGrammar.{Rule, Grammar, rules_of}
 use Rattle.lalrpop_grammar_language.specs.Among.{Among}
 use Rattle.lalrpop_grammar_language.specs.Expansion.{Nonterminal}
 use Rattle.lalrpop_grammar_types.specs.declared.type_repr.TypeRepr.{TypeRepr}
@@ -32,20 +32,29 @@ pub record IsMacroResult (finds : Text → Text → Option Bool) (g made : Gramm
   pub name_of : Nonterminal → Text
   pub naming : IsNaming flat_key_text g.prefix (grammar_between finds g) name_of
   pub named : (x : Closed) → Among keys x → name_of (Nonterminal.closed x) ≡ key_of x
+  -- the rule of a rule or of an instance stands where its rule does
+  pub rule_spans : (n : Text) (args : Closeds) (q : Rule) → Among keys (Closed.call n args None) → Among (rules_of made.items) q
+      → q.name ≡ key_of (Closed.call n args None)
+      → (r : Rule) × Among (rules_of g.items) r × (r.name ≡ n) × (q.span ≡ r.span)
+  pub span : made.span ≡ g.span
   pub prefix : made.prefix ≡ g.prefix
   pub attributes : made.attributes ≡ g.attributes
   pub block : block_groups made.items ≡ block_groups g.items
   pub entries : entries_of_items made.items ≡ entries_of_items g.items
 
--- The passes over what is disabled, names, levels, macros, tokens and types, and lowering, on a grammar that was read.
-pub record IsChain (finds : Text → Text → Option Bool) (features : List Text) (w : Grammar) (v : LoweredGrammar) : Type 0 where
+-- The passes over what is disabled, names, levels and macros, on a grammar that was read.
+pub record IsMacroChain (finds : Text → Text → Option Bool) (features : List Text) (w leveled expanded : Grammar) : Type 0 where
   pub read : IsReadGrammar w
   pub right_names : HasRightNames (without_disabled features w)
   pub right_levels : HasRightLevels (resolved_part features w)
-  pub leveled : Grammar
   pub levels : IsLevelExpansion finds (resolved_part features w) leveled
-  pub expanded : Grammar
   pub macros : IsMacroResult finds leveled expanded
+
+-- And those over tokens and types, and lowering.
+pub record IsChain (finds : Text → Text → Option Bool) (features : List Text) (w : Grammar) (v : LoweredGrammar) : Type 0 where
+  pub leveled : Grammar
+  pub expanded : Grammar
+  pub front : IsMacroChain finds features w leveled expanded
   pub first : FirstPlaces
   pub checked : Grammar
   pub tokens : IsTokenChecked first expanded checked
