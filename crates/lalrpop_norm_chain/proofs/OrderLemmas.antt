@@ -188,7 +188,7 @@ with_arguments args Origin.opt_some Origin.opt_none h = tt
 with_arguments args _ _ h = absurd h
 
 -- what an alternative of an instance is of
-instance_from : (g : EnabledGrammar) (f : Closed → Text) (r : EnabledRule) (args : Closeds) (ps : List (Choice × Option Rank))
+pub instance_from : (g : EnabledGrammar) (f : Closed → Text) (r : EnabledRule) (args : Closeds) (ps : List (Choice × Option Rank))
     (cs : List Choice) → AreInstanceChoices g f r args ps cs → (c : Choice) → Among cs c →
     (p : Choice × Option Rank) × Among ps p × (c.origin ≡ origin_with (argument_list g.spelled args) p.0.origin)
 instance_from g f r args [] cs h c i = absurd (subst (λ (l : List Choice). Among l c) h i)

@@ -1,0 +1,9 @@
+pub mod FlatListLemmas
+pub mod MadeConditionLemmas
+pub mod LevelFaultLemmas
+pub mod RightRankLemmas
+pub mod ArityLemmas
+pub mod TokenFaultLemmas
+pub mod PartTypeLemmas
+pub mod TypeFaultLemmas
+pub mod StandingLemmas

@@ -1,0 +1,5 @@
+pub mod MadeConditions
+pub mod TokenFaults
+pub mod WrittenTypeFaults
+pub mod StandingFaults
+pub mod FaultLaws
