@@ -1,0 +1,17 @@
+pub mod OrderLemmas
+pub mod NamedLemmas
+pub mod FieldLemmas
+pub mod ObjectLemmas
+pub mod ScalarFaultLemmas
+pub mod ListFaultLemmas
+pub mod ComponentLemmas
+pub mod AttributeFaultLemmas
+pub mod SymbolFaultLemmas
+pub mod TypeFaultLemmas
+pub mod AlternativeFaultLemmas
+pub mod ItemFaultLemmas
+pub mod TreeFaultLemmas
+pub mod InOrderLemmas
+pub mod StrictLemmas
+pub mod LawLemmas
+pub mod ExamplesOfFaults

@@ -1,0 +1,33 @@
+//! The law that reading a grammar or a tree tells the first fault of its JSON value.
+#![tactic(auto)]
+
+ghost use Rattle.lalrpop_json_fault_law.specs.Laws.{GrammarFaultsAreTold, GrammarFaultsOfTextsAreFirst, ReadGrammarsHaveNoFault};
+ghost use Rattle.lalrpop_json_fault_law.specs.Laws.{TreeFaultsAreTold, TreeFaultsOfTextsAreFirst, ReadTreesHaveNoFault};
+ghost use Rattle.lalrpop_json_fault_law.specs.Laws.{ReadValuesAreInOrder, NoneComesBeforeAnEarlier, EarlierComesBeforeLater};
+
+/// The law of a grammar's faults: what reading tells of a value that spells no grammar is a fault of the value. It is the
+/// first one in reading order where each object of the value has each key once, in byte order, so for each value that is read
+/// of a JSON text. What is read has no fault.
+pub fn grammar_faults()
+    ensures told { GrammarFaultsAreTold }
+    ensures first { GrammarFaultsOfTextsAreFirst }
+    ensures read { ReadGrammarsHaveNoFault }
+{}
+
+/// The law of a tree's faults: as that of a grammar's.
+pub fn tree_faults()
+    ensures told { TreeFaultsAreTold }
+    ensures first { TreeFaultsOfTextsAreFirst }
+    ensures read { ReadTreesHaveNoFault }
+{}
+
+/// The law that each object of a value that is read of a JSON text has each key once, in byte order.
+pub fn read_values_are_in_order()
+    ensures { ReadValuesAreInOrder }
+{}
+
+/// The law that reading order is a strict order of faults.
+pub fn reading_order()
+    ensures once { NoneComesBeforeAnEarlier }
+    ensures through { EarlierComesBeforeLater }
+{}
