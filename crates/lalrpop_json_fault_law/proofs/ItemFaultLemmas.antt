@@ -255,7 +255,7 @@ by_item (Some form.Rule) d e =
 by_item (Some form.Use) d e = component_told Component.item d import_layout (import_at d) e (import_tells d)
 by_item _ d e = component_untold Component.item d e
 
-item_tells : (d : Data) → Tells (Wanted.component Component.item) d (item_at d)
+pub item_tells : (d : Data) → Tells (Wanted.component Component.item) d (item_at d)
 unfolding item_at
 item_tells d = by_item (item_form d) d (item_told d)
 

@@ -1,10 +1,10 @@
--- From what readers tell to the laws; for grammar_faults and tree_faults.
+-- From what readers tell to the laws; for grammar_faults, tree_faults and component_faults.
 use Rattle.std.proofs.Common.{◌≡◌, Result, Ok, Err, subst}
 use Rattle.serde_json.specs.Data.{Data}
 use Rattle.lalrpop_json_values.specs.declared.fault.Fault.{Fault}
 use Rattle.lalrpop_json_fault_law.specs.Faults.{IsFaultOfValue}
-use Rattle.lalrpop_json_fault_law.specs.Laws.{Told}
-use Rattle.lalrpop_json_fault_law.specs.Wanted.{Wanted}
+use Rattle.lalrpop_json_fault_law.specs.Laws.{TellsFirstFaults, Told}
+use Rattle.lalrpop_json_fault_law.specs.Wanted.{Component, Wanted}
 use Rattle.lalrpop_json_fault_law.proofs.FieldLemmas.{Tells}
 
 -- a reading that tells a fault
@@ -16,3 +16,11 @@ told_fault {A = A} w d r f tells e = let h = subst (λ (x : Result A Fault). Tel
 pub no_fault : {A : Type 0} (w : Wanted) (d : Data) (r : Result A Fault) (x : A) → Tells w d r → r ≡ Ok x → (f : Fault)
     → IsFaultOfValue w d f → ⊥
 no_fault {A = A} w d r x tells e = subst (λ (y : Result A Fault). Tells w d y) e tells
+
+-- both
+pub first_faults : {A : Type 0} (p : Component) (reading : Data → Result A Fault)
+    → ((d : Data) → Tells (Wanted.component p) d (reading d)) → TellsFirstFaults p reading
+first_faults p reading tells = (
+  λ d f e. told_fault (Wanted.component p) d (reading d) f (tells d) e,
+  λ d x e. no_fault (Wanted.component p) d (reading d) x (tells d) e,
+)

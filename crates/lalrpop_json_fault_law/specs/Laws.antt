@@ -1,5 +1,5 @@
 -- What reading tells of a value that spells nothing is the first of its faults.
-use Rattle.std.specs.Prelude.{◌≡◌, ◌⊎◌, ℕ, List, Ok, Err, Some}
+use Rattle.std.specs.Prelude.{◌≡◌, ◌⊎◌, ℕ, List, Result, Ok, Err, Some}
 use Rattle.serde_json.specs.Data.{Data}
 use Rattle.serde_json.specs.Read.{read}
 use Rattle.lalrpop_grammar.specs.declared.grammar.Grammar.{Grammar}
@@ -25,6 +25,12 @@ IsFirstFault F f = F f × ((g : Fault) → F g → (g ≡ f) ⊎ FaultComesBefor
 -- What reading tells is a fault of the value, and the first one where each object of the value has each key once, in byte order.
 abbrev pub Told : (Fault → Type 0) → Data → Fault → Type 0
 Told F d f = F f × (HasKeysInOrder d → IsFirstFault F f)
+
+-- a reader of a component tells the first fault of each value, and what it reads has none
+abbrev pub TellsFirstFaults : {A : Type 0} → Component → (Data → Result A Fault) → Type 0
+TellsFirstFaults {A = A} p reading =
+    ((d : Data) (f : Fault) → reading d ≡ Err f → Told (λ g. IsFaultOfValue (Wanted.component p) d g) d f)
+    × ((d : Data) (x : A) → reading d ≡ Ok x → (f : Fault) → IsFaultOfValue (Wanted.component p) d f → ⊥)
 
 abbrev pub GrammarFaultsAreTold : Type 0
 GrammarFaultsAreTold = (d : Data) (f : Fault) → grammar_at d ≡ Err f → Told (IsGrammarFault d) d f
