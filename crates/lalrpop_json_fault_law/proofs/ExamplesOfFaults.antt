@@ -1,5 +1,5 @@
 -- Computed examples of faults of JSON values, of their order, and of what is none.
-use Rattle.std.proofs.Common.{◌≡◌, ℕ, ◌^◌, List, [], ◌∷◌, Option, Some, None, true, false, refl, ap}
+use Rattle.std.proofs.Common.{◌≡◌, ℕ, ◌^◌, List, [], ◌∷◌, Option, Some, None, Err, true, false, refl, ap}
 use Rattle.std.proofs.Common.{sym, ◌∙◌, inl, inr, ◌⊎◌, arith, subst}
 use Rattle.std.specs.Prelude.{codes}
 use Rattle.serde_json.specs.Data.{Data, null, string, array, object, unsigned, no_items, item, Members}
@@ -13,11 +13,14 @@ use Rattle.lalrpop_json_values.specs.declared.key.Key.TheVariants as key
 use Rattle.lalrpop_json_values.specs.declared.word.Word.TheVariants as word
 use Rattle.lalrpop_json_values.specs.Gives.{here}
 use Rattle.lalrpop_json_values.specs.Key.{key_text}
-use Rattle.lalrpop_json_values.specs.Objects.{is_listed, names}
+use Rattle.lalrpop_json_symbols.specs.Attributes.{attribute_at, attribute_layer_at}
+use Rattle.lalrpop_json_items.specs.Matches.{catch_all_at, match_entry_at}
+use Rattle.lalrpop_json_values.specs.Nested.{nested_reader}
+use Rattle.lalrpop_json_values.specs.Objects.{keys_at, is_listed, names}
 use Rattle.lalrpop_json_values.specs.Spelled.{number_json, object_of, word_json}
 use Rattle.lalrpop_json_values.specs.Word.{word_text}
 use Rattle.lalrpop_json_fault_law.specs.Faults.{IsFaultIn, IsFaultOfValue, IsAmong, inside}
-use Rattle.lalrpop_json_fault_law.specs.Format.{attribute_layout, group_layout, id_layout, nominal_layout, rule_layout}
+use Rattle.lalrpop_json_fault_law.specs.Format.{attribute_layout, catch_all_layout, group_layout, id_layout, nominal_layout, rule_layout}
 use Rattle.lalrpop_json_fault_law.specs.Order.{AreRising, FaultComesBefore}
 use Rattle.lalrpop_json_fault_law.specs.Telling.{all_keys, told_form}
 use Rattle.lalrpop_json_fault_law.specs.Wanted.{Layout, Component, Wanted}
@@ -122,6 +125,11 @@ both_faults f (IsFaultOfValue.in_form ms form is told h) =
     let same_option : ◌≡◌ {A = Option Layout} (Some form) (Some attribute_layout) = sym told in
     let same : form ≡ attribute_layout = cc in
     in_layout f (subst (λ x. IsFaultIn x attribute f) same h)
+
+-- and reading tells the first
+reading_tells : attribute_at attribute ≡ Err no_span
+unfolding attribute_at nested_reader attribute_layer_at keys_at key_text
+reading_tells = refl
 
 -- a wrong path, and a wrong kind
 wrong_path : IsFaultOfValue (Wanted.component Component.attribute) attribute (inside (step.Key key.Arg) (here fault.BadName)) → ⊥
@@ -248,3 +256,21 @@ empty_list f (IsFaultOfValue.in_list i e g at h is) = absurd (cc)
 
 null_for_type : (f : Fault) → IsFaultOfValue (Wanted.optional (Wanted.component Component.type)) null f → ⊥
 null_for_type = null_has_none (Wanted.component Component.type) null tt refl
+
+-- ---- a key that stands twice, as in no value of a text: a fault, and reading tells it
+
+abbrev twice_members : Members
+twice_members = member (key_text key.CatchAll) nowhere (member (key_text key.CatchAll) nowhere no_members)
+
+twice_is_none : AreRising (names twice_members) → ⊥
+unfolding key_text
+twice_is_none h = let first = h.0.0 in absurd (cc)
+
+twice_is_wrong : IsFaultOfValue (Wanted.component Component.entry) (object twice_members) (here fault.WrongShape)
+unfolding key_text
+twice_is_wrong =
+    IsFaultOfValue.in_form twice_members catch_all_layout refl refl (IsFaultIn.disordered twice_members refl twice_is_none refl)
+
+reading_tells_twice : match_entry_at (object twice_members) ≡ Err (here fault.WrongShape)
+unfolding match_entry_at catch_all_at keys_at key_text
+reading_tells_twice = refl

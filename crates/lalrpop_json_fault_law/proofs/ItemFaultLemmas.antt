@@ -259,6 +259,17 @@ pub item_tells : (d : Data) → Tells (Wanted.component Component.item) d (item_
 unfolding item_at
 item_tells d = by_item (item_form d) d (item_told d)
 
+-- ---- rules and blocks by themselves
+
+pub only_rule_tells : (d : Data) → Tells (Wanted.component Component.rule) d (rule_at d)
+only_rule_tells d = component_told Component.rule d rule_layout (rule_at d) refl (rule_tells d)
+
+pub only_match_tells : (d : Data) → Tells (Wanted.component Component.match_block) d (match_at d)
+only_match_tells d = component_told Component.match_block d match_layout (match_at d) refl (match_tells d)
+
+pub only_extern_tells : (d : Data) → Tells (Wanted.component Component.extern_block) d (extern_at d)
+only_extern_tells d = component_told Component.extern_block d extern_layout (extern_at d) refl (extern_tells d)
+
 -- ---- grammars
 
 pub grammar_tells : (d : Data) → Tells (Wanted.component Component.grammar) d (grammar_at d)

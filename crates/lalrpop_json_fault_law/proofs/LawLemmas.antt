@@ -1,10 +1,10 @@
--- From what readers tell to the laws; for grammar_faults, tree_faults and component_faults.
+-- From what readers tell to the laws; for all functions of the laws.
 use Rattle.std.proofs.Common.{◌≡◌, Result, Ok, Err, subst}
 use Rattle.serde_json.specs.Data.{Data}
 use Rattle.lalrpop_json_values.specs.declared.fault.Fault.{Fault}
 use Rattle.lalrpop_json_fault_law.specs.Faults.{IsFaultOfValue}
 use Rattle.lalrpop_json_fault_law.specs.Laws.{TellsFirstFaults, Told}
-use Rattle.lalrpop_json_fault_law.specs.Wanted.{Component, Wanted}
+use Rattle.lalrpop_json_fault_law.specs.Wanted.{Wanted}
 use Rattle.lalrpop_json_fault_law.proofs.FieldLemmas.{Tells}
 
 -- a reading that tells a fault
@@ -18,9 +18,7 @@ pub no_fault : {A : Type 0} (w : Wanted) (d : Data) (r : Result A Fault) (x : A)
 no_fault {A = A} w d r x tells e = subst (λ (y : Result A Fault). Tells w d y) e tells
 
 -- both
-pub first_faults : {A : Type 0} (p : Component) (reading : Data → Result A Fault)
-    → ((d : Data) → Tells (Wanted.component p) d (reading d)) → TellsFirstFaults p reading
-first_faults p reading tells = (
-  λ d f e. told_fault (Wanted.component p) d (reading d) f (tells d) e,
-  λ d x e. no_fault (Wanted.component p) d (reading d) x (tells d) e,
-)
+pub first_faults : {A : Type 0} (w : Wanted) (reading : Data → Result A Fault) → ((d : Data) → Tells w d (reading d))
+    → TellsFirstFaults w reading
+first_faults w reading tells =
+    (λ d f e. told_fault w d (reading d) f (tells d) e, λ d x e. no_fault w d (reading d) x (tells d) e)

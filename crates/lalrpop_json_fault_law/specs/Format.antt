@@ -219,3 +219,6 @@ forms_of Component.terminal = Forms.by_key (quoted_layout ∷ regex_layout ∷ b
 forms_of Component.tree = Forms.by_key tree_forms
 forms_of Component.type = Forms.by_key type_forms
 forms_of Component.visibility = Forms.by_key (pub_in_layout ∷ [])
+forms_of Component.rule = Forms.one rule_layout
+forms_of Component.match_block = Forms.one match_layout
+forms_of Component.extern_block = Forms.one extern_layout

@@ -26,11 +26,11 @@ IsFirstFault F f = F f × ((g : Fault) → F g → (g ≡ f) ⊎ FaultComesBefor
 abbrev pub Told : (Fault → Type 0) → Data → Fault → Type 0
 Told F d f = F f × (HasKeysInOrder d → IsFirstFault F f)
 
--- a reader of a component tells the first fault of each value, and what it reads has none
-abbrev pub TellsFirstFaults : {A : Type 0} → Component → (Data → Result A Fault) → Type 0
-TellsFirstFaults {A = A} p reading =
-    ((d : Data) (f : Fault) → reading d ≡ Err f → Told (λ g. IsFaultOfValue (Wanted.component p) d g) d f)
-    × ((d : Data) (x : A) → reading d ≡ Ok x → (f : Fault) → IsFaultOfValue (Wanted.component p) d f → ⊥)
+-- a reader of what a place asks for tells the first fault of each value, and what it reads has none
+abbrev pub TellsFirstFaults : {A : Type 0} → Wanted → (Data → Result A Fault) → Type 0
+TellsFirstFaults {A = A} w reading =
+    ((d : Data) (f : Fault) → reading d ≡ Err f → Told (λ g. IsFaultOfValue w d g) d f)
+    × ((d : Data) (x : A) → reading d ≡ Ok x → (f : Fault) → IsFaultOfValue w d f → ⊥)
 
 abbrev pub GrammarFaultsAreTold : Type 0
 GrammarFaultsAreTold = (d : Data) (f : Fault) → grammar_at d ≡ Err f → Told (IsGrammarFault d) d f

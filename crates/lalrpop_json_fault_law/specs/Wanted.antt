@@ -3,10 +3,11 @@ use Rattle.std.specs.Prelude.{List}
 use Rattle.lalrpop_json_values.specs.declared.key.Key.{Key}
 use Rattle.lalrpop_json_values.specs.declared.word.Word.{Word}
 
--- the components of the format: what an object stands for
+-- the components of the format: what an object stands for; rules and blocks are items, and stand for themselves alone, too
 pub data Component : Type 0 where
   action alternative argument associated attribute condition conversion entry enumeration grammar item literal : Component
   symbol terminal tree type visibility : Component
+  rule match_block extern_block : Component
 
 -- what a place asks for: a text, a name, a number, a span, a boolean, `null`, one of some words, a list, the list of a rule's
 -- alternatives, `null` or something, a component, one of some words or something
