@@ -10,3 +10,4 @@ pub mod ItemLemmas
 pub mod UsedLiteralLemmas
 pub mod FrontLemmas
 pub mod ChainLemmas
+pub mod ExamplesOfNormalized

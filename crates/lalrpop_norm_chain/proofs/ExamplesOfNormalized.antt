@@ -1,0 +1,390 @@
+-- Computed examples of a normalized grammar, of literals in use, of a free prefix and of alternatives in order; and near misses.
+use Prim.Native.String.{String}
+use Rattle.std.specs.Fmt.{digits}
+use Rattle.std.proofs.Common.{◌≡◌, ◌≢◌, ℕ, List, [], ◌∷◌, ◌++◌, refl, sym, ◌∙◌, subst, inl, inr, arith}
+use Rattle.std.proofs.Common.{Bool, true, false, ap, ◌⊎◌, ◌↔◌}
+use Rattle.std.specs.Prelude.{Option, Some, None, IsSomeAnd, codes, length}
+use Rattle.std.proofs.lemmas.Bool.{true≢false}
+use Rattle.lalrpop_grammar_symbols.specs.Texts.{escape_byte}
+use Rattle.lalrpop_grammar_symbols.specs.Symbols.{Text, Closed, Closeds, Terminal}
+use Rattle.lalrpop_grammar.specs.WrittenGrammar.{Action, Origin, EntryMapping, InternEntry, Grammar, Ty, WrittenItem}
+use Rattle.lalrpop_grammar_language.specs.Among.{Among}
+use Rattle.lalrpop_grammar_language.specs.Enabled.{Choice, EnabledGrammar, EnabledRule, IsRule, enabled_grammar}
+use Rattle.lalrpop_grammar_language.specs.Levels.{loosest}
+use Rattle.lalrpop_grammar_language.specs.Expansion.{GrammarSymbol, Nonterminal, InExpansion, RightSide, Produces}
+use Rattle.lalrpop_grammar_language.proofs.WrittenTreeLemmas.{here, lit, alt, rule_of, grammar, finds}
+use Rattle.lalrpop_grammar_repr.specs.Maps.{at_name}
+use Rattle.lalrpop_grammar_types.specs.declared.type_repr.TypeRepr.TheFolds.{fold-roll-TypeRepr}
+use Rattle.lalrpop_grammar_types.specs.declared.type_repr.TypeRepr.TheOpen as layer
+use Rattle.lalrpop_grammar_types.specs.declared.type_repr.TypeRepr.TheVariants as types
+use Rattle.lalrpop_norm_expansion.specs.Keys.{leveled_key_text, IsNaming}
+use Rattle.lalrpop_norm_expansion.specs.Productions.{NamedProduction, AreProductions}
+use Rattle.lalrpop_norm_expansion.specs.Inlined.{IsInlined}
+use Rattle.lalrpop_norm_expansion.specs.Types.{GroundType, IsGrounded}
+use Rattle.lalrpop_norm_expansion.proofs.ExpansionListLemmas.{reached-in, all-of}
+use Rattle.lalrpop_norm_expansion.proofs.NamingListLemmas.{name_by, naming-is}
+use Rattle.lalrpop_norm_expansion.proofs.ProductionListLemmas.{listed, is_production, productions_of}
+use Rattle.lalrpop_norm_expansion.proofs.RowListLemmas.{expansion_productions}
+use Rattle.lalrpop_norm_expansion.proofs.TypeListLemmas.{type-in-table}
+use Rattle.lalrpop_lexer_pattern.specs.Matches.{Pattern}
+use Rattle.lalrpop_lexer_pattern.specs.Wins.{HasNoTie}
+use Rattle.lalrpop_norm_entries.specs.Entries.{tokenizer_entries}
+use Rattle.lalrpop_norm_entries.specs.Patterns.{entry_patterns, entry_precedences}
+use Rattle.lalrpop_norm_types.specs.GroundViews.{type_repr_view, ground_step, ground_nominal_step}
+use Rattle.lalrpop_norm_types.specs.TypeFaults.{nonterminal_of}
+use Rattle.lalrpop_norm_chain.specs.UsedLiterals.{IsUsedLiteral, AreUsedLiterals, AreFullExpansionEntries}
+use Rattle.lalrpop_norm_chain.specs.Lowered.{LoweredGrammar, IsTerminalOf}
+use Rattle.lalrpop_norm_chain.specs.PremiseLaws.{HasFreePrefix, AreInOrder}
+use Rattle.lalrpop_norm_chain.specs.Normalized.{IsNormalized, HasExpansionTypes}
+
+-- S: u8 = "a", where S is public
+abbrev one : Grammar
+one = grammar (WrittenItem.nonterminal (record {
+  public = true;
+  name = codes "S";
+  attributes = [];
+  span = here;
+  parameters = [];
+  declared = Some (Ty.opaque (codes "u8"));
+  alternatives = alt (lit "a" ∷ []) ∷ [];
+}) ∷ [])
+
+abbrev g : EnabledGrammar
+g = enabled_grammar finds [] one
+
+abbrev s : Closed
+s = Closed.call (codes "S") Closeds.none None
+
+abbrev nonterminals : List Nonterminal
+nonterminals = Nonterminal.start (codes "S") ∷ Nonterminal.closed s ∷ []
+
+abbrev a : Terminal
+a = Terminal.quoted (codes "a")
+
+abbrev name_of : Nonterminal → Text
+name_of = name_by (leveled_key_text g) (codes "__") []
+
+abbrev lowered : LoweredGrammar
+lowered = record {
+  prefix = codes "__";
+  productions = record { nonterminal = codes "__S"; symbols = GrammarSymbol.nonterminal (codes "S") ∷ []; action = 0 }
+      ∷ record { nonterminal = codes "S"; symbols = GrammarSymbol.terminal a ∷ []; action = 1 } ∷ [];
+  origins = Origin.start ∷ Origin.alternative (codes "S") [] 0 ∷ [];
+  nonterminals = codes "S" ∷ codes "__S" ∷ [];
+  starts = (codes "S", codes "__S") ∷ [];
+  inlined = [];
+  terminals = a ∷ [];
+  types = (nonterminal_of (codes "S"), types.Opaque (codes "u8")) ∷ (nonterminal_of (codes "__S"), types.Opaque (codes "u8")) ∷ [];
+  lalr = false;
+  entries = record { precedence = 3; literal = a; mapping = EntryMapping.terminal a } ∷ [];
+}
+
+productions : AreProductions g name_of lowered.productions lowered.origins
+unfolding digits escape_byte
+productions = expansion_productions g 1 nonterminals name_of refl refl refl
+
+naming : IsNaming (leveled_key_text g) (codes "__") g name_of
+unfolding digits
+naming = naming-is g (leveled_key_text g) (codes "__") [] 1 nonterminals refl refl refl
+
+in_rule : InExpansion g (Nonterminal.closed s)
+in_rule = reached-in g 0 (Nonterminal.closed s) (inr (inl refl))
+
+in_start : InExpansion g (Nonterminal.start (codes "S"))
+in_start = reached-in g 0 (Nonterminal.start (codes "S")) (inl refl)
+
+no_other : (x : Nonterminal) → InExpansion g x → (Nonterminal.start (codes "S") ≡ x) ⊎ (Nonterminal.closed s ≡ x)
+no_other x i = go (all-of g nonterminals refl x i)
+  where
+    go : Among nonterminals x → (Nonterminal.start (codes "S") ≡ x) ⊎ (Nonterminal.closed s ≡ x)
+    go (inl e) = inl e
+    go (inr (inl e)) = inr e
+    go (inr (inr m)) = absurd m
+
+names : (n : Text) → Among lowered.nonterminals n ↔ ((x : Nonterminal) × InExpansion g x × (name_of x ≡ n))
+unfolding digits
+names n = (there, λ u. here_too u.0 u.1 u.2)
+  where
+    there : Among lowered.nonterminals n → (x : Nonterminal) × InExpansion g x × (name_of x ≡ n)
+    there (inl e) = (Nonterminal.closed s, in_rule, e)
+    there (inr (inl e)) = (Nonterminal.start (codes "S"), in_start, e)
+    there (inr (inr m)) = absurd m
+
+    here_too : (x : Nonterminal) → InExpansion g x → name_of x ≡ n → Among lowered.nonterminals n
+    here_too x i e = go (no_other x i)
+      where
+        go : (Nonterminal.start (codes "S") ≡ x) ⊎ (Nonterminal.closed s ≡ x) → Among lowered.nonterminals n
+        go (inl f) = inr (inl (subst (λ (y : Nonterminal). name_of y ≡ n) (sym f) e))
+        go (inr f) = inl (subst (λ (y : Nonterminal). name_of y ≡ n) (sym f) e)
+
+abbrev start_of : Text → Text
+start_of n = codes "__" ++ n
+
+starts : (n m : Text) → Among lowered.starts (n, m) ↔ (InExpansion g (Nonterminal.start n) × (m ≡ start_of n))
+starts n m = (there, λ u. here_too u.0 u.1)
+  where
+    there : Among lowered.starts (n, m) → InExpansion g (Nonterminal.start n) × (m ≡ start_of n)
+    there (inl e) = subst (λ (p : Text × Text). InExpansion g (Nonterminal.start p.0) × (p.1 ≡ start_of p.0)) e (in_start, refl)
+    there (inr m) = absurd m
+
+    here_too : InExpansion g (Nonterminal.start n) → m ≡ start_of n → Among lowered.starts (n, m)
+    here_too i e = go (no_other (Nonterminal.start n) i)
+      where
+        go : (Nonterminal.start (codes "S") ≡ Nonterminal.start n) ⊎ (Nonterminal.closed s ≡ Nonterminal.start n) →
+            Among lowered.starts (n, m)
+        go (inl f) =
+            let same : codes "S" ≡ n = cc in
+            subst (λ (k : Text). Among lowered.starts (n, k)) (sym e) (inl (ap (λ (k : Text). (k, start_of k)) same))
+        go (inr f) = cc
+
+starts_alone : (n : Text) (p : NamedProduction) → InExpansion g (Nonterminal.start n) → Among lowered.productions p →
+    Among p.symbols (GrammarSymbol.nonterminal (start_of n)) → ⊥
+starts_alone n p i (inl e) m =
+    go (subst (λ (q : NamedProduction). Among q.symbols (GrammarSymbol.nonterminal (start_of n))) (sym e) m)
+  where
+    go : Among (GrammarSymbol.nonterminal (codes "S") ∷ []) (GrammarSymbol.nonterminal (start_of n)) → ⊥
+    go (inl f) = cc
+    go (inr k) = absurd k
+starts_alone n p i (inr (inr k)) m = absurd k
+starts_alone n p i (inr (inl e)) m =
+    go (subst (λ (q : NamedProduction). Among q.symbols (GrammarSymbol.nonterminal (start_of n))) (sym e) m)
+  where
+    go : Among (GrammarSymbol.terminal a ∷ []) (GrammarSymbol.nonterminal (start_of n)) → ⊥
+    go (inl f) = cc
+    go (inr k) = absurd k
+
+abbrev first_inlined : List EnabledRule → Bool
+first_inlined [] = false
+first_inlined (r ∷ rs) = r.inlined
+
+inlined : (x : Nonterminal) → InExpansion g x → Among lowered.inlined (name_of x) ↔ IsInlined g x
+inlined x i = go (no_other x i)
+  where
+    no_rule : IsInlined g (Nonterminal.closed s) → Among lowered.inlined (name_of (Nonterminal.closed s))
+    no_rule u = go u.0 u.1 u.2
+      where
+        go : (r : EnabledRule) → IsRule g (codes "S") r → r.inlined ≡ true → ⊥
+        go r e f = let no : false ≡ r.inlined = ap first_inlined e in true≢false (sym f ∙ sym no)
+
+    go : (Nonterminal.start (codes "S") ≡ x) ⊎ (Nonterminal.closed s ≡ x) → Among lowered.inlined (name_of x) ↔ IsInlined g x
+    go (inl e) = subst (λ (y : Nonterminal). Among lowered.inlined (name_of y) ↔ IsInlined g y) e ((λ m. m), (λ m. m))
+    go (inr e) = subst (λ (y : Nonterminal). Among lowered.inlined (name_of y) ↔ IsInlined g y) e ((λ m. absurd m), no_rule)
+
+terminals : (t : Terminal) → Among lowered.terminals t ↔ IsTerminalOf lowered t
+terminals t = (there, here_too)
+  where
+    there : Among lowered.terminals t → IsTerminalOf lowered t
+    there (inl e) = inr (record { precedence = 3; literal = a; mapping = EntryMapping.terminal a }, inl refl, ap EntryMapping.terminal e)
+    there (inr m) = absurd m
+
+    of_side : (p : NamedProduction) → Among lowered.productions p → Among p.symbols (GrammarSymbol.terminal t) →
+        Among lowered.terminals t
+    of_side p (inl e) m = go (subst (λ (q : NamedProduction). Among q.symbols (GrammarSymbol.terminal t)) (sym e) m)
+      where
+        go : Among (GrammarSymbol.nonterminal (codes "S") ∷ []) (GrammarSymbol.terminal t) → Among lowered.terminals t
+        go (inl f) = cc
+        go (inr k) = absurd k
+    of_side p (inr (inr k)) m = absurd k
+    of_side p (inr (inl e)) m = go (subst (λ (q : NamedProduction). Among q.symbols (GrammarSymbol.terminal t)) (sym e) m)
+      where
+        go : Among {A = GrammarSymbol Text} (GrammarSymbol.terminal a ∷ []) (GrammarSymbol.terminal t) → Among lowered.terminals t
+        go (inl f) = inl (let e : a ≡ t = cc in e)
+        go (inr k) = absurd k
+
+    here_too : IsTerminalOf lowered t → Among lowered.terminals t
+    here_too (inl u) = of_side u.0 u.1 u.2
+    here_too (inr u) = go u.0 u.1 u.2
+      where
+        go : (e : InternEntry) → Among lowered.entries e → e.mapping ≡ EntryMapping.terminal t → Among lowered.terminals t
+        go e (inl f) m =
+            let same : EntryMapping.terminal a ≡ EntryMapping.terminal t = ap (λ (x : InternEntry). x.mapping) f ∙ m in
+            inl (let e : a ≡ t = cc in e)
+        go e (inr k) m = absurd k
+
+abbrev u8 : GroundType
+u8 = GroundType.opaque (codes "u8")
+
+lowered_u8 : type_repr_view (types.Opaque (codes "u8")) ≡ u8
+lowered_u8 =
+    ap type_repr_view (sym (types.rolls-Opaque (codes "u8")))
+    ∙ fold-roll-TypeRepr GroundType GroundType ground_step ground_nominal_step (layer.Opaque (codes "u8"))
+
+typed : IsGrounded g s u8
+typed = (1, (in_rule, inl (record { rule = _; is_rule = refl; written = Ty.opaque (codes "u8"); declared = refl; type_is = refl })))
+
+one_type : (t : GroundType) → IsGrounded g s t → Some u8 ≡ Some t
+one_type t h = type-in-table g ((s, u8) ∷ []) nonterminals refl s t h
+
+abbrev first_loosest : List EnabledRule → Option ℕ
+first_loosest [] = None
+first_loosest (r ∷ rs) = loosest r
+
+expansion_types : HasExpansionTypes g name_of lowered.types
+unfolding digits
+expansion_types = record {
+  typed = typed_each;
+  once = once;
+  starts = starts_too;
+}
+  where
+    typed_each : (x : Closed) → InExpansion g (Nonterminal.closed x)
+        → IsSomeAnd (at_name (nonterminal_of (name_of (Nonterminal.closed x))) lowered.types) (λ t. IsGrounded g x (type_repr_view t))
+    typed_each x i = go (no_other (Nonterminal.closed x) i)
+      where
+        go : (Nonterminal.start (codes "S") ≡ Nonterminal.closed x) ⊎ (Nonterminal.closed s ≡ Nonterminal.closed x) →
+            IsSomeAnd (at_name (nonterminal_of (name_of (Nonterminal.closed x))) lowered.types) (λ t. IsGrounded g x (type_repr_view t))
+        go (inl e) = cc
+        go (inr e) = subst (λ (y : Closed). IsSomeAnd (at_name (nonterminal_of (name_of (Nonterminal.closed y))) lowered.types)
+            (λ t. IsGrounded g y (type_repr_view t))) (let f : s ≡ x = cc in f)
+            (subst (λ (t : GroundType). IsGrounded g s t) (sym lowered_u8) typed)
+
+    once : (x : Closed) (t u : GroundType) → InExpansion g (Nonterminal.closed x) → IsGrounded g x t → IsGrounded g x u → t ≡ u
+    once x t u i h k = go (no_other (Nonterminal.closed x) i)
+      where
+        go : (Nonterminal.start (codes "S") ≡ Nonterminal.closed x) ⊎ (Nonterminal.closed s ≡ Nonterminal.closed x) → t ≡ u
+        go (inl e) = cc
+        go (inr e) =
+            let same : x ≡ s = cc in
+            let one : Some u8 ≡ Some t = one_type t (subst (λ (y : Closed). IsGrounded g y t) same h) in
+            let two : Some u8 ≡ Some u = one_type u (subst (λ (y : Closed). IsGrounded g y u) same k) in
+            let both : Some t ≡ Some u = sym one ∙ two in
+            cc
+
+    starts_too : (n : Text) (r : EnabledRule) → InExpansion g (Nonterminal.start n) → IsRule g n r
+        → at_name (nonterminal_of (name_of (Nonterminal.start n))) lowered.types
+        ≡ at_name (nonterminal_of (name_of (Nonterminal.closed (Closed.call n Closeds.none (loosest r))))) lowered.types
+    starts_too n r i e = go (no_other (Nonterminal.start n) i)
+      where
+        go : (Nonterminal.start (codes "S") ≡ Nonterminal.start n) ⊎ (Nonterminal.closed s ≡ Nonterminal.start n)
+            → at_name (nonterminal_of (name_of (Nonterminal.start n))) lowered.types
+            ≡ at_name (nonterminal_of (name_of (Nonterminal.closed (Closed.call n Closeds.none (loosest r))))) lowered.types
+        go (inr f) = cc
+        go (inl f) =
+            let same : codes "S" ≡ n = cc in
+            subst (λ (m : Text). IsRule g m r → at_name (nonterminal_of (name_of (Nonterminal.start m))) lowered.types
+            ≡ at_name (nonterminal_of (name_of (Nonterminal.closed (Closed.call m Closeds.none (loosest r))))) lowered.types) same
+            (λ d. subst (λ (l : Option ℕ). at_name (nonterminal_of (name_of (Nonterminal.start (codes "S")))) lowered.types
+            ≡ at_name (nonterminal_of (name_of (Nonterminal.closed (Closed.call (codes "S") Closeds.none l)))) lowered.types)
+            (ap first_loosest d) refl) e
+
+-- the literals of the expansion, the tokenizer's entries
+used_a : (t : Terminal) → Among (a ∷ []) t ↔ IsUsedLiteral g t
+used_a t = (there, here_too)
+  where
+    there : Among (a ∷ []) t → IsUsedLiteral g t
+    there (inr m) = absurd m
+    there (inl e) = subst (IsUsedLiteral g) e (record {
+      literal = tt;
+      head = Nonterminal.closed s;
+      origin = Origin.alternative (codes "S") [] 0;
+      side = GrammarSymbol.terminal a ∷ [];
+      in_expansion = in_rule;
+      produced = is_production g (Nonterminal.closed s) (Origin.alternative (codes "S") [] 0) (GrammarSymbol.terminal a ∷ []) (inl refl);
+      among = inl refl;
+    })
+
+    here_too : IsUsedLiteral g t → Among (a ∷ []) t
+    here_too u = go (no_other u.head u.in_expansion)
+      where
+        of_side : (y : Nonterminal) → y ≡ u.head → Among (productions_of g y) (u.origin, u.side)
+        of_side y e = listed g y u.origin u.side (subst (λ (x : Nonterminal). Produces g x u.origin u.side) (sym e) u.produced)
+
+        in_start_side : (p : Origin × RightSide) → Among (productions_of g (Nonterminal.start (codes "S"))) p
+            → Among p.1 (GrammarSymbol.terminal t) → Among (a ∷ []) t
+        in_start_side p (inr k) m = absurd k
+        in_start_side p (inl e) m = of (subst (λ (q : Origin × RightSide). Among q.1 (GrammarSymbol.terminal t)) (sym e) m)
+          where
+            of : Among (GrammarSymbol.nonterminal (Nonterminal.closed s) ∷ []) (GrammarSymbol.terminal t) → Among (a ∷ []) t
+            of (inl f) = cc
+            of (inr k) = absurd k
+
+        in_rule_side : (p : Origin × RightSide) → Among (productions_of g (Nonterminal.closed s)) p
+            → Among p.1 (GrammarSymbol.terminal t) → Among (a ∷ []) t
+        in_rule_side p (inr k) m = absurd k
+        in_rule_side p (inl e) m = of (subst (λ (q : Origin × RightSide). Among q.1 (GrammarSymbol.terminal t)) (sym e) m)
+          where
+            of : Among {A = GrammarSymbol Nonterminal} (GrammarSymbol.terminal a ∷ []) (GrammarSymbol.terminal t) → Among (a ∷ []) t
+            of (inl f) = inl (let d : a ≡ t = cc in d)
+            of (inr k) = absurd k
+
+        go : (Nonterminal.start (codes "S") ≡ u.head) ⊎ (Nonterminal.closed s ≡ u.head) → Among (a ∷ []) t
+        go (inl e) = in_start_side (u.origin, u.side) (of_side (Nonterminal.start (codes "S")) e) u.among
+        go (inr e) = in_rule_side (u.origin, u.side) (of_side (Nonterminal.closed s) e) u.among
+
+entries : AreFullExpansionEntries g None lowered.entries
+entries = record {
+  listed = record { used = a ∷ []; are_used = record { ascending = (tt, tt); each = used_a }; entries_are = refl };
+  none_lacks = refl;
+}
+
+-- one pattern ties with nothing
+no_tie : (ps : List Pattern) (ns : List ℕ) → length ps ≡ 1 → HasNoTie ps ns
+no_tie ps ns one w e f t = omega (arith, t.apart, t.second.0, one)
+
+-- so the grammar is normalized
+normalized : IsNormalized finds [] one lowered
+normalized = record {
+  name_of = name_of;
+  naming = naming;
+  prefix = refl;
+  productions = productions;
+  nonterminals = names;
+  starts = starts;
+  starts_alone = starts_alone;
+  inlined = inlined;
+  terminals = terminals;
+  types = expansion_types;
+  lalr = refl;
+  entries = entries;
+  none_refused = refl;
+  unambiguous = no_tie (entry_patterns lowered.entries) (entry_precedences lowered.entries) refl;
+}
+
+-- without a start it isn't
+no_start_refused : (v : LoweredGrammar) → v.starts ≡ [] → IsNormalized finds [] one v → ⊥
+no_start_refused v e h =
+    subst (λ (l : List (Text × Text)). Among l (codes "S", codes "__S")) e ((h.starts (codes "S") (codes "__S")).1 (in_start, refl))
+
+-- nor where the rule is inlined, whatever its name is
+inlined_refused : (v : LoweredGrammar) (h : IsNormalized finds [] one v) → Among v.inlined (h.name_of (Nonterminal.closed s)) → ⊥
+inlined_refused v h m = (inlined (Nonterminal.closed s) in_rule).1 ((h.inlined (Nonterminal.closed s) in_rule).0 m)
+
+-- nor with an entry too few
+no_entry_refused : (v : LoweredGrammar) → v.entries ≡ [] → IsNormalized finds [] one v → ⊥
+no_entry_refused v none h = go h.entries.listed.used h.entries.listed.are_used (sym none ∙ h.entries.listed.entries_are)
+  where
+    go : (used : List Terminal) → AreUsedLiterals g used → [] ≡ tokenizer_entries None used → ⊥
+    go [] u e = (u.each a).1 ((used_a a).0 (inl refl))
+    go (t ∷ ts) u e = cc
+
+-- nor under another prefix
+prefix_refused : (v : LoweredGrammar) → v.prefix ≡ codes "___" → IsNormalized finds [] one v → ⊥
+prefix_refused v e h = let same : codes "__" ≡ codes "___" = sym h.prefix ∙ e in cc
+
+-- a name that begins with the prefix, and one that begins with less of it
+abbrev rules_named_so : String → EnabledGrammar
+rules_named_so n = enabled_grammar finds [] (grammar (rule_of n (alt [] ∷ []) ∷ []))
+
+taken_refused : HasFreePrefix (codes "__") (rules_named_so "__S") → ⊥
+taken_refused h = h.rules _ (codes "S") (inl refl) refl
+
+abbrev second_byte : Text → ℕ
+second_byte (b ∷ c ∷ t) = c
+second_byte _ = 0
+
+free : HasFreePrefix (codes "__") (rules_named_so "_S")
+free = record { underscores = 2; some = omega arith; prefix_is = refl; rules = rules; bares = λ n t m. absurd m }
+  where
+    rules : (r : EnabledRule) (t : Text) → Among (rules_named_so "_S").rules r → r.name ≢ codes "__" ++ t
+    rules r t (inr m) e = absurd m
+    rules r t (inl d) e =
+        let same : codes "_S" ≡ codes "__" ++ t = ap (λ (x : EnabledRule). x.name) d ∙ e in
+        let byte : ◌≡◌ {A = ℕ} 83 95 = ap second_byte same in
+        omega (arith, byte)
+
+-- alternatives stand by their places, and those of `X*` by their kinds
+abbrev chosen_at : Origin → Choice
+chosen_at o = record { origin = o; expr = []; condition = None; attributes = []; action = Action.user (codes "") }
+
+turned_refused : AreInOrder (chosen_at Origin.star_some ∷ chosen_at Origin.star_none ∷ []) → ⊥
+turned_refused h = h.0 (chosen_at Origin.star_none) (inl refl)
