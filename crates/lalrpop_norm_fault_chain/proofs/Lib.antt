@@ -7,3 +7,4 @@ pub mod TokenFaultLemmas
 pub mod PartTypeLemmas
 pub mod TypeFaultLemmas
 pub mod StandingLemmas
+pub mod ExamplesOfStandingFaults

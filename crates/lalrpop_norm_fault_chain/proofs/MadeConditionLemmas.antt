@@ -250,7 +250,7 @@ module _ (finds : Text → Text → Option Bool) (g : Grammar) (f : Text → ℕ
     where
       go : IsLevelChoice f r j o →
           (p : Choice × Option Rank) × Among (ranked_choices (rule_between r)) p × (rank_level p.1 ≡ Some j) ×
-              (p.0.condition ≡ Some t)
+          (p.0.condition ≡ Some t)
       go (IsLevelChoice.alternative a k there is same) =
           ((choice_between a, Some k), ranked_choice r a (Some k) there, ap Some is, ap (λ (x : Choice). x.condition) same ∙ e)
       go (IsLevelChoice.pass_down to u same) = let none : None ≡ Some t = ap (λ (x : Choice). x.condition) same ∙ e in cc

@@ -18,14 +18,14 @@ use Rattle.lalrpop_norm_pass_laws.specs.KeyRules.{IsKey, IsMacroExpansion}
 
 not_not_types : (P : Closed → GroundType → Type 0) (xs : List Closed) →
     ((x : Closed) → Among xs x → ((t : GroundType) → P x t → ⊥) → ⊥) →
-        ((ts : GroundTypes) → HaveTypes P xs ts → ⊥) → ⊥
+    ((ts : GroundTypes) → HaveTypes P xs ts → ⊥) → ⊥
 not_not_types P [] h u = u GroundTypes.none tt
 not_not_types P (x ∷ xs) h u =
     h x (inl refl) (λ t p. not_not_types P xs (λ z i. h z (inr i)) (λ ts q. u (GroundTypes.more t ts) (p, q)))
 
 not_not_tuple : (P : Closed → GroundType → Type 0) (xs : List Closed) →
     ((x : Closed) → Among xs x → ((t : GroundType) → P x t → ⊥) → ⊥) →
-        ((t : GroundType) → HaveTupleType P xs t → ⊥) → ⊥
+    ((t : GroundType) → HaveTupleType P xs t → ⊥) → ⊥
 not_not_tuple P [] h u = u (GroundType.tuple GroundTypes.none) refl
 not_not_tuple P (x ∷ []) h u = h x (inl refl) (λ t p. u t p)
 not_not_tuple P (x ∷ y ∷ xs) h u = not_not_types P (x ∷ y ∷ xs) h (λ ts p. u (GroundType.tuple ts) (ts, refl, p))

@@ -65,7 +65,7 @@ ranks_from last l = map (λ p. p.1) (with_ranks last (choices_of l))
 -- after a rank, or with a level of its own, an alternative has a rank
 after_some : (last : Option Rank) (l : List Attr) (side : Option Assoc) → flat_map faults_of_attr l ≡ [] →
     (is_some last ≡ true) ⊎ (has_attr (codes "precedence") l ≡ true) → (o : Option Attr) →
-        first_attr (codes "precedence") l ≡ o →
+    first_attr (codes "precedence") l ≡ o →
     (k : Rank) × (rank_after last (option_map level_in o) side ≡ Some k)
 after_some last l side f h (Some x) e = of_level (level_in x) (readable l x f e)
   where
@@ -83,7 +83,7 @@ StartsWithLevel (a ∷ rest) = has_attr (codes "precedence") a.attributes ≡ tr
 
 all_ranked : (r : Rule) (last : Option Rank) (l : List Alternative) →
     flat_map (level_faults_in r) (zip l (ranks_from last l)) ≡ [] → (is_some last ≡ true) ⊎ StartsWithLevel l →
-        (a : Alternative) →
+    (a : Alternative) →
     Among l a → (k : Rank) × Among (zip l (ranks_from last l)) (a, Some k)
 all_ranked r last [] f h a i = absurd i
 all_ranked r last (b ∷ rest) f h a i =

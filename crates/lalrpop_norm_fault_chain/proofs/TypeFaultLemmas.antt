@@ -403,7 +403,7 @@ module _ (finds : Text → Text → Option Bool) (features : List Text) (w level
       }
       go u (IsCallOrLook.ahead e) =
           absurd (t.differ (look_type mid t.first
-              (subst (λ (x : Closed). IsGrounded mid x t.first) e ((grounded_key q u t.first).1 t.first_is))
+          (subst (λ (x : Closed). IsGrounded mid x t.first) e ((grounded_key q u t.first).1 t.first_is))
           ∙ sym (look_type mid t.second
           (subst (λ (x : Closed). IsGrounded mid x t.second) e ((grounded_key q u t.second).1 t.second_is)))))
       go u (IsCallOrLook.behind e) =
