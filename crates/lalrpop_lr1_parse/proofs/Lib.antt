@@ -1,0 +1,9 @@
+pub mod NumberLemmas
+pub mod StackLemmas
+pub mod ExpandedLemmas
+pub mod MadeTableLemmas
+pub mod ParsingLemmas
+pub mod RowLemmas
+pub mod RunLemmas
+pub mod StopLemmas
+pub mod TableLemmas

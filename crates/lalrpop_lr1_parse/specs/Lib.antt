@@ -1,0 +1,9 @@
+pub mod Ends
+pub mod ExpandedViews
+pub mod MadeTables
+pub mod Numbers
+pub mod Outcomes
+pub mod Parses
+pub mod Rows
+pub mod Stacks
+pub mod Tables

@@ -1,0 +1,85 @@
+//! Parsing within a limit.
+
+ghost use Rattle.std.specs.Prelude.{◌≡◌, List, map};
+ghost use Rattle.lalrpop_grammar_symbols.specs.Symbols.{Text};
+ghost use Rattle.lalrpop_lr1_theory.specs.CheckedStates.{AreCheckedStates, IsStartAlone};
+ghost use Rattle.lalrpop_lr1_theory.specs.Productions.{Production};
+ghost use Rattle.lalrpop_lr1_theory.specs.States.{State};
+ghost use Rattle.lalrpop_lr1_items.specs.Views.{lr_state_view, token_lookahead};
+ghost use Rattle.lalrpop_lr1_parse.specs.Ends.{MayRun};
+ghost use Rattle.lalrpop_lr1_parse.specs.Parses.{AreParsable, IsRightParse, IsStopOf};
+ghost use Rattle.lalrpop_lr1_parse.specs.Tables.{IsTableOf};
+ghost use Rattle.lalrpop_lr1_parse.specs.declared.stop.Stop.TheVariants.{Memory};
+
+use crate::action_table::ActionTable;
+use crate::expanded_stack::ExpandedTrees;
+use crate::expanded_tree::ExpandedTree;
+use crate::machine::{Halt, run};
+use crate::stop::Stop;
+use lalrpop_grammar::ScanToken;
+use lalrpop_grammar_repr::TerminalSet;
+use lalrpop_lr1_items::Lr1State;
+use std::alloc::{AllocError, Global};
+
+impl From<AllocError> for Stop {
+    ghost from_gives = { λ _ stop. stop ≡ Memory };
+
+    fn from(_: AllocError) -> Stop {
+        Stop::Memory
+    }
+}
+
+/// What the machine's halt says of so many tokens.
+fn stop_of(halt: Halt, count: usize) -> Stop
+    ensures { IsStopOf count halt result }
+{
+    match halt {
+        Halt::Stuck { at, state: _ } if at < count => Stop::Token(at),
+        Halt::Stuck { at: _, state: _ } => Stop::End,
+        Halt::Limit => Stop::Limit,
+        Halt::Memory => Stop::Memory,
+    }
+}
+
+impl<'g> ActionTable<'g> {
+    /// The tree of the tokens, with at most `limit` leaves and nodes; or the first token with which they begin no sentence, or that
+    /// the end is wrong, or that more than `limit` moves would be made.
+    pub fn parse(
+        &self,
+        alloc: Global,
+        tokens: &[ScanToken<'_>],
+        limit: u64,
+    ) -> Result<ExpandedTree<'g>, Stop>
+        requires { MayRun self.now }
+        ensures { (grammar : List Production) (s : Text) (states : List State) → IsStartAlone grammar s
+            → AreCheckedStates grammar s states → IsTableOf self.now states → IsRightParse grammar s tokens.now limit result }
+    {
+        let mut stack = ExpandedTrees::new(alloc);
+        match run(alloc, self, tokens, limit, true, &mut stack) {
+            Ok(_) => match stack.into_last() {
+                Some(tree) => Ok(tree),
+                None => unreachable!(),
+            },
+            Err(halt) => Err(stop_of(halt, tokens.len())),
+        }
+    }
+}
+
+/// The tree of the tokens by the states, whose sets of tokens are over these terminals: it has at most `limit` leaves and nodes, and
+/// the tokens' spans at its leaves. Or the first token with which they begin no sentence, or that the end is wrong, or that more than
+/// `limit` moves would be made.
+pub fn parse_limited<'g>(
+    alloc: Global,
+    states: &[Lr1State<'g>],
+    terminals: &TerminalSet,
+    tokens: &[ScanToken<'_>],
+    limit: u64,
+) -> Result<ExpandedTree<'g>, Stop>
+    requires { AreParsable terminals.now states.now }
+    ensures { (grammar : List Production) (s : Text) → IsStartAlone grammar s
+        → AreCheckedStates grammar s (map (lr_state_view (token_lookahead terminals.now)) states.now)
+        → IsRightParse grammar s tokens.now limit result }
+{
+    let table = ActionTable::new(alloc, states, terminals)?;
+    table.parse(alloc, tokens, limit)
+}
