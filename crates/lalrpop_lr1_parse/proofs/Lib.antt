@@ -1,6 +1,9 @@
+pub mod NamedLemmas
 pub mod NumberLemmas
 pub mod StackLemmas
+pub mod ExamplesOfStacks
 pub mod ExpandedLemmas
+pub mod InterpretLemmas
 pub mod MadeTableLemmas
 pub mod ParsingLemmas
 pub mod RowLemmas

@@ -1,6 +1,8 @@
 pub mod Ends
 pub mod ExpandedViews
+pub mod Interpretations
 pub mod MadeTables
+pub mod NamedTrees
 pub mod Numbers
 pub mod Outcomes
 pub mod Parses

@@ -1,0 +1,112 @@
+-- Stacks of trees and of states, trees without productions, parts of lists and numbers of names, computed.
+use Rattle.std.proofs.Common.{◌≡◌, ℕ, zero, suc, ◌<◌, ◌≤◌, List, [], ◌∷◌, ◌++◌, length, Some, None}
+use Rattle.std.proofs.Common.{refl, arith, take}
+use Rattle.std.specs.Prelude.{slice_index}
+use Rattle.lalrpop_grammar_symbols.specs.Symbols.{Terminal, Text, TextSpan}
+use Rattle.lalrpop_lr1_theory.specs.Productions.{Production, Symbol, nonterminal, terminal}
+use Rattle.lalrpop_lr1_theory.specs.Automata.{Walk, goes, stands}
+use Rattle.lalrpop_lr1_theory.specs.Spans.{SpannedForest, leaf_at, leaf_spans, node_at, none_at, without_spans}
+use Rattle.lalrpop_lr1_theory.specs.Trees.{Forest, Move, leaf, node, none, reduce, shift}
+use Rattle.lalrpop_lr1_parse.specs.ExpandedViews.{nth_tree, root_children}
+use Rattle.lalrpop_lr1_parse.specs.NamedTrees.{NamedForest, name_forest, named_leaf, named_leaves, named_node, no_trees}
+use Rattle.lalrpop_lr1_parse.specs.Numbers.{HaveOneNumber}
+use Rattle.lalrpop_lr1_parse.specs.Rows.{AreNumbersOf, part_at}
+use Rattle.lalrpop_lr1_parse.specs.Stacks.{AreStatesOn, EndsByShift, by_shift, no_moves, ◌beside◌}
+use Rattle.lalrpop_lr1_parse.proofs.StackLemmas.{states_on}
+
+abbrev one : Terminal
+one = Terminal.regex (49 ∷ [])
+
+-- `N = r"1"`
+abbrev number : Production
+number = record { left = 78 ∷ []; right = terminal one ∷ []; action = 0; from = 0; to = 1 }
+
+abbrev span : TextSpan
+span = (2, 3)
+
+abbrev a_leaf : SpannedForest
+a_leaf = leaf_at one span none_at
+
+abbrev a_node : SpannedForest
+a_node = node_at number a_leaf none_at
+
+-- trees beside others, and beside none
+beside_two : a_node beside a_leaf ≡ node_at number a_leaf (leaf_at one span none_at)
+beside_two = refl
+
+beside_nothing : none_at beside a_leaf ≡ a_leaf
+beside_nothing = refl
+
+-- the trees of a list by their places, and the children of a root
+first_tree : nth_tree (a_node beside a_leaf) 0 ≡ Some a_node
+first_tree = refl
+
+second_tree : nth_tree (a_node beside a_leaf) 1 ≡ Some a_leaf
+second_tree = refl
+
+no_third_tree : nth_tree (a_node beside a_leaf) 2 ≡ None
+no_third_tree = refl
+
+children_of_a_node : root_children a_node ≡ a_leaf
+children_of_a_node = refl
+
+children_of_a_leaf : root_children a_leaf ≡ none_at
+children_of_a_leaf = refl
+
+-- a tree without productions, and its leaves
+without_productions : name_forest (without_spans a_node) ≡ named_node (78 ∷ []) (named_leaf one no_trees) no_trees
+without_productions = refl
+
+leaves_without_productions : named_leaves (name_forest (without_spans (a_node beside a_leaf))) ≡ one ∷ one ∷ []
+leaves_without_productions = refl
+
+-- one edge: from state 0 by the terminal to state 2
+data OneEdge : ℕ → Symbol → ℕ → Type 0 where
+  edge : OneEdge 0 (terminal one) 2
+
+-- state 0 alone, and one state more
+alone : AreStatesOn OneEdge (0 ∷ []) []
+alone = record { counted = refl; walks = walk }
+  where
+    walk : (i : ℕ) → i ≤ 0 → Walk OneEdge (take i []) (slice_index (0 ∷ []) i)
+    walk zero h = stands
+    walk (suc i) h = absurd (omega arith)
+
+one_more : AreStatesOn OneEdge (0 ∷ 2 ∷ []) (terminal one ∷ [])
+one_more = states_on OneEdge (0 ∷ []) [] (terminal one) 2 0 alone stands edge
+
+-- a state is wanting
+too_few : AreStatesOn OneEdge (0 ∷ []) (terminal one ∷ []) → ⊥
+too_few s = omega (arith, s.counted)
+
+-- no state stands there
+none_there : AreStatesOn OneEdge [] [] → ⊥
+none_there s = omega (arith, s.counted)
+
+-- moves that end by a shift, and none
+shifted_last : EndsByShift (reduce number ∷ shift one ∷ [])
+shifted_last = by_shift (reduce number ∷ []) one
+
+no_moves_yet : EndsByShift []
+no_moves_yet = no_moves
+
+-- names by their numbers: the same name has the same
+numbered_names : AreNumbersOf {X = ℕ} (5 ∷ 7 ∷ []) (7 ∷ 5 ∷ 7 ∷ []) (1 ∷ 0 ∷ 1 ∷ [])
+numbered_names = (refl, (refl, (refl, tt)))
+
+no_names : AreNumbersOf {X = ℕ} (5 ∷ 7 ∷ []) [] []
+no_names = tt
+
+-- a wrong number, and a name that has none
+wrong_number : AreNumbersOf {X = ℕ} (5 ∷ 7 ∷ []) (7 ∷ []) (0 ∷ []) → ⊥
+wrong_number h = apart 5 7 (omega arith) h.0
+  where
+    apart : (x y : ℕ) → x < y → Some x ≡ Some y → ⊥
+    apart x y less e = let same : x ≡ y = cc in omega (arith, same)
+
+name_left_over : AreNumbersOf {X = ℕ} (5 ∷ 7 ∷ []) (7 ∷ 5 ∷ []) (1 ∷ []) → ⊥
+name_left_over h = h.1
+
+-- the part of the second element: two numbers come of each
+second_part : part_at (λ (n : ℕ). n ∷ n ∷ []) (4 ∷ 6 ∷ []) 1 ≡ record { first = 2; past = 4 }
+second_part = refl

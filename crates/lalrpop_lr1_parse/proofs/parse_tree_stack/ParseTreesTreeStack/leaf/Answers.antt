@@ -1,0 +1,14 @@
+use Rattle.std.proofs.Common.{◌∙◌, ap}
+use Rattle.lalrpop_grammar_symbols.specs.Views.{span_view, terminal_view}
+use Rattle.lalrpop_lr1_theory.specs.Spans.{leaf_at, none_at}
+use Rattle.lalrpop_lr1_parse.specs.NamedTrees.{named_leaf, no_trees}
+use Rattle.lalrpop_lr1_parse.specs.declared.parse_tree.ParseTree.TheVariants.{Terminal}
+use Rattle.lalrpop_lr1_parse.proofs.NamedLemmas.{named_leaf_on, terminal_seen}
+use Rattle.lalrpop_lr1_parse.proofs.parse_tree_stack.ParseTreesTreeStack.leaf.Goals as goal
+
+pub returns : goal.returns
+returns c = λ ts e.
+    named_leaf_on c.args.self.now.trees.items c.push.new.self.items (Terminal c.in_ok-try_clone.field-0) ts
+    (leaf_at (terminal_view c.args.terminal.now) (span_view c.args.arg3) none_at) e
+    (terminal_seen c.in_ok-try_clone.field-0 ∙ ap (λ t. named_leaf (terminal_view t) no_trees) c.in_ok-try_clone.ensures)
+    c.in_ok-push.ensures.items
