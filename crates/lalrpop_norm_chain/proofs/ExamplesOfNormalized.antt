@@ -3,16 +3,18 @@ use Prim.Native.String.{String}
 use Rattle.std.specs.Fmt.{digits}
 use Rattle.std.proofs.Common.{◌≡◌, ◌≢◌, ℕ, List, [], ◌∷◌, ◌++◌, refl, sym, ◌∙◌, subst, inl, inr, arith}
 use Rattle.std.proofs.Common.{Bool, true, false, ap, ◌⊎◌, ◌↔◌}
-use Rattle.std.specs.Prelude.{Option, Some, None, IsSomeAnd, codes, length}
+use Rattle.std.specs.Prelude.{Option, Some, None, IsSomeAnd, codes, length, flat_map}
 use Rattle.std.proofs.lemmas.Bool.{true≢false}
 use Rattle.lalrpop_grammar_symbols.specs.Texts.{escape_byte}
 use Rattle.lalrpop_grammar_symbols.specs.Symbols.{Text, Closed, Closeds, Terminal}
-use Rattle.lalrpop_grammar.specs.WrittenGrammar.{Action, Origin, EntryMapping, InternEntry, Grammar, Ty, WrittenItem}
+use Rattle.lalrpop_grammar.specs.WrittenGrammar.{Action, Origin, EntryMapping, InternEntry, Grammar, Ty, WrittenItem, ConditionTest}
 use Rattle.lalrpop_grammar_language.specs.Among.{Among}
 use Rattle.lalrpop_grammar_language.specs.Enabled.{Choice, EnabledGrammar, EnabledRule, IsRule, enabled_grammar}
 use Rattle.lalrpop_grammar_language.specs.Levels.{loosest}
-use Rattle.lalrpop_grammar_language.specs.Expansion.{GrammarSymbol, Nonterminal, InExpansion, RightSide, Produces}
-use Rattle.lalrpop_grammar_language.proofs.WrittenTreeLemmas.{here, lit, alt, rule_of, grammar, finds}
+use Rattle.lalrpop_grammar_language.specs.Expansion.{GrammarSymbol, Nonterminal, InExpansion, RightSide}
+use Rattle.lalrpop_grammar_language.proofs.WrittenTreeLemmas.{here, lit, alt, rule_of, grammar, finds, of_macro, macro_of, on_K}
+use Rattle.lalrpop_norm_expansion.proofs.ExpansionListLemmas.{is_all, reached-in, all-of}
+use Rattle.lalrpop_norm_expansion.proofs.AmongLemmas.{flat_map_among}
 use Rattle.lalrpop_grammar_repr.specs.Maps.{at_name}
 use Rattle.lalrpop_grammar_types.specs.declared.type_repr.TypeRepr.TheFolds.{fold-roll-TypeRepr}
 use Rattle.lalrpop_grammar_types.specs.declared.type_repr.TypeRepr.TheOpen as layer
@@ -21,7 +23,6 @@ use Rattle.lalrpop_norm_expansion.specs.Keys.{leveled_key_text, IsNaming}
 use Rattle.lalrpop_norm_expansion.specs.Productions.{NamedProduction, AreProductions}
 use Rattle.lalrpop_norm_expansion.specs.Inlined.{IsInlined}
 use Rattle.lalrpop_norm_expansion.specs.Types.{GroundType, IsGrounded}
-use Rattle.lalrpop_norm_expansion.proofs.ExpansionListLemmas.{reached-in, all-of}
 use Rattle.lalrpop_norm_expansion.proofs.NamingListLemmas.{name_by, naming-is}
 use Rattle.lalrpop_norm_expansion.proofs.ProductionListLemmas.{listed, is_production, productions_of}
 use Rattle.lalrpop_norm_expansion.proofs.RowListLemmas.{expansion_productions}
@@ -268,8 +269,19 @@ expansion_types = record {
             (ap first_loosest d) refl) e
 
 -- the literals of the expansion, the tokenizer's entries
+
+abbrev symbols_of : EnabledGrammar → List Nonterminal → List (GrammarSymbol Nonterminal)
+symbols_of h xs = flat_map (λ (p : Origin × RightSide). p.1) (flat_map (productions_of h) xs)
+
+on_side : (h : EnabledGrammar) (xs : List Nonterminal) → is_all h xs ≡ true → (t : Terminal) → IsUsedLiteral h t →
+    Among (symbols_of h xs) (GrammarSymbol.terminal t)
+on_side h xs all t u =
+    flat_map_among (λ (p : Origin × RightSide). p.1) (flat_map (productions_of h) xs) (u.origin, u.side) (GrammarSymbol.terminal t)
+    (flat_map_among (productions_of h) xs u.head (u.origin, u.side) (all-of h xs all u.head u.in_expansion)
+    (listed h u.head u.origin u.side u.produced)) u.among
+
 used_a : (t : Terminal) → Among (a ∷ []) t ↔ IsUsedLiteral g t
-used_a t = (there, here_too)
+used_a t = (there, λ u. here_too (on_side g nonterminals refl t u))
   where
     there : Among (a ∷ []) t → IsUsedLiteral g t
     there (inr m) = absurd m
@@ -283,33 +295,47 @@ used_a t = (there, here_too)
       among = inl refl;
     })
 
-    here_too : IsUsedLiteral g t → Among (a ∷ []) t
-    here_too u = go (no_other u.head u.in_expansion)
-      where
-        of_side : (y : Nonterminal) → y ≡ u.head → Among (productions_of g y) (u.origin, u.side)
-        of_side y e = listed g y u.origin u.side (subst (λ (x : Nonterminal). Produces g x u.origin u.side) (sym e) u.produced)
+    here_too : Among (symbols_of g nonterminals) (GrammarSymbol.terminal t) → Among (a ∷ []) t
+    here_too (inl e) = cc
+    here_too (inr (inl e)) = inl (let d : a ≡ t = cc in d)
+    here_too (inr (inr k)) = absurd k
 
-        in_start_side : (p : Origin × RightSide) → Among (productions_of g (Nonterminal.start (codes "S"))) p
-            → Among p.1 (GrammarSymbol.terminal t) → Among (a ∷ []) t
-        in_start_side p (inr k) m = absurd k
-        in_start_side p (inl e) m = of (subst (λ (q : Origin × RightSide). Among q.1 (GrammarSymbol.terminal t)) (sym e) m)
-          where
-            of : Among (GrammarSymbol.nonterminal (Nonterminal.closed s) ∷ []) (GrammarSymbol.terminal t) → Among (a ∷ []) t
-            of (inl f) = cc
-            of (inr k) = absurd k
+-- S = "a"; M<K> = "c" if K == "x": what stands in a macro that nothing calls isn't used
+abbrev macro_M : WrittenItem
+macro_M = macro_of "M" ("K" ∷ []) (on_K ConditionTest.equals "x" (lit "c" ∷ []) ∷ [])
 
-        in_rule_side : (p : Origin × RightSide) → Among (productions_of g (Nonterminal.closed s)) p
-            → Among p.1 (GrammarSymbol.terminal t) → Among (a ∷ []) t
-        in_rule_side p (inr k) m = absurd k
-        in_rule_side p (inl e) m = of (subst (λ (q : Origin × RightSide). Among q.1 (GrammarSymbol.terminal t)) (sym e) m)
-          where
-            of : Among {A = GrammarSymbol Nonterminal} (GrammarSymbol.terminal a ∷ []) (GrammarSymbol.terminal t) → Among (a ∷ []) t
-            of (inl f) = inl (let d : a ≡ t = cc in d)
-            of (inr k) = absurd k
+abbrev uncalled : EnabledGrammar
+uncalled = enabled_grammar finds [] (grammar (rule_of "S" (alt (lit "a" ∷ []) ∷ []) ∷ macro_M ∷ []))
 
-        go : (Nonterminal.start (codes "S") ≡ u.head) ⊎ (Nonterminal.closed s ≡ u.head) → Among (a ∷ []) t
-        go (inl e) = in_start_side (u.origin, u.side) (of_side (Nonterminal.start (codes "S")) e) u.among
-        go (inr e) = in_rule_side (u.origin, u.side) (of_side (Nonterminal.closed s) e) u.among
+abbrev first_byte : GrammarSymbol Nonterminal → ℕ
+first_byte (GrammarSymbol.terminal (Terminal.quoted (b ∷ t))) = b
+first_byte _ = 0
+
+uncalled_refused : IsUsedLiteral uncalled (Terminal.quoted (codes "c")) → ⊥
+uncalled_refused u = go (on_side uncalled nonterminals refl (Terminal.quoted (codes "c")) u)
+  where
+    go : Among (symbols_of uncalled nonterminals) (GrammarSymbol.terminal (Terminal.quoted (codes "c"))) → ⊥
+    go (inl e) = cc
+    go (inr (inl e)) = let byte : ◌≡◌ {A = ℕ} 97 99 = ap first_byte e in omega (arith, byte)
+    go (inr (inr k)) = absurd k
+
+-- S = M<"x">: "x" is tested, and "c" used
+abbrev tested : EnabledGrammar
+tested = enabled_grammar finds [] (grammar (rule_of "S" (alt (of_macro "M" (lit "x" ∷ []) ∷ []) ∷ []) ∷ macro_M ∷ []))
+
+abbrev instance_M : Nonterminal
+instance_M = Nonterminal.closed (Closed.call (codes "M") (Closeds.more (Closed.terminal (Terminal.quoted (codes "x"))) Closeds.none) None)
+
+tested_refused : IsUsedLiteral tested (Terminal.quoted (codes "x")) → ⊥
+tested_refused u = go (on_side tested (Nonterminal.start (codes "S") ∷ Nonterminal.closed s ∷ instance_M ∷ []) refl
+    (Terminal.quoted (codes "x")) u)
+  where
+    go : Among (symbols_of tested (Nonterminal.start (codes "S") ∷ Nonterminal.closed s ∷ instance_M ∷ []))
+        (GrammarSymbol.terminal (Terminal.quoted (codes "x"))) → ⊥
+    go (inl e) = cc
+    go (inr (inl e)) = cc
+    go (inr (inr (inl e))) = let byte : ◌≡◌ {A = ℕ} 99 120 = ap first_byte e in omega (arith, byte)
+    go (inr (inr (inr k))) = absurd k
 
 entries : AreFullExpansionEntries g None lowered.entries
 entries = record {

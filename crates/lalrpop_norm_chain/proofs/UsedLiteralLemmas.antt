@@ -300,7 +300,8 @@ module _ (finds : Text → Text → Option Bool) (m : Grammar) (w : IsExpanded (
       let in_grammar : Among (uses_in_grammar m) used.0 =
       flat_map_among uses_in_rule (rules_of m.items) q.0 used.0 q.1
       (flat_map_among uses_in_alternative q.0.alternatives a.0 used.0 a.1 in_alternative) in
-      subst (Among (literals (uses_in_grammar m))) used.2 (map_among (λ (v : LiteralUse). v.literal) (uses_in_grammar m) used.0 in_grammar)
+      subst (Among (literals (uses_in_grammar m))) {x = used.0.literal} used.2
+      (map_among (λ (v : LiteralUse). v.literal) (uses_in_grammar m) used.0 in_grammar)
 
   no_pass : (n : Text) (o : Origin) (side : RightSide) → ByPassDown after n Closeds.none None o side → ⊥
   no_pass n o side b = let e : None ≡ Some b.from = b.from_is in cc
