@@ -1,0 +1,118 @@
+-- Right sides that are laid one behind the other: one symbol and one production more. For the table of numbers.
+use Rattle.std.proofs.Common.{append-nil, append_assoc, ◌≡◌, ◌∙◌, ℕ, zero, suc, ◌+◌, ◌<◌, ◌≤◌, List, [], ◌∷◌, ◌++◌, length, map, drop, take, get_or, refl, ap, sym, subst, arith}
+use Rattle.std.proofs.Common.{Some, None, Option, Contains, slice_get, ◌⊎◌, inl, inr, ⊎_elim}
+use Rattle.std.proofs.Math.Seq.{drop-append_seam}
+use Rattle.std.proofs.lemmas.Bool.{cases_lt}
+use Rattle.std.proofs.lemmas.List.{drop-append-le}
+use Rattle.lalrpop_grammar_symbols.specs.declared.names.NonterminalString.{NonterminalString}
+use Rattle.lalrpop_grammar_repr.specs.declared.production.Production.{Production}
+use Rattle.lalrpop_grammar_repr.specs.declared.production.Symbol.{Symbol}
+use Rattle.lalrpop_grammar_repr.specs.declared.terminal_set.TerminalSet.{TerminalSet}
+use Rattle.lalrpop_lr1_theory.specs.Productions as theory
+use Rattle.lalrpop_lr1_items.specs.Views.{production_symbol_view}
+use Rattle.lalrpop_lr1_first.specs.Numbers.{Spells}
+use Rattle.lalrpop_lr1_first.specs.Tables.{AreLaid, IsLaidAt, LaysRule, LaysSymbols, laid_side, symbol_of_number}
+use Rattle.lalrpop_lr1_first.specs.declared.place.NumberedRule.{NumberedRule}
+use Rattle.lalrpop_lr1_first.specs.declared.place.Place.{Place}
+use Rattle.lalrpop_lr1_first.specs.declared.place.Place.TheVariants as places
+
+-- one symbol more is spelled
+spells_more : (at : ℕ → Option theory.Symbol) (xs : List ℕ) (ys : List theory.Symbol) (s : ℕ) (y : theory.Symbol) → Spells at xs ys →
+    at s ≡ Some y → Spells at (xs ++ s ∷ []) (ys ++ y ∷ [])
+spells_more at [] [] s y sp e = (e, tt)
+spells_more at [] (z ∷ ys) s y sp e = absurd sp
+spells_more at (x ∷ xs) [] s y sp e = absurd sp
+spells_more at (x ∷ xs) (z ∷ ys) s y sp e = (sp.0, spells_more at xs ys s y sp.1 e)
+
+map_snoc : {X Y : Type 0} (f : X → Y) (xs : List X) (x : X) → map f (xs ++ x ∷ []) ≡ map f xs ++ f x ∷ []
+map_snoc f [] x = refl
+map_snoc f (y ∷ xs) x = ap (λ l. f y ∷ l) (map_snoc f xs x)
+
+module _ (names : List NonterminalString) (ts : TerminalSet) where
+  pub lays_none : (old : List Place) → LaysSymbols names ts old old []
+  lays_none old = record { numbers = []; laid = sym (append-nil old); spelled = tt }
+
+  pub lays_more : (old mid new : List Place) (side : List Symbol) (x : Symbol) (s : ℕ) → LaysSymbols names ts old mid side →
+      symbol_of_number names ts s ≡ Some (production_symbol_view x) → new ≡ mid ++ places.Symbol s ∷ [] →
+      LaysSymbols names ts old new (side ++ x ∷ [])
+  lays_more old mid new side x s h e n = record {
+    numbers = h.numbers ++ s ∷ [];
+    laid = n ∙ ap (λ l. l ++ places.Symbol s ∷ []) h.laid ∙ append_assoc old (map places.Symbol h.numbers) (places.Symbol s ∷ [])
+        ∙ ap (λ l. old ++ l) (sym (map_snoc places.Symbol h.numbers s));
+    spelled = subst (Spells (symbol_of_number names ts) (h.numbers ++ s ∷ [])) (sym (map_snoc production_symbol_view side x))
+        (spells_more (symbol_of_number names ts) h.numbers (map production_symbol_view side) s (production_symbol_view x) h.spelled e);
+  }
+
+  pub laid_none : (rules : List NumberedRule) (all : List Place) → length rules ≡ 0 → AreLaid names ts [] rules all
+  laid_none rules all e = record { count = e; at = λ r p h. let w : ⊥ = cc in absurd w }
+
+  get_before : {X : Type 0} (xs ys : List X) (r : ℕ) (x : X) → slice_get xs r ≡ Some x → slice_get (xs ++ ys) r ≡ Some x
+  get_before [] ys r x e = let w : ⊥ = cc in absurd w
+  get_before (y ∷ xs) ys zero x e = e
+  get_before (y ∷ xs) ys (suc r) x e = get_before xs ys r x e
+
+  get_last : {X : Type 0} (xs : List X) (x : X) (r : ℕ) → length xs ≡ r → slice_get (xs ++ x ∷ []) r ≡ Some x
+  get_last [] x zero e = refl
+  get_last [] x (suc r) e = absurd (omega arith)
+  get_last (y ∷ xs) x zero e = absurd (omega arith)
+  get_last (y ∷ xs) x (suc r) e = get_last xs x r (omega arith)
+
+  get_split : {X : Type 0} (xs : List X) (x : X) (r : ℕ) (y : X) → slice_get (xs ++ x ∷ []) r ≡ Some y →
+      (slice_get xs r ≡ Some y) ⊎ ((r ≡ length xs) × (x ≡ y))
+  get_split [] x zero y e = let z : x ≡ y = cc in inr (refl, z)
+  get_split [] x (suc r) y e = let w : ⊥ = cc in absurd w
+  get_split (z ∷ xs) x zero y e = inl e
+  get_split (z ∷ xs) x (suc r) y e = ⊎_elim (λ h. inl h) (λ h. inr (ap suc h.0, h.1)) (get_split xs x r y e)
+
+  -- a drop that leaves something is within the list
+  drop_within : {X : Type 0} (n : ℕ) (xs : List X) (y : X) (ys : List X) → drop n xs ≡ y ∷ ys → n ≤ length xs
+  drop_within zero xs y ys e = omega arith
+  drop_within (suc n) [] y ys e = let w : ⊥ = cc in absurd w
+  drop_within (suc n) (x ∷ xs) y ys e = omega (arith, drop_within n xs y ys e)
+
+  side_first : (xs : List ℕ) (r : ℕ) (more : List Place) → (y : Place) × (ys : List Place) × (laid_side xs r ++ more ≡ y ∷ ys)
+  side_first [] r more = (places.End r, more, refl)
+  side_first (x ∷ xs) r more = (places.Symbol x, laid_side xs r ++ more, refl)
+
+  pub laid_more : (productions : List Production) (p : Production) (rules rules' : List NumberedRule) (all all' : List Place) →
+      AreLaid names ts productions rules all → LaysRule names ts (length rules) p rules rules' all all' →
+      AreLaid names ts (productions ++ p ∷ []) rules' all'
+  laid_more productions p rules rules' all all' h l = record {
+    count = ap length l.rules ∙ long rules l.rule ∙ ap suc h.count ∙ sym (long productions p);
+    at = λ r q e. go r q (get_split productions p r q e);
+  }
+    where
+      long : {X : Type 0} (xs : List X) (x : X) → length (xs ++ x ∷ []) ≡ suc (length xs)
+      long [] x = refl
+      long (y ∷ xs) x = ap suc (long xs x)
+
+      go : (r : ℕ) (q : Production) → (slice_get productions r ≡ Some q) ⊎ ((r ≡ length productions) × (p ≡ q)) →
+          IsLaidAt names ts rules' all' r q
+      go r q (inl e) =
+          let a = h.at r q e in
+          let f = side_first a.numbers r a.more in
+          let within : a.rule.start ≤ length all = drop_within a.rule.start all f.0 f.1 (a.laid ∙ f.2) in
+          record {
+            rule = a.rule;
+            numbers = a.numbers;
+            more = a.more ++ laid_side l.numbers (length rules);
+            at = ap (λ z. slice_get z r) l.rules ∙ get_before rules (l.rule ∷ []) r a.rule a.at;
+            laid = ap (drop a.rule.start) l.laid ∙ drop-append-le a.rule.start all (laid_side l.numbers (length rules)) within
+                ∙ ap (λ z. z ++ laid_side l.numbers (length rules)) a.laid
+                ∙ append_assoc (laid_side a.numbers r) a.more (laid_side l.numbers (length rules));
+            left = a.left;
+            spelled = a.spelled;
+          }
+      go r q (inr e) =
+          let here : length rules ≡ r = h.count ∙ sym e.0 in
+          subst (λ (z : Production). IsLaidAt names ts rules' all' r z) e.1 (record {
+            rule = l.rule;
+            numbers = l.numbers;
+            more = [];
+            at = ap (λ z. slice_get z r) l.rules ∙ get_last rules l.rule r here;
+            laid = ap (drop l.rule.start) l.laid ∙ ap (λ z. drop z (all ++ laid_side l.numbers (length rules))) l.start
+                ∙ drop-append_seam all (laid_side l.numbers (length rules)) ∙ ap (laid_side l.numbers) here
+                ∙ sym (append-nil (laid_side l.numbers r));
+            left = l.left;
+            spelled = l.spelled;
+          })

@@ -1,0 +1,12 @@
+pub mod ListLemmas
+pub mod MissingLemmas
+pub mod FirstNumberLemmas
+pub mod SweepLemmas
+pub mod WalkLemmas
+pub mod FlowLemmas
+pub mod ClosureLemmas
+pub mod OrderLemmas
+pub mod AddLemmas
+pub mod NameLemmas
+pub mod LayingLemmas
+pub mod KnownLemmas

@@ -1,0 +1,84 @@
+-- Lists of sets with one set exchanged, tests of two parts, and reading at a place: for all proofs of this crate.
+use Rattle.std.proofs.Common.{◌≡◌, ◌∙◌, ℕ, zero, suc, ◌+◌, ◌<◌, ◌≤◌, Bool, true, false, not, ◌||◌, ◌&&◌, eqb, List, [], ◌∷◌}
+use Rattle.std.proofs.Common.{length, get_or, set, refl, sym, ap, arith, ◌⊎◌, inl, inr, slice_get, Some, None}
+use Rattle.std.proofs.lemmas.Bool.{cases_lt}
+use Rattle.lalrpop_sets.specs.Bits.{has}
+use Rattle.lalrpop_lr1_first.specs.Numbers.{set_at}
+
+pub eqb_self : (k : ℕ) → eqb k k ≡ true
+eqb_self k = grind arith
+
+pub eqb_true : (j k : ℕ) → eqb j k ≡ true → j ≡ k
+eqb_true j k h = grind arith
+
+pub eqb_not : (j k : ℕ) → (j ≡ k → ⊥) → eqb j k ≡ false
+eqb_not j k h = grind arith
+
+pub cases_eq : (j k : ℕ) → (j ≡ k) ⊎ (j ≡ k → ⊥)
+cases_eq j k = go (cases_lt j k) (cases_lt k j)
+  where
+    go : (j < k) ⊎ (k ≤ j) → (k < j) ⊎ (j ≤ k) → (j ≡ k) ⊎ (j ≡ k → ⊥)
+    go (inl a) b = inr (λ e. omega arith)
+    go (inr a) (inl b) = inr (λ e. omega arith)
+    go (inr a) (inr b) = inl (omega arith)
+
+pub or_cases : (a b : Bool) → (a || b) ≡ true → (a ≡ true) ⊎ (b ≡ true)
+or_cases true b h = inl refl
+or_cases false b h = inr h
+
+pub and_both : (a b : Bool) → (a && b) ≡ true → (a ≡ true) × (b ≡ true)
+and_both true b h = (refl, h)
+and_both false b h = let z : ⊥ = cc in absurd z
+
+pub both_and : (a b : Bool) → a ≡ true → b ≡ true → (a && b) ≡ true
+both_and true b h g = g
+both_and false b h g = let z : ⊥ = cc in absurd z
+
+pub or_left : (a b : Bool) → a ≡ true → (a || b) ≡ true
+or_left true b h = refl
+or_left false b h = let z : ⊥ = cc in absurd z
+
+pub or_right : (a b : Bool) → b ≡ true → (a || b) ≡ true
+or_right true b h = refl
+or_right false b h = h
+
+pub at_set_same : (sets : List (List ℕ)) (a : ℕ) (t : List ℕ) → a < length sets → set_at (set sets a t) a ≡ t
+at_set_same [] a t h = absurd (omega arith)
+at_set_same (s ∷ sets) zero t h = refl
+at_set_same (s ∷ sets) (suc a) t h = at_set_same sets a t (omega arith)
+
+pub at_set_other : (sets : List (List ℕ)) (a b : ℕ) (t : List ℕ) → (a ≡ b → ⊥) → set_at (set sets a t) b ≡ set_at sets b
+at_set_other [] a b t h = refl
+at_set_other (s ∷ sets) zero zero t h = absurd (h refl)
+at_set_other (s ∷ sets) zero (suc b) t h = refl
+at_set_other (s ∷ sets) (suc a) zero t h = refl
+at_set_other (s ∷ sets) (suc a) (suc b) t h = at_set_other sets a b t (λ e. h (ap suc e))
+
+pub set_itself : (sets : List (List ℕ)) (a : ℕ) → set sets a (set_at sets a) ≡ sets
+set_itself [] a = refl
+set_itself (s ∷ sets) zero = refl
+set_itself (s ∷ sets) (suc a) = ap (λ l. s ∷ l) (set_itself sets a)
+
+pub set_long : {X : Type 0} (xs : List X) (a : ℕ) (v : X) → length (set xs a v) ≡ length xs
+set_long [] a v = refl
+set_long (x ∷ xs) zero v = refl
+set_long (x ∷ xs) (suc a) v = ap suc (set_long xs a v)
+
+pub get_any : {X : Type 0} (xs : List X) (i : ℕ) (d e : X) → i < length xs → get_or xs i d ≡ get_or xs i e
+get_any [] i d e h = absurd (omega arith)
+get_any (x ∷ xs) zero d e h = refl
+get_any (x ∷ xs) (suc i) d e h = get_any xs i d e (omega arith)
+
+pub read_default : {X : Type 0} (xs : List X) (i : ℕ) (d x : X) → i < length xs → get_or xs i d ≡ x → x ≡ get_or xs i x
+read_default xs i d x h e = sym e ∙ get_any xs i d x h
+
+pub at_read_set : (sets : List (List ℕ)) (a : ℕ) (s : List ℕ) → a < length sets → s ≡ get_or sets a s → s ≡ set_at sets a
+at_read_set sets a s h e = e ∙ get_any sets a s [] h
+
+pub get_slice : {X : Type 0} (xs : List X) (i : ℕ) (x : X) → i < length xs → x ≡ get_or xs i x → slice_get xs i ≡ Some x
+get_slice [] i x h e = absurd (omega arith)
+get_slice (y ∷ xs) zero x h e = ap Some (sym e)
+get_slice (y ∷ xs) (suc i) x h e = get_slice xs i x (omega arith) e
+
+pub some_is : {X : Type 0} (x y : X) → Some x ≡ Some y → x ≡ y
+some_is x y e = cc

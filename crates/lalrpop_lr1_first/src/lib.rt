@@ -1,0 +1,11 @@
+//! First sets, and the closure of items.
+#![tactic(auto)]
+
+mod laying;
+mod listing;
+mod names;
+mod numbered;
+mod place;
+
+pub use numbered::Numbered;
+pub use place::{NumberedRule, Place};

@@ -1,0 +1,50 @@
+//! The table of numbers of a grammar: what tables of states are built from.
+
+ghost use Rattle.std.specs.Prelude.{IfOk};
+ghost use Rattle.lalrpop_lr1_first.specs.NumberedGrammars.{HasItsTerminals, IsTableOf};
+
+use crate::laying::lay_rules;
+use crate::listing::{listed, names_in, productions_in};
+use crate::names::Names;
+use crate::place::{NumberedRule, Place};
+use lalrpop_grammar_repr::{Grammar, Production, TerminalSet};
+use lalrpop_grammar_symbols::NonterminalString;
+use std::alloc::{AllocError, Global};
+
+/// A grammar by numbers. Productions and names ascend, each once; right sides are laid one behind the other, each with its
+/// end, so that each item has a place: that of the symbol behind its dot.
+#[derive(Drop)]
+pub struct Numbered<'g> {
+    pub(crate) names: Vec<&'g NonterminalString>,
+    pub(crate) terminals: &'g TerminalSet,
+    pub(crate) productions: Vec<&'g Production>,
+    pub(crate) rules: Vec<NumberedRule>,
+    pub(crate) places: Vec<Place>,
+}
+
+impl<'g> Numbered<'g> {
+    /// The table of the grammar, whose terminals are numbered by their places.
+    pub fn new(alloc: Global, grammar: &'g Grammar) -> Result<Numbered<'g>, AllocError>
+        requires { HasItsTerminals grammar.now }
+        ensures { IfOk result (λ table. IsTableOf grammar.now table) }
+    {
+        let productions = listed(alloc, &productions_in(alloc, grammar)?)?;
+        let names = Names::new(alloc, &names_in(alloc, productions.as_slice())?)?;
+        let mut rules = Vec::new(alloc);
+        let mut places = Vec::new(alloc);
+        lay_rules(
+            &names,
+            &grammar.terminals,
+            productions.as_slice(),
+            &mut rules,
+            &mut places,
+        )?;
+        Ok(Numbered {
+            names: names.listed,
+            terminals: &grammar.terminals,
+            productions,
+            rules,
+            places,
+        })
+    }
+}
