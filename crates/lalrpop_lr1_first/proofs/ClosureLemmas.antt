@@ -58,21 +58,22 @@ module _ {L : Type 0} (marks : L → List ℕ) (firsts : Bool) (G : Production �
   flows_there s k (passes r e _ at d h d') = brings r e at d
 
   -- no first token is past the end, so what comes and is none of what stood there is a first token
-  first_terminal : (i k : ℕ) (ys : List Symbol) → Spells symbol_at (rest_at i) ys → has (first_at i) k ≡ true →
-      eqb k end ≡ false → (t : Terminal) × (next_at k ≡ Some t) × First0 G ys (Some t)
-  first_terminal i k ys sp h ne = go (next_at k) refl
+  first_terminal : (i s : ℕ) (more : List ℕ) → rest_at i ≡ s ∷ more → (k : ℕ) (ys : List Symbol) → Spells symbol_at (rest_at (i + 1)) ys →
+      has (first_at (i + 1)) k ≡ true → eqb k end ≡ false → (t : Terminal) × (next_at k ≡ Some t) × First0 G ys (Some t)
+  first_terminal i s more rest k ys sp h ne = go (next_at k) refl
     where
       l : k ≤ end
-      l = are_firsts.within i k h
+      l = are_firsts.within i s more rest k h
 
       go : (x : Next) → next_at k ≡ x → (t : Terminal) × (next_at k ≡ Some t) × First0 G ys (Some t)
       go None e =
           let z : k ≡ end = numbered.next_once k end l (omega arith) (e ∙ sym numbered.end_at) in
           let w : eqb k end ≡ true = ap (λ j. eqb k j) (sym z) ∙ eqb_self k in let v : ⊥ = cc in absurd v
-      go (Some t) e = (t, e, subst (First0 G ys) e ((are_firsts.exact i ys sp k l).0 h))
+      go (Some t) e = (t, e, subst (First0 G ys) e ((are_firsts.exact i s more rest ys sp k l).0 h))
 
-  first_end : (i : ℕ) (ys : List Symbol) → Spells symbol_at (rest_at i) ys → has (first_at i) end ≡ true → First0 G ys None
-  first_end i ys sp h = subst (First0 G ys) numbered.end_at ((are_firsts.exact i ys sp end (omega arith)).0 h)
+  first_end : (i s : ℕ) (more : List ℕ) → rest_at i ≡ s ∷ more → (ys : List Symbol) → Spells symbol_at (rest_at (i + 1)) ys →
+      has (first_at (i + 1)) end ≡ true → First0 G ys None
+  first_end i s more rest ys sp h = subst (First0 G ys) numbered.end_at ((are_firsts.exact i s more rest ys sp end (omega arith)).0 h)
 
   not_true : (b : Bool) → not b ≡ true → b ≡ false
   not_true true h = let z : ⊥ = cc in absurd z
@@ -98,12 +99,12 @@ module _ {L : Type 0} (marks : L → List ℕ) (firsts : Bool) (G : Production �
         (λ z.
           let a = and_both firsts (not (eqb k end) && has (first_at (i + 1)) k) z in
           let c = and_both (not (eqb k end)) (has (first_at (i + 1)) k) a.1 in
-          let t = first_terminal (i + 1) k parts.0 behind c.1 (not_true (eqb k end) c.0) in
+          let t = first_terminal i s more rest k parts.0 behind c.1 (not_true (eqb k end) c.0) in
           let e : Some t.0 ≡ x = sym t.1 ∙ nx in
           subst (λ y. M q 0 (Some y)) e (marked.starts parts.0 q t.0 a.0 m parts.1 g t.2))
         (λ z.
           let a = and_both (has (first_at (i + 1)) end) (has set k) z in
-          marked.passes parts.0 q x (has_x a.1) parts.1 g (first_end (i + 1) parts.0 behind a.0))
+          marked.passes parts.0 q x (has_x a.1) parts.1 g (first_end i s more rest parts.0 behind a.0))
         (or_cases (firsts && (not (eqb k end) && has (first_at (i + 1)) k)) (has (first_at (i + 1)) end && has set k) h)
 
   seed_item : (i : ℕ) (l : L) (p : Production) (d : ℕ) → Contains seed (i, l) → Item i p d → M p d None
@@ -254,10 +255,11 @@ module _ {L : Type 0} (marks : L → List ℕ) (firsts : Bool) (G : Production �
   mark_at m x (marked.starts {p = p} {i = d} b q t f h e g n) z =
       let w : Some t ≡ x = cc in
       let r = place_of None h in
+      let a = ahead r.0 p d r.1 b q e g in
       let sp = rest_behind r.0 p d r.1 b q e g in
-      let k = are_firsts.has_number (r.0 + 1) b sp (Some t) n in
+      let k = are_firsts.has_number r.0 a.0 a.1 a.2 b sp (Some t) n in
       let first : has (first_at (r.0 + 1)) k.0 ≡ true =
-      (are_firsts.exact (r.0 + 1) b sp k.0 k.1).1 (subst (First0 G b) (sym k.2) n) in
+      (are_firsts.exact r.0 a.0 a.1 a.2 b sp k.0 k.1).1 (subst (First0 G b) (sym k.2) n) in
       let not_end : eqb k.0 end ≡ false = eqb_not k.0 end
         (λ y. let v : Some t ≡ None = sym k.2 ∙ ap next_at y ∙ numbered.end_at in let u : ⊥ = cc in u) in
       let j = to_start r.0 p d r.1 b q e g k.0 (flows_first r.0 p d r.1 b q e g r.2 k.0 f
@@ -266,9 +268,10 @@ module _ {L : Type 0} (marks : L → List ℕ) (firsts : Bool) (G : Production �
   mark_at m x (marked.passes {p = p} {i = d} b q y h e g n) z =
       let w : y ≡ x = cc in
       let r = mark_at (Some y) y h refl in
+      let a = ahead r.0 p d r.2 b q e g in
       let sp = rest_behind r.0 p d r.2 b q e g in
       let last : has (first_at (r.0 + 1)) end ≡ true =
-      (are_firsts.exact (r.0 + 1) b sp end (omega arith)).1 (subst (First0 G b) (sym numbered.end_at) n) in
+      (are_firsts.exact r.0 a.0 a.1 a.2 b sp end (omega arith)).1 (subst (First0 G b) (sym numbered.end_at) n) in
       let j = to_start r.0 p d r.2 b q e g r.1 (flows_past r.0 p d r.2 b q e g r.1 r.5 last) in
       (j.0, r.1, j.1, r.3, r.4 ∙ w, inr j.2)
 

@@ -4,6 +4,7 @@ use Rattle.std.proofs.Common.{Some, None, Option, Contains, slice_get, ◌⊎◌
 use Rattle.std.proofs.Math.Seq.{drop-append_seam}
 use Rattle.std.proofs.lemmas.Bool.{cases_lt}
 use Rattle.std.proofs.lemmas.List.{drop-append-le}
+use Rattle.std.proofs.lemmas.Option.{slice_get_within}
 use Rattle.lalrpop_grammar_symbols.specs.declared.names.NonterminalString.{NonterminalString}
 use Rattle.lalrpop_grammar_repr.specs.declared.production.Production.{Production}
 use Rattle.lalrpop_grammar_repr.specs.declared.production.Symbol.{Symbol}
@@ -43,8 +44,12 @@ module _ (names : List NonterminalString) (ts : TerminalSet) where
         (spells_more (symbol_of_number names ts) h.numbers (map production_symbol_view side) s (production_symbol_view x) h.spelled e);
   }
 
-  pub laid_none : (rules : List NumberedRule) (all : List Place) → length rules ≡ 0 → AreLaid names ts [] rules all
-  laid_none rules all e = record { count = e; at = λ r p h. let w : ⊥ = cc in absurd w }
+  pub laid_none : (rules : List NumberedRule) (all : List Place) → length rules ≡ 0 → length all ≡ 0 → AreLaid names ts [] rules all
+  laid_none rules all e f = record {
+    count = e;
+    symbols = λ i s h. absurd (omega (arith, slice_get_within all i (places.Symbol s) h));
+    at = λ r p h. let w : ⊥ = cc in absurd w;
+  }
 
   get_before : {X : Type 0} (xs ys : List X) (r : ℕ) (x : X) → slice_get xs r ≡ Some x → slice_get (xs ++ ys) r ≡ Some x
   get_before [] ys r x e = let w : ⊥ = cc in absurd w
@@ -64,13 +69,28 @@ module _ (names : List NonterminalString) (ts : TerminalSet) where
   get_split (z ∷ xs) x zero y e = inl e
   get_split (z ∷ xs) x (suc r) y e = ⊎_elim (λ h. inl h) (λ h. inr (ap suc h.0, h.1)) (get_split xs x r y e)
 
+  get_parts : {X : Type 0} (xs ys : List X) (i : ℕ) (x : X) → slice_get (xs ++ ys) i ≡ Some x →
+      (slice_get xs i ≡ Some x) ⊎ ((j : ℕ) × (slice_get ys j ≡ Some x))
+  get_parts [] ys i x e = inr (i, e)
+  get_parts (y ∷ xs) ys zero x e = inl e
+  get_parts (y ∷ xs) ys (suc i) x e = get_parts xs ys i x e
+
+  in_side : (xs : List ℕ) (ys : List theory.Symbol) → Spells (symbol_of_number names ts) xs ys → (r i s : ℕ) →
+      slice_get (laid_side xs r) i ≡ Some (places.Symbol s) → (x : theory.Symbol) × (symbol_of_number names ts s ≡ Some x)
+  in_side [] ys sp r zero s e = let w : ⊥ = cc in absurd w
+  in_side [] ys sp r (suc i) s e = let w : ⊥ = cc in absurd w
+  in_side (x ∷ xs) [] sp r i s e = absurd sp
+  in_side (x ∷ xs) (y ∷ ys) sp r zero s e =
+      let z : x ≡ s = cc in (y, subst (λ n. symbol_of_number names ts n ≡ Some y) z sp.0)
+  in_side (x ∷ xs) (y ∷ ys) sp r (suc i) s e = in_side xs ys sp.1 r i s e
+
   -- a drop that leaves something is within the list
-  drop_within : {X : Type 0} (n : ℕ) (xs : List X) (y : X) (ys : List X) → drop n xs ≡ y ∷ ys → n ≤ length xs
+  pub drop_within : {X : Type 0} (n : ℕ) (xs : List X) (y : X) (ys : List X) → drop n xs ≡ y ∷ ys → n ≤ length xs
   drop_within zero xs y ys e = omega arith
   drop_within (suc n) [] y ys e = let w : ⊥ = cc in absurd w
   drop_within (suc n) (x ∷ xs) y ys e = omega (arith, drop_within n xs y ys e)
 
-  side_first : (xs : List ℕ) (r : ℕ) (more : List Place) → (y : Place) × (ys : List Place) × (laid_side xs r ++ more ≡ y ∷ ys)
+  pub side_first : (xs : List ℕ) (r : ℕ) (more : List Place) → (y : Place) × (ys : List Place) × (laid_side xs r ++ more ≡ y ∷ ys)
   side_first [] r more = (places.End r, more, refl)
   side_first (x ∷ xs) r more = (places.Symbol x, laid_side xs r ++ more, refl)
 
@@ -78,6 +98,8 @@ module _ (names : List NonterminalString) (ts : TerminalSet) where
       AreLaid names ts productions rules all → LaysRule names ts (length rules) p rules rules' all all' →
       AreLaid names ts (productions ++ p ∷ []) rules' all'
   laid_more productions p rules rules' all all' h l = record {
+    symbols = λ i s e. ⊎_elim (λ f. h.symbols i s f) (λ f. in_side l.numbers (map production_symbol_view p.symbols) l.spelled (length rules) f.0 s f.1)
+        (get_parts all (laid_side l.numbers (length rules)) i (places.Symbol s) (sym (ap (λ z. slice_get z i) l.laid) ∙ e));
     count = ap length l.rules ∙ long rules l.rule ∙ ap suc h.count ∙ sym (long productions p);
     at = λ r q e. go r q (get_split productions p r q e);
   }

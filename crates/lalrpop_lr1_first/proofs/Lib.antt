@@ -10,3 +10,6 @@ pub mod AddLemmas
 pub mod NameLemmas
 pub mod LayingLemmas
 pub mod KnownLemmas
+pub mod TableLemmas
+pub mod StartLemmas
+pub mod PlaceLemmas

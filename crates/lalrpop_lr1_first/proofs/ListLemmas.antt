@@ -82,3 +82,7 @@ get_slice (y ∷ xs) (suc i) x h e = get_slice xs i x (omega arith) e
 
 pub some_is : {X : Type 0} (x y : X) → Some x ≡ Some y → x ≡ y
 some_is x y e = cc
+
+-- an element that is read by a default stands in an equal list
+pub read_slice : {X : Type 0} (xs ys : List X) (i : ℕ) (d : X) → i < length xs → xs ≡ ys → slice_get ys i ≡ Some (get_or xs i d)
+read_slice xs ys i d h e = ap (λ l. slice_get l i) (sym e) ∙ get_slice xs i (get_or xs i d) h (get_any xs i d (get_or xs i d) h)

@@ -26,14 +26,14 @@ pub record IsItemTable (G : Production → Type 0) (symbol_at : ℕ → Option S
   pub rule : (rule : NumberedRule) → Contains rules rule → (p : Production) × StartsItem symbol_at Item rules rule p
   pub all : (p : Production) → G p → (rule : NumberedRule) × StartsItem symbol_at Item rules rule p
 
--- at each place stands the first set of what stands from there on
+-- behind each symbol stands the first set of what stands from there on
 pub record AreFirstsOf (G : Production → Type 0) (symbol_at : ℕ → Option Symbol) (next_at : ℕ → Next) (end : ℕ)
     (rest_at first_at : ℕ → List ℕ) : Type 0 where
-  pub within : (i k : ℕ) → has (first_at i) k ≡ true → k ≤ end
-  pub exact : (i : ℕ) (ys : List Symbol) → Spells symbol_at (rest_at i) ys → (k : ℕ) → k ≤ end →
-      (has (first_at i) k ≡ true) ↔ First0 G ys (next_at k)
-  pub has_number : (i : ℕ) (ys : List Symbol) → Spells symbol_at (rest_at i) ys → (x : Next) → First0 G ys x →
-      (k : ℕ) × (k ≤ end) × (next_at k ≡ x)
+  pub within : (i s : ℕ) (more : List ℕ) → rest_at i ≡ s ∷ more → (k : ℕ) → has (first_at (i + 1)) k ≡ true → k ≤ end
+  pub exact : (i s : ℕ) (more : List ℕ) → rest_at i ≡ s ∷ more → (ys : List Symbol) → Spells symbol_at (rest_at (i + 1)) ys →
+      (k : ℕ) → k ≤ end → (has (first_at (i + 1)) k ≡ true) ↔ First0 G ys (next_at k)
+  pub has_number : (i s : ℕ) (more : List ℕ) → rest_at i ≡ s ∷ more → (ys : List Symbol) → Spells symbol_at (rest_at (i + 1)) ys →
+      (x : Next) → First0 G ys x → (k : ℕ) × (k ≤ end) × (next_at k ≡ x)
 
 -- the edge is of a rule that begins with a nonterminal
 pub record IsEdgeOf (names : ℕ) (rest_at first_at : ℕ → List ℕ) (rule : NumberedRule) (e : FlowEdge) : Type 0 where

@@ -6,3 +6,4 @@ pub mod ItemTables
 pub mod Listings
 pub mod Tables
 pub mod NumberedGrammars
+pub mod FirstNumbers

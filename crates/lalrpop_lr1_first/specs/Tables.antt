@@ -101,10 +101,11 @@ pub record IsLaidAt (names : List NonterminalString) (ts : TerminalSet) (rules :
   pub left : symbol_of_number names ts rule.left ≡ Some (theory.nonterminal p.nonterminal.0)
   pub spelled : Spells (symbol_of_number names ts) numbers (map production_symbol_view p.symbols)
 
--- each of the productions is laid, and nothing else has a rule
+-- each of the productions is laid, nothing else has a rule, and each number that is laid is a symbol's
 pub record AreLaid (names : List NonterminalString) (ts : TerminalSet) (productions : List Production) (rules : List NumberedRule)
     (all : List Place) : Type 0 where
   pub count : length rules ≡ length productions
+  pub symbols : (i s : ℕ) → slice_get all i ≡ Some (places.Symbol s) → (x : theory.Symbol) × (symbol_of_number names ts s ≡ Some x)
   pub at : (r : ℕ) (p : Production) → slice_get productions r ≡ Some p → IsLaidAt names ts rules all r p
 
 -- the production's names and terminals are known

@@ -112,6 +112,7 @@ pub(crate) fn lay_rules(
     requires places { NumbersArePlaces terminals.now }
     requires known { (p : _) → Contains (lent productions.now) p → IsKnownProduction (lent names.now.listed.items) terminals.now p }
     requires no_rules { length rules.old.items ≡ 0 }
+    requires no_places { length places.old.items ≡ 0 }
     ensures { OnOk result (AreLaid (lent names.now.listed.items) terminals.now (lent productions.now) rules.new.items places.new.items) }
 {
     for production in productions {

@@ -1,6 +1,7 @@
 //! First sets, and the closure of items.
 #![tactic(auto)]
 
+mod first_of;
 mod laying;
 mod listing;
 mod names;
