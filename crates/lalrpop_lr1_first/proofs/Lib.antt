@@ -13,3 +13,5 @@ pub mod KnownLemmas
 pub mod TableLemmas
 pub mod StartLemmas
 pub mod PlaceLemmas
+pub mod NamedFirstLemmas
+pub mod TableFirstLemmas

@@ -87,7 +87,7 @@ module _ (ts : TerminalSet) (set : IsTerminalSet ts) where
   end_is_none = ap (option_map terminal_view) (none_past ts.all)
 
   module _ (names : List NonterminalString) (sorted : IsStrictlySortedBy (names_order.ghosts).cmp names) where
-    name_at : (s : ℕ) (A : Text) → symbol_of_number names ts s ≡ Some (theory.nonterminal A) → (n : NonterminalString) ×
+    pub name_at : (s : ℕ) (A : Text) → symbol_of_number names ts s ≡ Some (theory.nonterminal A) → (n : NonterminalString) ×
         (slice_get names s ≡ Some n) × (n.0 ≡ A)
     name_at s A e = go (slice_get names s) refl (slice_get ts.all (s - length names)) e
       where

@@ -4,7 +4,7 @@ use Rattle.lalrpop_grammar_symbols.specs.Symbols.{Text}
 use Rattle.lalrpop_lr1_theory.specs.Productions.{Symbol, nonterminal, Production, Next}
 use Rattle.lalrpop_lr1_theory.specs.FirstSets.{HoldsFirstSets}
 use Rattle.lalrpop_sets.specs.Bits.{has}
-use Rattle.lalrpop_lr1_first.specs.Numbers.{Rule, set_at, says}
+use Rattle.lalrpop_lr1_first.specs.Numbers.{Rule, says, says_by, set_at}
 
 -- a number of the nonterminal has a number of the next in its set
 pub record HasNext (symbol_at : ℕ → Option Symbol) (next_at : ℕ → Next) (end : ℕ) (sets : List (List ℕ)) (A : Text) (x : Next) :
@@ -55,6 +55,6 @@ pub record SweepsTo (G : Production → Type 0) (symbol_at : ℕ → Option Symb
   pub less : changed ≡ true → missing_in (end + 1) new < missing_in (end + 1) old
 
 -- what was gathered of the symbols, where these are left: no end, and with what the others say all that is said
-pub record IsGathered (sets : List (List ℕ)) (end : ℕ) (symbols left gathered : List ℕ) : Type 0 where
-  pub rest : (k : ℕ) → (has gathered k || says sets end left k) ≡ says sets end symbols k
+pub record IsGathered {X : Type 0} (set_of : X → List ℕ) (end : ℕ) (symbols left : List X) (gathered : List ℕ) : Type 0 where
+  pub rest : (k : ℕ) → (has gathered k || says_by set_of end left k) ≡ says_by set_of end symbols k
   pub no_end : has gathered end ≡ false

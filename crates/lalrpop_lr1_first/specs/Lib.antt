@@ -7,3 +7,4 @@ pub mod Listings
 pub mod Tables
 pub mod NumberedGrammars
 pub mod FirstNumbers
+pub mod FirstSetsOf

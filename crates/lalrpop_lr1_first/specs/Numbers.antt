@@ -40,8 +40,11 @@ pub record AreRulesOf (symbol_at : ℕ → Option Symbol) (rules : List Rule) (G
 abbrev pub set_at : List (List ℕ) → ℕ → List ℕ
 set_at sets s = slice_index_or sets s []
 
--- what a table of sets says of symbols: which numbers can come first, and the end where all of them can be empty
+-- what sets for symbols say of a list of symbols: which numbers can come first, and the end where all of them can be empty
+abbrev pub says_by : {X : Type 0} → (X → List ℕ) → ℕ → List X → ℕ → Bool
+says_by set_of end [] k = nat_eq k end
+says_by set_of end (x ∷ xs) k = (not (nat_eq k end) && has (set_of x) k) || (has (set_of x) end && says_by set_of end xs k)
+
+-- the same of symbols by number
 abbrev pub says : List (List ℕ) → ℕ → List ℕ → ℕ → Bool
-says sets end [] k = nat_eq k end
-says sets end (s ∷ xs) k =
-    (not (nat_eq k end) && has (set_at sets s) k) || (has (set_at sets s) end && says sets end xs k)
+says sets end xs k = says_by (set_at sets) end xs k

@@ -1,7 +1,7 @@
 //! First sets by number: of each symbol, by sweeps over the rules, and of each place.
 
-ghost use Rattle.std.specs.Prelude.{◌≡◌, ◌++◌, ℕ, [], IfOk, OnOk, drop, length, map};
-ghost use Rattle.lalrpop_sets.specs.Bits.{has};
+ghost use Rattle.std.specs.Prelude.{◌≡◌, ◌++◌, ℕ, [], true, IfOk, OnOk, drop, length, map};
+ghost use Rattle.lalrpop_sets.specs.Bits.{Ascends, has};
 ghost use Rattle.lalrpop_sets.specs.Tokens.{eof_number};
 ghost use Rattle.lalrpop_lr1_first.specs.FirstNumbers.{
   AreSoundSets,
@@ -13,6 +13,7 @@ ghost use Rattle.lalrpop_lr1_first.specs.FirstNumbers.{
   symbol_count,
   terminal_set,
 };
+ghost use Rattle.lalrpop_lr1_first.specs.Flows.{comes};
 ghost use Rattle.lalrpop_lr1_first.specs.NumberedGrammars.{IsTable};
 ghost use Rattle.lalrpop_lr1_first.specs.Numbers.{says, set_at};
 ghost use Rattle.lalrpop_lr1_first.specs.Tables.{IsTerminalSet, symbols_until};
@@ -148,4 +149,20 @@ pub(crate) fn place_firsts(
         rests.push(first_of_rest(alloc, table.terminals, sets, rest)?)?;
     }
     Ok(rests)
+}
+
+/// The first set with what may follow in place of the end.
+pub(crate) fn first_before(
+    first: TokenSet,
+    terminals: &TerminalSet,
+    lookahead: &TokenSet,
+) -> Result<TokenSet, AllocError>
+    ensures joined { IfOk result (λ set. (k : ℕ) → has set k ≡ comes true (eof_number terminals.now) first lookahead.now k) }
+    ensures ordered { IfOk result (λ set. Ascends set) }
+{
+    let mut set = first;
+    if set.take_eof(terminals) {
+        set.union_with(lookahead)?;
+    }
+    Ok(set)
 }

@@ -15,7 +15,7 @@ returns-then-not-take_eof c =
     let a = c.in-Symbol.symbol in
     let read = read_default rest i _ _ c.loop-place-test.true c.in-Symbol.is in
     let below : a < length c.args.sets.now = below_at rest i c.loop-place-test.true (length c.args.sets.now) a c.requires read in
-    gathered_stop c.args.sets.now (eof_number c.args.terminals.now) (symbols_until rest) (symbols_until (drop i rest))
+    gathered_stop (set_at c.args.sets.now) (eof_number c.args.terminals.now) (symbols_until rest) (symbols_until (drop i rest))
     (symbols_until (drop (i + 1) rest)) a c.loop-place.first c.union_with.new.self c.take_eof.new.self c.loop-place.invariant
     (until_symbol rest i c.loop-place-test.true a read)
     (λ k. c.in_ok-union_with-in-Symbol.ensures.joined k
@@ -30,7 +30,7 @@ loop-place-preserved c =
     let a = c.in-Symbol.symbol in
     let read = read_default rest i _ _ c.loop-place-test.true c.in-Symbol.is in
     let below : a < length c.args.sets.now = below_at rest i c.loop-place-test.true (length c.args.sets.now) a c.requires read in
-    gathered_more c.args.sets.now (eof_number c.args.terminals.now) (symbols_until rest) (symbols_until (drop i rest))
+    gathered_more (set_at c.args.sets.now) (eof_number c.args.terminals.now) (symbols_until rest) (symbols_until (drop i rest))
     (symbols_until (drop (i + 1) rest)) a c.loop-place.first c.union_with.new.self c.take_eof.new.self c.loop-place.invariant
     (until_symbol rest i c.loop-place-test.true a read)
     (λ k. c.in_ok-union_with-in-Symbol.ensures.joined k
