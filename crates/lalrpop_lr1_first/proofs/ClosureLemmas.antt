@@ -8,8 +8,8 @@ use Rattle.lalrpop_lr1_theory.specs.Automata.{Marked}
 use Rattle.lalrpop_lr1_theory.specs.Automata as marked
 use Rattle.lalrpop_sets.specs.Bits.{has}
 use Rattle.lalrpop_lr1_first.specs.Flows.{FlowEdge, Flows, begins, brings, comes, passes, starts}
-use Rattle.lalrpop_lr1_first.specs.ItemTables.{AreEdgesOf, AreFirstsOf, AreSeeded, ClosureHasMark, ClosureHasPlace, FlowsToStart}
-use Rattle.lalrpop_lr1_first.specs.ItemTables.{IsEdgeOf, IsItemTable, SeedBrings, SeedHasMark, SeedHasPlace, SeedItem, SeedLook, StartsItem}
+use Rattle.lalrpop_lr1_first.specs.ItemTables.{AreEdgesOf, AreFirstsOf, AreSeeded, FlowsToStart, HasMark, HasPlace}
+use Rattle.lalrpop_lr1_first.specs.ItemTables.{IsEdgeOf, IsItemTable, ListsItem, ListsNext, SeedBrings, StartsItem}
 use Rattle.lalrpop_lr1_first.specs.Numbers.{IsNumbering, Spells, set_at}
 use Rattle.lalrpop_lr1_first.specs.declared.place.NumberedRule.{NumberedRule}
 use Rattle.lalrpop_lr1_first.proofs.ListLemmas.{and_both, both_and, cases_eq, eqb_not, eqb_self, eqb_true, or_cases, or_left, or_right}
@@ -36,10 +36,10 @@ module _ {L : Type 0} (marks : L → List ℕ) (firsts : Bool) (G : Production �
     (seeded : AreSeeded marks firsts end names rest_at first_at seed slots)
     (items : (i : ℕ) (l : L) → Contains seed (i, l) → (p : Production) × (d : ℕ) × Item i p d) where
   abbrev K : Production → ℕ → Type 0
-  K = SeedItem marks firsts end names rest_at first_at seed next_at Item
+  K = ListsItem seed Item
 
   abbrev U : Production → ℕ → Next → Type 0
-  U = SeedLook marks firsts end names rest_at first_at seed next_at Item
+  U = ListsNext marks seed next_at end Item
 
   abbrev M : Production → ℕ → Option Next → Type 0
   M = Marked firsts G K U
@@ -174,11 +174,12 @@ module _ {L : Type 0} (marks : L → List ℕ) (firsts : Bool) (G : Production �
         (both_and (has e.first end) (eqb k k || false) h (or_left (eqb k k) false (eqb_self k)))) q g is
 
   -- ---- back
-  abbrev HasPlace : ℕ → Type 0
-  HasPlace = ClosureHasPlace marks firsts end names rest_at first_at seed rules edges slots
+  -- what the closure has at a place: whether it is there, and the numbers of what may follow
+  abbrev pub ClosedPlace : ℕ → Type 0
+  ClosedPlace i = HasPlace seed i ⊎ FlowsToStart firsts end rules edges slots i (end + 2)
 
-  abbrev HasMark : ℕ → ℕ → Type 0
-  HasMark = ClosureHasMark marks firsts end names rest_at first_at seed rules edges slots
+  abbrev pub ClosedMark : ℕ → ℕ → Type 0
+  ClosedMark i k = HasMark marks seed i k ⊎ FlowsToStart firsts end rules edges slots i k
 
   module _ (i : ℕ) (p : Production) (d : ℕ) (item : Item i p d) (b : List Symbol) (q : Production)
       (before : drop d p.right ≡ nonterminal q.left ∷ b) (g : G q) where
@@ -192,7 +193,7 @@ module _ {L : Type 0} (marks : L → List ℕ) (firsts : Bool) (G : Production �
     rest_behind = subst (λ xs. Spells symbol_at xs b) (sym (table.next i ahead.0 ahead.1 ahead.2)) ahead.4
 
     -- what flows to the nonterminal flows to the place of its production
-    to_start : (k : ℕ) → F ahead.0 k → (j : ℕ) × Item j q 0 × FlowsToStart marks firsts end names rest_at first_at seed rules edges slots j k
+    to_start : (k : ℕ) → F ahead.0 k → (j : ℕ) × Item j q 0 × FlowsToStart firsts end rules edges slots j k
     to_start k f =
         let a = table.all q g in
         let one : ahead.0 ≡ a.0.left = numbered.name_once ahead.0 a.0.left q.left ahead.3 a.1.left in
@@ -209,13 +210,13 @@ module _ {L : Type 0} (marks : L → List ℕ) (firsts : Bool) (G : Production �
     seed_brings l k c mark = begins ahead.0 k ((seeded ahead.0 k).1 (record {
       place = i; lookahead = l; more = ahead.1; held = c; rest = ahead.2; name = name; mark = mark }))
 
-    flows_on : HasPlace i → F ahead.0 (end + 2)
+    flows_on : ClosedPlace i → F ahead.0 (end + 2)
     flows_on (inl h) = seed_brings h.0 (end + 2) h.1 (inl refl)
     flows_on (inr h) =
         let e = edge_at h.0 h.1 h.2 in
         subst (λ z. F z (end + 2)) e.3 (brings e.0 e.1 e.2 (subst (λ z. F z (end + 2)) (sym e.4) h.3))
 
-    flows_first : HasPlace i → (k : ℕ) → firsts ≡ true → not (eqb k end) && has (first_at (i + 1)) k ≡ true → F ahead.0 k
+    flows_first : ClosedPlace i → (k : ℕ) → firsts ≡ true → not (eqb k end) && has (first_at (i + 1)) k ≡ true → F ahead.0 k
     flows_first (inl h) k f n = seed_brings h.0 k h.1 (inr (or_left (firsts && (not (eqb k end) && has (first_at (i + 1)) k))
         (has (first_at (i + 1)) end && has (marks h.0) k) (both_and firsts (not (eqb k end) && has (first_at (i + 1)) k) f n)))
     flows_first (inr h) k f n =
@@ -223,7 +224,7 @@ module _ {L : Type 0} (marks : L → List ℕ) (firsts : Bool) (G : Production �
         subst (λ z. F z k) e.3 (starts e.0 e.1 k e.2 (subst (λ z. F z (end + 2)) (sym e.4) h.3) f
           (subst (λ z. not (eqb k end) && has z k ≡ true) (sym e.5) n))
 
-    flows_past : (k : ℕ) → HasMark i k → has (first_at (i + 1)) end ≡ true → F ahead.0 k
+    flows_past : (k : ℕ) → ClosedMark i k → has (first_at (i + 1)) end ≡ true → F ahead.0 k
     flows_past k (inl h) n = seed_brings h.0 k h.1 (inr (or_right (firsts && (not (eqb k end) && has (first_at (i + 1)) k))
         (has (first_at (i + 1)) end && has (marks h.0) k) (both_and (has (first_at (i + 1)) end) (has (marks h.0) k) n h.2)))
     flows_past k (inr h) n =
@@ -232,7 +233,7 @@ module _ {L : Type 0} (marks : L → List ℕ) (firsts : Bool) (G : Production �
         subst (λ z. F z k) e.3 (passes e.0 e.1 k e.2 (flows_there e.1.from k f) (ap (λ z. has z end) e.5 ∙ n) f)
 
   -- each marked item has a place in the closure
-  pub place_of : {p : Production} {d : ℕ} (m : Option Next) → M p d m → (i : ℕ) × Item i p d × HasPlace i
+  pub place_of : {p : Production} {d : ℕ} (m : Option Next) → M p d m → (i : ℕ) × Item i p d × ClosedPlace i
   place_of m (marked.there p d k) = (k.0, k.2, inl k.1)
   place_of m (marked.has_next p d x u) = (u.place, u.item, inl (u.held.0, u.held.1))
   place_of m (marked.brings {p = p} {i = d} b q h e g) =
@@ -247,7 +248,7 @@ module _ {L : Type 0} (marks : L → List ℕ) (firsts : Bool) (G : Production �
 
   -- with each next in its lookahead
   pub mark_at : {p : Production} {d : ℕ} (m : Option Next) (x : Next) → M p d m → m ≡ Some x →
-      (i k : ℕ) × Item i p d × (k ≤ end) × (next_at k ≡ x) × HasMark i k
+      (i k : ℕ) × Item i p d × (k ≤ end) × (next_at k ≡ x) × ClosedMark i k
   mark_at m x (marked.there p d k) z = let w : ⊥ = cc in absurd w
   mark_at m x (marked.has_next p d y u) z =
       let e : y ≡ x = cc in (u.place, u.number, u.item, u.small, u.next_is ∙ e, inl u.held)
@@ -276,7 +277,7 @@ module _ {L : Type 0} (marks : L → List ℕ) (firsts : Bool) (G : Production �
       (j.0, r.1, j.1, r.3, r.4 ∙ w, inr j.2)
 
   -- ---- the closure's places and marks are exactly what is marked
-  pub place_is_marked : (i : ℕ) (p : Production) (d : ℕ) → HasPlace i → Item i p d → M p d None
+  pub place_is_marked : (i : ℕ) (p : Production) (d : ℕ) → ClosedPlace i → Item i p d → M p d None
   place_is_marked i p d (inl h) item = seed_item i h.0 p d h.1 item
   place_is_marked i p d (inr h) item =
       let st = table.rule h.0 h.1 in
@@ -284,7 +285,7 @@ module _ {L : Type 0} (marks : L → List ℕ) (firsts : Bool) (G : Production �
       let m = flows_item h.0.left (end + 2) h.3 st.0 (table.of_grammar h.0.start st.0 0 st.1.item) st.1.left in
       subst (λ (e : ℕ). M p e None) (sym one.1) (subst (λ (q : Production). M q 0 None) (sym one.0) m)
 
-  pub mark_is_marked : (i k : ℕ) (p : Production) (d : ℕ) (x : Next) → HasMark i k → k ≤ end → next_at k ≡ x → Item i p d → M p d (Some x)
+  pub mark_is_marked : (i k : ℕ) (p : Production) (d : ℕ) (x : Next) → ClosedMark i k → k ≤ end → next_at k ≡ x → Item i p d → M p d (Some x)
   mark_is_marked i k p d x (inl h) l nx item = seed_look i h.0 p d k x h.1 item h.2 l nx
   mark_is_marked i k p d x (inr h) l nx item =
       let st = table.rule h.0 h.1 in

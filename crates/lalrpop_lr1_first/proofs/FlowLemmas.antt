@@ -225,3 +225,15 @@ pub put_back : {X : Type 0} (xs : List X) (a : ℕ) (t t' : X) → t ≡ get_or 
 put_back [] a t t' e z = refl
 put_back (x ∷ xs) zero t t' e z = ap (λ y. y ∷ xs) (z ∙ e)
 put_back (x ∷ xs) (suc a) t t' e z = ap (λ l. x ∷ l) (put_back xs a t t' e z)
+
+-- slots whose lookaheads are in range have marks in range
+pub marks_below : {L : Type 0} (marks : L → List ℕ) (end : ℕ) (now : List (Option L)) → MarksAreWithin marks end now →
+    AreBelow (end + 3) (all_marks marks (end + 2) now)
+marks_below {L} marks end now within s k h = go (get_or now s None) refl (ap (λ t. has t k) (sym (at_all_marks marks (end + 2) now s)) ∙ h)
+  where
+    go : (o : Option L) → get_or now s None ≡ o → has (slot_marks marks (end + 2) o) k ≡ true → k < end + 3
+    go None e g = let w : ⊥ = cc in absurd w
+    go (Some l) e g = ⊎_elim
+        (λ z. let y = eqb_true (end + 2) k z in omega arith)
+        (λ z. let y = within s l e k z in omega arith)
+        (or_cases (eqb (end + 2) k) (has (marks l) k) g)

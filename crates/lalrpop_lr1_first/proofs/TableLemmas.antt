@@ -163,7 +163,7 @@ spells_drop at (suc d) [] (y ∷ ys) sp = absurd sp
 spells_drop at (suc d) (x ∷ xs) [] sp = absurd sp
 spells_drop at (suc d) (x ∷ xs) (y ∷ ys) sp = spells_drop at d xs ys sp.1
 
-long_map : {X Y : Type 0} (f : X → Y) (xs : List X) → length (map f xs) ≡ length xs
+pub long_map : {X Y : Type 0} (f : X → Y) (xs : List X) → length (map f xs) ≡ length xs
 long_map f [] = refl
 long_map f (x ∷ xs) = ap suc (long_map f xs)
 

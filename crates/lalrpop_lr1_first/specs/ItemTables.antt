@@ -51,6 +51,30 @@ pub record AreEdgesOf (names : ℕ) (rest_at first_at : ℕ → List ℕ) (rules
   pub all : (rule : NumberedRule) (s : ℕ) (more : List ℕ) → Contains rules rule → rest_at rule.start ≡ s ∷ more → s < names →
       (r : ℕ) × (e : FlowEdge) × (slice_get edges r ≡ Some e) × (e.to ≡ s) × IsEdgeOf names rest_at first_at rule e
 
+module _ {L : Type 0} (items : List (ℕ × L)) where
+  -- the place is among them
+  abbrev pub HasPlace : ℕ → Type 0
+  HasPlace i = (l : L) × Contains items (i, l)
+
+  -- some of them is at the item's place
+  abbrev pub ListsItem : (ℕ → Production → ℕ → Type 0) → Production → ℕ → Type 0
+  ListsItem Item p d = (i : ℕ) × HasPlace i × Item i p d
+
+module _ {L : Type 0} (marks : L → List ℕ) (items : List (ℕ × L)) where
+  -- the place is among them with a lookahead that has the number
+  abbrev pub HasMark : ℕ → ℕ → Type 0
+  HasMark i k = (l : L) × Contains items (i, l) × (has (marks l) k ≡ true)
+
+  -- some of them is at the item's place, with the next in its lookahead
+  pub record ListsNext (next_at : ℕ → Next) (end : ℕ) (Item : ℕ → Production → ℕ → Type 0) (p : Production) (d : ℕ) (x : Next) :
+      Type 0 where
+    pub place : ℕ
+    pub number : ℕ
+    pub held : HasMark place number
+    pub small : number ≤ end
+    pub next_is : next_at number ≡ x
+    pub item : Item place p d
+
 module _ {L : Type 0} (marks : L → List ℕ) (firsts : Bool) (end names : ℕ) (rest_at first_at : ℕ → List ℕ)
     (seed : List (ℕ × L)) where
   -- an item of the seed with the nonterminal behind its dot brings the mark to the nonterminal
@@ -67,34 +91,7 @@ module _ {L : Type 0} (marks : L → List ℕ) (firsts : Bool) (end names : ℕ)
   abbrev pub AreSeeded : List (List ℕ) → Type 0
   AreSeeded slots = (s k : ℕ) → (has (set_at slots s) k ≡ true) ↔ SeedBrings s k
 
-  -- the place is the seed's; the seed has the mark at the place
-  abbrev pub SeedHasPlace : ℕ → Type 0
-  SeedHasPlace i = (l : L) × Contains seed (i, l)
-
-  abbrev pub SeedHasMark : ℕ → ℕ → Type 0
-  SeedHasMark i k = (l : L) × Contains seed (i, l) × (has (marks l) k ≡ true)
-
-  module _ (next_at : ℕ → Next) (Item : ℕ → Production → ℕ → Type 0) where
-    -- the seed as a kernel: its items, and what may follow them
-    abbrev pub SeedItem : Production → ℕ → Type 0
-    SeedItem p d = (i : ℕ) × SeedHasPlace i × Item i p d
-
-    pub record SeedLook (p : Production) (d : ℕ) (x : Next) : Type 0 where
-      pub place : ℕ
-      pub number : ℕ
-      pub held : SeedHasMark place number
-      pub small : number ≤ end
-      pub next_is : next_at number ≡ x
-      pub item : Item place p d
-
-  module _ (rules : List NumberedRule) (edges : List FlowEdge) (slots : List (List ℕ)) where
-    -- a rule starts at the place, and the mark flows to its left side
-    abbrev pub FlowsToStart : ℕ → ℕ → Type 0
-    FlowsToStart i k = (rule : NumberedRule) × Contains rules rule × (rule.start ≡ i) × Flows firsts end edges slots rule.left k
-
-    -- what the closure has at a place: whether it is there, and the numbers of what may follow
-    abbrev pub ClosureHasPlace : ℕ → Type 0
-    ClosureHasPlace i = SeedHasPlace i ⊎ FlowsToStart i (end + 2)
-
-    abbrev pub ClosureHasMark : ℕ → ℕ → Type 0
-    ClosureHasMark i k = SeedHasMark i k ⊎ FlowsToStart i k
+module _ (firsts : Bool) (end : ℕ) (rules : List NumberedRule) (edges : List FlowEdge) (slots : List (List ℕ)) where
+  -- a rule starts at the place, and the mark flows to its left side
+  abbrev pub FlowsToStart : ℕ → ℕ → Type 0
+  FlowsToStart i k = (rule : NumberedRule) × Contains rules rule × (rule.start ≡ i) × Flows firsts end edges slots rule.left k

@@ -8,3 +8,4 @@ pub mod Tables
 pub mod NumberedGrammars
 pub mod FirstNumbers
 pub mod FirstSetsOf
+pub mod FlowEdges
