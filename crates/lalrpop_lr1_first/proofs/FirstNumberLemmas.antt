@@ -120,27 +120,31 @@ module _ (symbol_at : ℕ → Option Symbol) (next_at : ℕ → Next) (end names
   said_number (s ∷ xs) (nonterminal A ∷ ys) sp (Some t) (inl h) = (h.number, h.small, h.next_is)
   said_number (s ∷ xs) (nonterminal A ∷ ys) sp (Some t) (inr h) = said_number xs ys sp.1 (Some t) h.1
 
-  -- sets that are closed under the rules, and hold first sets alone, say just the first sets
-  pub says_first : (G : Production → Type 0) (rules : List Rule) → AreRulesOf symbol_at rules G →
-      AreSound G symbol_at next_at end sets →
-      ((r : ℕ) (rule : Rule) (k : ℕ) → slice_get rules r ≡ Some rule → says sets end rule.right k ≡ true →
-        has (set_at sets rule.left) k ≡ true) →
-      (xs : List ℕ) (ys : List Symbol) → Spells symbol_at xs ys → (k : ℕ) → k ≤ end →
-      (says sets end xs k ≡ true → First0 G ys (next_at k)) × (First0 G ys (next_at k) → says sets end xs k ≡ true)
-  says_first G rules are sound close xs ys sp k l =
-      (λ h. first_said G Table sound ys (next_at k) (says_table xs ys sp k l h),
-      λ h. table_says xs ys sp k l (said_first G Table closed ys (next_at k) h))
-    where
-      closed : IsClosedTable G Table
-      closed p x g h =
-          let a = are.all p g in
-          let n = said_number a.1.right p.right a.3.right x h in
-          record {
-            symbol = a.1.left;
-            number = n.0;
-            symbol_is = a.3.left;
-            next_is = n.2;
-            small = n.1;
-            held = close a.0 a.1 n.0 a.2
-                (table_says a.1.right p.right a.3.right n.0 n.1 (subst (TableSays Table p.right) (sym n.2) h));
-          }
+  module _ (G : Production → Type 0) (rules : List Rule) (are : AreRulesOf symbol_at rules G)
+      (close : (r : ℕ) (rule : Rule) (k : ℕ) → slice_get rules r ≡ Some rule → says sets end rule.right k ≡ true →
+        has (set_at sets rule.left) k ≡ true) where
+    closed_table : IsClosedTable G Table
+    closed_table p x g h =
+        let a = are.all p g in
+        let n = said_number a.1.right p.right a.3.right x h in
+        record {
+          symbol = a.1.left;
+          number = n.0;
+          symbol_is = a.3.left;
+          next_is = n.2;
+          small = n.1;
+          held = close a.0 a.1 n.0 a.2
+              (table_says a.1.right p.right a.3.right n.0 n.1 (subst (TableSays Table p.right) (sym n.2) h));
+        }
+
+    -- what can come first in symbols that are spelled has a number
+    pub first_number : (xs : List ℕ) (ys : List Symbol) → Spells symbol_at xs ys → (x : Next) → First0 G ys x →
+        (k : ℕ) × (k ≤ end) × (next_at k ≡ x)
+    first_number xs ys sp x h = said_number xs ys sp x (said_first G Table closed_table ys x h)
+
+    -- sets that are closed under the rules, and hold first sets alone, say just the first sets
+    pub says_first : AreSound G symbol_at next_at end sets → (xs : List ℕ) (ys : List Symbol) → Spells symbol_at xs ys → (k : ℕ) → k ≤ end →
+        (says sets end xs k ≡ true → First0 G ys (next_at k)) × (First0 G ys (next_at k) → says sets end xs k ≡ true)
+    says_first sound xs ys sp k l =
+        (λ h. first_said G Table sound ys (next_at k) (says_table xs ys sp k l h),
+        λ h. table_says xs ys sp k l (said_first G Table closed_table ys (next_at k) h))

@@ -99,17 +99,17 @@ module _ (firsts : Bool) (end : ℕ) (edges : List FlowEdge) (i : ℕ) (e : Flow
       fresh k h n = small k (sym (ap (λ b. b || adds firsts end e new k) n) ∙ sym (joined k) ∙ h)
 
 -- ---- from the code's options to lists
-at_all_marks : {L : Type 0} (marks : L → List ℕ) (here : ℕ) (slots : List (Option L)) (a : ℕ) → set_at (all_marks marks here slots) a ≡ slot_marks marks here (get_or slots a None)
+pub at_all_marks : {L : Type 0} (marks : L → List ℕ) (here : ℕ) (slots : List (Option L)) (a : ℕ) → set_at (all_marks marks here slots) a ≡ slot_marks marks here (get_or slots a None)
 at_all_marks marks here [] a = refl
 at_all_marks marks here (l ∷ slots) zero = refl
 at_all_marks marks here (l ∷ slots) (suc a) = at_all_marks marks here slots a
 
-all_marks_set : {L : Type 0} (marks : L → List ℕ) (here : ℕ) (slots : List (Option L)) (a : ℕ) (l : Option L) → all_marks marks here (set slots a l) ≡ set (all_marks marks here slots) a (slot_marks marks here l)
+pub all_marks_set : {L : Type 0} (marks : L → List ℕ) (here : ℕ) (slots : List (Option L)) (a : ℕ) (l : Option L) → all_marks marks here (set slots a l) ≡ set (all_marks marks here slots) a (slot_marks marks here l)
 all_marks_set marks here [] a l = refl
 all_marks_set marks here (x ∷ slots) zero l = refl
 all_marks_set marks here (x ∷ slots) (suc a) l = ap (λ t. slot_marks marks here x ∷ t) (all_marks_set marks here slots a l)
 
-length_all_marks : {L : Type 0} (marks : L → List ℕ) (here : ℕ) (slots : List (Option L)) → length (all_marks marks here slots) ≡ length slots
+pub length_all_marks : {L : Type 0} (marks : L → List ℕ) (here : ℕ) (slots : List (Option L)) → length (all_marks marks here slots) ≡ length slots
 length_all_marks marks here [] = refl
 length_all_marks marks here (x ∷ slots) = ap suc (length_all_marks marks here slots)
 

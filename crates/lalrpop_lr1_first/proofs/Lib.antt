@@ -15,3 +15,5 @@ pub mod StartLemmas
 pub mod PlaceLemmas
 pub mod NamedFirstLemmas
 pub mod TableFirstLemmas
+pub mod SeedLemmas
+pub mod ClosingLemmas

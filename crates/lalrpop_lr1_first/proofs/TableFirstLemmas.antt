@@ -23,13 +23,18 @@ use Rattle.lalrpop_lr1_first.specs.declared.numbered.Numbered.{Numbered}
 use Rattle.lalrpop_lr1_first.proofs.FirstNumberLemmas.{says_first}
 use Rattle.lalrpop_lr1_first.proofs.NameLemmas.{pairs_sound, pairs_total}
 use Rattle.lalrpop_lr1_first.proofs.NamedFirstLemmas.{first_by, first_more, named_at, says_alone}
-use Rattle.lalrpop_lr1_first.proofs.TableLemmas.{is_item_table, name_at, rules_are, table_numbering}
+use Rattle.lalrpop_lr1_first.proofs.TableLemmas.{is_item_table, long_map, name_at, rules_are, table_numbering}
 
 -- the productions of lists with the same elements are seen alike
 pub seen_same : {X : Type 0} (f : X → theory.Production) (xs ys : List X) → HoldSame xs ys → (p : theory.Production) →
     Contains (map f xs) p → Contains (map f ys) p
 seen_same f xs ys same p c =
     let m = in_map f xs p c in subst (Contains (map f ys)) m.2 (map_has f ys m.0 ((same m.0).0 m.1))
+
+-- a rule has its place
+pub rule_within : (table : Numbered) (r : ℕ) (rule : Rule) → slice_get (table_rules table) r ≡ Some rule → r < length table.rules.items
+rule_within table r rule e =
+    omega (arith, slice_get_within (table_rules table) r rule e, long_map (rule_of table.places.items) table.rules.items)
 
 module _ (g : Grammar) (table : Numbered) (of : IsTableOf g table) (sets : List (List ℕ)) (firsts : AreSymbolFirsts table sets) where
   abbrev symbol_at : ℕ → Option theory.Symbol
@@ -41,15 +46,7 @@ module _ (g : Grammar) (table : Numbered) (of : IsTableOf g table) (sets : List 
       × (First0 (IsSeenIn (table_productions table)) ys (next_of_number table.terminals.now k) → says sets (table_end table) xs k ≡ true)
   table_says = says_first symbol_at (next_of_number table.terminals.now) (table_end table) (name_count table)
       (table_numbering table of.numbers) sets firsts.sets_are.terminals (IsSeenIn (table_productions table)) (table_rules table)
-      (rules_are table of.numbers) firsts.sound
-      (λ r rule k e. firsts.closed r rule k (rule_within r rule e) e)
-    where
-      rule_within : (r : ℕ) (rule : Rule) → slice_get (table_rules table) r ≡ Some rule → r < length table.rules.items
-      rule_within r rule e = omega (arith, slice_get_within (table_rules table) r rule e, long (rule_of table.places.items) table.rules.items)
-        where
-          long : {X : Type 0} (f : X → Rule) (xs : List X) → length (map f xs) ≡ length xs
-          long f [] = refl
-          long f (x ∷ xs) = omega (arith, long f xs)
+      (rules_are table of.numbers) (λ r rule k e. firsts.closed r rule k (rule_within table r rule e) e) firsts.sound
 
   to_grammar : (xs : List theory.Symbol) (x : theory.Next) → First0 (IsSeenIn (table_productions table)) xs x → First0 (IsProductionOf g) xs x
   to_grammar xs x h = first_more (IsSeenIn (table_productions table)) (IsProductionOf g)

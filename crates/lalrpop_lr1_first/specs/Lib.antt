@@ -9,3 +9,4 @@ pub mod NumberedGrammars
 pub mod FirstNumbers
 pub mod FirstSetsOf
 pub mod FlowEdges
+pub mod ClosureTables
