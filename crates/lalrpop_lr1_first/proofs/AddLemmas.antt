@@ -1,5 +1,6 @@
 -- What is in sets of references to which more is added: for the productions and the names of a grammar.
-use Rattle.std.proofs.Common.{append-nil, append_assoc, ◌≡◌, ◌∙◌, ◌↔◌, ◌⊎◌, ℕ, ◌+◌, ◌<◌, List, [], ◌∷◌, ◌++◌, length, map, take, get_or, refl, sym, ap, subst, inl, inr, ⊎_elim, arith, Contains}
+use Rattle.std.proofs.Common.{append-nil, append_assoc, ◌≡◌, ◌∙◌, ◌↔◌, ◌⊎◌, ℕ, ◌+◌, ◌<◌, List, []}
+use Rattle.std.proofs.Common.{◌∷◌, ◌++◌, length, map, take, get_or, refl, sym, ap, subst, inl, inr, ⊎_elim, arith, Contains}
 use Rattle.std.specs.Prelude.{flat_map}
 use Rattle.std.specs.Borrow.{Bor}
 use Rattle.std.specs.BTreeSet.{insert_key}
@@ -21,11 +22,11 @@ module _ {X : Type 0} where
   pub adds_more : (a b c xs ys : List X) → AddsTo a b xs → AddsTo b c ys → AddsTo a c (xs ++ ys)
   adds_more a b c xs ys h k x = (
     λ e. ⊎_elim
-      (λ f. ⊎_elim (λ g. inl g) (λ g. inr (Contains-append_left xs ys x g)) ((h x).0 f))
-      (λ f. inr (Contains-append_right xs ys x f)) ((k x).0 e),
+        (λ f. ⊎_elim (λ g. inl g) (λ g. inr (Contains-append_left xs ys x g)) ((h x).0 f))
+        (λ f. inr (Contains-append_right xs ys x f)) ((k x).0 e),
     λ e. (k x).1 (⊎_elim
-      (λ f. inl ((h x).1 (inl f)))
-      (λ f. ⊎_elim (λ g. inl ((h x).1 (inr g))) (λ g. inr g) (Contains-append_cases xs ys x f)) e),
+        (λ f. inl ((h x).1 (inl f)))
+        (λ f. ⊎_elim (λ g. inl ((h x).1 (inr g))) (λ g. inr g) (Contains-append_cases xs ys x f)) e),
   )
 
   -- a reference more
@@ -43,25 +44,27 @@ module _ {X : Type 0} where
             ↔ (Contains (y.now ∷ lent ks) x ⊎ Contains (k.now ∷ []) x)
         go Less e rec = (
           λ c. ⊎_elim (λ z. inr (subst (Contains (k.now ∷ [])) z (contains_here k.now []))) (λ d. inl d)
-            (contains_split k.now x (y.now ∷ lent ks) c),
+              (contains_split k.now x (y.now ∷ lent ks) c),
           λ h. ⊎_elim (λ c. contains_later k.now x (y.now ∷ lent ks) c)
-            (λ c. ⊎_elim (λ z. subst (Contains (k.now ∷ y.now ∷ lent ks)) z (contains_here k.now (y.now ∷ lent ks)))
+              (λ c. ⊎_elim (λ z. subst (Contains (k.now ∷ y.now ∷ lent ks)) z (contains_here k.now (y.now ∷ lent ks)))
               (λ d. absurd (no_element x d)) (contains_split k.now x [] c)) h,
         )
         go Equal e rec = (
           λ c. inl c,
           λ h. ⊎_elim (λ c. c)
-            (λ c. ⊎_elim (λ z. subst (Contains (y.now ∷ lent ks)) (sym (exact k.now y.now e) ∙ z) (contains_here y.now (lent ks)))
+              (λ c. ⊎_elim (λ z. subst (Contains (y.now ∷ lent ks)) (sym (exact k.now y.now e)
+                  ∙ z) (contains_here y.now (lent ks)))
               (λ d. absurd (no_element x d)) (contains_split k.now x [] c)) h,
         )
         go Greater e rec = (
           λ c. ⊎_elim (λ z. inl (subst (Contains (y.now ∷ lent ks)) z (contains_here y.now (lent ks))))
-            (λ d. ⊎_elim (λ f. inl (contains_later y.now x (lent ks) f)) (λ f. inr f) (rec.0 d))
-            (contains_split y.now x (lent (insert_key cmp ks k)) c),
+              (λ d. ⊎_elim (λ f. inl (contains_later y.now x (lent ks) f)) (λ f. inr f) (rec.0 d))
+              (contains_split y.now x (lent (insert_key cmp ks k)) c),
           λ h. ⊎_elim
-            (λ c. ⊎_elim (λ z. subst (Contains (y.now ∷ lent (insert_key cmp ks k))) z (contains_here y.now (lent (insert_key cmp ks k))))
+              (λ c. ⊎_elim (λ z. subst (Contains (y.now ∷ lent (insert_key cmp ks k))) z (contains_here y.now
+                  (lent (insert_key cmp ks k))))
               (λ d. contains_later y.now x (lent (insert_key cmp ks k)) (rec.1 (inl d))) (contains_split y.now x (lent ks) c))
-            (λ c. contains_later y.now x (lent (insert_key cmp ks k)) (rec.1 (inr c))) h,
+              (λ c. contains_later y.now x (lent (insert_key cmp ks k)) (rec.1 (inr c))) h,
         )
 
 -- what a list gives with one element more
@@ -70,30 +73,34 @@ flat_more f [] x = append-nil (f x)
 flat_more f (y ∷ xs) x = ap (λ l. f y ++ l) (flat_more f xs x) ∙ sym (append_assoc (f y) (flat_map f xs) (f x))
 
 -- one element more is taken
-pub taken_more : {X : Type 0} (xs : List X) (i : ℕ) (x : X) → i < length xs → x ≡ get_or xs i x → take (i + 1) xs ≡ take i xs ++ x ∷ []
+pub taken_more : {X : Type 0} (xs : List X) (i : ℕ) (x : X) → i < length xs → x ≡ get_or xs i x →
+    take (i + 1) xs ≡ take i xs ++ x ∷ []
 taken_more xs i x h e = take_more xs i x h ∙ ap (λ y. take i xs ++ y ∷ []) (sym e)
 
 module _ {X : Type 0} (whole : List X) where
   -- what was put in, with what is left, is the whole: nothing was put in yet
   pub puts_start : (left : List X) → left ≡ whole → (x : X) → Contains whole x ↔ (Contains [] x ⊎ Contains left x)
-  puts_start left e x = (λ c. inr (subst (λ l. Contains l x) (sym e) c), λ h. ⊎_elim (λ c. absurd (no_element x c)) (λ c. subst (λ l. Contains l x) e c) h)
+  puts_start left e x = (λ c. inr (subst (λ l. Contains l x) (sym e) c), λ h.
+      ⊎_elim (λ c. absurd (no_element x c)) (λ c. subst (λ l. Contains l x) e c) h)
 
   -- some elements further on
   pub puts_more : (old new left these rest : List X) → ((x : X) → Contains whole x ↔ (Contains old x ⊎ Contains left x)) →
       left ≡ these ++ rest → AddsTo old new these → (x : X) → Contains whole x ↔ (Contains new x ⊎ Contains rest x)
   puts_more old new left these rest h e a x = (
     λ c. ⊎_elim (λ d. inl ((a x).1 (inl d)))
-      (λ d. ⊎_elim (λ f. inl ((a x).1 (inr f))) (λ f. inr f) (Contains-append_cases these rest x (subst (λ l. Contains l x) e d)))
-      ((h x).0 c),
+        (λ d. ⊎_elim (λ f. inl ((a x).1 (inr f))) (λ f. inr f) (Contains-append_cases these rest x (subst (λ l. Contains l x) e d)))
+        ((h x).0 c),
     λ k. ⊎_elim
-      (λ c. ⊎_elim (λ d. (h x).1 (inl d)) (λ d. (h x).1 (inr (subst (λ l. Contains l x) (sym e) (Contains-append_left these rest x d)))) ((a x).0 c))
-      (λ c. (h x).1 (inr (subst (λ l. Contains l x) (sym e) (Contains-append_right these rest x c)))) k,
+        (λ c. ⊎_elim (λ d. (h x).1 (inl d)) (λ d. (h x).1 (inr (subst (λ l. Contains l x) (sym e)
+            (Contains-append_left these rest x d)))) ((a x).0 c))
+        (λ c. (h x).1 (inr (subst (λ l. Contains l x) (sym e) (Contains-append_right these rest x c)))) k,
   )
 
   -- nothing is left
   pub puts_all : (new left : List X) → ((x : X) → Contains whole x ↔ (Contains new x ⊎ Contains left x)) → left ≡ [] →
       (x : X) → Contains new x ↔ Contains whole x
-  puts_all new left h e x = (λ c. (h x).1 (inl c), λ c. ⊎_elim (λ d. d) (λ d. absurd (no_element x (subst (λ l. Contains l x) e d))) ((h x).0 c))
+  puts_all new left h e x = (λ c. (h x).1 (inl c), λ c.
+      ⊎_elim (λ d. d) (λ d. absurd (no_element x (subst (λ l. Contains l x) e d))) ((h x).0 c))
 
 -- added to nothing
 pub holds_added : {X : Type 0} (new xs : List X) → AddsTo [] new xs → (x : X) → Contains new x ↔ Contains xs x

@@ -1,5 +1,6 @@
 -- What flows between nonterminals by number is what a closure marks at their items: for the closure of a seed.
-use Rattle.std.proofs.Common.{◌≡◌, ◌∙◌, ℕ, suc, ◌+◌, ◌<◌, ◌≤◌, Bool, true, false, not, ◌||◌, ◌&&◌, eqb, List, [], ◌∷◌, drop}
+use Rattle.std.proofs.Common.{◌≡◌, ◌∙◌, ℕ, suc, ◌+◌, ◌<◌, ◌≤◌, Bool, true, false, not, ◌||◌, ◌&&◌}
+use Rattle.std.proofs.Common.{eqb, List, [], ◌∷◌, drop}
 use Rattle.std.proofs.Common.{refl, sym, ap, subst, arith, ◌⊎◌, inl, inr, ⊎_elim, slice_get, Option, Some, None, Contains}
 use Rattle.lalrpop_grammar_symbols.specs.Symbols.{Text, Terminal}
 use Rattle.lalrpop_lr1_theory.specs.Productions.{Symbol, terminal, nonterminal, Production, Next}
@@ -10,19 +11,21 @@ use Rattle.lalrpop_sets.specs.Bits.{has}
 use Rattle.lalrpop_lr1_first.specs.Flows.{FlowEdge, Flows, begins, brings, comes, passes, starts}
 use Rattle.lalrpop_lr1_first.specs.ItemTables.{AreEdgesOf, AreFirstsOf, AreSeeded, FlowsToStart, HasMark, HasPlace}
 use Rattle.lalrpop_lr1_first.specs.ItemTables.{IsEdgeOf, IsItemTable, ListsItem, ListsNext, SeedBrings, StartsItem}
-use Rattle.lalrpop_lr1_first.specs.Numbers.{IsNumbering, Spells, set_at}
+use Rattle.lalrpop_lr1_first.specs.Numbers.{IsNumbering, SpellsSymbols, set_of_number}
 use Rattle.lalrpop_lr1_first.specs.declared.place.NumberedRule.{NumberedRule}
 use Rattle.lalrpop_lr1_first.proofs.ListLemmas.{and_both, both_and, cases_eq, eqb_not, eqb_self, eqb_true, or_cases, or_left, or_right}
 
 -- what is spelled with a first number begins with its symbol
-spelled_first : (symbol_at : ℕ → Option Symbol) (s : ℕ) (more : List ℕ) (ys : List Symbol) (x : Symbol) → symbol_at s ≡ Some x →
-    Spells symbol_at (s ∷ more) ys → (b : List Symbol) × (ys ≡ x ∷ b) × Spells symbol_at more b
+spelled_first : (symbol_at : ℕ → Option Symbol) (s : ℕ) (more : List ℕ) (ys : List Symbol) (x : Symbol) →
+    symbol_at s ≡ Some x →
+    SpellsSymbols symbol_at (s ∷ more) ys → (b : List Symbol) × (ys ≡ x ∷ b) × SpellsSymbols symbol_at more b
 spelled_first symbol_at s more [] x is sp = absurd sp
 spelled_first symbol_at s more (y ∷ ys) x is sp =
     let both : Some y ≡ Some x = sym sp.0 ∙ is in let e : y ≡ x = cc in (ys, ap (λ z. z ∷ ys) e, sp.1)
 
-spelled_symbols : (symbol_at : ℕ → Option Symbol) (xs : List ℕ) (x : Symbol) (b : List Symbol) → Spells symbol_at xs (x ∷ b) →
-    (s : ℕ) × (more : List ℕ) × (xs ≡ s ∷ more) × (symbol_at s ≡ Some x) × Spells symbol_at more b
+spelled_symbols : (symbol_at : ℕ → Option Symbol) (xs : List ℕ) (x : Symbol) (b : List Symbol) →
+    SpellsSymbols symbol_at xs (x ∷ b) →
+    (s : ℕ) × (more : List ℕ) × (xs ≡ s ∷ more) × (symbol_at s ≡ Some x) × SpellsSymbols symbol_at more b
 spelled_symbols symbol_at [] x b sp = absurd sp
 spelled_symbols symbol_at (s ∷ more) x b sp = (s, more, refl, sp.0, sp.1)
 
@@ -52,13 +55,21 @@ module _ {L : Type 0} (marks : L → List ℕ) (firsts : Bool) (G : Production �
   flows_there s k (begins _ _ h) =
       let b = (seeded s k).0 h in
       begins s (end + 2) ((seeded s (end + 2)).1 (record {
-        place = b.place; lookahead = b.lookahead; more = b.more; held = b.held; rest = b.rest; name = b.name; mark = inl refl }))
+        place = b.place;
+        lookahead = b.lookahead;
+        more = b.more;
+        held = b.held;
+        rest = b.rest;
+        name = b.name;
+        mark = inl refl;
+      }))
   flows_there s k (brings r e at d) = brings r e at d
   flows_there s k (starts r e _ at d f h) = brings r e at d
   flows_there s k (passes r e _ at d h d') = brings r e at d
 
   -- no first token is past the end, so what comes and is none of what stood there is a first token
-  first_terminal : (i s : ℕ) (more : List ℕ) → rest_at i ≡ s ∷ more → (k : ℕ) (ys : List Symbol) → Spells symbol_at (rest_at (i + 1)) ys →
+  first_terminal : (i s : ℕ) (more : List ℕ) → rest_at i ≡ s ∷ more → (k : ℕ) (ys : List Symbol) →
+      SpellsSymbols symbol_at (rest_at (i + 1)) ys →
       has (first_at (i + 1)) k ≡ true → eqb k end ≡ false → (t : Terminal) × (next_at k ≡ Some t) × First0 G ys (Some t)
   first_terminal i s more rest k ys sp h ne = go (next_at k) refl
     where
@@ -71,7 +82,8 @@ module _ {L : Type 0} (marks : L → List ℕ) (firsts : Bool) (G : Production �
           let w : eqb k end ≡ true = ap (λ j. eqb k j) (sym z) ∙ eqb_self k in let v : ⊥ = cc in absurd v
       go (Some t) e = (t, e, subst (First0 G ys) e ((are_firsts.exact i s more rest ys sp k l).0 h))
 
-  first_end : (i s : ℕ) (more : List ℕ) → rest_at i ≡ s ∷ more → (ys : List Symbol) → Spells symbol_at (rest_at (i + 1)) ys →
+  first_end : (i s : ℕ) (more : List ℕ) → rest_at i ≡ s ∷ more →
+      (ys : List Symbol) → SpellsSymbols symbol_at (rest_at (i + 1)) ys →
       has (first_at (i + 1)) end ≡ true → First0 G ys None
   first_end i s more rest ys sp h = subst (First0 G ys) numbered.end_at ((are_firsts.exact i s more rest ys sp end (omega arith)).0 h)
 
@@ -82,12 +94,12 @@ module _ {L : Type 0} (marks : L → List ℕ) (firsts : Bool) (G : Production �
   -- ---- what comes from an item whose dot stands before the nonterminal
   module _ (i s : ℕ) (more : List ℕ) (rest : rest_at i ≡ s ∷ more) (p : Production) (d : ℕ) (item : Item i p d) (q : Production)
       (is : symbol_at s ≡ Some (nonterminal q.left)) (g : G q) where
-    parts : (b : List Symbol) × (drop d p.right ≡ nonterminal q.left ∷ b) × Spells symbol_at more b
+    parts : (b : List Symbol) × (drop d p.right ≡ nonterminal q.left ∷ b) × SpellsSymbols symbol_at more b
     parts = spelled_first symbol_at s more (drop d p.right) (nonterminal q.left) is
-        (subst (λ xs. Spells symbol_at xs (drop d p.right)) rest (table.spelled i p d item))
+        (subst (λ xs. SpellsSymbols symbol_at xs (drop d p.right)) rest (table.spelled i p d item))
 
-    behind : Spells symbol_at (rest_at (i + 1)) parts.0
-    behind = subst (λ xs. Spells symbol_at xs parts.0) (sym (table.next i s more rest)) parts.2
+    behind : SpellsSymbols symbol_at (rest_at (i + 1)) parts.0
+    behind = subst (λ xs. SpellsSymbols symbol_at xs parts.0) (sym (table.next i s more rest)) parts.2
 
     item_there : M p d None → M q 0 None
     item_there m = marked.brings parts.0 q m parts.1 g
@@ -97,20 +109,21 @@ module _ {L : Type 0} (marks : L → List ℕ) (firsts : Bool) (G : Production �
     item_mark k x l nx m set has_x h =
         ⊎_elim
         (λ z.
-          let a = and_both firsts (not (eqb k end) && has (first_at (i + 1)) k) z in
-          let c = and_both (not (eqb k end)) (has (first_at (i + 1)) k) a.1 in
-          let t = first_terminal i s more rest k parts.0 behind c.1 (not_true (eqb k end) c.0) in
-          let e : Some t.0 ≡ x = sym t.1 ∙ nx in
-          subst (λ y. M q 0 (Some y)) e (marked.starts parts.0 q t.0 a.0 m parts.1 g t.2))
+        let a = and_both firsts (not (eqb k end) && has (first_at (i + 1)) k) z in
+        let c = and_both (not (eqb k end)) (has (first_at (i + 1)) k) a.1 in
+        let t = first_terminal i s more rest k parts.0 behind c.1 (not_true (eqb k end) c.0) in
+        let e : Some t.0 ≡ x = sym t.1 ∙ nx in
+        subst (λ y. M q 0 (Some y)) e (marked.starts parts.0 q t.0 a.0 m parts.1 g t.2))
         (λ z.
-          let a = and_both (has (first_at (i + 1)) end) (has set k) z in
-          marked.passes parts.0 q x (has_x a.1) parts.1 g (first_end i s more rest parts.0 behind a.0))
+        let a = and_both (has (first_at (i + 1)) end) (has set k) z in
+        marked.passes parts.0 q x (has_x a.1) parts.1 g (first_end i s more rest parts.0 behind a.0))
         (or_cases (firsts && (not (eqb k end) && has (first_at (i + 1)) k)) (has (first_at (i + 1)) end && has set k) h)
 
   seed_item : (i : ℕ) (l : L) (p : Production) (d : ℕ) → Contains seed (i, l) → Item i p d → M p d None
   seed_item i l p d c item = marked.there p d (i, (l, c), item)
 
-  seed_look : (i : ℕ) (l : L) (p : Production) (d k : ℕ) (x : Next) → Contains seed (i, l) → Item i p d → has (marks l) k ≡ true →
+  seed_look : (i : ℕ) (l : L) (p : Production) (d k : ℕ) (x : Next) → Contains seed (i, l) → Item i p d →
+      has (marks l) k ≡ true →
       k ≤ end → next_at k ≡ x → M p d (Some x)
   seed_look i l p d k x c item h le nx = marked.has_next p d x
       (record { place = i; number = k; held = (l, c, h); small = le; next_is = nx; item = item })
@@ -126,7 +139,8 @@ module _ {L : Type 0} (marks : L → List ℕ) (firsts : Bool) (G : Production �
       item_there ru.0.start e.to ru.2.more ru.2.rest st.0 0 item q is g
       (rec st.0 (table.of_grammar ru.0.start st.0 0 item) (ap symbol_at ru.2.from ∙ st.1.left))
 
-  edge_mark : (r : ℕ) (e : FlowEdge) → slice_get edges r ≡ Some e → (k : ℕ) (x : Next) → k ≤ end → next_at k ≡ x → (set : List ℕ) →
+  edge_mark : (r : ℕ) (e : FlowEdge) → slice_get edges r ≡ Some e → (k : ℕ) (x : Next) → k ≤ end → next_at k ≡ x →
+      (set : List ℕ) →
       ((p : Production) → G p → symbol_at e.from ≡ Some (nonterminal p.left) → M p 0 None) →
       (has set k ≡ true → (p : Production) → G p → symbol_at e.from ≡ Some (nonterminal p.left) → M p 0 (Some x)) →
       comes firsts end e.first set k ≡ true →
@@ -159,19 +173,19 @@ module _ {L : Type 0} (marks : L → List ℕ) (firsts : Bool) (G : Production �
       ⊎_elim
       (λ (z : k ≡ end + 2). absurd (omega arith))
       (λ z. item_mark b.place s b.more b.rest a.0 a.1 a.2 q is g k x l nx (seed_item b.place b.lookahead a.0 a.1 b.held a.2)
-        (marks b.lookahead) (λ y. seed_look b.place b.lookahead a.0 a.1 k x b.held a.2 y l nx) z)
+      (marks b.lookahead) (λ y. seed_look b.place b.lookahead a.0 a.1 k x b.held a.2 y l nx) z)
       b.mark
   flows_mark s k (brings r e at d) x l nx q g is = absurd (omega arith)
   flows_mark s k (starts r e _ at d f h) x l nx q g is =
       edge_mark r e at k x l nx [] (λ p gp isp. flows_item e.from (end + 2) d p gp isp)
       (λ y p gp isp. let w : ⊥ = cc in absurd w)
       (or_left (firsts && (not (eqb k end) && has e.first k)) (has e.first end && false)
-        (both_and firsts (not (eqb k end) && has e.first k) f h)) q g is
+      (both_and firsts (not (eqb k end) && has e.first k) f h)) q g is
   flows_mark s k (passes r e _ at d h d') x l nx q g is =
       edge_mark r e at k x l nx (k ∷ []) (λ p gp isp. flows_item e.from (end + 2) d p gp isp)
       (λ y p gp isp. flows_mark e.from k d' x l nx p gp isp)
       (or_right (firsts && (not (eqb k end) && has e.first k)) (has e.first end && (eqb k k || false))
-        (both_and (has e.first end) (eqb k k || false) h (or_left (eqb k k) false (eqb_self k)))) q g is
+      (both_and (has e.first end) (eqb k k || false) h (or_left (eqb k k) false (eqb_self k)))) q g is
 
   -- ---- back
   -- what the closure has at a place: whether it is there, and the numbers of what may follow
@@ -183,14 +197,16 @@ module _ {L : Type 0} (marks : L → List ℕ) (firsts : Bool) (G : Production �
 
   module _ (i : ℕ) (p : Production) (d : ℕ) (item : Item i p d) (b : List Symbol) (q : Production)
       (before : drop d p.right ≡ nonterminal q.left ∷ b) (g : G q) where
-    ahead : (s : ℕ) × (more : List ℕ) × (rest_at i ≡ s ∷ more) × (symbol_at s ≡ Some (nonterminal q.left)) × Spells symbol_at more b
-    ahead = spelled_symbols symbol_at (rest_at i) (nonterminal q.left) b (subst (Spells symbol_at (rest_at i)) before (table.spelled i p d item))
+    ahead : (s : ℕ) × (more : List ℕ) × (rest_at i ≡ s ∷ more) × (symbol_at s ≡ Some (nonterminal q.left))
+        × SpellsSymbols symbol_at more b
+    ahead = spelled_symbols symbol_at (rest_at i) (nonterminal q.left) b (subst (SpellsSymbols symbol_at (rest_at i)) before
+        (table.spelled i p d item))
 
     name : ahead.0 < names
     name = numbered.name_below ahead.0 q.left ahead.3
 
-    rest_behind : Spells symbol_at (rest_at (i + 1)) b
-    rest_behind = subst (λ xs. Spells symbol_at xs b) (sym (table.next i ahead.0 ahead.1 ahead.2)) ahead.4
+    rest_behind : SpellsSymbols symbol_at (rest_at (i + 1)) b
+    rest_behind = subst (λ xs. SpellsSymbols symbol_at xs b) (sym (table.next i ahead.0 ahead.1 ahead.2)) ahead.4
 
     -- what flows to the nonterminal flows to the place of its production
     to_start : (k : ℕ) → F ahead.0 k → (j : ℕ) × Item j q 0 × FlowsToStart firsts end rules edges slots j k
@@ -199,7 +215,8 @@ module _ {L : Type 0} (marks : L → List ℕ) (firsts : Bool) (G : Production �
         let one : ahead.0 ≡ a.0.left = numbered.name_once ahead.0 a.0.left q.left ahead.3 a.1.left in
         (a.0.start, a.1.item, (a.0, a.1.listed, refl, subst (λ z. F z k) one f))
 
-    edge_at : (rule : NumberedRule) → Contains rules rule → rule.start ≡ i → (r : ℕ) × (e : FlowEdge) × (slice_get edges r ≡ Some e)
+    edge_at : (rule : NumberedRule) → Contains rules rule → rule.start ≡ i → (r : ℕ) × (e : FlowEdge)
+        × (slice_get edges r ≡ Some e)
         × (e.to ≡ ahead.0) × (e.from ≡ rule.left) × (e.first ≡ first_at (i + 1))
     edge_at rule listed starts_here =
         let x = are_edges.all rule ahead.0 ahead.1 listed (ap rest_at starts_here ∙ ahead.2) name in
@@ -208,7 +225,14 @@ module _ {L : Type 0} (marks : L → List ℕ) (firsts : Bool) (G : Production �
     seed_brings : (l : L) (k : ℕ) → Contains seed (i, l) →
         ((k ≡ end + 2) ⊎ (comes firsts end (first_at (i + 1)) (marks l) k ≡ true)) → F ahead.0 k
     seed_brings l k c mark = begins ahead.0 k ((seeded ahead.0 k).1 (record {
-      place = i; lookahead = l; more = ahead.1; held = c; rest = ahead.2; name = name; mark = mark }))
+      place = i;
+      lookahead = l;
+      more = ahead.1;
+      held = c;
+      rest = ahead.2;
+      name = name;
+      mark = mark;
+    }))
 
     flows_on : ClosedPlace i → F ahead.0 (end + 2)
     flows_on (inl h) = seed_brings h.0 (end + 2) h.1 (inl refl)
@@ -222,7 +246,7 @@ module _ {L : Type 0} (marks : L → List ℕ) (firsts : Bool) (G : Production �
     flows_first (inr h) k f n =
         let e = edge_at h.0 h.1 h.2 in
         subst (λ z. F z k) e.3 (starts e.0 e.1 k e.2 (subst (λ z. F z (end + 2)) (sym e.4) h.3) f
-          (subst (λ z. not (eqb k end) && has z k ≡ true) (sym e.5) n))
+        (subst (λ z. not (eqb k end) && has z k ≡ true) (sym e.5) n))
 
     flows_past : (k : ℕ) → ClosedMark i k → has (first_at (i + 1)) end ≡ true → F ahead.0 k
     flows_past k (inl h) n = seed_brings h.0 k h.1 (inr (or_right (firsts && (not (eqb k end) && has (first_at (i + 1)) k))
@@ -262,9 +286,9 @@ module _ {L : Type 0} (marks : L → List ℕ) (firsts : Bool) (G : Production �
       let first : has (first_at (r.0 + 1)) k.0 ≡ true =
       (are_firsts.exact r.0 a.0 a.1 a.2 b sp k.0 k.1).1 (subst (First0 G b) (sym k.2) n) in
       let not_end : eqb k.0 end ≡ false = eqb_not k.0 end
-        (λ y. let v : Some t ≡ None = sym k.2 ∙ ap next_at y ∙ numbered.end_at in let u : ⊥ = cc in u) in
+      (λ y. let v : Some t ≡ None = sym k.2 ∙ ap next_at y ∙ numbered.end_at in let u : ⊥ = cc in u) in
       let j = to_start r.0 p d r.1 b q e g k.0 (flows_first r.0 p d r.1 b q e g r.2 k.0 f
-        (both_and (not (eqb k.0 end)) (has (first_at (r.0 + 1)) k.0) (ap not not_end) first)) in
+      (both_and (not (eqb k.0 end)) (has (first_at (r.0 + 1)) k.0) (ap not not_end) first)) in
       (j.0, k.0, j.1, k.1, k.2 ∙ w, inr j.2)
   mark_at m x (marked.passes {p = p} {i = d} b q y h e g n) z =
       let w : y ≡ x = cc in
@@ -285,7 +309,8 @@ module _ {L : Type 0} (marks : L → List ℕ) (firsts : Bool) (G : Production �
       let m = flows_item h.0.left (end + 2) h.3 st.0 (table.of_grammar h.0.start st.0 0 st.1.item) st.1.left in
       subst (λ (e : ℕ). M p e None) (sym one.1) (subst (λ (q : Production). M q 0 None) (sym one.0) m)
 
-  pub mark_is_marked : (i k : ℕ) (p : Production) (d : ℕ) (x : Next) → ClosedMark i k → k ≤ end → next_at k ≡ x → Item i p d → M p d (Some x)
+  pub mark_is_marked : (i k : ℕ) (p : Production) (d : ℕ) (x : Next) → ClosedMark i k → k ≤ end → next_at k ≡ x →
+      Item i p d → M p d (Some x)
   mark_is_marked i k p d x (inl h) l nx item = seed_look i h.0 p d k x h.1 item h.2 l nx
   mark_is_marked i k p d x (inr h) l nx item =
       let st = table.rule h.0 h.1 in

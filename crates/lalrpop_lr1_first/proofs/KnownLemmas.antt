@@ -1,5 +1,6 @@
 -- Names of productions are among those that are listed, terminals of a grammar in its set: for laying the right sides.
-use Rattle.std.proofs.Common.{◌≡◌, ◌∙◌, ◌↔◌, ◌⊎◌, ℕ, List, [], ◌∷◌, ◌++◌, map, refl, ap, sym, subst, arith, inl, inr, ⊎_elim, Some, Contains}
+use Rattle.std.proofs.Common.{◌≡◌, ◌∙◌, ◌↔◌, ◌⊎◌, ℕ, List, [], ◌∷◌, ◌++◌, map, refl, ap, sym, subst}
+use Rattle.std.proofs.Common.{arith, inl, inr, ⊎_elim, Some, Contains}
 use Rattle.std.specs.Prelude.{flat_map}
 use Rattle.std.proofs.lemmas.List.Elements.{Contains-append_left, Contains-append_right}
 use Rattle.lalrpop_grammar_symbols.specs.declared.names.NonterminalString.{NonterminalString}
@@ -12,7 +13,8 @@ use Rattle.lalrpop_lr1_first.specs.Listings.{HoldSame, names_in_production, name
 use Rattle.lalrpop_lr1_first.specs.Tables.{HasNumberedTerminal, HaveNumberedTerminals, IsKnownProduction, IsKnownSymbol}
 
 -- what one element gives, the list gives
-pub flat_has : {X Y : Type 0} (f : X → List Y) (xs : List X) (x : X) (y : Y) → Contains xs x → Contains (f x) y → Contains (flat_map f xs) y
+pub flat_has : {X Y : Type 0} (f : X → List Y) (xs : List X) (x : X) (y : Y) → Contains xs x → Contains (f x) y →
+    Contains (flat_map f xs) y
 flat_has f [] x y c d = absurd (omega (arith, c.1))
 flat_has f (z ∷ xs) x y c d = ⊎_elim
     (λ e. Contains-append_left (f z) (flat_map f xs) y (subst (λ w. Contains (f w) y) (sym e) d))
@@ -25,8 +27,8 @@ module _ (names : List NonterminalString) (ts : TerminalSet) (productions known 
   known_symbol : (p : Production) → Contains productions p → (x : Symbol) → Contains p.symbols x → IsKnownSymbol names ts x
   known_symbol p c (symbols.Nonterminal n) d =
       (listed n).1 (flat_has names_in_production productions p n c
-        (contains_later p.nonterminal n (flat_map names_in_symbol p.symbols)
-          (flat_has names_in_symbol p.symbols (symbols.Nonterminal n) n d (contains_here n []))))
+      (contains_later p.nonterminal n (flat_map names_in_symbol p.symbols)
+      (flat_has names_in_symbol p.symbols (symbols.Nonterminal n) n d (contains_here n []))))
   known_symbol p c (symbols.Terminal t) d = numbered p ((same p).0 c) (symbols.Terminal t) d
 
   pub known_production : (p : Production) → Contains productions p → IsKnownProduction names ts p

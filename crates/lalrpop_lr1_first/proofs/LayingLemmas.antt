@@ -1,5 +1,6 @@
 -- Right sides that are laid one behind the other: one symbol and one production more. For the table of numbers.
-use Rattle.std.proofs.Common.{append-nil, append_assoc, ◌≡◌, ◌∙◌, ℕ, zero, suc, ◌+◌, ◌<◌, ◌≤◌, List, [], ◌∷◌, ◌++◌, length, map, drop, take, get_or, refl, ap, sym, subst, arith}
+use Rattle.std.proofs.Common.{append-nil, append_assoc, ◌≡◌, ◌∙◌, ℕ, zero, suc, ◌+◌, ◌<◌, ◌≤◌, List, []}
+use Rattle.std.proofs.Common.{◌∷◌, ◌++◌, length, map, drop, take, get_or, refl, ap, sym, subst, arith}
 use Rattle.std.proofs.Common.{Some, None, Option, Contains, slice_get, ◌⊎◌, inl, inr, ⊎_elim}
 use Rattle.std.proofs.Math.Seq.{drop-append_seam}
 use Rattle.std.proofs.lemmas.Bool.{cases_lt}
@@ -11,15 +12,16 @@ use Rattle.lalrpop_grammar_repr.specs.declared.production.Symbol.{Symbol}
 use Rattle.lalrpop_grammar_repr.specs.declared.terminal_set.TerminalSet.{TerminalSet}
 use Rattle.lalrpop_lr1_theory.specs.Productions as theory
 use Rattle.lalrpop_lr1_items.specs.Views.{production_symbol_view}
-use Rattle.lalrpop_lr1_first.specs.Numbers.{Spells}
+use Rattle.lalrpop_lr1_first.specs.Numbers.{SpellsSymbols}
 use Rattle.lalrpop_lr1_first.specs.Tables.{AreLaid, IsLaidAt, LaysRule, LaysSymbols, laid_side, symbol_of_number}
 use Rattle.lalrpop_lr1_first.specs.declared.place.NumberedRule.{NumberedRule}
 use Rattle.lalrpop_lr1_first.specs.declared.place.Place.{Place}
 use Rattle.lalrpop_lr1_first.specs.declared.place.Place.TheVariants as places
 
 -- one symbol more is spelled
-spells_more : (at : ℕ → Option theory.Symbol) (xs : List ℕ) (ys : List theory.Symbol) (s : ℕ) (y : theory.Symbol) → Spells at xs ys →
-    at s ≡ Some y → Spells at (xs ++ s ∷ []) (ys ++ y ∷ [])
+spells_more : (at : ℕ → Option theory.Symbol) (xs : List ℕ) (ys : List theory.Symbol) (s : ℕ) (y : theory.Symbol) →
+    SpellsSymbols at xs ys →
+    at s ≡ Some y → SpellsSymbols at (xs ++ s ∷ []) (ys ++ y ∷ [])
 spells_more at [] [] s y sp e = (e, tt)
 spells_more at [] (z ∷ ys) s y sp e = absurd sp
 spells_more at (x ∷ xs) [] s y sp e = absurd sp
@@ -40,11 +42,12 @@ module _ (names : List NonterminalString) (ts : TerminalSet) where
     numbers = h.numbers ++ s ∷ [];
     laid = n ∙ ap (λ l. l ++ places.Symbol s ∷ []) h.laid ∙ append_assoc old (map places.Symbol h.numbers) (places.Symbol s ∷ [])
         ∙ ap (λ l. old ++ l) (sym (map_snoc places.Symbol h.numbers s));
-    spelled = subst (Spells (symbol_of_number names ts) (h.numbers ++ s ∷ [])) (sym (map_snoc production_symbol_view side x))
+    spelled = subst (SpellsSymbols (symbol_of_number names ts) (h.numbers ++ s ∷ [])) (sym (map_snoc production_symbol_view side x))
         (spells_more (symbol_of_number names ts) h.numbers (map production_symbol_view side) s (production_symbol_view x) h.spelled e);
   }
 
-  pub laid_none : (rules : List NumberedRule) (all : List Place) → length rules ≡ 0 → length all ≡ 0 → AreLaid names ts [] rules all
+  pub laid_none : (rules : List NumberedRule) (all : List Place) → length rules ≡ 0 → length all ≡ 0 →
+      AreLaid names ts [] rules all
   laid_none rules all e f = record {
     count = e;
     symbols = λ i s h. absurd (omega (arith, slice_get_within all i (places.Symbol s) h));
@@ -75,7 +78,7 @@ module _ (names : List NonterminalString) (ts : TerminalSet) where
   get_parts (y ∷ xs) ys zero x e = inl e
   get_parts (y ∷ xs) ys (suc i) x e = get_parts xs ys i x e
 
-  in_side : (xs : List ℕ) (ys : List theory.Symbol) → Spells (symbol_of_number names ts) xs ys → (r i s : ℕ) →
+  in_side : (xs : List ℕ) (ys : List theory.Symbol) → SpellsSymbols (symbol_of_number names ts) xs ys → (r i s : ℕ) →
       slice_get (laid_side xs r) i ≡ Some (places.Symbol s) → (x : theory.Symbol) × (symbol_of_number names ts s ≡ Some x)
   in_side [] ys sp r zero s e = let w : ⊥ = cc in absurd w
   in_side [] ys sp r (suc i) s e = let w : ⊥ = cc in absurd w
@@ -90,7 +93,8 @@ module _ (names : List NonterminalString) (ts : TerminalSet) where
   drop_within (suc n) [] y ys e = let w : ⊥ = cc in absurd w
   drop_within (suc n) (x ∷ xs) y ys e = omega (arith, drop_within n xs y ys e)
 
-  pub side_first : (xs : List ℕ) (r : ℕ) (more : List Place) → (y : Place) × (ys : List Place) × (laid_side xs r ++ more ≡ y ∷ ys)
+  pub side_first : (xs : List ℕ) (r : ℕ) (more : List Place) → (y : Place) × (ys : List Place)
+      × (laid_side xs r ++ more ≡ y ∷ ys)
   side_first [] r more = (places.End r, more, refl)
   side_first (x ∷ xs) r more = (places.Symbol x, laid_side xs r ++ more, refl)
 
@@ -98,7 +102,8 @@ module _ (names : List NonterminalString) (ts : TerminalSet) where
       AreLaid names ts productions rules all → LaysRule names ts (length rules) p rules rules' all all' →
       AreLaid names ts (productions ++ p ∷ []) rules' all'
   laid_more productions p rules rules' all all' h l = record {
-    symbols = λ i s e. ⊎_elim (λ f. h.symbols i s f) (λ f. in_side l.numbers (map production_symbol_view p.symbols) l.spelled (length rules) f.0 s f.1)
+    symbols = λ i s e. ⊎_elim (λ f. h.symbols i s f) (λ f. in_side l.numbers (map production_symbol_view p.symbols) l.spelled
+        (length rules) f.0 s f.1)
         (get_parts all (laid_side l.numbers (length rules)) i (places.Symbol s) (sym (ap (λ z. slice_get z i) l.laid) ∙ e));
     count = ap length l.rules ∙ long rules l.rule ∙ ap suc h.count ∙ sym (long productions p);
     at = λ r q e. go r q (get_split productions p r q e);

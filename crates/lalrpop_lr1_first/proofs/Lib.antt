@@ -17,3 +17,4 @@ pub mod NamedFirstLemmas
 pub mod TableFirstLemmas
 pub mod SeedLemmas
 pub mod ClosingLemmas
+mod ExamplesOfNumbers

@@ -1,9 +1,10 @@
 -- Lists of sets with one set exchanged, tests of two parts, and reading at a place: for all proofs of this crate.
-use Rattle.std.proofs.Common.{◌≡◌, ◌∙◌, ℕ, zero, suc, ◌+◌, ◌<◌, ◌≤◌, Bool, true, false, not, ◌||◌, ◌&&◌, eqb, List, [], ◌∷◌}
+use Rattle.std.proofs.Common.{◌≡◌, ◌∙◌, ℕ, zero, suc, ◌+◌, ◌<◌, ◌≤◌, Bool, true, false, not, ◌||◌}
+use Rattle.std.proofs.Common.{◌&&◌, eqb, List, [], ◌∷◌}
 use Rattle.std.proofs.Common.{length, get_or, set, refl, sym, ap, arith, ◌⊎◌, inl, inr, slice_get, Some, None}
 use Rattle.std.proofs.lemmas.Bool.{cases_lt}
 use Rattle.lalrpop_sets.specs.Bits.{has}
-use Rattle.lalrpop_lr1_first.specs.Numbers.{set_at}
+use Rattle.lalrpop_lr1_first.specs.Numbers.{set_of_number}
 
 pub eqb_self : (k : ℕ) → eqb k k ≡ true
 eqb_self k = grind arith
@@ -42,19 +43,20 @@ pub or_right : (a b : Bool) → b ≡ true → (a || b) ≡ true
 or_right true b h = refl
 or_right false b h = h
 
-pub at_set_same : (sets : List (List ℕ)) (a : ℕ) (t : List ℕ) → a < length sets → set_at (set sets a t) a ≡ t
+pub at_set_same : (sets : List (List ℕ)) (a : ℕ) (t : List ℕ) → a < length sets → set_of_number (set sets a t) a ≡ t
 at_set_same [] a t h = absurd (omega arith)
 at_set_same (s ∷ sets) zero t h = refl
 at_set_same (s ∷ sets) (suc a) t h = at_set_same sets a t (omega arith)
 
-pub at_set_other : (sets : List (List ℕ)) (a b : ℕ) (t : List ℕ) → (a ≡ b → ⊥) → set_at (set sets a t) b ≡ set_at sets b
+pub at_set_other : (sets : List (List ℕ)) (a b : ℕ) (t : List ℕ) →
+    (a ≡ b → ⊥) → set_of_number (set sets a t) b ≡ set_of_number sets b
 at_set_other [] a b t h = refl
 at_set_other (s ∷ sets) zero zero t h = absurd (h refl)
 at_set_other (s ∷ sets) zero (suc b) t h = refl
 at_set_other (s ∷ sets) (suc a) zero t h = refl
 at_set_other (s ∷ sets) (suc a) (suc b) t h = at_set_other sets a b t (λ e. h (ap suc e))
 
-pub set_itself : (sets : List (List ℕ)) (a : ℕ) → set sets a (set_at sets a) ≡ sets
+pub set_itself : (sets : List (List ℕ)) (a : ℕ) → set sets a (set_of_number sets a) ≡ sets
 set_itself [] a = refl
 set_itself (s ∷ sets) zero = refl
 set_itself (s ∷ sets) (suc a) = ap (λ l. s ∷ l) (set_itself sets a)
@@ -72,7 +74,8 @@ get_any (x ∷ xs) (suc i) d e h = get_any xs i d e (omega arith)
 pub read_default : {X : Type 0} (xs : List X) (i : ℕ) (d x : X) → i < length xs → get_or xs i d ≡ x → x ≡ get_or xs i x
 read_default xs i d x h e = sym e ∙ get_any xs i d x h
 
-pub at_read_set : (sets : List (List ℕ)) (a : ℕ) (s : List ℕ) → a < length sets → s ≡ get_or sets a s → s ≡ set_at sets a
+pub at_read_set : (sets : List (List ℕ)) (a : ℕ) (s : List ℕ) → a < length sets → s ≡ get_or sets a s →
+    s ≡ set_of_number sets a
 at_read_set sets a s h e = e ∙ get_any sets a s [] h
 
 pub get_slice : {X : Type 0} (xs : List X) (i : ℕ) (x : X) → i < length xs → x ≡ get_or xs i x → slice_get xs i ≡ Some x
@@ -84,5 +87,6 @@ pub some_is : {X : Type 0} (x y : X) → Some x ≡ Some y → x ≡ y
 some_is x y e = cc
 
 -- an element that is read by a default stands in an equal list
-pub read_slice : {X : Type 0} (xs ys : List X) (i : ℕ) (d : X) → i < length xs → xs ≡ ys → slice_get ys i ≡ Some (get_or xs i d)
+pub read_slice : {X : Type 0} (xs ys : List X) (i : ℕ) (d : X) → i < length xs → xs ≡ ys →
+    slice_get ys i ≡ Some (get_or xs i d)
 read_slice xs ys i d h e = ap (λ l. slice_get l i) (sym e) ∙ get_slice xs i (get_or xs i d) h (get_any xs i d (get_or xs i d) h)

@@ -1,5 +1,6 @@
 -- Names with their places: what stands at a name, and names put in one by one. For the numbers of names.
-use Rattle.std.proofs.Common.{◌≡◌, ◌∙◌, ℕ, zero, suc, ◌+◌, Bool, true, false, cond, List, [], ◌∷◌, ◌++◌, length, refl, ap, sym, subst, arith, Some, None, Option, Contains, ⊎_elim, slice_get}
+use Rattle.std.proofs.Common.{◌≡◌, ◌∙◌, ℕ, zero, suc, ◌+◌, Bool, true, false, cond, List, [], ◌∷◌, ◌++◌}
+use Rattle.std.proofs.Common.{length, refl, ap, sym, subst, arith, Some, None, Option, Contains, ⊎_elim, slice_get}
 use Rattle.std.specs.Bool.{Decides}
 use Rattle.std.specs.Cmp.Lexicographic.{slice_cmp}
 use Rattle.std.specs.List.Sorted.{IsStrictlySortedBy}
@@ -44,11 +45,13 @@ pairs_sound (m ∷ ns) k n j e = go (is_eq ((names.ghosts).cmp n m)) refl e (pai
     go false h f rec = let r = rec f in (suc r.0, omega (arith, r.1), r.2)
 
 -- something stands at each of the names
-pub pairs_total : (ns : List NonterminalString) (k : ℕ) (n : NonterminalString) → Contains ns n → (j : ℕ) × (at_name n (pairs_from k ns) ≡ Some j)
+pub pairs_total : (ns : List NonterminalString) (k : ℕ) (n : NonterminalString) → Contains ns n →
+    (j : ℕ) × (at_name n (pairs_from k ns) ≡ Some j)
 pairs_total [] k n c = absurd (omega (arith, c.1))
 pairs_total (m ∷ ns) k n c = go (is_eq ((names.ghosts).cmp n m)) refl (pairs_total ns (suc k) n)
   where
-    go : (b : Bool) → is_eq ((names.ghosts).cmp n m) ≡ b → (Contains ns n → (j : ℕ) × (at_name n (pairs_from (suc k) ns) ≡ Some j)) →
+    go : (b : Bool) → is_eq ((names.ghosts).cmp n m) ≡ b → (Contains ns n →
+        (j : ℕ) × (at_name n (pairs_from (suc k) ns) ≡ Some j)) →
         (j : ℕ) × (cond b (Some k) (at_name n (pairs_from (suc k) ns)) ≡ Some j)
     go true h rec = (k, refl)
     go false h rec = ⊎_elim

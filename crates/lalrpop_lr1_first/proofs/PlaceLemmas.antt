@@ -1,5 +1,6 @@
 -- Places read one by one: what the symbols up to the end begin with. For the first set of a rest.
-use Rattle.std.proofs.Common.{◌≡◌, ◌∙◌, ℕ, zero, suc, ◌+◌, ◌<◌, ◌≤◌, List, [], ◌∷◌, length, drop, get_or, refl, ap, sym, subst, arith, slice_get, Some}
+use Rattle.std.proofs.Common.{◌≡◌, ◌∙◌, ℕ, zero, suc, ◌+◌, ◌<◌, ◌≤◌, List, [], ◌∷◌, length, drop}
+use Rattle.std.proofs.Common.{get_or, refl, ap, sym, subst, arith, slice_get, Some}
 use Rattle.lalrpop_lr1_items.proofs.ListLemmas.{left_is}
 use Rattle.lalrpop_lr1_first.specs.FirstNumbers.{AreSymbolsBelow}
 use Rattle.lalrpop_lr1_first.specs.Tables.{symbols_until}
@@ -9,7 +10,8 @@ use Rattle.lalrpop_lr1_first.proofs.ListLemmas.{get_slice}
 
 module _ (all : List Place) (i : ℕ) (here : i < length all) where
   -- a symbol stands there
-  pub until_symbol : (s : ℕ) → places.Symbol s ≡ get_or all i (places.Symbol s) → symbols_until (drop i all) ≡ s ∷ symbols_until (drop (i + 1) all)
+  pub until_symbol : (s : ℕ) → places.Symbol s ≡ get_or all i (places.Symbol s) →
+      symbols_until (drop i all) ≡ s ∷ symbols_until (drop (i + 1) all)
   until_symbol s e = ap symbols_until (left_is all i (places.Symbol s) here e)
 
   -- a right side ends there

@@ -1,5 +1,6 @@
 -- A table of numbers in the theory: symbols, tokens and items by their numbers. For first sets and closures.
-use Rattle.std.proofs.Common.{append_assoc, ◌≡◌, ◌∙◌, ℕ, zero, suc, ◌+◌, ◌-◌, ◌<◌, ◌≤◌, List, [], ◌∷◌, ◌++◌, length, map, drop, refl, ap, sym, subst, arith}
+use Rattle.std.proofs.Common.{append_assoc, ◌≡◌, ◌∙◌, ℕ, zero, suc, ◌+◌, ◌-◌, ◌<◌, ◌≤◌, List, []}
+use Rattle.std.proofs.Common.{◌∷◌, ◌++◌, length, map, drop, refl, ap, sym, subst, arith}
 use Rattle.std.proofs.Common.{Some, None, Option, Contains, slice_get, ◌⊎◌, inl, inr, ⊎_elim}
 use Rattle.std.specs.List.{AllByRecursion}
 use Rattle.std.specs.List.Sorted.{IsStrictlySortedBy}
@@ -25,9 +26,10 @@ use Rattle.lalrpop_lr1_items.proofs.MemberLemmas.{in_map, map_has}
 use Rattle.lalrpop_lr1_items.proofs.NoConflictLemmas.{at_mapped, same_terminal}
 use Rattle.lalrpop_lr1_first.specs.FirstNumbers.{AreSymbolsBelow, name_count, rule_of, symbol_count, table_end, table_rules}
 use Rattle.lalrpop_lr1_first.specs.ItemTables.{IsItemTable, StartsItem}
-use Rattle.lalrpop_lr1_first.specs.NumberedGrammars.{HasItemAt, IsSeenIn, IsTable, table_names, table_productions}
-use Rattle.lalrpop_lr1_first.specs.Numbers.{AreRulesOf, IsNumbering, IsRuleOf, Rule, Spells}
-use Rattle.lalrpop_lr1_first.specs.Tables.{AreLaid, IsLaidAt, IsTerminalSet, end_until, laid_side, rest_of, symbol_of_number, symbol_or, symbols_until}
+use Rattle.lalrpop_lr1_first.specs.NumberedGrammars.{HasItemAt, IsSeenIn, IsNumberTable, table_names, table_productions}
+use Rattle.lalrpop_lr1_first.specs.Numbers.{AreRulesOf, IsNumbering, IsRuleOf, RuleByNumbers, SpellsSymbols}
+use Rattle.lalrpop_lr1_first.specs.Tables.{AreLaid, IsLaidAt, IsTerminalSet, end_until, laid_side, rest_of, symbol_of_number, symbol_or}
+use Rattle.lalrpop_lr1_first.specs.Tables.{symbols_until}
 use Rattle.lalrpop_lr1_first.specs.declared.numbered.Numbered.{Numbered}
 use Rattle.lalrpop_lr1_first.specs.declared.place.NumberedRule.{NumberedRule}
 use Rattle.lalrpop_lr1_first.specs.declared.place.Place.{Place}
@@ -53,7 +55,8 @@ module _ {X : Type 0} (R : X → X → Ordering) (antisymm : (x y : X) → R x y
   not_less Equal e h = cc
   not_less Greater e h = cc
 
-  pub once : (xs : List X) → IsStrictlySortedBy R xs → (i j : ℕ) (x : X) → slice_get xs i ≡ Some x → slice_get xs j ≡ Some x → i ≡ j
+  pub once : (xs : List X) → IsStrictlySortedBy R xs → (i j : ℕ) (x : X) → slice_get xs i ≡ Some x →
+      slice_get xs j ≡ Some x → i ≡ j
   unfolding IsStrictlySortedBy
   once [] s i j x e f = let w : ⊥ = cc in absurd w
   once (y ∷ xs) s zero zero x e f = refl
@@ -106,9 +109,12 @@ module _ (ts : TerminalSet) (set : IsTerminalSet ts) where
             (j : ℕ) × (s ≡ length names + j) × (j < eof_number ts) × (next_of_number ts j ≡ Some t)
         go (Some n) at b at_b f = let w : ⊥ = cc in absurd w
         go None at (Some u) at_b f =
-            let seen : terminal_view u ≡ t = cc in
-            (s - length names, omega (arith, nothing_there names s at), slice_get_within ts.all (s - length names) u at_b,
-              ap (option_map terminal_view) at_b ∙ ap Some seen)
+            let seen : terminal_view u ≡ t = cc in (
+              s - length names,
+              omega (arith, nothing_there names s at),
+              slice_get_within ts.all (s - length names) u at_b,
+              ap (option_map terminal_view) at_b ∙ ap Some seen,
+            )
         go None at None at_b f = let w : ⊥ = cc in absurd w
 
     -- symbols and tokens are numbered
@@ -125,7 +131,8 @@ module _ (ts : TerminalSet) (set : IsTerminalSet ts) where
       end_at = end_is_none;
     }
 
-pub get_mapped : {X Y : Type 0} (f : X → Y) (xs : List X) (r : ℕ) (x : X) → slice_get xs r ≡ Some x → slice_get (map f xs) r ≡ Some (f x)
+pub get_mapped : {X Y : Type 0} (f : X → Y) (xs : List X) (r : ℕ) (x : X) → slice_get xs r ≡ Some x →
+    slice_get (map f xs) r ≡ Some (f x)
 get_mapped f [] r x e = let w : ⊥ = cc in absurd w
 get_mapped f (y ∷ xs) zero x e = ap (λ o. option_map f o) e
 get_mapped f (y ∷ xs) (suc r) x e = get_mapped f xs r x e
@@ -139,7 +146,8 @@ end_side : (xs : List ℕ) (r : ℕ) (more : List Place) → end_until (laid_sid
 end_side [] r more = refl
 end_side (x ∷ xs) r more = end_side xs r more
 
-drop_side : (d : ℕ) (xs : List ℕ) (r : ℕ) (more : List Place) → d ≤ length xs → drop d (laid_side xs r ++ more) ≡ laid_side (drop d xs) r ++ more
+drop_side : (d : ℕ) (xs : List ℕ) (r : ℕ) (more : List Place) → d ≤ length xs →
+    drop d (laid_side xs r ++ more) ≡ laid_side (drop d xs) r ++ more
 drop_side zero xs r more h = refl
 drop_side (suc d) [] r more h = absurd (omega arith)
 drop_side (suc d) (x ∷ xs) r more h = drop_side d xs r more (omega arith)
@@ -150,13 +158,15 @@ drop_both (suc n) zero [] = ap (λ k. drop k []) (let e : suc n + zero ≡ suc n
 drop_both (suc n) (suc d) [] = ap (λ k. drop k []) (let e : suc n + suc d ≡ suc (n + suc d) = omega arith in e)
 drop_both (suc n) d (x ∷ xs) = ap (λ k. drop k (x ∷ xs)) (let e : suc n + d ≡ suc (n + d) = omega arith in e) ∙ drop_both n d xs
 
-spells_long : (at : ℕ → Option theory.Symbol) (xs : List ℕ) (ys : List theory.Symbol) → Spells at xs ys → length xs ≡ length ys
+spells_long : (at : ℕ → Option theory.Symbol) (xs : List ℕ) (ys : List theory.Symbol) → SpellsSymbols at xs ys →
+    length xs ≡ length ys
 spells_long at [] [] sp = refl
 spells_long at [] (y ∷ ys) sp = absurd sp
 spells_long at (x ∷ xs) [] sp = absurd sp
 spells_long at (x ∷ xs) (y ∷ ys) sp = ap suc (spells_long at xs ys sp.1)
 
-spells_drop : (at : ℕ → Option theory.Symbol) (d : ℕ) (xs : List ℕ) (ys : List theory.Symbol) → Spells at xs ys → Spells at (drop d xs) (drop d ys)
+spells_drop : (at : ℕ → Option theory.Symbol) (d : ℕ) (xs : List ℕ) (ys : List theory.Symbol) → SpellsSymbols at xs ys →
+    SpellsSymbols at (drop d xs) (drop d ys)
 spells_drop at zero xs ys sp = sp
 spells_drop at (suc d) [] [] sp = tt
 spells_drop at (suc d) [] (y ∷ ys) sp = absurd sp
@@ -167,7 +177,8 @@ pub long_map : {X Y : Type 0} (f : X → Y) (xs : List X) → length (map f xs) 
 long_map f [] = refl
 long_map f (x ∷ xs) = ap suc (long_map f xs)
 
-until_next : (all : List Place) (i s : ℕ) (more : List ℕ) → symbols_until (drop i all) ≡ s ∷ more → symbols_until (drop (i + 1) all) ≡ more
+until_next : (all : List Place) (i s : ℕ) (more : List ℕ) → symbols_until (drop i all) ≡ s ∷ more →
+    symbols_until (drop (i + 1) all) ≡ more
 until_next [] zero s more e = let w : ⊥ = cc in absurd w
 until_next [] (suc i) s more e = let w : ⊥ = cc in absurd w
 until_next (places.End r ∷ all) zero s more e = let w : ⊥ = cc in absurd w
@@ -180,7 +191,7 @@ get_some [] r h = absurd (omega arith)
 get_some (x ∷ xs) zero h = (x, refl)
 get_some (x ∷ xs) (suc r) h = get_some xs r (omega arith)
 
-module _ (table : Numbered) (is : IsTable table) where
+module _ (table : Numbered) (is : IsNumberTable table) where
   abbrev at : ℕ → Option theory.Symbol
   at = symbol_of_number (table_names table) table.terminals.now
 
@@ -207,19 +218,22 @@ module _ (table : Numbered) (is : IsTable table) where
       let l = laid_of i p d h in
       let rule : h.rule ≡ l.rule = some_is h.rule l.rule (sym h.at_rule ∙ l.at) in
       let long : length l.numbers ≡ length h.production.symbols =
-      spells_long at l.numbers (map production_symbol_view h.production.symbols) l.spelled ∙ long_map production_symbol_view h.production.symbols in
+      spells_long at l.numbers (map production_symbol_view h.production.symbols) l.spelled
+          ∙ long_map production_symbol_view h.production.symbols in
       ap (λ k. drop k table.places.items) h.place_is ∙ drop_both h.rule.start d table.places.items
       ∙ ap (λ (x : NumberedRule). drop d (drop x.start table.places.items)) rule ∙ ap (drop d) l.laid
       ∙ drop_side d l.numbers h.number l.more (omega (arith, long, h.within))
 
-  spelled_at : (i : ℕ) (p : theory.Production) (d : ℕ) → HasItemAt table i p d → Spells at (rest i) (drop d p.right)
+  spelled_at : (i : ℕ) (p : theory.Production) (d : ℕ) → HasItemAt table i p d → SpellsSymbols at (rest i) (drop d p.right)
   spelled_at i p d h =
       let l = laid_of i p d h in
-      subst (λ xs. Spells at xs (drop d p.right)) (sym (ap symbols_until (drop_of i p d h) ∙ symbols_side (drop d l.numbers) h.number l.more))
-      (subst (λ (q : theory.Production). Spells at (drop d l.numbers) (drop d q.right)) (sym h.seen)
-        (spells_drop at d l.numbers (map production_symbol_view h.production.symbols) l.spelled))
+      subst (λ xs. SpellsSymbols at xs (drop d p.right)) (sym (ap symbols_until (drop_of i p d h)
+          ∙ symbols_side (drop d l.numbers) h.number l.more))
+      (subst (λ (q : theory.Production). SpellsSymbols at (drop d l.numbers) (drop d q.right)) (sym h.seen)
+      (spells_drop at d l.numbers (map production_symbol_view h.production.symbols) l.spelled))
 
-  one_item : (i : ℕ) (p q : theory.Production) (d e : ℕ) → HasItemAt table i p d → HasItemAt table i q e → (p ≡ q) × (d ≡ e)
+  one_item : (i : ℕ) (p q : theory.Production) (d e : ℕ) → HasItemAt table i p d → HasItemAt table i q e →
+      (p ≡ q) × (d ≡ e)
   one_item i p q d e h g =
       let lh = laid_of i p d h in
       let lg = laid_of i q e g in
@@ -242,14 +256,23 @@ module _ (table : Numbered) (is : IsTable table) where
         listed = get_contains table.rules.items r rule e;
         left = subst (λ (x : NumberedRule). at x.left ≡ Some (theory.nonterminal p.nonterminal.0)) one l.left;
         item = record {
-          number = r; rule = rule; production = p; at_rule = e; at_production = f; seen = refl; place_is = omega arith; within = omega arith };
+          number = r;
+          rule = rule;
+          production = p;
+          at_rule = e;
+          at_production = f;
+          seen = refl;
+          place_is = omega arith;
+          within = omega arith;
+        };
       }
 
   -- items have places
   pub is_item_table : IsItemTable G at (HasItemAt table) rest table.rules.items
   is_item_table = record {
     of_grammar = λ i p d h. subst (Contains (map production_view (table_productions table))) (sym h.seen)
-        (map_has production_view (table_productions table) h.production (get_contains (table_productions table) h.number h.production h.at_production));
+        (map_has production_view (table_productions table) h.production (get_contains (table_productions table) h.number h.production
+            h.at_production));
     spelled = spelled_at;
     one = one_item;
     next = λ i s more e. until_next table.places.items i s more e;
@@ -261,7 +284,8 @@ module _ (table : Numbered) (is : IsTable table) where
         let m = in_map production_view (table_productions table) p g in
         let k = contains_get (table_productions table) m.0 m.1 in
         let l = is.laid.at k.0 m.0 k.1 in
-        (l.rule, subst (λ (q : theory.Production). StartsItem at (HasItemAt table) table.rules.items l.rule q) m.2 (start_item k.0 l.rule m.0 l.at k.1));
+        (l.rule, subst (λ (q : theory.Production). StartsItem at (HasItemAt table) table.rules.items l.rule q) m.2
+            (start_item k.0 l.rule m.0 l.at k.1));
   }
 
   -- each number that is laid is a symbol's
@@ -279,7 +303,8 @@ module _ (table : Numbered) (is : IsTable table) where
           omega (arith, long, h.1, h.2)
 
   -- a rule starts within the places, and its left side is a name's number
-  pub start_within : (r : ℕ) (rule : NumberedRule) → slice_get table.rules.items r ≡ Some rule → rule.start ≤ length table.places.items
+  pub start_within : (r : ℕ) (rule : NumberedRule) → slice_get table.rules.items r ≡ Some rule →
+      rule.start ≤ length table.places.items
   start_within r rule e =
       let p = get_some (table_productions table) r (omega (arith, slice_get_within table.rules.items r rule e, is.laid.count)) in
       let l = is.laid.at r p.0 p.1 in
@@ -291,20 +316,29 @@ module _ (table : Numbered) (is : IsTable table) where
   pub left_below : (r : ℕ) (rule : NumberedRule) → slice_get table.rules.items r ≡ Some rule → rule.left < name_count table
   left_below r rule e =
       let s = is_item_table.rule rule (get_contains table.rules.items r rule e) in
-      omega (arith, long_map (λ b. b.now) table.names.items,
-        (is_numbering table.terminals.now is.terminals (table_names table) is.names).name_below rule.left s.0.left s.1.left)
+      omega (
+        arith,
+        long_map (λ b. b.now) table.names.items,
+        (is_numbering table.terminals.now is.terminals (table_names table) is.names).name_below rule.left s.0.left s.1.left,
+      )
 
   -- the rules are the productions
   pub rules_are : AreRulesOf at (table_rules table) G
   rules_are = record {
     sound = λ r rule e.
         let m = at_mapped (rule_of table.places.items) table.rules.items r rule e in
-        let s = is_item_table.rule m.0 (get_contains table.rules.items r m.0 m.1) in
-        (s.0, is_item_table.of_grammar m.0.start s.0 0 s.1.item,
-          subst (λ (x : Rule). IsRuleOf at x s.0) m.2 (record { left = s.1.left; right = is_item_table.spelled m.0.start s.0 0 s.1.item }));
+        let s = is_item_table.rule m.0 (get_contains table.rules.items r m.0 m.1) in (
+          s.0,
+          is_item_table.of_grammar m.0.start s.0 0 s.1.item,
+          subst (λ (x : RuleByNumbers). IsRuleOf at x s.0) m.2 (record { left = s.1.left;
+              right = is_item_table.spelled m.0.start s.0 0 s.1.item }),
+        );
     all = λ p g.
         let s = is_item_table.all p g in
-        let k = contains_get table.rules.items s.0 s.1.listed in
-        (k.0, rule_of table.places.items s.0, get_mapped (rule_of table.places.items) table.rules.items k.0 s.0 k.1,
-          record { left = s.1.left; right = is_item_table.spelled s.0.start p 0 s.1.item });
+        let k = contains_get table.rules.items s.0 s.1.listed in (
+          k.0,
+          rule_of table.places.items s.0,
+          get_mapped (rule_of table.places.items) table.rules.items k.0 s.0 k.1,
+          record { left = s.1.left; right = is_item_table.spelled s.0.start p 0 s.1.item },
+        );
   }

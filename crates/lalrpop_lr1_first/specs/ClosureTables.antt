@@ -1,5 +1,6 @@
 -- What closures of a grammar's items need: its table, the first set at each place, and the edges between nonterminals.
-use Rattle.std.specs.Prelude.{◌≡◌, ◌↔◌, ◌⊎◌, ◌+◌, ◌≤◌, ℕ, Bool, true, length, List, [], ◌∷◌, ◌++◌, Option, Some, None, Contains, if◌then◌else◌, nat_lt, option_map, filter_map, flat_map, slice_index_or}
+use Rattle.std.specs.Prelude.{◌≡◌, ◌↔◌, ◌⊎◌, ◌+◌, ◌≤◌, ℕ, Bool, true, length, List, [], ◌∷◌, ◌++◌}
+use Rattle.std.specs.Prelude.{Option, Some, None, Contains, if◌then◌else◌, nat_lt, option_map, filter_map, flat_map, slice_index_or}
 use Rattle.lalrpop_grammar_repr.specs.declared.grammar.Grammar.{Grammar}
 use Rattle.lalrpop_lr1_theory.specs.Productions as theory
 use Rattle.lalrpop_lr1_theory.specs.Automata.{Marked}
@@ -9,8 +10,8 @@ use Rattle.lalrpop_lr1_first.specs.FirstNumbers.{AreSymbolFirsts, ArePlaceFirsts
 use Rattle.lalrpop_lr1_first.specs.Flows.{MarksAreWithin, all_marks}
 use Rattle.lalrpop_lr1_first.specs.ItemTables.{AreSeeded, HasMark, HasPlace, ListsItem, ListsNext, SeedBrings}
 use Rattle.lalrpop_lr1_first.specs.Listings.{HoldSame, productions_of_grammar}
-use Rattle.lalrpop_lr1_first.specs.NumberedGrammars.{HasItemAt, IsSeenIn, IsTable, IsTableOf, table_productions}
-use Rattle.lalrpop_lr1_first.specs.Numbers.{set_at}
+use Rattle.lalrpop_lr1_first.specs.NumberedGrammars.{HasItemAt, IsSeenIn, IsNumberTable, IsNumberTableOf, table_productions}
+use Rattle.lalrpop_lr1_first.specs.Numbers.{set_of_number}
 use Rattle.lalrpop_lr1_first.specs.Tables.{rest_of}
 use Rattle.lalrpop_lr1_first.specs.declared.closure.Closures.{Closures}
 use Rattle.lalrpop_lr1_first.specs.declared.flowing.Edge.{Edge}
@@ -39,7 +40,7 @@ pub record HavePlaceFirsts (table : Numbered) (rests : List (List ℕ)) : Type 0
   pub place_firsts : ArePlaceFirsts table sets rests
 
 pub record IsClosureTable (closures : Closures) : Type 0 where
-  pub numbers : IsTable closures.numbered
+  pub numbers : IsNumberTable closures.numbered
   pub firsts_are : HavePlaceFirsts closures.numbered closures.firsts.items
   pub edges_are : closures.edges.items ≡ filter_map (edge_of_rule closures.numbered) closures.numbered.rules.items
 
@@ -69,26 +70,31 @@ started_items slots rules = flat_map (λ r. started_with r.start (slice_index_or
 pub record SeedsOne {L : Type 0} (marks : L → List ℕ) (firsts : Bool) (table : Numbered) (rests : List (List ℕ)) (item : ℕ × L)
     (old new : List (Option L)) : Type 0 where
   pub within : MarksAreWithin marks (table_end table) new
-  pub brought : (s k : ℕ) → (has (set_at (all_marks marks (table_end table + 2) new) s) k ≡ true)
-      ↔ ((has (set_at (all_marks marks (table_end table + 2) old) s) k ≡ true)
-      ⊎ SeedBrings marks firsts (table_end table) (name_count table) (rest_of table.places.items) (set_at rests) (item ∷ []) s k)
+  pub brought : (s k : ℕ) → (has (set_of_number (all_marks marks (table_end table + 2) new) s) k ≡ true)
+      ↔ ((has (set_of_number (all_marks marks (table_end table + 2) old) s) k ≡ true)
+      ⊎ SeedBrings marks firsts (table_end table) (name_count table) (rest_of table.places.items) (set_of_number rests)
+          (item ∷ []) s k)
 
 -- the slots have what the items bring
-pub record SeedsAll {L : Type 0} (marks : L → List ℕ) (firsts : Bool) (table : Numbered) (rests : List (List ℕ)) (items : List (ℕ × L))
+pub record SeedsAll {L : Type 0} (marks : L → List ℕ) (firsts : Bool) (table : Numbered) (rests : List (List ℕ)) (items : List (ℕ
+    × L))
     (slots : List (Option L)) : Type 0 where
   pub count : length slots ≡ name_count table
   pub within : MarksAreWithin marks (table_end table) slots
-  pub brought : AreSeeded marks firsts (table_end table) (name_count table) (rest_of table.places.items) (set_at rests) items
+  pub brought : AreSeeded marks firsts (table_end table) (name_count table) (rest_of table.places.items) (set_of_number rests) items
       (all_marks marks (table_end table + 2) slots)
 
 -- The items of a seed with those that were brought are exactly what is marked from the seed: that they are there, and what may
 -- follow them.
-abbrev pub TableMarks : {L : Type 0} → (L → List ℕ) → Bool → Numbered → List (ℕ × L) → theory.Production → ℕ → Option theory.Next → Type 0
+abbrev pub TableMarks : {L : Type 0} → (L → List ℕ) → Bool → Numbered → List (ℕ × L) → theory.Production → ℕ →
+    Option theory.Next → Type 0
 TableMarks marks firsts table seed = Marked firsts (IsSeenIn (table_productions table)) (ListsItem seed (HasItemAt table))
     (ListsNext marks seed (next_of_number table.terminals.now) (table_end table) (HasItemAt table))
 
-pub record ClosesSeed {L : Type 0} (marks : L → List ℕ) (firsts : Bool) (table : Numbered) (seed brought : List (ℕ × L)) : Type 0 where
-  pub items : (p : theory.Production) (d : ℕ) → ListsItem (seed ++ brought) (HasItemAt table) p d ↔ TableMarks marks firsts table seed p d None
+pub record ClosesSeed {L : Type 0} (marks : L → List ℕ) (firsts : Bool) (table : Numbered) (seed brought : List (ℕ
+    × L)) : Type 0 where
+  pub items : (p : theory.Production) (d : ℕ) → ListsItem (seed ++ brought) (HasItemAt table) p d
+      ↔ TableMarks marks firsts table seed p d None
   pub nexts : (p : theory.Production) (d : ℕ) (x : theory.Next) →
       ListsNext marks (seed ++ brought) (next_of_number table.terminals.now) (table_end table) (HasItemAt table) p d x
       ↔ TableMarks marks firsts table seed p d (Some x)

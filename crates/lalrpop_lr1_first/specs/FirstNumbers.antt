@@ -8,7 +8,7 @@ use Rattle.lalrpop_sets.specs.Bits.{has}
 use Rattle.lalrpop_sets.specs.Tokens.{eof_number, number_alone}
 use Rattle.lalrpop_lr1_first.specs.FirstSteps.{AreClosedTo, AreSound, AreWithin, HaveTerminals, SweepsTo}
 use Rattle.lalrpop_lr1_first.specs.NumberedGrammars.{IsSeenIn, table_names, table_productions}
-use Rattle.lalrpop_lr1_first.specs.Numbers.{Rule, says, set_at}
+use Rattle.lalrpop_lr1_first.specs.Numbers.{RuleByNumbers, says, set_of_number}
 use Rattle.lalrpop_lr1_first.specs.Tables.{rest_of, symbol_of_number}
 use Rattle.lalrpop_lr1_first.specs.declared.numbered.Numbered.{Numbered}
 use Rattle.lalrpop_lr1_first.specs.declared.place.NumberedRule.{NumberedRule}
@@ -30,10 +30,10 @@ abbrev pub symbol_count : Numbered → ℕ
 symbol_count table = name_count table + table_end table
 
 -- the rules with their right sides
-abbrev pub rule_of : List Place → NumberedRule → Rule
+abbrev pub rule_of : List Place → NumberedRule → RuleByNumbers
 rule_of all rule = record { left = rule.left; right = rest_of all rule.start }
 
-abbrev pub table_rules : Numbered → List Rule
+abbrev pub table_rules : Numbered → List RuleByNumbers
 table_rules table = map (rule_of table.places.items) table.rules.items
 
 -- a sweep over the table's first rules
@@ -66,4 +66,4 @@ pub record AreSymbolFirsts (table : Numbered) (sets : List (List ℕ)) : Type 0 
 pub record ArePlaceFirsts (table : Numbered) (sets rests : List (List ℕ)) : Type 0 where
   pub count : length rests ≡ length table.places.items + 1
   pub at : (i : ℕ) → i ≤ length table.places.items → (k : ℕ) →
-      has (set_at rests i) k ≡ says sets (table_end table) (rest_of table.places.items i) k
+      has (set_of_number rests i) k ≡ says sets (table_end table) (rest_of table.places.items i) k

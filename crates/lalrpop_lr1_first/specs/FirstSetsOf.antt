@@ -1,5 +1,6 @@
 -- First sets of a grammar's nonterminals by name, and of symbols: for those who ask for them.
-use Rattle.std.specs.Prelude.{◌≡◌, ◌↔◌, ◌⊎◌, ◌<◌, ◌≤◌, ℕ, suc, true, List, [], ◌∷◌, Option, Some, None}
+use Rattle.std.specs.Prelude.{◌≡◌, ◌↔◌, ◌⊎◌, ◌<◌, ◌≤◌, ℕ, suc, true, List, [], ◌∷◌, Option, Some}
+use Rattle.std.specs.Prelude.{None}
 use Rattle.lalrpop_grammar_symbols.specs.declared.names.NonterminalString.{NonterminalString}
 use Rattle.lalrpop_grammar_symbols.specs.declared.terminal.TerminalString.{TerminalString}
 use Rattle.lalrpop_grammar_repr.specs.Maps.{at_name}
@@ -15,7 +16,7 @@ use Rattle.lalrpop_sets.specs.Tokens.{eof_number}
 use Rattle.lalrpop_lr1_first.specs.FirstNumbers.{terminal_set}
 use Rattle.lalrpop_lr1_first.specs.Listings.{productions_of_grammar}
 use Rattle.lalrpop_lr1_first.specs.NumberedGrammars.{IsSeenIn}
-use Rattle.lalrpop_lr1_first.specs.Numbers.{set_at}
+use Rattle.lalrpop_lr1_first.specs.Numbers.{set_of_number}
 use Rattle.lalrpop_lr1_first.specs.Tables.{IsTerminalSet}
 
 -- what the theory sees of the grammar's productions
@@ -54,4 +55,4 @@ pub record AreFirstSetsOf (g : Grammar) (entries : List (NonterminalString × Li
 -- the names from a number on with their sets
 abbrev pub named_from : ℕ → List NonterminalString → List (List ℕ) → List (NonterminalString × List ℕ)
 named_from k [] sets = []
-named_from k (n ∷ ns) sets = (n, set_at sets k) ∷ named_from (suc k) ns sets
+named_from k (n ∷ ns) sets = (n, set_of_number sets k) ∷ named_from (suc k) ns sets

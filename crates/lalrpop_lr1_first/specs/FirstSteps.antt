@@ -1,38 +1,41 @@
 -- How far the first sets of symbols by numbers are made: for the sweeps over a grammar's rules.
-use Rattle.std.specs.Prelude.{ℕ, zero, suc, ◌+◌, ◌<◌, ◌≤◌, ◌||◌, Bool, true, false, cond, List, [], ◌∷◌, length, nat_eq, ◌≡◌, Option, Some, slice_get}
+use Rattle.std.specs.Prelude.{ℕ, zero, suc, ◌+◌, ◌<◌, ◌≤◌, ◌||◌, Bool, true, false, cond, List, [], ◌∷◌, length}
+use Rattle.std.specs.Prelude.{nat_eq, ◌≡◌, Option, Some, slice_get}
 use Rattle.lalrpop_grammar_symbols.specs.Symbols.{Text}
 use Rattle.lalrpop_lr1_theory.specs.Productions.{Symbol, nonterminal, Production, Next}
 use Rattle.lalrpop_lr1_theory.specs.FirstSets.{HoldsFirstSets}
 use Rattle.lalrpop_sets.specs.Bits.{has}
-use Rattle.lalrpop_lr1_first.specs.Numbers.{Rule, says, says_by, set_at}
+use Rattle.lalrpop_lr1_first.specs.Numbers.{RuleByNumbers, says, says_by, set_of_number}
 
 -- a number of the nonterminal has a number of the next in its set
-pub record HasNext (symbol_at : ℕ → Option Symbol) (next_at : ℕ → Next) (end : ℕ) (sets : List (List ℕ)) (A : Text) (x : Next) :
+pub record HasNext (symbol_at : ℕ → Option Symbol) (next_at : ℕ → Next) (end : ℕ) (sets : List (List ℕ)) (A : Text)
+    (x : Next) :
     Type 0 where
   pub symbol : ℕ
   pub number : ℕ
   pub symbol_is : symbol_at symbol ≡ Some (nonterminal A)
   pub next_is : next_at number ≡ x
   pub small : number ≤ end
-  pub held : has (set_at sets symbol) number ≡ true
+  pub held : has (set_of_number sets symbol) number ≡ true
 
 -- no number is past the end's
 abbrev pub AreWithin : ℕ → List (List ℕ) → Type 0
-AreWithin end sets = (s k : ℕ) → has (set_at sets s) k ≡ true → k ≤ end
+AreWithin end sets = (s k : ℕ) → has (set_of_number sets s) k ≡ true → k ≤ end
 
 -- each terminal's set is its number alone
 abbrev pub HaveTerminals : ℕ → ℕ → List (List ℕ) → Type 0
-HaveTerminals end names sets = (j k : ℕ) → j < end → has (set_at sets (names + j)) k ≡ nat_eq j k
+HaveTerminals end names sets = (j k : ℕ) → j < end → has (set_of_number sets (names + j)) k ≡ nat_eq j k
 
 -- each entry is a first set's
 abbrev pub AreSound : (Production → Type 0) → (ℕ → Option Symbol) → (ℕ → Next) → ℕ → List (List ℕ) → Type 0
 AreSound G symbol_at next_at end sets = HoldsFirstSets G (HasNext symbol_at next_at end sets)
 
 -- the first rules' left sides have what their right sides begin with
-abbrev pub AreClosedTo : ℕ → List Rule → ℕ → List (List ℕ) → Type 0
+abbrev pub AreClosedTo : ℕ → List RuleByNumbers → ℕ → List (List ℕ) → Type 0
 AreClosedTo end rules count sets =
-    (r : ℕ) (rule : Rule) (k : ℕ) → r < count → slice_get rules r ≡ Some rule → says sets end rule.right k ≡ true →
-    has (set_at sets rule.left) k ≡ true
+    (r : ℕ) (rule : RuleByNumbers) (k : ℕ) → r < count → slice_get rules r ≡ Some rule →
+        says sets end rule.right k ≡ true →
+    has (set_of_number sets rule.left) k ≡ true
 
 -- how many of the numbers below n the list lacks
 abbrev pub missing : ℕ → List ℕ → ℕ
@@ -45,7 +48,7 @@ missing_in n (xs ∷ sets) = missing n xs + missing_in n sets
 
 -- a sweep over the first rules
 pub record SweepsTo (G : Production → Type 0) (symbol_at : ℕ → Option Symbol) (next_at : ℕ → Next) (end names : ℕ)
-    (rules : List Rule) (count : ℕ) (old new : List (List ℕ)) (changed : Bool) : Type 0 where
+    (rules : List RuleByNumbers) (count : ℕ) (old new : List (List ℕ)) (changed : Bool) : Type 0 where
   pub len : length new ≡ length old
   pub within : AreWithin end new
   pub terminals : HaveTerminals end names new

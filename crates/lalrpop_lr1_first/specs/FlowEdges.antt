@@ -1,11 +1,11 @@
 -- The program's edges, with the first sets that stand at their rests.
 use Rattle.std.specs.Prelude.{ℕ, ◌<◌, List, map, ◌≡◌, Some, slice_get}
 use Rattle.lalrpop_lr1_first.specs.Flows.{FlowEdge}
-use Rattle.lalrpop_lr1_first.specs.Numbers.{set_at}
+use Rattle.lalrpop_lr1_first.specs.Numbers.{set_of_number}
 use Rattle.lalrpop_lr1_first.specs.declared.flowing.Edge.{Edge}
 
 abbrev pub edge_seen : List (List ℕ) → Edge → FlowEdge
-edge_seen firsts e = record { from = e.from; to = e.to; first = set_at firsts e.rest }
+edge_seen firsts e = record { from = e.from; to = e.to; first = set_of_number firsts e.rest }
 
 abbrev pub edges_seen : List (List ℕ) → List Edge → List FlowEdge
 edges_seen firsts edges = map (edge_seen firsts) edges

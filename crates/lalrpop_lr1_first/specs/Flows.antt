@@ -1,8 +1,9 @@
 -- What flows along edges between slots: that something is there, and what may follow it. For closures of items.
-use Rattle.std.specs.Prelude.{ℕ, suc, ◌+◌, ◌<◌, ◌≤◌, Bool, true, false, ◌||◌, ◌&&◌, not, List, [], ◌∷◌, length, map, nat_eq, ◌≡◌}
+use Rattle.std.specs.Prelude.{ℕ, suc, ◌+◌, ◌<◌, ◌≤◌, Bool, true, false, ◌||◌, ◌&&◌, not, List, [], ◌∷◌}
+use Rattle.std.specs.Prelude.{length, map, nat_eq, ◌≡◌}
 use Rattle.std.specs.Prelude.{Option, Some, None, slice_get, slice_index_or}
 use Rattle.lalrpop_sets.specs.Bits.{has}
-use Rattle.lalrpop_lr1_first.specs.Numbers.{set_at}
+use Rattle.lalrpop_lr1_first.specs.Numbers.{set_of_number}
 
 -- an edge from a slot to another, with what can come first behind what it stands for
 pub record FlowEdge : Type 0 where
@@ -24,7 +25,7 @@ comes firsts end first marks k = (firsts && (not (nat_eq k end) && has first k))
 
 -- no mark is as large
 abbrev pub AreBelow : ℕ → List (List ℕ) → Type 0
-AreBelow n sets = (s k : ℕ) → has (set_at sets s) k ≡ true → k < n
+AreBelow n sets = (s k : ℕ) → has (set_of_number sets s) k ≡ true → k < n
 
 -- no lookahead has a mark past the number of the token of errors
 abbrev pub MarksAreWithin : {L : Type 0} → (L → List ℕ) → ℕ → List (Option L) → Type 0
@@ -42,7 +43,7 @@ EdgesAreWithin end count edges = (r : ℕ) (e : FlowEdge) → slice_get edges r 
 
 -- What flows along the edges from what stands in the slots: a mark past all tokens says that something is there.
 pub data Flows (firsts : Bool) (end : ℕ) (edges : List FlowEdge) (seed : List (List ℕ)) : ℕ → ℕ → Type 0 where
-  begins : (s k : ℕ) → has (set_at seed s) k ≡ true → Flows firsts end edges seed s k
+  begins : (s k : ℕ) → has (set_of_number seed s) k ≡ true → Flows firsts end edges seed s k
   brings : (r : ℕ) (e : FlowEdge) → slice_get edges r ≡ Some e → Flows firsts end edges seed e.from (end + 2) →
       Flows firsts end edges seed e.to (end + 2)
   starts : (r : ℕ) (e : FlowEdge) (k : ℕ) → slice_get edges r ≡ Some e → Flows firsts end edges seed e.from (end + 2) →

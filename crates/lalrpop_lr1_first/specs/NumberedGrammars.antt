@@ -15,8 +15,8 @@ use Rattle.lalrpop_lr1_first.specs.declared.numbered.Numbered.{Numbered}
 use Rattle.lalrpop_lr1_first.specs.declared.place.NumberedRule.{NumberedRule}
 
 -- the names are numbered by their places
-abbrev pub AreNumbered : Names → Type 0
-AreNumbered names = names.numbers ≡ pairs_from 0 (lent names.listed.items)
+abbrev pub NamesAreNumbered : Names → Type 0
+NamesAreNumbered names = names.numbers ≡ pairs_from 0 (lent names.listed.items)
 
 -- the grammar's terminals are numbered by their places, and each terminal on a right side is one of them
 pub record HasItsTerminals (g : Grammar) : Type 0 where
@@ -31,15 +31,15 @@ abbrev pub table_productions : Numbered → List Production
 table_productions table = lent table.productions.items
 
 -- names and productions ascend, so each stands once, and the productions are laid
-pub record IsTable (table : Numbered) : Type 0 where
+pub record IsNumberTable (table : Numbered) : Type 0 where
   pub terminals : IsTerminalSet table.terminals.now
   pub names : IsStrictlySortedBy (names_order.ghosts).cmp (table_names table)
   pub productions : IsStrictlySortedBy (production_order.ghosts).cmp (table_productions table)
   pub laid : AreLaid (table_names table) table.terminals.now (table_productions table) table.rules.items table.places.items
 
 -- a table of just the grammar's productions
-pub record IsTableOf (g : Grammar) (table : Numbered) : Type 0 where
-  pub numbers : IsTable table
+pub record IsNumberTableOf (g : Grammar) (table : Numbered) : Type 0 where
+  pub numbers : IsNumberTable table
   pub terminals : table.terminals.now ≡ g.terminals
   pub productions : HoldSame (table_productions table) (productions_of_grammar g)
 

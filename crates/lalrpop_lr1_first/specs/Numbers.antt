@@ -1,12 +1,13 @@
 -- Symbols of grammars by numbers, and what a table with a set of numbers for each symbol says of symbols.
-use Rattle.std.specs.Prelude.{ℕ, ◌+◌, ◌<◌, ◌≤◌, Bool, true, ◌||◌, ◌&&◌, not, List, [], ◌∷◌, nat_eq, ◌≡◌, Option, Some, None}
+use Rattle.std.specs.Prelude.{ℕ, ◌+◌, ◌<◌, ◌≤◌, Bool, true, ◌||◌, ◌&&◌, not, List, [], ◌∷◌, nat_eq}
+use Rattle.std.specs.Prelude.{◌≡◌, Option, Some, None}
 use Rattle.std.specs.Prelude.{⊤, slice_get, slice_index_or}
 use Rattle.lalrpop_grammar_symbols.specs.Symbols.{Text, Terminal}
 use Rattle.lalrpop_lr1_theory.specs.Productions.{Symbol, terminal, nonterminal, Production, Next}
 use Rattle.lalrpop_sets.specs.Bits.{has}
 
 -- a production by numbers: those of its left side and of its right side's symbols
-pub record Rule : Type 0 where
+pub record RuleByNumbers : Type 0 where
   pub left : ℕ
   pub right : List ℕ
 
@@ -21,24 +22,26 @@ pub record IsNumbering (symbol_at : ℕ → Option Symbol) (next_at : ℕ → Ne
   pub end_at : next_at end ≡ None
 
 -- the numbers are those of the symbols
-abbrev pub Spells : (ℕ → Option Symbol) → List ℕ → List Symbol → Type 0
-Spells symbol_at [] [] = ⊤
-Spells symbol_at [] (y ∷ ys) = ⊥
-Spells symbol_at (s ∷ xs) [] = ⊥
-Spells symbol_at (s ∷ xs) (y ∷ ys) = (symbol_at s ≡ Some y) × Spells symbol_at xs ys
+abbrev pub SpellsSymbols : (ℕ → Option Symbol) → List ℕ → List Symbol → Type 0
+SpellsSymbols symbol_at [] [] = ⊤
+SpellsSymbols symbol_at [] (y ∷ ys) = ⊥
+SpellsSymbols symbol_at (s ∷ xs) [] = ⊥
+SpellsSymbols symbol_at (s ∷ xs) (y ∷ ys) = (symbol_at s ≡ Some y) × SpellsSymbols symbol_at xs ys
 
 -- the rule is the production
-pub record IsRuleOf (symbol_at : ℕ → Option Symbol) (rule : Rule) (p : Production) : Type 0 where
+pub record IsRuleOf (symbol_at : ℕ → Option Symbol) (rule : RuleByNumbers) (p : Production) : Type 0 where
   pub left : symbol_at rule.left ≡ Some (nonterminal p.left)
-  pub right : Spells symbol_at rule.right p.right
+  pub right : SpellsSymbols symbol_at rule.right p.right
 
 -- the rules are the productions
-pub record AreRulesOf (symbol_at : ℕ → Option Symbol) (rules : List Rule) (G : Production → Type 0) : Type 0 where
-  pub sound : (r : ℕ) (rule : Rule) → slice_get rules r ≡ Some rule → (p : Production) × G p × IsRuleOf symbol_at rule p
-  pub all : (p : Production) → G p → (r : ℕ) × (rule : Rule) × (slice_get rules r ≡ Some rule) × IsRuleOf symbol_at rule p
+pub record AreRulesOf (symbol_at : ℕ → Option Symbol) (rules : List RuleByNumbers) (G : Production → Type 0) : Type 0 where
+  pub sound : (r : ℕ) (rule : RuleByNumbers) → slice_get rules r ≡ Some rule →
+      (p : Production) × G p × IsRuleOf symbol_at rule p
+  pub all : (p : Production) → G p → (r : ℕ) × (rule : RuleByNumbers) × (slice_get rules r ≡ Some rule)
+      × IsRuleOf symbol_at rule p
 
-abbrev pub set_at : List (List ℕ) → ℕ → List ℕ
-set_at sets s = slice_index_or sets s []
+abbrev pub set_of_number : List (List ℕ) → ℕ → List ℕ
+set_of_number sets s = slice_index_or sets s []
 
 -- what sets for symbols say of a list of symbols: which numbers can come first, and the end where all of them can be empty
 abbrev pub says_by : {X : Type 0} → (X → List ℕ) → ℕ → List X → ℕ → Bool
@@ -47,4 +50,4 @@ says_by set_of end (x ∷ xs) k = (not (nat_eq k end) && has (set_of x) k) || (h
 
 -- the same of symbols by number
 abbrev pub says : List (List ℕ) → ℕ → List ℕ → ℕ → Bool
-says sets end xs k = says_by (set_at sets) end xs k
+says sets end xs k = says_by (set_of_number sets) end xs k

@@ -1,5 +1,6 @@
 -- The table of numbers of a grammar: its names and productions in order, and its right sides laid one behind the other.
-use Rattle.std.specs.Prelude.{ℕ, suc, ◌+◌, ◌-◌, ◌≤◌, List, [], ◌∷◌, ◌++◌, length, map, drop, flat_map, ◌≡◌, Option, Some, None, slice_get, All, Contains}
+use Rattle.std.specs.Prelude.{ℕ, suc, ◌+◌, ◌-◌, ◌≤◌, List, [], ◌∷◌, ◌++◌, length, map, drop, flat_map}
+use Rattle.std.specs.Prelude.{◌≡◌, Option, Some, None, slice_get, All, Contains}
 use Rattle.std.specs.Borrow.{Bor}
 use Rattle.std.specs.List.Sorted.{IsStrictlySortedBy}
 use Rattle.lalrpop_grammar_symbols.specs.Symbols.{Text, Terminal}
@@ -17,7 +18,7 @@ use Rattle.lalrpop_lr1_theory.specs.Productions as theory
 use Rattle.lalrpop_lr1_items.specs.Numbering.{IsNumberedByPlaces, NumbersArePlaces}
 use Rattle.lalrpop_lr1_items.specs.Views.{production_symbol_view, production_view}
 use Rattle.lalrpop_lr1_first.specs.Listings.{lent, names_in_production}
-use Rattle.lalrpop_lr1_first.specs.Numbers.{Spells}
+use Rattle.lalrpop_lr1_first.specs.Numbers.{SpellsSymbols}
 use Rattle.lalrpop_lr1_first.specs.declared.place.NumberedRule.{NumberedRule}
 use Rattle.lalrpop_lr1_first.specs.declared.place.Place.{Place}
 use Rattle.lalrpop_lr1_first.specs.declared.place.Place.TheVariants as places
@@ -52,7 +53,8 @@ HasNumberedTerminal ts (symbols.Nonterminal n) = Unit {0}
 HasNumberedTerminal ts (symbols.Terminal t) = (k : ℕ) × (at_terminal t ts.bits ≡ Some k)
 
 abbrev pub HaveNumberedTerminals : TerminalSet → List Production → Type 0
-HaveNumberedTerminals ts productions = (p : Production) → Contains productions p → (x : Symbol) → Contains p.symbols x → HasNumberedTerminal ts x
+HaveNumberedTerminals ts productions = (p : Production) → Contains productions p → (x : Symbol) → Contains p.symbols x →
+    HasNumberedTerminal ts x
 
 -- the numbers of the symbols from the front up to the end of the right side
 abbrev pub symbols_until : List Place → List ℕ
@@ -77,7 +79,7 @@ laid_side xs r = map places.Symbol xs ++ places.End r ∷ []
 pub record LaysSymbols (names : List NonterminalString) (ts : TerminalSet) (old new : List Place) (side : List Symbol) : Type 0 where
   pub numbers : List ℕ
   pub laid : new ≡ old ++ map places.Symbol numbers
-  pub spelled : Spells (symbol_of_number names ts) numbers (map production_symbol_view side)
+  pub spelled : SpellsSymbols (symbol_of_number names ts) numbers (map production_symbol_view side)
 
 -- the production, with this number, is laid behind what was laid
 pub record LaysRule (names : List NonterminalString) (ts : TerminalSet) (r : ℕ) (p : Production)
@@ -88,7 +90,7 @@ pub record LaysRule (names : List NonterminalString) (ts : TerminalSet) (r : ℕ
   pub laid : new ≡ old ++ laid_side numbers r
   pub start : rule.start ≡ length old
   pub left : symbol_of_number names ts rule.left ≡ Some (theory.nonterminal p.nonterminal.0)
-  pub spelled : Spells (symbol_of_number names ts) numbers (map production_symbol_view p.symbols)
+  pub spelled : SpellsSymbols (symbol_of_number names ts) numbers (map production_symbol_view p.symbols)
 
 -- the production with this number is laid
 pub record IsLaidAt (names : List NonterminalString) (ts : TerminalSet) (rules : List NumberedRule) (all : List Place) (r : ℕ)
@@ -99,13 +101,14 @@ pub record IsLaidAt (names : List NonterminalString) (ts : TerminalSet) (rules :
   pub at : slice_get rules r ≡ Some rule
   pub laid : drop rule.start all ≡ laid_side numbers r ++ more
   pub left : symbol_of_number names ts rule.left ≡ Some (theory.nonterminal p.nonterminal.0)
-  pub spelled : Spells (symbol_of_number names ts) numbers (map production_symbol_view p.symbols)
+  pub spelled : SpellsSymbols (symbol_of_number names ts) numbers (map production_symbol_view p.symbols)
 
 -- each of the productions is laid, nothing else has a rule, and each number that is laid is a symbol's
 pub record AreLaid (names : List NonterminalString) (ts : TerminalSet) (productions : List Production) (rules : List NumberedRule)
     (all : List Place) : Type 0 where
   pub count : length rules ≡ length productions
-  pub symbols : (i s : ℕ) → slice_get all i ≡ Some (places.Symbol s) → (x : theory.Symbol) × (symbol_of_number names ts s ≡ Some x)
+  pub symbols : (i s : ℕ) → slice_get all i ≡ Some (places.Symbol s) →
+      (x : theory.Symbol) × (symbol_of_number names ts s ≡ Some x)
   pub at : (r : ℕ) (p : Production) → slice_get productions r ≡ Some p → IsLaidAt names ts rules all r p
 
 -- the production's names and terminals are known

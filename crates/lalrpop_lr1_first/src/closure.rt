@@ -1,6 +1,7 @@
 //! Closures of items, for both lookaheads.
 
-ghost use Rattle.std.specs.Prelude.{◌≡◌, ◌≤◌, ◌+◌, ◌<◌, ◌∷◌, [], ℕ, true, None, Some, IfOk, OnOk, filter_map, length, slice_get, slice_index_or};
+ghost use Rattle.std.specs.Prelude.{◌≡◌, ◌≤◌, ◌+◌, ◌<◌, ◌∷◌, [], ℕ, true, None};
+ghost use Rattle.std.specs.Prelude.{Some, IfOk, OnOk, filter_map, length, slice_get, slice_index_or};
 ghost use Rattle.lalrpop_sets.specs.Bits.{has};
 ghost use Rattle.lalrpop_lr1_first.specs.ClosureTables.{
   AreItems,

@@ -32,7 +32,8 @@ pub trait ClosureLookahead: Lookahead {
 
     /// Joins the other into it, and says whether something came.
     fn join(&mut self, other: &Self) -> Result<bool, AllocError>
-        ensures joined { IfOk result (λ changed. (k : ℕ) → has (marks self.new) k ≡ (has (marks self.old) k || has (marks other.now) k)) }
+        ensures joined { IfOk result (λ changed. (k : ℕ)
+            → has (marks self.new) k ≡ (has (marks self.old) k || has (marks other.now) k)) }
         ensures same { IfOk result (λ changed. IsFalse changed → self.new ≡ self.old) }
         ensures grown { IfOk result (λ changed. IsTrue changed
             → (k : ℕ) × (has (marks self.new) k ≡ true) × (has (marks self.old) k ≡ false)) };

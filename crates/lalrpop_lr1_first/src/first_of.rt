@@ -14,8 +14,8 @@ ghost use Rattle.lalrpop_lr1_first.specs.FirstNumbers.{
   terminal_set,
 };
 ghost use Rattle.lalrpop_lr1_first.specs.Flows.{comes};
-ghost use Rattle.lalrpop_lr1_first.specs.NumberedGrammars.{IsTable};
-ghost use Rattle.lalrpop_lr1_first.specs.Numbers.{says, set_at};
+ghost use Rattle.lalrpop_lr1_first.specs.NumberedGrammars.{IsNumberTable};
+ghost use Rattle.lalrpop_lr1_first.specs.Numbers.{says, set_of_number};
 ghost use Rattle.lalrpop_lr1_first.specs.Tables.{IsTerminalSet, symbols_until};
 
 use crate::numbered::Numbered;
@@ -65,12 +65,8 @@ fn first_of_rest(
 }
 
 /// Joins the first set of each rule's right side into its left side's, and says whether something came.
-fn sweep(
-    alloc: Global,
-    table: &Numbered<'_>,
-    sets: &mut Vec<TokenSet>,
-) -> Result<bool, AllocError>
-    requires table { IsTable table.now }
+fn sweep(alloc: Global, table: &Numbered<'_>, sets: &mut Vec<TokenSet>) -> Result<bool, AllocError>
+    requires table { IsNumberTable table.now }
     requires sets { AreTableSets table.now sets.old.items }
     ensures { IfOk result (λ changed. TableSweepsTo table.now (length table.now.rules.items) sets.old.items sets.new.items changed) }
 {
@@ -92,7 +88,7 @@ fn empty_sets(
     count: usize,
 ) -> Result<Vec<TokenSet>, AllocError>
     ensures count { IfOk result (λ sets. length sets.items ≡ count) }
-    ensures empty { IfOk result (λ sets. (s : ℕ) → set_at sets.items s ≡ []) }
+    ensures empty { IfOk result (λ sets. (s : ℕ) → set_of_number sets.items s ≡ []) }
 {
     let mut sets = Vec::new(alloc);
     for _ in 0..count {
@@ -121,7 +117,7 @@ pub(crate) fn symbol_firsts(
     alloc: Global,
     table: &Numbered<'_>,
 ) -> Result<Vec<TokenSet>, AllocError>
-    requires { IsTable table.now }
+    requires { IsNumberTable table.now }
     ensures { IfOk result (λ sets. AreSymbolFirsts table.now sets.items) }
 {
     let mut sets = empty_sets(alloc, table.terminals, table.names.len())?;
@@ -139,7 +135,7 @@ pub(crate) fn place_firsts(
     table: &Numbered<'_>,
     sets: &[TokenSet],
 ) -> Result<Vec<TokenSet>, AllocError>
-    requires table { IsTable table.now }
+    requires table { IsNumberTable table.now }
     requires sets { AreTableSets table.now sets.now }
     ensures { IfOk result (λ rests. ArePlaceFirsts table.now sets.now rests.items) }
 {

@@ -1,12 +1,13 @@
 //! Lookaheads that flow along edges between slots, until nothing comes.
 
-ghost use Rattle.std.specs.Prelude.{◌≡◌, ◌<◌, ◌+◌, ◌||◌, ◌↔◌, ℕ, true, false, IsTrue, IsFalse, length, List, IfOk, nat_eq};
+ghost use Rattle.std.specs.Prelude.{◌≡◌, ◌<◌, ◌+◌, ◌||◌, ◌↔◌, ℕ, true, false};
+ghost use Rattle.std.specs.Prelude.{IsTrue, IsFalse, length, List, IfOk, nat_eq};
 ghost use Rattle.lalrpop_sets.specs.Bits.{has};
 ghost use Rattle.lalrpop_sets.specs.Tokens.{eof_number};
 ghost use Rattle.lalrpop_lr1_first.specs.Flows.{EdgesAreWithin, Flows, MarksAreWithin, all_marks, slot_marks};
 ghost use Rattle.lalrpop_lr1_first.specs.FlowEdges.{RestsAreWithin, edges_seen};
 ghost use Rattle.lalrpop_lr1_first.specs.FlowSteps.{FlowsTo};
-ghost use Rattle.lalrpop_lr1_first.specs.Numbers.{set_at};
+ghost use Rattle.lalrpop_lr1_first.specs.Numbers.{set_of_number};
 
 use crate::closure_lookahead::ClosureLookahead;
 use lalrpop_grammar_repr::TerminalSet;
@@ -87,7 +88,7 @@ pub fn flow<L: ClosureLookahead>(
     requires marks { MarksAreWithin L.marks (eof_number terminals.now) slots.old.items }
     ensures count { length slots.new.items ≡ length slots.old.items }
     ensures flows { let end = eof_number terminals.now in
-        IfOk result (λ _. (s k : ℕ) → (has (set_at (all_marks L.marks (end + 2) slots.new.items) s) k ≡ true)
+        IfOk result (λ _. (s k : ℕ) → (has (set_of_number (all_marks L.marks (end + 2) slots.new.items) s) k ≡ true)
         ↔ Flows L.firsts end (edges_seen firsts.now edges.now) (all_marks L.marks (end + 2) slots.old.items) s k) }
 {
     let mut changed = true;

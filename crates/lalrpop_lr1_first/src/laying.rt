@@ -5,7 +5,7 @@ ghost use Rattle.lalrpop_grammar_repr.specs.Maps.{at_terminal};
 ghost use Rattle.lalrpop_lr1_items.specs.Numbering.{NumbersArePlaces};
 ghost use Rattle.lalrpop_lr1_items.specs.Views.{production_symbol_view};
 ghost use Rattle.lalrpop_lr1_first.specs.Listings.{lent};
-ghost use Rattle.lalrpop_lr1_first.specs.NumberedGrammars.{AreNumbered};
+ghost use Rattle.lalrpop_lr1_first.specs.NumberedGrammars.{NamesAreNumbered};
 ghost use Rattle.lalrpop_lr1_first.specs.Tables.{
   AreLaid,
   IsKnownProduction,
@@ -45,16 +45,14 @@ fn terminal_number(terminals: &TerminalSet, terminal: &TerminalString) -> usize
 
 /// The number of a symbol whose name or terminal is known.
 fn symbol_number(names: &Names<'_>, terminals: &TerminalSet, symbol: &Symbol) -> usize
-    requires numbered { AreNumbered names.now }
+    requires numbered { NamesAreNumbered names.now }
     requires places { NumbersArePlaces terminals.now }
     requires known { IsKnownSymbol (lent names.now.listed.items) terminals.now symbol.now }
     ensures { symbol_of_number (lent names.now.listed.items) terminals.now result ≡ Some (production_symbol_view symbol.now) }
 {
     match symbol {
         Symbol::Nonterminal(name) => names.number(name),
-        Symbol::Terminal(terminal) => {
-            names.listed.len() + terminal_number(terminals, terminal)
-        }
+        Symbol::Terminal(terminal) => { names.listed.len() + terminal_number(terminals, terminal) }
     }
 }
 
@@ -65,7 +63,7 @@ fn lay_symbols(
     symbols: &[Symbol],
     places: &mut Vec<Place>,
 ) -> Result<(), AllocError>
-    requires numbered { AreNumbered names.now }
+    requires numbered { NamesAreNumbered names.now }
     requires places { NumbersArePlaces terminals.now }
     requires known { (x : _) → Contains symbols.now x → IsKnownSymbol (lent names.now.listed.items) terminals.now x }
     ensures { OnOk result (LaysSymbols (lent names.now.listed.items) terminals.now places.old.items places.new.items symbols.now) }
@@ -84,7 +82,7 @@ fn lay_rule(
     rules: &mut Vec<NumberedRule>,
     places: &mut Vec<Place>,
 ) -> Result<(), AllocError>
-    requires numbered { AreNumbered names.now }
+    requires numbered { NamesAreNumbered names.now }
     requires places { NumbersArePlaces terminals.now }
     requires known { IsKnownProduction (lent names.now.listed.items) terminals.now production.now }
     ensures { OnOk result (LaysRule (lent names.now.listed.items) terminals.now (length rules.old.items) production.now
@@ -108,7 +106,7 @@ pub(crate) fn lay_rules(
     rules: &mut Vec<NumberedRule>,
     places: &mut Vec<Place>,
 ) -> Result<(), AllocError>
-    requires numbered { AreNumbered names.now }
+    requires numbered { NamesAreNumbered names.now }
     requires places { NumbersArePlaces terminals.now }
     requires known { (p : _) → Contains (lent productions.now) p → IsKnownProduction (lent names.now.listed.items) terminals.now p }
     requires no_rules { length rules.old.items ≡ 0 }

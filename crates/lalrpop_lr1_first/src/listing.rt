@@ -120,7 +120,7 @@ pub(crate) fn names_in<'g>(
 }
 
 /// The productions of the set, in order.
-pub(crate) fn listed<'g>(
+pub(crate) fn list_productions<'g>(
     alloc: Global,
     set: &BTreeSet<&'g Production>,
 ) -> Result<Vec<&'g Production>, AllocError>

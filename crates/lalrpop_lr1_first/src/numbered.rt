@@ -1,10 +1,10 @@
 //! The table of numbers of a grammar: what tables of states are built from.
 
 ghost use Rattle.std.specs.Prelude.{IfOk};
-ghost use Rattle.lalrpop_lr1_first.specs.NumberedGrammars.{HasItsTerminals, IsTableOf};
+ghost use Rattle.lalrpop_lr1_first.specs.NumberedGrammars.{HasItsTerminals, IsNumberTableOf};
 
 use crate::laying::lay_rules;
-use crate::listing::{listed, names_in, productions_in};
+use crate::listing::{list_productions, names_in, productions_in};
 use crate::names::Names;
 use crate::place::{NumberedRule, Place};
 use lalrpop_grammar_repr::{Grammar, Production, TerminalSet};
@@ -26,9 +26,9 @@ impl<'g> Numbered<'g> {
     /// The table of the grammar, whose terminals are numbered by their places.
     pub fn new(alloc: Global, grammar: &'g Grammar) -> Result<Numbered<'g>, AllocError>
         requires { HasItsTerminals grammar.now }
-        ensures { IfOk result (λ table. IsTableOf grammar.now table) }
+        ensures { IfOk result (λ table. IsNumberTableOf grammar.now table) }
     {
-        let productions = listed(alloc, &productions_in(alloc, grammar)?)?;
+        let productions = list_productions(alloc, &productions_in(alloc, grammar)?)?;
         let names = Names::new(alloc, &names_in(alloc, productions.as_slice())?)?;
         let mut rules = Vec::new(alloc);
         let mut places = Vec::new(alloc);

@@ -14,13 +14,15 @@ loop-rule-preserved c =
     let i = c.loop-rule.rule-index in
     let rule : NumberedRule = get_or c.as_slice-rule-items.result.now i (record { left = 0; start = 0 }) in
     let there = read_slice c.as_slice-rule-items.result.now t.rules.items i (record { left = 0; start = 0 }) c.loop-rule-test.true
-      c.as_slice-rule-items.ensures.value in
+    c.as_slice-rule-items.ensures.value in
     let front = filter_map (edge_of_rule t) (take i t.rules.items) in
     elim c.match-rule_edge.branch [
       | in-None w ↦ rw w.edges-is (c.loop-rule.invariant ∙ sym (append-nil front)
-          ∙ ap (λ o. front ++ cons_option o []) (sym (sym c.rule_edge.ensures ∙ w.in-None.is)) ∙ sym (edges_more (edge_of_rule t) t.rules.items i rule there))
+          ∙ ap (λ o. front ++ cons_option o []) (sym (sym c.rule_edge.ensures ∙ w.in-None.is))
+              ∙ sym (edges_more (edge_of_rule t) t.rules.items i rule there))
       | in-Some+in_ok-push-in-Some w ↦
           let pushed : w.push.new.self.items ≡ c.loop-rule.edges.items ++ w.in-Some.edge ∷ [] = search rules in
           rw w.edges-is (pushed ∙ ap (λ l. l ++ w.in-Some.edge ∷ []) c.loop-rule.invariant
-          ∙ ap (λ o. front ++ cons_option o []) (sym (sym c.rule_edge.ensures ∙ w.in-Some.is)) ∙ sym (edges_more (edge_of_rule t) t.rules.items i rule there))
+          ∙ ap (λ o. front ++ cons_option o []) (sym (sym c.rule_edge.ensures ∙ w.in-Some.is))
+              ∙ sym (edges_more (edge_of_rule t) t.rules.items i rule there))
     ]

@@ -2,7 +2,7 @@ use Rattle.std.proofs.Common.{◌≡◌, ◌∙◌, ◌+◌, ◌<◌, ℕ, ap, a
 use Rattle.lalrpop_sets.specs.Bits.{has}
 use Rattle.lalrpop_lr1_first.specs.FirstNumbers.{name_count, table_end}
 use Rattle.lalrpop_lr1_first.specs.Flows.{comes}
-use Rattle.lalrpop_lr1_first.specs.Numbers.{set_at}
+use Rattle.lalrpop_lr1_first.specs.Numbers.{set_of_number}
 use Rattle.lalrpop_lr1_first.specs.Tables.{rest_of}
 use Rattle.lalrpop_lr1_first.proofs.ClosingLemmas.{comes_small, place_within}
 use Rattle.lalrpop_lr1_first.proofs.ListLemmas.{at_read_set}
@@ -22,11 +22,12 @@ returns-in_ok-join-in-Some-clause-seeded g c =
     let n = name_is (name_count t) (rest_of t.places.items place) c.in-Some.name is in
     let within = rest_within t.places.items place c.in-Some.name n.0 n.1 in
     let read = at_read_set rests (place + 1) c.index-first.result.now
-      (omega (arith, within, c.requires.closures.firsts_are.place_firsts.count)) c.index-first.ensures in
-    let flow : (k : ℕ) → has (marks c.in_ok-came-in-Some.came) k ≡ comes counts (table_end t) (set_at rests (place + 1)) (marks l) k =
+    (omega (arith, within, c.requires.closures.firsts_are.place_firsts.count)) c.index-first.ensures in
+    let flow : (k : ℕ) → has (marks c.in_ok-came-in-Some.came) k ≡ comes counts (table_end t) (set_of_number rests (place + 1))
+        (marks l) k =
     λ k. c.in_ok-came-in-Some.ensures k ∙ ap (λ f. comes counts (table_end t) f (marks l) k) read in
     seeds_name marks counts t rests place l c.args.slots.now.items c.requires.count c.requires.marks c.in-Some.name is
     c.in_ok-came-in-Some.came flow
-    (λ k h. comes_small counts (table_end t) (set_at rests (place + 1)) (marks l) k
-      (place_within closures c.requires.closures (place + 1) (omega (arith, within)) k) (c.requires.lookahead k) (sym (flow k) ∙ h))
+    (λ k h. comes_small counts (table_end t) (set_of_number rests (place + 1)) (marks l) k
+    (place_within closures c.requires.closures (place + 1) (omega (arith, within)) k) (c.requires.lookahead k) (sym (flow k) ∙ h))
     c.index_mut.result.now c.join.new.slot c.index_mut.ensures.value c.in_ok-join-in-Some.ensures.joined

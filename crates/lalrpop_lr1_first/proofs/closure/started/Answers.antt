@@ -1,4 +1,5 @@
-use Rattle.std.proofs.Common.{append-nil, ◌≡◌, ◌∙◌, ◌∷◌, [], ◌++◌, ◌<◌, None, ap, get_or, length, refl, rules, sym, take}
+use Rattle.std.proofs.Common.{append-nil, ◌≡◌, ◌∙◌, ◌∷◌, [], ◌++◌, ◌<◌, None, ap, get_or, length, refl, rules}
+use Rattle.std.proofs.Common.{sym, take}
 use Rattle.lalrpop_lr1_first.specs.ClosureTables.{started_items, started_with}
 use Rattle.lalrpop_lr1_first.specs.declared.place.NumberedRule.{NumberedRule}
 use Rattle.lalrpop_lr1_first.proofs.FlowLemmas.{at_none}
@@ -19,10 +20,13 @@ loop-rule-preserved g c =
     let read = at_none slots rule.left c.index-slots-rule.result inside c.index-slots-rule.is in
     elim c.match-slots-rule.branch [
       | in-None w ↦ rw w.items-is (c.loop-rule.invariant ∙ sym (append-nil front)
-          ∙ ap (λ o. front ++ started_with rule.start o) (sym (read ∙ w.in-None.is)) ∙ sym (started_more slots rules_are i rule there))
+          ∙ ap (λ o. front ++ started_with rule.start o) (sym (read ∙ w.in-None.is))
+              ∙ sym (started_more slots rules_are i rule there))
       | in-Some+in_ok-try_clone-in-Some+in_ok-push-in-Some w ↦
-          let pushed : w.push.new.self.items ≡ c.loop-rule.items.items ++ (rule.start, w.in_ok-try_clone-in-Some.field-0) ∷ [] = search rules in
+          let pushed : w.push.new.self.items ≡ c.loop-rule.items.items ++ (rule.start, w.in_ok-try_clone-in-Some.field-0) ∷ [] =
+              search rules in
           rw w.items-is (pushed ∙ ap (λ l. c.loop-rule.items.items ++ (rule.start, l) ∷ []) w.in_ok-try_clone-in-Some.ensures
           ∙ ap (λ l. l ++ (rule.start, w.in-Some.lookahead) ∷ []) c.loop-rule.invariant
-          ∙ ap (λ o. front ++ started_with rule.start o) (sym (read ∙ w.in-Some.is)) ∙ sym (started_more slots rules_are i rule there))
+          ∙ ap (λ o. front ++ started_with rule.start o) (sym (read ∙ w.in-Some.is))
+              ∙ sym (started_more slots rules_are i rule there))
     ]

@@ -1,7 +1,8 @@
-use Rattle.std.proofs.Common.{◌≡◌, ◌∙◌, ◌+◌, ℕ, ◌<◌, ◌||◌, arith, ap, drop, get_or, length, rules, slice_get, sym, true, false}
+use Rattle.std.proofs.Common.{◌≡◌, ◌∙◌, ◌+◌, ℕ, ◌<◌, ◌||◌, arith, ap, drop, get_or, length, rules, slice_get}
+use Rattle.std.proofs.Common.{sym, true, false}
 use Rattle.lalrpop_sets.specs.Bits.{has}
 use Rattle.lalrpop_sets.specs.Tokens.{eof_number}
-use Rattle.lalrpop_lr1_first.specs.Numbers.{set_at}
+use Rattle.lalrpop_lr1_first.specs.Numbers.{set_of_number}
 use Rattle.lalrpop_lr1_first.specs.Tables.{symbols_until}
 use Rattle.lalrpop_lr1_first.proofs.ListLemmas.{at_read_set, read_default}
 use Rattle.lalrpop_lr1_first.proofs.PlaceLemmas.{below_at, drop_past, until_end, until_symbol}
@@ -15,12 +16,12 @@ returns-then-not-take_eof c =
     let a = c.in-Symbol.symbol in
     let read = read_default rest i _ _ c.loop-place-test.true c.in-Symbol.is in
     let below : a < length c.args.sets.now = below_at rest i c.loop-place-test.true (length c.args.sets.now) a c.requires read in
-    gathered_stop (set_at c.args.sets.now) (eof_number c.args.terminals.now) (symbols_until rest) (symbols_until (drop i rest))
+    gathered_stop (set_of_number c.args.sets.now) (eof_number c.args.terminals.now) (symbols_until rest) (symbols_until (drop i rest))
     (symbols_until (drop (i + 1) rest)) a c.loop-place.first c.union_with.new.self c.take_eof.new.self c.loop-place.invariant
     (until_symbol rest i c.loop-place-test.true a read)
     (λ k. c.in_ok-union_with-in-Symbol.ensures.joined k
-      ∙ ap (λ s. has c.loop-place.first k || has s k)
-      (at_read_set c.args.sets.now a c.index-sets-symbol.result below c.index-sets-symbol.is))
+    ∙ ap (λ s. has c.loop-place.first k || has s k)
+    (at_read_set c.args.sets.now a c.index-sets-symbol.result below c.index-sets-symbol.is))
     c.take_eof.ensures.gone (sym c.take_eof.ensures.was ∙ c.if-not-take_eof.true)
 
 pub loop-place-preserved : goal.loop-place-preserved
@@ -30,10 +31,10 @@ loop-place-preserved c =
     let a = c.in-Symbol.symbol in
     let read = read_default rest i _ _ c.loop-place-test.true c.in-Symbol.is in
     let below : a < length c.args.sets.now = below_at rest i c.loop-place-test.true (length c.args.sets.now) a c.requires read in
-    gathered_more (set_at c.args.sets.now) (eof_number c.args.terminals.now) (symbols_until rest) (symbols_until (drop i rest))
+    gathered_more (set_of_number c.args.sets.now) (eof_number c.args.terminals.now) (symbols_until rest) (symbols_until (drop i rest))
     (symbols_until (drop (i + 1) rest)) a c.loop-place.first c.union_with.new.self c.take_eof.new.self c.loop-place.invariant
     (until_symbol rest i c.loop-place-test.true a read)
     (λ k. c.in_ok-union_with-in-Symbol.ensures.joined k
-      ∙ ap (λ s. has c.loop-place.first k || has s k)
-      (at_read_set c.args.sets.now a c.index-sets-symbol.result below c.index-sets-symbol.is))
+    ∙ ap (λ s. has c.loop-place.first k || has s k)
+    (at_read_set c.args.sets.now a c.index-sets-symbol.result below c.index-sets-symbol.is))
     c.take_eof.ensures.gone (sym c.take_eof.ensures.was ∙ c.if-not-take_eof.false)

@@ -7,6 +7,7 @@ use Rattle.lalrpop_lr1_first.proofs.first_of.place_firsts.Goals as goal
 pub first_of_rest-requires : goal.first_of_rest-requires
 first_of_rest-requires c =
     let t = c.args.table.now in
-    subst (AreSymbolsBelow (length c.args.sets.now)) (sym (c.places_from-rest.ensures ∙ ap (drop c.loop-place.place) c.as_slice.ensures.value))
+    subst (AreSymbolsBelow (length c.args.sets.now)) (sym (c.places_from-rest.ensures
+        ∙ ap (drop c.loop-place.place) c.as_slice.ensures.value))
     (subst (λ n. AreSymbolsBelow n (drop c.loop-place.place t.places.items)) (sym c.requires.sets.count)
-      (below_from (symbol_count t) t.places.items c.loop-place.place (symbols_below t c.requires.table)))
+    (below_from (symbol_count t) t.places.items c.loop-place.place (symbols_below t c.requires.table)))

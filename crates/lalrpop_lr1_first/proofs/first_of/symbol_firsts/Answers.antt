@@ -5,10 +5,11 @@ use Rattle.lalrpop_lr1_first.proofs.first_of.symbol_firsts.Goals as goal
 
 pub loop-changed-init : goal.loop-changed-init
 loop-changed-init c =
-    let t = c.args.table.now in
-    (
-      start_sets t c.requires c.in_ok-sets.sets.items c.add_terminal_sets.new.sets.items (search rules) c.in_ok-sets.ensures.empty (search rules),
-      start_sound t c.requires c.in_ok-sets.sets.items c.add_terminal_sets.new.sets.items (search rules) c.in_ok-sets.ensures.empty (search rules),
+    let t = c.args.table.now in (
+      start_sets t c.requires c.in_ok-sets.sets.items c.add_terminal_sets.new.sets.items (search rules) c.in_ok-sets.ensures.empty
+          (search rules),
+      start_sound t c.requires c.in_ok-sets.sets.items c.add_terminal_sets.new.sets.items (search rules) c.in_ok-sets.ensures.empty
+          (search rules),
       λ e. let w : ⊥ = cc in absurd w,
     )
 

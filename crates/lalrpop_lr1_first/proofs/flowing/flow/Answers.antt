@@ -11,29 +11,38 @@ pub loop-changed-init : goal.loop-changed-init
 loop-changed-init g c =
     let end = eof_number c.args.terminals.now in
     let marks = g.L.ClosureLookahead.marks in
-    let slots = c.args.slots.now.items in
-    (flowing_start g.L.ClosureLookahead.firsts end (edges_seen c.args.firsts.now c.args.edges.now) (all_marks marks (end + 2) slots)
-      (marks_below marks end slots c.requires.marks), c.requires.marks, refl)
+    let slots = c.args.slots.now.items in (
+      flowing_start g.L.ClosureLookahead.firsts end (edges_seen c.args.firsts.now c.args.edges.now) (all_marks marks (end + 2) slots)
+          (marks_below marks end slots c.requires.marks),
+      c.requires.marks,
+      refl,
+    )
 
 pub loop-changed-preserved : goal.loop-changed-preserved
 loop-changed-preserved g c =
     let end = eof_number c.args.terminals.now in
     let edges = edges_seen c.args.firsts.now c.args.edges.now in
     let i = c.loop-changed.invariant in
-    let f = c.in_ok-changed.ensures.flows in
-    (record {
-      below = f.below;
-      kept = λ s k h. f.kept s k (i.0.kept s k h);
-      sound = f.sound (all_marks g.L.ClosureLookahead.marks (end + 2) c.args.slots.now.items) i.0.sound;
-      closed = λ z r e k at said. f.closed z r e k
-          (omega (arith, slice_get_within edges r e at, long_map (edge_seen c.args.firsts.now) c.args.edges.now)) at said;
-    }, c.in_ok-changed.ensures.marks, c.sweep.ensures.count ∙ i.2)
+    let f = c.in_ok-changed.ensures.flows in (
+      record {
+        below = f.below;
+        kept = λ s k h. f.kept s k (i.0.kept s k h);
+        sound = f.sound (all_marks g.L.ClosureLookahead.marks (end + 2) c.args.slots.now.items) i.0.sound;
+        closed = λ z r e k at said. f.closed z r e k
+            (omega (arith, slice_get_within edges r e at, long_map (edge_seen c.args.firsts.now) c.args.edges.now)) at said;
+      },
+      c.in_ok-changed.ensures.marks,
+      c.sweep.ensures.count ∙ i.2,
+    )
 
 pub returns-clause-flows : goal.returns-clause-flows
 returns-clause-flows g c =
     let end = eof_number c.args.terminals.now in
     let marks = g.L.ClosureLookahead.marks in
     let i = c.loop-changed.invariant.0 in
-    λ s k. (i.sound s k, closed_has g.L.ClosureLookahead.firsts end (edges_seen c.args.firsts.now c.args.edges.now)
-      (all_marks marks (end + 2) c.args.slots.now.items) (all_marks marks (end + 2) c.loop-changed.slots.items) i.kept
-      (i.closed c.loop-changed-test.false) s k)
+    λ s k. (
+      i.sound s k,
+      closed_has g.L.ClosureLookahead.firsts end (edges_seen c.args.firsts.now c.args.edges.now)
+          (all_marks marks (end + 2) c.args.slots.now.items) (all_marks marks (end + 2) c.loop-changed.slots.items) i.kept
+          (i.closed c.loop-changed-test.false) s k,
+    )

@@ -1,23 +1,29 @@
-use Rattle.std.proofs.Common.{◌≡◌, ◌∙◌, ◌+◌, ◌<◌, ◌||◌, ℕ, Some, ap, arith, eqb, get_or, length, refl, rules, slice_get, sym, true, false}
+use Rattle.std.proofs.Common.{◌≡◌, ◌∙◌, ◌+◌, ◌<◌, ◌||◌, ℕ, Some, ap, arith, eqb, get_or, length, refl, rules}
+use Rattle.std.proofs.Common.{slice_get, sym, true, false}
 use Rattle.lalrpop_sets.specs.Bits.{has}
 use Rattle.lalrpop_sets.specs.Tokens.{eof_number}
 use Rattle.lalrpop_lr1_first.specs.FlowEdges.{edge_seen, edges_seen}
 use Rattle.lalrpop_lr1_first.specs.Flows.{IsEdgeWithin, all_marks, comes, slot_marks}
-use Rattle.lalrpop_lr1_first.specs.Numbers.{set_at}
+use Rattle.lalrpop_lr1_first.specs.Numbers.{set_of_number}
 use Rattle.lalrpop_lr1_first.specs.declared.flowing.Edge.{Edge}
-use Rattle.lalrpop_lr1_first.proofs.FlowLemmas.{at_none, flowed_start, marks_below, marks_step, small_came, step_grown, step_none, step_same}
+use Rattle.lalrpop_lr1_first.proofs.FlowLemmas.{at_none, flowed_start, marks_below, marks_step, small_came, step_grown, step_none}
+use Rattle.lalrpop_lr1_first.proofs.FlowLemmas.{step_same}
 use Rattle.lalrpop_lr1_first.proofs.ListLemmas.{at_read_set, read_slice, set_long}
 use Rattle.lalrpop_lr1_first.proofs.TableLemmas.{get_mapped}
-use Rattle.lalrpop_lr1_first.proofs.flowing.sweep.Goals.{in-None, in-Some+in_ok-came-in-Some+in_ok-join-in-Some+then-branch, in-Some+in_ok-came-in-Some+in_ok-join-in-Some+else-branch}
+use Rattle.lalrpop_lr1_first.proofs.flowing.sweep.Goals.{in-None, in-Some+in_ok-came-in-Some+in_ok-join-in-Some+then-branch}
+use Rattle.lalrpop_lr1_first.proofs.flowing.sweep.Goals.{in-Some+in_ok-came-in-Some+in_ok-join-in-Some+else-branch}
 use Rattle.lalrpop_lr1_first.proofs.flowing.sweep.Goals as goal
 
 pub loop-edge-init : goal.loop-edge-init
 loop-edge-init g c =
     let end = eof_number c.args.terminals.now in
     let marks = g.L.ClosureLookahead.marks in
-    let slots = c.args.slots.now.items in
-    (refl, c.requires.marks, flowed_start g.L.ClosureLookahead.firsts end (edges_seen c.args.firsts.now c.args.edges.now)
-      (all_marks marks (end + 2) slots) (marks_below marks end slots c.requires.marks))
+    let slots = c.args.slots.now.items in (
+      refl,
+      c.requires.marks,
+      flowed_start g.L.ClosureLookahead.firsts end (edges_seen c.args.firsts.now c.args.edges.now)
+          (all_marks marks (end + 2) slots) (marks_below marks end slots c.requires.marks),
+    )
 
 pub index-requires : goal.index-requires
 index-requires g c =
@@ -74,38 +80,52 @@ loop-edge-preserved g c =
     let to_in : e.to < length now = omega (arith, inn.to, v.0) in
     let rest_in : e.rest < length firsts = c.requires.rests i e there in
     elim c.match-index.branch [
-      | in-None w ↦ rw (w.slots-is, w.changed-is) (v.0, v.1, step_none marks counts end edges (length old) c.requires.edges i (edge_seen firsts e) here
-          old now v.0 c.loop-edge.changed v.2 x c.index.ensures w.in-None.is)
+      | in-None w ↦ rw (w.slots-is, w.changed-is) (
+        v.0,
+        v.1,
+        step_none marks counts end edges (length old) c.requires.edges i (edge_seen firsts e) here
+            old now v.0 c.loop-edge.changed v.2 x c.index.ensures w.in-None.is,
+      )
       | in-Some+in_ok-came-in-Some+in_ok-join-in-Some+then-branch w ↦
           let read = at_read_set firsts e.rest w.index-firsts-edge.result rest_in w.index-firsts-edge.is in
-          let flow : (k : ℕ) → has (marks w.in_ok-came-in-Some.came) k ≡ comes counts end (set_at firsts e.rest) (marks w.in-Some.lookahead) k =
+          let flow : (k : ℕ) → has (marks w.in_ok-came-in-Some.came) k ≡ comes counts end (set_of_number firsts e.rest)
+              (marks w.in-Some.lookahead) k =
           λ k. w.in_ok-came-in-Some.ensures k ∙ ap (λ f. comes counts end f (marks w.in-Some.lookahead) k) read in
           let bound = v.1 e.from w.in-Some.lookahead (at_none now e.from x from_in c.index.ensures ∙ w.in-Some.is) in
-          let small = small_came marks counts end edges (length old) c.requires.edges i (edge_seen firsts e) here old now v.0 c.loop-edge.changed v.2 x c.index.ensures
-              w.in-Some.lookahead w.in-Some.is w.in_ok-came-in-Some.came flow w.index_mut.result.now w.join.new.slot w.index_mut.ensures.value
-              w.in_ok-join-in-Some.ensures.joined bound in
+          let small = small_came marks counts end edges (length old) c.requires.edges i (edge_seen firsts e) here old now v.0
+              c.loop-edge.changed v.2 x c.index.ensures
+          w.in-Some.lookahead w.in-Some.is w.in_ok-came-in-Some.came flow w.index_mut.result.now w.join.new.slot w.index_mut.ensures.value
+          w.in_ok-join-in-Some.ensures.joined bound in
           rw (w.slots-is, w.changed-is) (
             set_long now e.to w.join.new.slot ∙ v.0,
-            marks_step marks end now e.to w.in_ok-came-in-Some.came w.index_mut.result.now w.join.new.slot to_in v.1 w.index_mut.ensures.value
-              w.in_ok-join-in-Some.ensures.joined small,
-            step_grown marks counts end edges (length old) c.requires.edges i (edge_seen firsts e) here old now v.0 c.loop-edge.changed v.2 x c.index.ensures
-              w.in-Some.lookahead w.in-Some.is w.in_ok-came-in-Some.came flow w.index_mut.result.now w.join.new.slot w.index_mut.ensures.value
-              w.in_ok-join-in-Some.ensures.joined (w.in_ok-join-in-Some.ensures.grown w.if-branch.true (end + 2) small),
+            marks_step marks end now e.to w.in_ok-came-in-Some.came w.index_mut.result.now w.join.new.slot to_in v.1
+                w.index_mut.ensures.value
+                w.in_ok-join-in-Some.ensures.joined small,
+            step_grown marks counts end edges (length old) c.requires.edges i (edge_seen firsts e) here old now v.0 c.loop-edge.changed
+                v.2 x c.index.ensures
+                w.in-Some.lookahead w.in-Some.is w.in_ok-came-in-Some.came flow w.index_mut.result.now w.join.new.slot
+                    w.index_mut.ensures.value
+                w.in_ok-join-in-Some.ensures.joined (w.in_ok-join-in-Some.ensures.grown w.if-branch.true (end + 2) small),
           )
       | in-Some+in_ok-came-in-Some+in_ok-join-in-Some+else-branch w ↦
           let read = at_read_set firsts e.rest w.index-firsts-edge.result rest_in w.index-firsts-edge.is in
-          let flow : (k : ℕ) → has (marks w.in_ok-came-in-Some.came) k ≡ comes counts end (set_at firsts e.rest) (marks w.in-Some.lookahead) k =
+          let flow : (k : ℕ) → has (marks w.in_ok-came-in-Some.came) k ≡ comes counts end (set_of_number firsts e.rest)
+              (marks w.in-Some.lookahead) k =
           λ k. w.in_ok-came-in-Some.ensures k ∙ ap (λ f. comes counts end f (marks w.in-Some.lookahead) k) read in
           let bound = v.1 e.from w.in-Some.lookahead (at_none now e.from x from_in c.index.ensures ∙ w.in-Some.is) in
-          let small = small_came marks counts end edges (length old) c.requires.edges i (edge_seen firsts e) here old now v.0 c.loop-edge.changed v.2 x c.index.ensures
-              w.in-Some.lookahead w.in-Some.is w.in_ok-came-in-Some.came flow w.index_mut.result.now w.join.new.slot w.index_mut.ensures.value
-              w.in_ok-join-in-Some.ensures.joined bound in
+          let small = small_came marks counts end edges (length old) c.requires.edges i (edge_seen firsts e) here old now v.0
+              c.loop-edge.changed v.2 x c.index.ensures
+          w.in-Some.lookahead w.in-Some.is w.in_ok-came-in-Some.came flow w.index_mut.result.now w.join.new.slot w.index_mut.ensures.value
+          w.in_ok-join-in-Some.ensures.joined bound in
           rw (w.slots-is, w.changed-is) (
             set_long now e.to w.join.new.slot ∙ v.0,
-            marks_step marks end now e.to w.in_ok-came-in-Some.came w.index_mut.result.now w.join.new.slot to_in v.1 w.index_mut.ensures.value
-              w.in_ok-join-in-Some.ensures.joined small,
-            step_same marks counts end edges (length old) c.requires.edges i (edge_seen firsts e) here old now v.0 c.loop-edge.changed v.2 x c.index.ensures
-              w.in-Some.lookahead w.in-Some.is w.in_ok-came-in-Some.came flow w.index_mut.result.now w.join.new.slot w.index_mut.ensures.value
-              w.in_ok-join-in-Some.ensures.joined (w.in_ok-join-in-Some.ensures.same w.if-branch.false),
+            marks_step marks end now e.to w.in_ok-came-in-Some.came w.index_mut.result.now w.join.new.slot to_in v.1
+                w.index_mut.ensures.value
+                w.in_ok-join-in-Some.ensures.joined small,
+            step_same marks counts end edges (length old) c.requires.edges i (edge_seen firsts e) here old now v.0 c.loop-edge.changed v.2
+                x c.index.ensures
+                w.in-Some.lookahead w.in-Some.is w.in_ok-came-in-Some.came flow w.index_mut.result.now w.join.new.slot
+                    w.index_mut.ensures.value
+                w.in_ok-join-in-Some.ensures.joined (w.in_ok-join-in-Some.ensures.same w.if-branch.false),
           )
     ]

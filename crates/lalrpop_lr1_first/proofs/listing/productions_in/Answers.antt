@@ -1,4 +1,5 @@
-use Rattle.std.proofs.Common.{◌≡◌, ◌∷◌, [], ◌++◌, ◌⊎◌, ◌↔◌, Contains, List, ap, refl, subst, rules, sym, ◌∙◌}
+use Rattle.std.proofs.Common.{◌≡◌, ◌∷◌, [], ◌++◌, ◌⊎◌, ◌↔◌, Contains, List, ap, refl, subst, rules, sym}
+use Rattle.std.proofs.Common.{◌∙◌}
 use Rattle.std.specs.Prelude.{flat_map}
 use Rattle.lalrpop_grammar_symbols.specs.declared.names.NonterminalString.{NonterminalString}
 use Rattle.lalrpop_grammar_repr.specs.declared.production.NonterminalData.{NonterminalData}
@@ -15,7 +16,7 @@ loop-data-init c =
     let all : c.into_iter-data-iterator.result ≡ c.args.grammar.now.nonterminals = search rules in
     let none : lent_in c.new-set.result ≡ [] = ap lent c.new-set.ensures.empty in
     subst (λ old. (p : Production) → Contains (productions_of_grammar c.args.grammar.now) p
-      ↔ (Contains old p ⊎ Contains (given c.into_iter-data-iterator.result) p)) (sym none)
+    ↔ (Contains old p ⊎ Contains (given c.into_iter-data-iterator.result) p)) (sym none)
     (puts_start (productions_of_grammar c.args.grammar.now) (given c.into_iter-data-iterator.result) (ap given all))
 
 pub loop-data-preserved : goal.loop-data-preserved

@@ -1,11 +1,12 @@
-use Rattle.std.proofs.Common.{◌≡◌, ◌∙◌, ◌+◌, ◌↔◌, ◌<◌, ℕ, Some, ap, arith, length, slice_get, subst, sym, true}
+use Rattle.std.proofs.Common.{◌≡◌, ◌∙◌, ◌+◌, ◌↔◌, ◌<◌, ℕ, Some, ap, arith, length, slice_get, subst, sym}
+use Rattle.std.proofs.Common.{true}
 use Rattle.lalrpop_sets.specs.Bits.{has}
 use Rattle.lalrpop_sets.specs.Tokens.{eof_number}
 use Rattle.lalrpop_lr1_first.specs.ClosureTables.{started_items}
 use Rattle.lalrpop_lr1_first.specs.FirstNumbers.{name_count, table_end}
 use Rattle.lalrpop_lr1_first.specs.FlowEdges.{RestsAreWithin, edges_seen}
 use Rattle.lalrpop_lr1_first.specs.Flows.{EdgesAreWithin, Flows, all_marks}
-use Rattle.lalrpop_lr1_first.specs.Numbers.{set_at}
+use Rattle.lalrpop_lr1_first.specs.Numbers.{set_of_number}
 use Rattle.lalrpop_lr1_first.specs.declared.place.NumberedRule.{NumberedRule}
 use Rattle.lalrpop_lr1_first.proofs.ClosingLemmas.{closes, edge_rests, edges_within}
 use Rattle.lalrpop_lr1_first.proofs.TableLemmas.{left_below}
@@ -15,16 +16,16 @@ pub flow-requires-clause-rests : goal.flow-requires-clause-rests
 flow-requires-clause-rests g c =
     subst (λ es. RestsAreWithin (length c.as_slice.result.now) es) (sym c.as_slice-2.ensures.value)
     (subst (λ fs. RestsAreWithin (length fs) c.args.self.now.edges.items) (sym c.as_slice.ensures.value)
-      (edge_rests c.args.self.now c.requires.closures))
+    (edge_rests c.args.self.now c.requires.closures))
 
 pub flow-requires-clause-edges : goal.flow-requires-clause-edges
 flow-requires-clause-edges g c =
     let t = c.args.self.now.numbered in
     subst (EdgesAreWithin (table_end t) (length c.seed_slots.new.slots.items))
     (sym (ap (λ es. edges_seen c.as_slice.result.now es) c.as_slice-2.ensures.value
-      ∙ ap (λ fs. edges_seen fs c.args.self.now.edges.items) c.as_slice.ensures.value))
+    ∙ ap (λ fs. edges_seen fs c.args.self.now.edges.items) c.as_slice.ensures.value))
     (subst (λ n. EdgesAreWithin (table_end t) n (edges_seen c.args.self.now.firsts.items c.args.self.now.edges.items))
-      (sym c.in_ok-seed_slots.ensures.count) (edges_within c.args.self.now c.requires.closures))
+    (sym c.in_ok-seed_slots.ensures.count) (edges_within c.args.self.now c.requires.closures))
 
 pub started-requires : goal.started-requires
 started-requires g c = λ r rule e.
@@ -42,12 +43,12 @@ returns g c =
     let seeded = c.seed_slots.new.slots.items in
     let after = c.flow.new.slots.items in
     let edges = ap (λ es. edges_seen c.as_slice.result.now es) c.as_slice-2.ensures.value
-      ∙ ap (λ fs. edges_seen fs closures.edges.items) c.as_slice.ensures.value in
-    let flows : (s k : ℕ) → (has (set_at (all_marks marks (end + 2) after) s) k ≡ true)
-        ↔ Flows counts end (edges_seen closures.firsts.items closures.edges.items) (all_marks marks (end + 2) seeded) s k =
-    subst (λ es. (s k : ℕ) → (has (set_at (all_marks marks (end + 2) after) s) k ≡ true)
-      ↔ Flows counts end es (all_marks marks (end + 2) seeded) s k) edges c.in_ok-flow.ensures.flows in
+    ∙ ap (λ fs. edges_seen fs closures.edges.items) c.as_slice.ensures.value in
+    let flows : (s k : ℕ) → (has (set_of_number (all_marks marks (end + 2) after) s) k ≡ true)
+    ↔ Flows counts end (edges_seen closures.firsts.items closures.edges.items) (all_marks marks (end + 2) seeded) s k =
+    subst (λ es. (s k : ℕ) → (has (set_of_number (all_marks marks (end + 2) after) s) k ≡ true)
+    ↔ Flows counts end es (all_marks marks (end + 2) seeded) s k) edges c.in_ok-flow.ensures.flows in
     closes closures c.requires.closures marks counts c.args.seed.now c.requires.items seeded after c.in_ok-seed_slots.ensures flows
     c.in_ok-brought.brought.items
     (c.in_ok-brought.ensures ∙ ap (λ rs. started_items c.as_slice-4.result.now rs) c.as_slice-3.ensures.value
-      ∙ ap (λ ss. started_items ss closures.numbered.rules.items) c.as_slice-4.ensures.value)
+    ∙ ap (λ ss. started_items ss closures.numbered.rules.items) c.as_slice-4.ensures.value)

@@ -16,13 +16,14 @@ lay_rules-requires-clause-known c =
     let at_laying : c.as_slice-2.result.now ≡ ps = search rules in
     let listed : HoldSame (lent c.in_ok-names.names.listed.items) (flat_map names_in_production (lent ps)) =
     subst (λ ks. HoldSame (lent ks) (flat_map names_in_production (lent ps))) (sym c.in_ok-names.ensures.listed)
-      (subst (λ qs. HoldSame (lent_in c.in_ok-names_in.field-0) (flat_map names_in_production (lent qs))) at_names
-        c.in_ok-names_in.ensures) in
+    (subst (λ qs. HoldSame (lent_in c.in_ok-names_in.field-0) (flat_map names_in_production (lent qs))) at_names
+    c.in_ok-names_in.ensures) in
     let same : HoldSame (lent ps) (productions_of_grammar g) =
     subst (λ ks. HoldSame (lent ks) (productions_of_grammar g)) (sym c.in_ok-productions.ensures.same) c.in_ok-productions_in.ensures in
     subst (λ qs. (p : Production) → Contains (lent qs) p →
-      IsKnownProduction (lent c.in_ok-names.names.listed.items) g.terminals p) (sym at_laying)
-    (known_production (lent c.in_ok-names.names.listed.items) g.terminals (lent ps) (productions_of_grammar g) listed same c.requires.known)
+    IsKnownProduction (lent c.in_ok-names.names.listed.items) g.terminals p) (sym at_laying)
+    (known_production (lent c.in_ok-names.names.listed.items) g.terminals (lent ps) (productions_of_grammar g) listed same
+        c.requires.known)
 
 pub returns : goal.returns
 returns c =
