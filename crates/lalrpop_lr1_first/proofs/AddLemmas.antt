@@ -1,6 +1,6 @@
 -- What is in sets of references to which more is added: for the productions and the names of a grammar.
 use Rattle.std.proofs.Common.{append-nil, append_assoc, ◌≡◌, ◌∙◌, ◌↔◌, ◌⊎◌, ℕ, ◌+◌, ◌<◌, List, []}
-use Rattle.std.proofs.Common.{◌∷◌, ◌++◌, length, map, take, get_or, refl, sym, ap, subst, inl, inr, ⊎_elim, arith, Contains}
+use Rattle.std.proofs.Common.{◌∷◌, ◌++◌, length, take, get_or, refl, sym, ap, subst, inl, inr, ⊎_elim, arith, Contains}
 use Rattle.std.specs.Prelude.{flat_map}
 use Rattle.std.specs.Borrow.{Bor}
 use Rattle.std.specs.BTreeSet.{insert_key}
@@ -53,7 +53,7 @@ module _ {X : Type 0} where
           λ c. inl c,
           λ h. ⊎_elim (λ c. c)
               (λ c. ⊎_elim (λ z. subst (Contains (y.now ∷ lent ks)) (sym (exact k.now y.now e)
-                  ∙ z) (contains_here y.now (lent ks)))
+              ∙ z) (contains_here y.now (lent ks)))
               (λ d. absurd (no_element x d)) (contains_split k.now x [] c)) h,
         )
         go Greater e rec = (
@@ -62,7 +62,7 @@ module _ {X : Type 0} where
               (contains_split y.now x (lent (insert_key cmp ks k)) c),
           λ h. ⊎_elim
               (λ c. ⊎_elim (λ z. subst (Contains (y.now ∷ lent (insert_key cmp ks k))) z (contains_here y.now
-                  (lent (insert_key cmp ks k))))
+              (lent (insert_key cmp ks k))))
               (λ d. contains_later y.now x (lent (insert_key cmp ks k)) (rec.1 (inl d))) (contains_split y.now x (lent ks) c))
               (λ c. contains_later y.now x (lent (insert_key cmp ks k)) (rec.1 (inr c))) h,
         )
@@ -80,8 +80,11 @@ taken_more xs i x h e = take_more xs i x h ∙ ap (λ y. take i xs ++ y ∷ []) 
 module _ {X : Type 0} (whole : List X) where
   -- what was put in, with what is left, is the whole: nothing was put in yet
   pub puts_start : (left : List X) → left ≡ whole → (x : X) → Contains whole x ↔ (Contains [] x ⊎ Contains left x)
-  puts_start left e x = (λ c. inr (subst (λ l. Contains l x) (sym e) c), λ h.
-      ⊎_elim (λ c. absurd (no_element x c)) (λ c. subst (λ l. Contains l x) e c) h)
+  puts_start left e x = (
+    λ c. inr (subst (λ l. Contains l x) (sym e) c),
+    λ h.
+        ⊎_elim (λ c. absurd (no_element x c)) (λ c. subst (λ l. Contains l x) e c) h,
+  )
 
   -- some elements further on
   pub puts_more : (old new left these rest : List X) → ((x : X) → Contains whole x ↔ (Contains old x ⊎ Contains left x)) →
@@ -92,15 +95,18 @@ module _ {X : Type 0} (whole : List X) where
         ((h x).0 c),
     λ k. ⊎_elim
         (λ c. ⊎_elim (λ d. (h x).1 (inl d)) (λ d. (h x).1 (inr (subst (λ l. Contains l x) (sym e)
-            (Contains-append_left these rest x d)))) ((a x).0 c))
+        (Contains-append_left these rest x d)))) ((a x).0 c))
         (λ c. (h x).1 (inr (subst (λ l. Contains l x) (sym e) (Contains-append_right these rest x c)))) k,
   )
 
   -- nothing is left
   pub puts_all : (new left : List X) → ((x : X) → Contains whole x ↔ (Contains new x ⊎ Contains left x)) → left ≡ [] →
       (x : X) → Contains new x ↔ Contains whole x
-  puts_all new left h e x = (λ c. (h x).1 (inl c), λ c.
-      ⊎_elim (λ d. d) (λ d. absurd (no_element x (subst (λ l. Contains l x) e d))) ((h x).0 c))
+  puts_all new left h e x = (
+    λ c. (h x).1 (inl c),
+    λ c.
+        ⊎_elim (λ d. d) (λ d. absurd (no_element x (subst (λ l. Contains l x) e d))) ((h x).0 c),
+  )
 
 -- added to nothing
 pub holds_added : {X : Type 0} (new xs : List X) → AddsTo [] new xs → (x : X) → Contains new x ↔ Contains xs x

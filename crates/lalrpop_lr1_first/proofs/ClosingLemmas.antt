@@ -1,25 +1,23 @@
 -- The slots after the flow give just what is marked from the seed: for the closure of a seed.
-use Rattle.std.proofs.Common.{◌≡◌, ◌∙◌, ◌↔◌, ◌⊎◌, ℕ, suc, ◌+◌, ◌<◌, ◌≤◌, Bool, true, false, not}
-use Rattle.std.proofs.Common.{◌||◌, ◌&&◌, eqb, List, [], ◌∷◌, ◌++◌, length, map, get_or}
+use Rattle.std.proofs.Common.{◌≡◌, ◌∙◌, ◌↔◌, ◌⊎◌, ℕ, ◌+◌, ◌<◌, ◌≤◌, Bool, true, false, not}
+use Rattle.std.proofs.Common.{◌||◌, ◌&&◌, eqb, List, [], ◌∷◌, length, get_or}
 use Rattle.std.proofs.Common.{refl, sym, ap, subst, arith, inl, inr, ⊎_elim, slice_get, Option, Some, None, Contains}
 use Rattle.std.specs.List.{cons_option}
 use Rattle.std.specs.Prelude.{filter_map, flat_map, option_map}
 use Rattle.std.proofs.lemmas.List.Elements.{Contains-append_cases, Contains-append_left, Contains-append_right}
 use Rattle.lalrpop_lr1_theory.specs.Productions as theory
-use Rattle.lalrpop_lr1_theory.specs.FirstSets.{First0}
 use Rattle.lalrpop_lr1_theory.proofs.ListLemmas.{contains_get, contains_here, contains_later, contains_split, get_contains}
 use Rattle.lalrpop_lr1_items.specs.Views.{next_of_number}
 use Rattle.lalrpop_lr1_items.proofs.NoConflictLemmas.{at_mapped}
 use Rattle.lalrpop_sets.specs.Bits.{has}
 use Rattle.lalrpop_lr1_first.specs.ClosureTables.{AreItems, ClosesSeed, IsClosureTable, SeedsAll, TableMarks, edge_of_rule, name_behind}
-use Rattle.lalrpop_lr1_first.specs.ClosureTables.{name_first}
 use Rattle.lalrpop_lr1_first.specs.ClosureTables.{rule_edge_to, started_items, started_with}
 use Rattle.lalrpop_lr1_first.specs.FirstNumbers.{name_count, table_end, table_rules}
 use Rattle.lalrpop_lr1_first.specs.FlowEdges.{RestsAreWithin, edge_seen, edges_seen}
 use Rattle.lalrpop_lr1_first.specs.Flows.{EdgesAreWithin, FlowEdge, Flows, IsEdgeWithin, all_marks, comes, slot_marks}
-use Rattle.lalrpop_lr1_first.specs.ItemTables.{AreEdgesOf, AreFirstsOf, FlowsToStart, HasMark, HasPlace, IsEdgeOf, ListsItem, ListsNext}
+use Rattle.lalrpop_lr1_first.specs.ItemTables.{AreEdgesOf, AreFirstsOf, FlowsToStart, HasMark, HasPlace, IsEdgeOf}
 use Rattle.lalrpop_lr1_first.specs.NumberedGrammars.{HasItemAt, IsSeenIn, table_names, table_productions}
-use Rattle.lalrpop_lr1_first.specs.Numbers.{RuleByNumbers, SpellsSymbols, says, set_of_number}
+use Rattle.lalrpop_lr1_first.specs.Numbers.{RuleByNumbers, says, set_of_number}
 use Rattle.lalrpop_lr1_first.specs.Tables.{rest_of, symbol_of_number}
 use Rattle.lalrpop_lr1_first.specs.declared.closure.Closures.{Closures}
 use Rattle.lalrpop_lr1_first.specs.declared.flowing.Edge.{Edge}
@@ -128,14 +126,14 @@ module _ (closures : Closures) (is : IsClosureTable closures) where
     exact = λ i s more e ys sp k l.
         let x = says_first symbol_at next_at end names (table_numbering closures.numbered is.numbers) is.firsts_are.sets
         is.firsts_are.symbol_firsts.sets_are.terminals G (table_rules closures.numbered) (rules_are closures.numbered is.numbers)
-            sets_close
+        sets_close
         is.firsts_are.symbol_firsts.sound (rest (i + 1)) ys sp k l in
         let same = is.firsts_are.place_firsts.at (i + 1) (inside i s more e) k in
         (λ h. x.0 (sym same ∙ h), λ h. same ∙ x.1 h);
     has_number = λ i s more e ys sp x h. first_number symbol_at next_at end names (table_numbering closures.numbered is.numbers)
         is.firsts_are.sets
         is.firsts_are.symbol_firsts.sets_are.terminals G (table_rules closures.numbered) (rules_are closures.numbered is.numbers)
-            sets_close
+        sets_close
         (rest (i + 1)) ys sp x h;
   }
 
@@ -144,7 +142,7 @@ module _ (closures : Closures) (is : IsClosureTable closures) where
       Contains closures.numbered.rules.items rule × (rest rule.start ≡ s ∷ more) × (s < names) × (x ≡ rule_edge_to rule s)
   edge_parts x c =
       let m = in_filter_map (edge_of_rule closures.numbered) closures.numbered.rules.items x (subst (λ l. Contains l x) is.edges_are c)
-          in
+      in
       go m.0 m.1 (name_behind closures.numbered m.0.start) refl m.2
     where
       go : (rule : NumberedRule) → Contains closures.numbered.rules.items rule →
@@ -203,7 +201,7 @@ module _ (closures : Closures) (is : IsClosureTable closures) where
   module _ {L : Type 0} (marks : L → List ℕ) (firsts : Bool) (seed : List (ℕ × L)) (items : AreItems closures.numbered seed)
       (seeded after : List (Option L)) (seeds : SeedsAll marks firsts closures.numbered rests seed seeded)
       (flows : (s k : ℕ) → (has (set_of_number (all_marks marks (end + 2) after) s) k ≡ true)
-          ↔ Flows firsts end seen (all_marks marks (end + 2) seeded) s k)
+      ↔ Flows firsts end seen (all_marks marks (end + 2) seeded) s k)
       (brought : List (ℕ × L)) (are : brought ≡ started_items after closures.numbered.rules.items) where
     abbrev Item : ℕ → theory.Production → ℕ → Type 0
     Item = HasItemAt closures.numbered
@@ -222,19 +220,23 @@ module _ (closures : Closures) (is : IsClosureTable closures) where
         go : (rule : NumberedRule) → Contains closures.numbered.rules.items rule →
             (o : Option L) → get_or after rule.left None ≡ o →
             Contains (started_with rule.start o) (i, l) → (rule : NumberedRule) × Contains closures.numbered.rules.items rule
-                × (rule.start ≡ i) ×
+            × (rule.start ≡ i) ×
             (get_or after rule.left None ≡ Some l)
         go rule listed None e d = absurd (no_element (i, l) d)
         go rule listed (Some l') e d =
-            let one : (rule.start, l') ≡ (i, l) = ⊎_elim (λ z. z) (λ z. absurd (no_element (i, l) z)) (contains_split (rule.start,
-                l') (i, l) [] d) in
+            let one : (rule.start, l') ≡ (i, l) = ⊎_elim (λ z. z) (λ z. absurd (no_element (i, l) z)) (contains_split (
+              rule.start,
+              l',
+            ) (i, l) [] d) in
             (rule, listed, ap (λ (x : ℕ × L). x.0) one, e ∙ ap (λ (x : ℕ × L). Some x.1) one)
 
     whole : (rule : NumberedRule) (l : L) → Contains closures.numbered.rules.items rule → get_or after rule.left None ≡ Some l →
         Contains brought (rule.start, l)
     whole rule l listed e = subst (λ es. Contains es (rule.start, l)) (sym are)
-        (flat_has (λ (r : NumberedRule). started_with r.start (get_or after r.left None)) closures.numbered.rules.items rule (rule.start,
-            l) listed
+        (flat_has (λ (r : NumberedRule). started_with r.start (get_or after r.left None)) closures.numbered.rules.items rule (
+          rule.start,
+          l,
+        ) listed
         (subst (λ o. Contains (started_with rule.start o) (rule.start, l)) (sym e) (contains_here (rule.start, l) [])))
 
     has_slot : (s k : ℕ) (l : L) → get_or after s None ≡ Some l → (eqb (end + 2) k || has (marks l) k) ≡ true → F s k
@@ -266,7 +268,7 @@ module _ (closures : Closures) (is : IsClosureTable closures) where
     place_marked = place_is_marked marks firsts G symbol_at next_at end names (table_numbering closures.numbered is.numbers) Item rest
         (set_of_number rests)
         closures.numbered.rules.items (is_item_table closures.numbered is.numbers) firsts_of seen edges_of seed (all_marks marks
-            (end + 2) seeded)
+        (end + 2) seeded)
         seeds.brought seed_items
 
     mark_marked : (i k : ℕ) (p : theory.Production) (d : ℕ) (x : theory.Next) → HasMark marks seed i k ⊎ Start i k →
@@ -275,7 +277,7 @@ module _ (closures : Closures) (is : IsClosureTable closures) where
     mark_marked = mark_is_marked marks firsts G symbol_at next_at end names (table_numbering closures.numbered is.numbers) Item rest
         (set_of_number rests)
         closures.numbered.rules.items (is_item_table closures.numbered is.numbers) firsts_of seen edges_of seed (all_marks marks
-            (end + 2) seeded)
+        (end + 2) seeded)
         seeds.brought seed_items
 
     marked_place : (p : theory.Production) (d : ℕ) → TableMarks marks firsts closures.numbered seed p d None →
@@ -283,7 +285,7 @@ module _ (closures : Closures) (is : IsClosureTable closures) where
     marked_place p d m = place_of marks firsts G symbol_at next_at end names (table_numbering closures.numbered is.numbers) Item rest
         (set_of_number rests)
         closures.numbered.rules.items (is_item_table closures.numbered is.numbers) firsts_of seen edges_of seed (all_marks marks
-            (end + 2) seeded)
+        (end + 2) seeded)
         seeds.brought seed_items None m
 
     marked_mark : (p : theory.Production) (d : ℕ) (x : theory.Next) → TableMarks marks firsts closures.numbered seed p d (Some x) →
@@ -291,7 +293,7 @@ module _ (closures : Closures) (is : IsClosureTable closures) where
     marked_mark p d x m = mark_at marks firsts G symbol_at next_at end names (table_numbering closures.numbered is.numbers) Item rest
         (set_of_number rests)
         closures.numbered.rules.items (is_item_table closures.numbered is.numbers) firsts_of seen edges_of seed (all_marks marks
-            (end + 2) seeded)
+        (end + 2) seeded)
         seeds.brought seed_items (Some x) x m refl
 
     -- the seed with what was brought is just what is marked from it
@@ -300,8 +302,13 @@ module _ (closures : Closures) (is : IsClosureTable closures) where
       items = λ p d. (
         λ h. place_marked h.0 p d (⊎_elim (λ c. inl (h.1.0, c))
             (λ c. let r = part h.0 h.1.0 c in
-            inr (r.0, r.1, r.2, has_slot r.0.left (end + 2) h.1.0 r.3 (or_left (eqb (end + 2) (end + 2)) (has (marks h.1.0) (end + 2))
-                (eqb_self (end + 2)))))
+            inr (
+              r.0,
+              r.1,
+              r.2,
+              has_slot r.0.left (end + 2) h.1.0 r.3 (or_left (eqb (end + 2) (end + 2)) (has (marks h.1.0) (end + 2))
+                  (eqb_self (end + 2))),
+            ))
             (Contains-append_cases seed brought (h.0, h.1.0) h.1.1)) h.2,
         λ m. let r = marked_place p d m in ⊎_elim
             (λ z. (r.0, (z.0, Contains-append_left seed brought (r.0, z.0) z.1), r.1))
@@ -310,12 +317,23 @@ module _ (closures : Closures) (is : IsClosureTable closures) where
       nexts = λ p d x. (
         λ h. mark_marked h.place h.number p d x (⊎_elim (λ c. inl (h.held.0, c, h.held.2))
             (λ c. let r = part h.place h.held.0 c in
-            inr (r.0, r.1, r.2, has_slot r.0.left h.number h.held.0 r.3 (or_right (eqb (end + 2) h.number) (has (marks h.held.0) h.number)
-                h.held.2)))
+            inr (
+              r.0,
+              r.1,
+              r.2,
+              has_slot r.0.left h.number h.held.0 r.3 (or_right (eqb (end + 2) h.number) (has (marks h.held.0) h.number)
+                  h.held.2),
+            ))
             (Contains-append_cases seed brought (h.place, h.held.0) h.held.1)) h.small h.next_is h.item,
         λ m. let r = marked_mark p d x m in ⊎_elim
-            (λ z. record { place = r.0; number = r.1; held = (z.0, Contains-append_left seed brought (r.0, z.0) z.1, z.2); small = r.3;
-                next_is = r.4; item = r.2 })
+            (λ z. record {
+              place = r.0;
+              number = r.1;
+              held = (z.0, Contains-append_left seed brought (r.0, z.0) z.1, z.2);
+              small = r.3;
+              next_is = r.4;
+              item = r.2;
+            })
             (λ z. let b = start_brought r.0 r.1 z in
             record {
               place = r.0;

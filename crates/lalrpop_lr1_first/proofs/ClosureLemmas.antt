@@ -1,19 +1,19 @@
 -- What flows between nonterminals by number is what a closure marks at their items: for the closure of a seed.
-use Rattle.std.proofs.Common.{◌≡◌, ◌∙◌, ℕ, suc, ◌+◌, ◌<◌, ◌≤◌, Bool, true, false, not, ◌||◌, ◌&&◌}
+use Rattle.std.proofs.Common.{◌≡◌, ◌∙◌, ℕ, ◌+◌, ◌<◌, ◌≤◌, Bool, true, false, not, ◌||◌, ◌&&◌}
 use Rattle.std.proofs.Common.{eqb, List, [], ◌∷◌, drop}
 use Rattle.std.proofs.Common.{refl, sym, ap, subst, arith, ◌⊎◌, inl, inr, ⊎_elim, slice_get, Option, Some, None, Contains}
-use Rattle.lalrpop_grammar_symbols.specs.Symbols.{Text, Terminal}
-use Rattle.lalrpop_lr1_theory.specs.Productions.{Symbol, terminal, nonterminal, Production, Next}
+use Rattle.lalrpop_grammar_symbols.specs.Symbols.{Terminal}
+use Rattle.lalrpop_lr1_theory.specs.Productions.{Symbol, nonterminal, Production, Next}
 use Rattle.lalrpop_lr1_theory.specs.FirstSets.{First0}
 use Rattle.lalrpop_lr1_theory.specs.Automata.{Marked}
 use Rattle.lalrpop_lr1_theory.specs.Automata as marked
 use Rattle.lalrpop_sets.specs.Bits.{has}
 use Rattle.lalrpop_lr1_first.specs.Flows.{FlowEdge, Flows, begins, brings, comes, passes, starts}
 use Rattle.lalrpop_lr1_first.specs.ItemTables.{AreEdgesOf, AreFirstsOf, AreSeeded, FlowsToStart, HasMark, HasPlace}
-use Rattle.lalrpop_lr1_first.specs.ItemTables.{IsEdgeOf, IsItemTable, ListsItem, ListsNext, SeedBrings, StartsItem}
-use Rattle.lalrpop_lr1_first.specs.Numbers.{IsNumbering, SpellsSymbols, set_of_number}
+use Rattle.lalrpop_lr1_first.specs.ItemTables.{IsItemTable, ListsItem, ListsNext}
+use Rattle.lalrpop_lr1_first.specs.Numbers.{IsNumbering, SpellsSymbols}
 use Rattle.lalrpop_lr1_first.specs.declared.place.NumberedRule.{NumberedRule}
-use Rattle.lalrpop_lr1_first.proofs.ListLemmas.{and_both, both_and, cases_eq, eqb_not, eqb_self, eqb_true, or_cases, or_left, or_right}
+use Rattle.lalrpop_lr1_first.proofs.ListLemmas.{and_both, both_and, eqb_not, eqb_self, or_cases, or_left, or_right}
 
 -- what is spelled with a first number begins with its symbol
 spelled_first : (symbol_at : ℕ → Option Symbol) (s : ℕ) (more : List ℕ) (ys : List Symbol) (x : Symbol) →

@@ -3,10 +3,9 @@
 use Rattle.std.proofs.Common.{◌≡◌, ℕ, true, false, List, [], ◌∷◌, Some, None, refl}
 use Rattle.lalrpop_sets.specs.Bits.{has}
 use Rattle.lalrpop_lr1_first.specs.ClosureTables.{name_first, started_items}
-use Rattle.lalrpop_lr1_first.specs.FirstSteps.{missing}
 use Rattle.lalrpop_lr1_first.specs.Flows.{comes, slot_marks}
-use Rattle.lalrpop_lr1_first.specs.Numbers.{says, set_of_number}
-use Rattle.lalrpop_lr1_first.specs.Tables.{end_until, pairs_from, rest_of, symbols_until}
+use Rattle.lalrpop_lr1_first.specs.Numbers.{says}
+use Rattle.lalrpop_lr1_first.specs.Tables.{end_until, rest_of}
 use Rattle.lalrpop_lr1_first.specs.declared.place.NumberedRule.{NumberedRule}
 use Rattle.lalrpop_lr1_first.specs.declared.place.Place.{Place}
 use Rattle.lalrpop_lr1_first.specs.declared.place.Place.TheVariants as places

@@ -1,16 +1,15 @@
 -- What a table of sets says of symbols by numbers, and what it means to the theory: for first sets.
-use Rattle.std.proofs.Common.{◌≡◌, ◌∙◌, ℕ, zero, suc, ◌+◌, ◌<◌, ◌≤◌, Bool, true, false, not, ◌||◌}
+use Rattle.std.proofs.Common.{◌≡◌, ◌∙◌, ℕ, ◌<◌, ◌≤◌, Bool, true, false, not}
 use Rattle.std.proofs.Common.{◌&&◌, eqb, List, [], ◌∷◌}
-use Rattle.std.proofs.Common.{refl, sym, ap, subst, arith, ◌⊎◌, inl, inr, ⊎_elim, slice_get, Option, Some, None}
+use Rattle.std.proofs.Common.{refl, sym, ap, subst, arith, inl, inr, ⊎_elim, slice_get, Option, Some, None}
 use Rattle.lalrpop_grammar_symbols.specs.Symbols.{Text, Terminal}
 use Rattle.lalrpop_lr1_theory.specs.Productions.{Symbol, terminal, nonterminal, Production, Next}
-use Rattle.lalrpop_lr1_theory.specs.FirstSets.{First0, HoldsFirstSets, IsClosedTable, TableSays}
+use Rattle.lalrpop_lr1_theory.specs.FirstSets.{First0, IsClosedTable, TableSays}
 use Rattle.lalrpop_lr1_theory.proofs.FirstTableLemmas.{first_said, said_first}
 use Rattle.lalrpop_sets.specs.Bits.{has}
-use Rattle.lalrpop_lr1_first.specs.Numbers.{AreRulesOf, IsNumbering, IsRuleOf, RuleByNumbers, SpellsSymbols, says, set_of_number}
-use Rattle.lalrpop_lr1_first.specs.FirstSteps.{AreClosedTo, AreSound, AreWithin, HasNext, HaveTerminals}
-use Rattle.lalrpop_lr1_first.proofs.ListLemmas.{and_both, both_and, cases_eq, eqb_not, eqb_self, eqb_true, or_cases, or_left, or_right}
-use Rattle.lalrpop_lr1_first.proofs.ListLemmas.{some_is}
+use Rattle.lalrpop_lr1_first.specs.Numbers.{AreRulesOf, IsNumbering, RuleByNumbers, SpellsSymbols, says, set_of_number}
+use Rattle.lalrpop_lr1_first.specs.FirstSteps.{AreSound, HasNext, HaveTerminals}
+use Rattle.lalrpop_lr1_first.proofs.ListLemmas.{and_both, both_and, eqb_not, eqb_self, eqb_true, or_cases, or_left, or_right}
 
 module _ (symbol_at : ℕ → Option Symbol) (next_at : ℕ →
     Next) (end names : ℕ) (numbered : IsNumbering symbol_at next_at end names)

@@ -1,7 +1,7 @@
 -- What flows along edges, sweep by sweep: for closures.
 use Rattle.std.proofs.Common.{◌≡◌, ◌∙◌, ℕ, zero, suc, ◌+◌, ◌<◌, ◌≤◌, Bool, true, false, not, ◌||◌}
 use Rattle.std.proofs.Common.{◌&&◌, eqb, List, [], ◌∷◌}
-use Rattle.std.proofs.Common.{length, get_or, set, map, refl, sym, ap, subst, arith, ◌⊎◌, inl, inr, ⊎_elim, slice_get, Some, None}
+use Rattle.std.proofs.Common.{length, get_or, set, refl, sym, ap, subst, arith, ◌⊎◌, inl, inr, ⊎_elim, slice_get, Some, None}
 use Rattle.std.proofs.Common.{Option}
 use Rattle.std.proofs.lemmas.Bool.{cases_lt}
 use Rattle.lalrpop_sets.specs.Bits.{has}
@@ -12,13 +12,17 @@ use Rattle.lalrpop_lr1_first.specs.Flows.{slot_marks, starts}
 use Rattle.lalrpop_lr1_first.specs.FlowSteps.{FlowsTo, IsFlowing, adds}
 use Rattle.lalrpop_lr1_first.proofs.ListLemmas.{and_both, at_set_other, at_set_same, both_and, cases_eq, eqb_not, eqb_self, eqb_true}
 use Rattle.lalrpop_lr1_first.proofs.ListLemmas.{get_any}
-use Rattle.lalrpop_lr1_first.proofs.ListLemmas.{or_cases, or_left, or_right, set_itself, set_long}
+use Rattle.lalrpop_lr1_first.proofs.ListLemmas.{or_cases, or_left, or_right, set_itself}
 use Rattle.lalrpop_lr1_first.proofs.MissingLemmas.{missing_less, missing_set}
 
 pub flowing_start : (firsts : Bool) (end : ℕ) (edges : List FlowEdge) (seed : List (List ℕ)) → AreBelow (end + 3) seed →
     IsFlowing firsts end edges seed seed true
-flowing_start firsts end edges seed b = record { below = b; kept = λ a k h. h; sound = λ a k h. begins a k h;
-    closed = λ e. let z : ⊥ = cc in absurd z }
+flowing_start firsts end edges seed b = record {
+  below = b;
+  kept = λ a k h. h;
+  sound = λ a k h. begins a k h;
+  closed = λ e. let z : ⊥ = cc in absurd z;
+}
 
 -- what is closed has all that flows
 pub closed_has : (firsts : Bool) (end : ℕ) (edges : List FlowEdge) (seed sets : List (List ℕ)) →
@@ -30,25 +34,25 @@ closed_has firsts end edges seed sets w c a k (begins _ _ h) = w a k h
 closed_has firsts end edges seed sets w c a k (brings r e there d) =
     let x = closed_has firsts end edges seed sets w c e.from (end + 2) d in
     c r e (end + 2) there (both_and (has (set_of_number sets e.from) (end + 2)) (eqb (end + 2) (end + 2) ||
-        ((firsts && (not (eqb (end + 2) end) && has e.first (end + 2))) || (has e.first end && has (set_of_number sets e.from)
-        (end + 2)))) x
+    ((firsts && (not (eqb (end + 2) end) && has e.first (end + 2))) || (has e.first end && has (set_of_number sets e.from)
+    (end + 2)))) x
     (or_left (eqb (end + 2) (end + 2)) ((firsts && (not (eqb (end + 2) end) && has e.first (end + 2))) || (has e.first end && has
-        (set_of_number sets e.from) (end + 2))) (eqb_self (end + 2))))
+    (set_of_number sets e.from) (end + 2))) (eqb_self (end + 2))))
 closed_has firsts end edges seed sets w c a k (starts r e _ there d f h) =
     let x = closed_has firsts end edges seed sets w c e.from (end + 2) d in
     c r e k there (both_and (has (set_of_number sets e.from) (end + 2)) (eqb (end + 2) k ||
-        ((firsts && (not (eqb k end) && has e.first k)) || (has e.first end && has (set_of_number sets e.from) k))) x
+    ((firsts && (not (eqb k end) && has e.first k)) || (has e.first end && has (set_of_number sets e.from) k))) x
     (or_right (eqb (end + 2) k) ((firsts && (not (eqb k end) && has e.first k)) || (has e.first end && has (set_of_number sets e.from) k))
     (or_left (firsts && (not (eqb k end) && has e.first k)) (has e.first end && has (set_of_number sets e.from) k) (both_and firsts
-        (not (eqb k end) && has e.first k) f h))))
+    (not (eqb k end) && has e.first k) f h))))
 closed_has firsts end edges seed sets w c a k (passes r e _ there d h d') =
     let x = closed_has firsts end edges seed sets w c e.from (end + 2) d in
     let y = closed_has firsts end edges seed sets w c e.from k d' in
     c r e k there (both_and (has (set_of_number sets e.from) (end + 2)) (eqb (end + 2) k ||
-        ((firsts && (not (eqb k end) && has e.first k)) || (has e.first end && has (set_of_number sets e.from) k))) x
+    ((firsts && (not (eqb k end) && has e.first k)) || (has e.first end && has (set_of_number sets e.from) k))) x
     (or_right (eqb (end + 2) k) ((firsts && (not (eqb k end) && has e.first k)) || (has e.first end && has (set_of_number sets e.from) k))
     (or_right (firsts && (not (eqb k end) && has e.first k)) (has e.first end && has (set_of_number sets e.from) k)
-        (both_and (has e.first end) (has (set_of_number sets e.from) k) h y))))
+    (both_and (has e.first end) (has (set_of_number sets e.from) k) h y))))
 
 -- what an edge adds flows
 pub added_flows : (firsts : Bool) (end : ℕ) (edges : List FlowEdge) (seed sets : List (List ℕ)) (r : ℕ) (e : FlowEdge) (k : ℕ) →
@@ -56,7 +60,7 @@ pub added_flows : (firsts : Bool) (end : ℕ) (edges : List FlowEdge) (seed sets
     adds firsts end e sets k ≡ true → Flows firsts end edges seed e.to k
 added_flows firsts end edges seed sets r e k there d h =
     let rest = eqb (end + 2) k || ((firsts && (not (eqb k end) && has e.first k)) || (has e.first end && has (set_of_number sets e.from)
-        k)) in
+    k)) in
     let p = and_both (has (set_of_number sets e.from) (end + 2)) rest h in
     let x = d e.from (end + 2) p.0 in
     ⊎_elim
@@ -64,17 +68,23 @@ added_flows firsts end edges seed sets r e k there d h =
     (λ (z : ((firsts && (not (eqb k end) && has e.first k)) || (has e.first end && has (set_of_number sets e.from) k)) ≡ true).
     ⊎_elim
     (λ (y : (firsts && (not (eqb k end) && has e.first k)) ≡ true). let q = and_both firsts (not (eqb k end) && has e.first k) y in
-        starts r e k there x q.0 q.1)
+    starts r e k there x q.0 q.1)
     (λ (y : (has e.first end && has (set_of_number sets e.from) k) ≡ true). let q = and_both (has e.first end)
-        (has (set_of_number sets e.from) k) y in passes r e k there x q.0 (d e.from k q.1))
+    (has (set_of_number sets e.from) k) y in passes r e k there x q.0 (d e.from k q.1))
     (or_cases (firsts && (not (eqb k end) && has e.first k)) (has e.first end && has (set_of_number sets e.from) k) z))
     (or_cases (eqb (end + 2) k) ((firsts && (not (eqb k end) && has e.first k)) || (has e.first end && has (set_of_number sets e.from) k))
-        p.1)
+    p.1)
 
 pub flowed_start : (firsts : Bool) (end : ℕ) (edges : List FlowEdge) (old : List (List ℕ)) → AreBelow (end + 3) old →
     FlowsTo firsts end edges 0 old old false
-flowed_start firsts end edges old b = record { below = b; kept = λ a k h. h; sound = λ seed h. h; same = λ e. refl;
-    closed = λ z r e k h. absurd (omega arith); less = λ e. let z : ⊥ = cc in absurd z }
+flowed_start firsts end edges old b = record {
+  below = b;
+  kept = λ a k h. h;
+  sound = λ seed h. h;
+  same = λ e. refl;
+  closed = λ z r e k h. absurd (omega arith);
+  less = λ e. let z : ⊥ = cc in absurd z;
+}
 
 edge_is : (a b : FlowEdge) → Some a ≡ Some b → a ≡ b
 edge_is a b e = cc
@@ -119,13 +129,13 @@ module _ (firsts : Bool) (end : ℕ) (edges : List FlowEdge) (i : ℕ) (e : Flow
     kept = λ a k h. keeps a k (p.kept a k h);
     sound = λ seed d a k h. let d' = p.sound seed d in ⊎_elim
         (λ (z : e.to ≡ a). subst (λ b. Flows firsts end edges seed b k) z (⊎_elim (λ y. d' e.to k y)
-            (λ y. added_flows firsts end edges seed new i e k here d' y) (parts a k z h)))
+        (λ y. added_flows firsts end edges seed new i e k here d' y) (parts a k z h)))
         (λ (z : e.to ≡ a → ⊥). d' a k (ap (λ t. has t k) (sym (at_set_other new e.to a s z)) ∙ h)) (cases_eq e.to a);
     same = λ z. let w : ⊥ = cc in absurd w;
     closed = λ z. let w : ⊥ = cc in absurd w;
     less = λ z.
         let q = missing_set (end + 3) new e.to s l (missing_less (end + 3) (set_of_number new e.to) s g.0 (λ k h. joined k
-            ∙ or_left (has (set_of_number new e.to) k) (adds firsts end e new k) h) (fresh g.0 g.1 g.2) g.2 g.1) in
+        ∙ or_left (has (set_of_number new e.to) k) (adds firsts end e new k) h) (fresh g.0 g.1 g.2) g.2 g.1) in
         let r = flowed_le firsts end edges i old new changed p in omega arith;
   }
     where
@@ -137,7 +147,7 @@ module _ (firsts : Bool) (end : ℕ) (edges : List FlowEdge) (i : ℕ) (e : Flow
       keeps : (a k : ℕ) → has (set_of_number new a) k ≡ true → has (set_of_number (set new e.to s) a) k ≡ true
       keeps a k h = ⊎_elim
           (λ (z : e.to ≡ a). ap (λ t. has t k) (sym (ap (set_of_number (set new e.to s)) z) ∙ at_set_same new e.to s l) ∙ joined k
-              ∙ or_left (has (set_of_number new e.to) k) (adds firsts end e new k) (ap (λ b. has (set_of_number new b) k) z ∙ h))
+          ∙ or_left (has (set_of_number new e.to) k) (adds firsts end e new k) (ap (λ b. has (set_of_number new b) k) z ∙ h))
           (λ (z : e.to ≡ a → ⊥). ap (λ t. has t k) (at_set_other new e.to a s z) ∙ h) (cases_eq e.to a)
 
       fresh : (k : ℕ) → has s k ≡ true → has (set_of_number new e.to) k ≡ false → k < end + 3
@@ -174,10 +184,10 @@ pub adds_some : (firsts : Bool) (end : ℕ) (e : FlowEdge) (sets : List (List �
     (k : ℕ) → eqb (end + 2) k || has result k ≡ adds firsts end e sets k
 adds_some firsts end e sets marks result s h k =
     subst (λ t. eqb (end + 2) k || has result k ≡ has t (end + 2) && (eqb (end + 2) k ||
-        ((firsts && (not (eqb k end) && has e.first k)) || (has e.first end && has t k)))) (sym s)
+    ((firsts && (not (eqb k end) && has e.first k)) || (has e.first end && has t k)))) (sym s)
     (ap (λ b. eqb (end + 2) k || b) (h k) ∙ go (eqb (end + 2) k) (firsts && (not (eqb k end) && has e.first k)) (has e.first end)
-        (has marks k) ∙ sym (ap (λ b. (b || has marks (end + 2)) && (eqb (end + 2) k || ((firsts && (not (eqb k end) && has e.first k))
-        || (has e.first end && (eqb (end + 2) k || has marks k))))) (eqb_self (end + 2))))
+    (has marks k) ∙ sym (ap (λ b. (b || has marks (end + 2)) && (eqb (end + 2) k || ((firsts && (not (eqb k end) && has e.first k))
+    || (has e.first end && (eqb (end + 2) k || has marks k))))) (eqb_self (end + 2))))
   where
     go : (q f n m : Bool) → q || (f || (n && m)) ≡ q || (f || (n && (q || m)))
     go true f n m = refl
@@ -199,16 +209,16 @@ adds_small firsts end e sets b f k h =
     (λ (z : eqb (end + 2) k ≡ true). let y = eqb_true (end + 2) k z in omega arith)
     (λ (z : tail ≡ true). ⊎_elim
     (λ (y : (firsts && (not (eqb k end) && has e.first k)) ≡ true). let q = f k (and_both (not (eqb k end)) (has e.first k)
-        (and_both firsts (not (eqb k end) && has e.first k) y).1).1 in omega arith)
+    (and_both firsts (not (eqb k end) && has e.first k) y).1).1 in omega arith)
     (λ (y : (has e.first end && has (set_of_number sets e.from) k) ≡ true). b e.from k (and_both (has e.first end)
-        (has (set_of_number sets e.from) k) y).1)
+    (has (set_of_number sets e.from) k) y).1)
     (or_cases (firsts && (not (eqb k end) && has e.first k)) (has e.first end && has (set_of_number sets e.from) k) z))
     (or_cases (eqb (end + 2) k) tail p.1)
 
 module _ {L : Type 0} (marks : L → List ℕ) (firsts : Bool) (end : ℕ) (edges : List FlowEdge) (n : ℕ)
     (edges_in : EdgesAreWithin end n edges) (i : ℕ) (e : FlowEdge) (here : slice_get edges i ≡ Some e)
     (first now : List (Option L)) (wide : length now ≡ n) (changed : Bool) (p : FlowsTo firsts end edges i (all_marks marks
-        (end + 2) first) (all_marks marks (end + 2) now) changed) (x : Option L) (read : x ≡ get_or now e.from x) where
+    (end + 2) first) (all_marks marks (end + 2) now) changed) (x : Option L) (read : x ≡ get_or now e.from x) where
   source : slot_marks marks (end + 2) x ≡ set_of_number (all_marks marks (end + 2) now) e.from
   source = read_slot_marks marks (end + 2) now e.from x (let h : e.from < n = (edges_in i e here).from in omega arith) read
 
@@ -216,13 +226,13 @@ module _ {L : Type 0} (marks : L → List ℕ) (firsts : Bool) (end : ℕ) (edge
       changed
   step_none z = flowed_same firsts end edges i e here (all_marks marks (end + 2) first) (all_marks marks (end + 2) now) changed p
       (λ b k h. let y : false ≡ true = sym (adds_none firsts end e (all_marks marks (end + 2) now) (sym source
-          ∙ ap (slot_marks marks (end + 2)) z) k) ∙ h in let w : ⊥ = cc in absurd w)
+      ∙ ap (slot_marks marks (end + 2)) z) k) ∙ h in let w : ⊥ = cc in absurd w)
 
   module _ (l : L) (is : x ≡ Some l) (came : L) (flow : (k : ℕ) →
       has (marks came) k ≡ (firsts && (not (eqb k end) && has e.first k)) || (has e.first end && has (marks l) k)) (t t' : Option L)
       (target : t ≡ get_or now e.to t)
       (joined : (here k : ℕ) → has (slot_marks marks here t') k ≡ (has (slot_marks marks here t) k || (eqb here k || has
-          (marks came) k))) where
+      (marks came) k))) where
     added : (k : ℕ) → eqb (end + 2) k || has (marks came) k ≡ adds firsts end e (all_marks marks (end + 2) now) k
     added k = adds_some firsts end e (all_marks marks (end + 2) now) (marks l) (marks came) (sym source
         ∙ ap (slot_marks marks (end + 2)) is) flow k
@@ -240,12 +250,12 @@ module _ {L : Type 0} (marks : L → List ℕ) (firsts : Bool) (end : ℕ) (edge
     step_same z =
         let q : all_marks marks (end + 2) (set now e.to t') ≡ all_marks marks (end + 2) now =
         all_marks_set marks (end + 2) now e.to t' ∙ ap (λ s. set (all_marks marks (end + 2) now) e.to (slot_marks marks (end + 2) s)) z
-            ∙ ap (set (all_marks marks (end + 2) now) e.to) at_target ∙ set_itself (all_marks marks (end + 2) now) e.to in
+        ∙ ap (set (all_marks marks (end + 2) now) e.to) at_target ∙ set_itself (all_marks marks (end + 2) now) e.to in
         subst (λ s. FlowsTo firsts end edges (i + 1) (all_marks marks (end + 2) first) s changed) (sym q)
         (flowed_same firsts end edges i e here (all_marks marks (end + 2) first) (all_marks marks (end + 2) now) changed p
         (λ b k h. ap (λ s. has s k) (sym at_target ∙ ap (slot_marks marks (end + 2)) (sym z)) ∙ joins k
-            ∙ or_right (has (set_of_number (all_marks marks (end + 2) now) e.to) k) (adds firsts end e (all_marks marks (end + 2) now)
-            k) h))
+        ∙ or_right (has (set_of_number (all_marks marks (end + 2) now) e.to) k) (adds firsts end e (all_marks marks (end + 2) now)
+        k) h))
 
     small_mark : (k : ℕ) → adds firsts end e (all_marks marks (end + 2) now) k ≡ true → k < end + 3
     small_mark = adds_small firsts end e (all_marks marks (end + 2) now) p.below (edges_in i e here).first
@@ -254,10 +264,10 @@ module _ {L : Type 0} (marks : L → List ℕ) (firsts : Bool) (end : ℕ) (edge
         k < end + 2
     small_came b k h = ⊎_elim
         (λ (y : (firsts && (not (eqb k end) && has e.first k)) ≡ true). let q =
-            (edges_in i e here).first k (and_both (not (eqb k end)) (has e.first k) (and_both firsts (not (eqb k end) && has e.first k)
-            y).1).1 in omega arith)
+        (edges_in i e here).first k (and_both (not (eqb k end)) (has e.first k) (and_both firsts (not (eqb k end) && has e.first k)
+        y).1).1 in omega arith)
         (λ (y : (has e.first end && has (marks l) k) ≡ true). let q = b k (and_both (has e.first end) (has (marks l) k) y).1 in
-            omega arith)
+        omega arith)
         (or_cases (firsts && (not (eqb k end) && has e.first k)) (has e.first end && has (marks l) k) (sym (flow k) ∙ h))
 
     pub step_grown : ((k : ℕ) × (has (slot_marks marks (end + 2) t') k ≡ true)
@@ -265,11 +275,14 @@ module _ {L : Type 0} (marks : L → List ℕ) (firsts : Bool) (end : ℕ) (edge
         (all_marks marks (end + 2) (set now e.to t')) true
     step_grown f =
         subst (λ s. FlowsTo firsts end edges (i + 1) (all_marks marks (end + 2) first) s true)
-            (sym (all_marks_set marks (end + 2) now e.to t'))
+        (sym (all_marks_set marks (end + 2) now e.to t'))
         (flowed_grown firsts end edges i e here (all_marks marks (end + 2) first) (all_marks marks (end + 2) now) changed p
-            (slot_marks marks (end + 2) t')
-        (let h : e.to < n = (edges_in i e here).to in omega (arith, length_all_marks marks (end + 2) now)) joins small_mark (f.0, f.1,
-            ap (λ s. has s f.0) (sym at_target) ∙ f.2))
+        (slot_marks marks (end + 2) t')
+        (let h : e.to < n = (edges_in i e here).to in omega (arith, length_all_marks marks (end + 2) now)) joins small_mark (
+          f.0,
+          f.1,
+          ap (λ s. has s f.0) (sym at_target) ∙ f.2,
+        ))
 
 get_set_any : {X : Type 0} (xs : List X) (a b : ℕ) (v d : X) → (a ≡ b → ⊥) → get_or (set xs a v) b d ≡ get_or xs b d
 get_set_any [] a b v d h = refl
@@ -287,7 +300,7 @@ get_set_here (x ∷ xs) (suc a) v d h = get_set_here xs a v d (omega arith)
 pub marks_step : {L : Type 0} (marks : L → List ℕ) (end : ℕ) (now : List (Option L)) (to : ℕ) (came : L) (t t' : Option L) →
     to < length now → MarksAreWithin marks end now → t ≡ get_or now to t
     → ((here k : ℕ) → has (slot_marks marks here t') k ≡ (has (slot_marks marks here t) k || (eqb here k || has
-        (marks came) k))) → ((k : ℕ) → has (marks came) k ≡ true → k < end + 2) → MarksAreWithin marks end (set now to t')
+    (marks came) k))) → ((k : ℕ) → has (marks came) k ≡ true → k < end + 2) → MarksAreWithin marks end (set now to t')
 marks_step {L} marks end now to came t t' w m read joined small a l e k h = ⊎_elim
     (λ (z : to ≡ a). at (sym (get_set_here now to t' None w) ∙ ap (λ i. get_or (set now to t') i None) z ∙ e))
     (λ (z : to ≡ a → ⊥). m a l (sym (get_set_any now to a t' None z) ∙ e) k h)
@@ -305,7 +318,7 @@ marks_step {L} marks end now to came t t' w m read joined small a l e k h = ⊎_
         (λ y. old t refl y)
         (λ y. let q = small k (sym (ap (λ b. b || has (marks came) k) apart) ∙ y) in omega arith)
         (or_cases (has (slot_marks marks (k + 1) t) k) (eqb (k + 1) k || has (marks came) k) (sym (joined (k + 1) k)
-            ∙ ap (λ s. has (slot_marks marks (k + 1) s) k) z ∙ or_right (eqb (k + 1) k) (has (marks l) k) h))
+        ∙ ap (λ s. has (slot_marks marks (k + 1) s) k) z ∙ or_right (eqb (k + 1) k) (has (marks l) k) h))
 
 pub at_none : {X : Type 0} (xs : List (Option X)) (a : ℕ) (x : Option X) → a < length xs → x ≡ get_or xs a x →
     get_or xs a None ≡ x

@@ -1,6 +1,6 @@
 -- Names of productions are among those that are listed, terminals of a grammar in its set: for laying the right sides.
-use Rattle.std.proofs.Common.{◌≡◌, ◌∙◌, ◌↔◌, ◌⊎◌, ℕ, List, [], ◌∷◌, ◌++◌, map, refl, ap, sym, subst}
-use Rattle.std.proofs.Common.{arith, inl, inr, ⊎_elim, Some, Contains}
+use Rattle.std.proofs.Common.{List, [], ◌∷◌, sym, subst}
+use Rattle.std.proofs.Common.{arith, ⊎_elim, Contains}
 use Rattle.std.specs.Prelude.{flat_map}
 use Rattle.std.proofs.lemmas.List.Elements.{Contains-append_left, Contains-append_right}
 use Rattle.lalrpop_grammar_symbols.specs.declared.names.NonterminalString.{NonterminalString}
@@ -10,7 +10,7 @@ use Rattle.lalrpop_grammar_repr.specs.declared.production.Symbol.TheVariants as 
 use Rattle.lalrpop_grammar_repr.specs.declared.terminal_set.TerminalSet.{TerminalSet}
 use Rattle.lalrpop_lr1_theory.proofs.ListLemmas.{contains_here, contains_later, contains_split}
 use Rattle.lalrpop_lr1_first.specs.Listings.{HoldSame, names_in_production, names_in_symbol}
-use Rattle.lalrpop_lr1_first.specs.Tables.{HasNumberedTerminal, HaveNumberedTerminals, IsKnownProduction, IsKnownSymbol}
+use Rattle.lalrpop_lr1_first.specs.Tables.{HaveNumberedTerminals, IsKnownProduction, IsKnownSymbol}
 
 -- what one element gives, the list gives
 pub flat_has : {X Y : Type 0} (f : X → List Y) (xs : List X) (x : X) (y : Y) → Contains xs x → Contains (f x) y →

@@ -1,9 +1,8 @@
 -- Right sides that are laid one behind the other: one symbol and one production more. For the table of numbers.
-use Rattle.std.proofs.Common.{append-nil, append_assoc, ◌≡◌, ◌∙◌, ℕ, zero, suc, ◌+◌, ◌<◌, ◌≤◌, List, []}
-use Rattle.std.proofs.Common.{◌∷◌, ◌++◌, length, map, drop, take, get_or, refl, ap, sym, subst, arith}
-use Rattle.std.proofs.Common.{Some, None, Option, Contains, slice_get, ◌⊎◌, inl, inr, ⊎_elim}
+use Rattle.std.proofs.Common.{append-nil, append_assoc, ◌≡◌, ◌∙◌, ℕ, zero, suc, ◌≤◌, List, []}
+use Rattle.std.proofs.Common.{◌∷◌, ◌++◌, length, map, drop, refl, ap, sym, subst, arith}
+use Rattle.std.proofs.Common.{Some, Option, slice_get, ◌⊎◌, inl, inr, ⊎_elim}
 use Rattle.std.proofs.Math.Seq.{drop-append_seam}
-use Rattle.std.proofs.lemmas.Bool.{cases_lt}
 use Rattle.std.proofs.lemmas.List.{drop-append-le}
 use Rattle.std.proofs.lemmas.Option.{slice_get_within}
 use Rattle.lalrpop_grammar_symbols.specs.declared.names.NonterminalString.{NonterminalString}

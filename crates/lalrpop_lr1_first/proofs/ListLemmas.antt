@@ -1,9 +1,8 @@
 -- Lists of sets with one set exchanged, tests of two parts, and reading at a place: for all proofs of this crate.
-use Rattle.std.proofs.Common.{◌≡◌, ◌∙◌, ℕ, zero, suc, ◌+◌, ◌<◌, ◌≤◌, Bool, true, false, not, ◌||◌}
+use Rattle.std.proofs.Common.{◌≡◌, ◌∙◌, ℕ, zero, suc, ◌<◌, ◌≤◌, Bool, true, false, ◌||◌}
 use Rattle.std.proofs.Common.{◌&&◌, eqb, List, [], ◌∷◌}
-use Rattle.std.proofs.Common.{length, get_or, set, refl, sym, ap, arith, ◌⊎◌, inl, inr, slice_get, Some, None}
+use Rattle.std.proofs.Common.{length, get_or, set, refl, sym, ap, arith, ◌⊎◌, inl, inr, slice_get, Some}
 use Rattle.std.proofs.lemmas.Bool.{cases_lt}
-use Rattle.lalrpop_sets.specs.Bits.{has}
 use Rattle.lalrpop_lr1_first.specs.Numbers.{set_of_number}
 
 pub eqb_self : (k : ℕ) → eqb k k ≡ true

@@ -1,14 +1,14 @@
 -- First sets by name in the theory, and those by number under their names: for the first sets that are asked for.
-use Rattle.std.proofs.Common.{◌≡◌, ◌∙◌, ◌↔◌, ℕ, zero, suc, ◌+◌, ◌<◌, ◌≤◌, Bool, true, false, not}
-use Rattle.std.proofs.Common.{◌||◌, ◌&&◌, cond, eqb, List, [], ◌∷◌, ◌++◌, length, map, drop, get_or}
-use Rattle.std.proofs.Common.{refl, sym, ap, subst, arith, ◌⊎◌, inl, inr, ⊎_elim, slice_get, Option, Some, None, Contains}
+use Rattle.std.proofs.Common.{◌≡◌, ◌∙◌, ℕ, zero, suc, ◌+◌, ◌<◌, ◌≤◌, Bool, true, false, not}
+use Rattle.std.proofs.Common.{◌||◌, ◌&&◌, cond, eqb, List, [], ◌∷◌, length, map, drop, get_or}
+use Rattle.std.proofs.Common.{refl, sym, ap, subst, arith, ◌⊎◌, inl, inr, ⊎_elim, slice_get, Option, Some, None}
 use Rattle.std.specs.Borrow.{Bor}
 use Rattle.std.specs.Map.{keys_of}
 use Rattle.std.specs.Ordering.{is_eq}
 use Rattle.std.specs.Prelude.{option_map}
 use Rattle.std.proofs.lemmas.Bool.{cases_lt}
 use Rattle.std.proofs.lemmas.Option.{slice_get_within}
-use Rattle.lalrpop_grammar_symbols.specs.Symbols.{Text, Terminal}
+use Rattle.lalrpop_grammar_symbols.specs.Symbols.{Text}
 use Rattle.lalrpop_grammar_symbols.specs.Views.{terminal_view}
 use Rattle.lalrpop_grammar_symbols.specs.contracts.names.NonterminalStringOrd.TheImpl as names_order
 use Rattle.lalrpop_grammar_symbols.specs.declared.names.NonterminalString.{NonterminalString}
@@ -21,12 +21,12 @@ use Rattle.lalrpop_lr1_theory.specs.Productions as theory
 use Rattle.lalrpop_lr1_theory.specs.FirstSets.{Derives, First0, TableSays, ends, grows, keeps}
 use Rattle.lalrpop_lr1_theory.proofs.FirstTableLemmas.{first_left, first_said, said_first}
 use Rattle.lalrpop_lr1_items.specs.Views.{next_of_number, production_symbol_view}
-use Rattle.lalrpop_lr1_items.proofs.NoConflictLemmas.{at_mapped, same_terminal}
+use Rattle.lalrpop_lr1_items.proofs.NoConflictLemmas.{same_terminal}
 use Rattle.lalrpop_sets.specs.Bits.{has}
 use Rattle.lalrpop_sets.specs.Tokens.{eof_number, number_alone}
 use Rattle.lalrpop_lr1_first.specs.FirstNumbers.{terminal_set}
 use Rattle.lalrpop_lr1_first.specs.FirstSetsOf.{AreFirstSetsOf, IsFirstSet, IsFirstSetBefore, IsProductionOf, named_from, set_at_name}
-use Rattle.lalrpop_lr1_first.specs.FirstSetsOf.{set_of_symbol, set_or_none}
+use Rattle.lalrpop_lr1_first.specs.FirstSetsOf.{set_of_symbol}
 use Rattle.lalrpop_lr1_first.specs.Listings.{lent}
 use Rattle.lalrpop_lr1_first.specs.Numbers.{says_by, set_of_number}
 use Rattle.lalrpop_lr1_first.specs.Tables.{pairs_from}
@@ -71,7 +71,7 @@ named_at (m ∷ ns) k sets n = go (is_eq ((names_order.ghosts).cmp n m)) (named_
   where
     go : (b : Bool) → at_name n (named_from (suc k) ns sets) ≡ option_map (set_of_number sets) (at_name n (pairs_from (suc k) ns)) →
         cond b (Some (set_of_number sets k)) (at_name n (named_from (suc k) ns sets)) ≡ option_map (set_of_number sets) (cond b (Some k)
-            (at_name n (pairs_from (suc k) ns)))
+        (at_name n (pairs_from (suc k) ns)))
     go true e = refl
     go false e = e
 
@@ -125,7 +125,7 @@ module _ (g : Grammar) (entries : List (NonterminalString × List ℕ)) (are : A
       go None e h = let w : ⊥ = cc in absurd w
       go (Some j) e h =
           let one : j ≡ k = ⊎_elim (λ z. eqb_true j k z) (λ (z : false ≡ true). let w : ⊥ = cc in
-              absurd w) (or_cases (eqb j k) false h) in
+          absurd w) (or_cases (eqb j k) false h) in
           let at = are.numbered.places j t e in
           (omega (arith, slice_get_within g.terminals.all j t at, one), ap next (sym one) ∙ ap (option_map terminal_view) at)
 
@@ -139,7 +139,7 @@ module _ (g : Grammar) (entries : List (NonterminalString × List ℕ)) (are : A
       go (Some u) at f =
           let one : u ≡ t = same_terminal u t (some_is (terminal_view u) (terminal_view t) f) in
           let number : at_terminal t g.terminals.bits ≡ Some k = ap (λ v. at_terminal v g.terminals.bits) (sym one)
-              ∙ are.numbered.numbered k u at in
+          ∙ are.numbered.numbered k u at in
           (slice_get_within g.terminals.all k u at, ap (λ o. has (number_alone o) k) number ∙ or_left (eqb k k) false (eqb_self k))
 
   -- what is said is in range
@@ -166,9 +166,9 @@ module _ (g : Grammar) (entries : List (NonterminalString × List ℕ)) (are : A
   said_table (symbols.Terminal t ∷ xs) k l h = ⊎_elim
       (λ z. (terminal_number t k (and_both (not (eqb k end)) (has (set_of (symbols.Terminal t)) k) z).1).1)
       (λ z. let e = terminal_number t end (and_both (has (set_of (symbols.Terminal t)) end) (says_by set_of end xs k) z).0 in
-          absurd (omega (arith, e.0)))
+      absurd (omega (arith, e.0)))
       (or_cases (not (eqb k end) && has (set_of (symbols.Terminal t)) k) (has (set_of (symbols.Terminal t)) end && says_by set_of end xs
-          k) h)
+      k) h)
   said_table (symbols.Nonterminal n ∷ xs) k l h = go (next k) refl (λ r. said_table xs k l r)
     where
       own : List ℕ
@@ -253,8 +253,10 @@ module _ (g : Grammar) (entries : List (NonterminalString × List ℕ)) (are : A
         (or_cases (not (eqb k end) && has first k) (has first end && has lookahead k) (sym (joined k) ∙ h)),
     λ h. joined k ∙ ⊎_elim
         (λ z. or_left (not (eqb k end) && has first k) (has first end && has lookahead k)
-        (both_and (not (eqb k end)) (has first k) (ap not (eqb_not k end (λ e. omega (arith, z.0)))) ((is k).1 (omega (arith, z.0),
-            z.1))))
+        (both_and (not (eqb k end)) (has first k) (ap not (eqb_not k end (λ e. omega (arith, z.0)))) ((is k).1 (
+          omega (arith, z.0),
+          z.1,
+        ))))
         (λ z. or_right (not (eqb k end) && has first k) (has first end && has lookahead k)
         (both_and (has first end) (has lookahead k) ((is end).1 (omega arith, subst (First0 G xs) (sym end_none) z.0)) z.1)) h,
   )
@@ -274,10 +276,10 @@ named_keys (n ∷ ns) k sets = ap (λ l. n ∷ l) (named_keys ns (suc k) sets)
 pub named_more : (names : List (Bor NonterminalString)) (sets : List (List ℕ)) (i : ℕ) (n : Bor NonterminalString) →
     i < length names →
     n ≡ get_or names i n → named_from i (drop i (lent names)) sets ≡ (n.now, set_of_number sets i) ∷ named_from (i + 1)
-        (drop (i + 1) (lent names)) sets
+    (drop (i + 1) (lent names)) sets
 named_more names sets i n h e =
     ap (λ l. named_from i l sets) (dropped names i h e)
-        ∙ ap (λ k. (n.now, set_of_number sets i) ∷ named_from k (drop (i + 1) (lent names)) sets)
+    ∙ ap (λ k. (n.now, set_of_number sets i) ∷ named_from k (drop (i + 1) (lent names)) sets)
     (let z : suc i ≡ i + 1 = omega arith in z)
   where
     dropped : (xs : List (Bor NonterminalString)) (i : ℕ) → i < length xs → n ≡ get_or xs i n →

@@ -1,9 +1,9 @@
 -- What a seed brings to the slots of nonterminals, item by item: for closures.
-use Rattle.std.proofs.Common.{append-nil, ◌≡◌, ◌∙◌, ◌↔◌, ◌⊎◌, ℕ, zero, suc, ◌+◌, ◌<◌, ◌≤◌, Bool}
-use Rattle.std.proofs.Common.{true, false, ◌||◌, eqb, cond, List, [], ◌∷◌, ◌++◌, length, drop, take, set, map, get_or}
+use Rattle.std.proofs.Common.{◌≡◌, ◌∙◌, ◌⊎◌, ℕ, zero, suc, ◌+◌, ◌<◌, ◌≤◌, Bool}
+use Rattle.std.proofs.Common.{true, false, ◌||◌, eqb, List, [], ◌∷◌, ◌++◌, length, take, set, get_or}
 use Rattle.std.proofs.Common.{refl, sym, ap, subst, arith, inl, inr, ⊎_elim, slice_get, Option, Some, None, Contains}
 use Rattle.std.specs.List.{cons_option}
-use Rattle.std.specs.Prelude.{if◌then◌else◌, nat_lt, filter_map, flat_map}
+use Rattle.std.specs.Prelude.{if◌then◌else◌, nat_lt, filter_map}
 use Rattle.std.proofs.lemmas.Bool.{cases_lt}
 use Rattle.std.proofs.lemmas.List.Elements.{Contains-append_cases, Contains-append_left, Contains-append_right, filter_map-append}
 use Rattle.lalrpop_lr1_theory.proofs.ListLemmas.{contains_here, contains_split}
@@ -66,7 +66,7 @@ name_there n xs s more f l = ap (name_first n) f ∙ ap (λ b. if b then Some s 
 pub rest_within : (all : List Place) (i s : ℕ) (more : List ℕ) → rest_of all i ≡ s ∷ more → i < length all
 rest_within all i s more e = ⊎_elim (λ (z : i < length all). z)
     (λ (z : length all ≤ i). let w : [] ≡ s ∷ more = sym (ap symbols_until (drop_past all i z)) ∙ e in let v : ⊥ = cc in
-        absurd v)
+    absurd v)
     (cases_lt i (length all))
 
 module _ {L : Type 0} (marks : L → List ℕ) (firsts : Bool) (table : Numbered) (rests : List (List ℕ)) where
@@ -91,10 +91,24 @@ module _ {L : Type 0} (marks : L → List ℕ) (firsts : Bool) (table : Numbered
 
   brings_parts : (xs ys : List (ℕ × L)) (s k : ℕ) → Brings (xs ++ ys) s k → Brings xs s k ⊎ Brings ys s k
   brings_parts xs ys s k b = ⊎_elim
-      (λ c. inl (record { place = b.place; lookahead = b.lookahead; more = b.more; held = c; rest = b.rest; name = b.name;
-          mark = b.mark }))
-      (λ c. inr (record { place = b.place; lookahead = b.lookahead; more = b.more; held = c; rest = b.rest; name = b.name;
-          mark = b.mark }))
+      (λ c. inl (record {
+        place = b.place;
+        lookahead = b.lookahead;
+        more = b.more;
+        held = c;
+        rest = b.rest;
+        name = b.name;
+        mark = b.mark;
+      }))
+      (λ c. inr (record {
+        place = b.place;
+        lookahead = b.lookahead;
+        more = b.more;
+        held = c;
+        rest = b.rest;
+        name = b.name;
+        mark = b.mark;
+      }))
       (Contains-append_cases xs ys (b.place, b.lookahead) b.held)
 
   -- no item brings nothing
@@ -115,7 +129,7 @@ module _ {L : Type 0} (marks : L → List ℕ) (firsts : Bool) (table : Numbered
   pub seeds_more : (items : List (ℕ × L)) (item : ℕ × L) (old new : List (Option L)) →
       SeedsAll marks firsts table rests items old →
       SeedsOne marks firsts table rests item old new → length new ≡ length old →
-          SeedsAll marks firsts table rests (items ++ item ∷ []) new
+      SeedsAll marks firsts table rests (items ++ item ∷ []) new
   seeds_more items item old new h one long = record {
     count = long ∙ h.count;
     within = one.within;
@@ -123,7 +137,7 @@ module _ {L : Type 0} (marks : L → List ℕ) (firsts : Bool) (table : Numbered
       λ z. ⊎_elim (λ y. brings_in items (items ++ item ∷ []) (λ x c. Contains-append_left items (item ∷ []) x c) s k
           ((h.brought s k).0 y))
           (λ y. brings_in (item ∷ []) (items ++ item ∷ []) (λ x c. Contains-append_right items (item ∷ []) x c) s k y)
-              ((one.brought s k).0 z),
+          ((one.brought s k).0 z),
       λ b. (one.brought s k).1 (⊎_elim (λ y. inl ((h.brought s k).1 y)) (λ y. inr y) (brings_parts items (item ∷ []) s k b)),
     );
   }
@@ -154,7 +168,7 @@ module _ {L : Type 0} (marks : L → List ℕ) (firsts : Bool) (table : Numbered
         ((k : ℕ) → has (marks came) k ≡ comes firsts end (set_of_number rests (place + 1)) (marks l) k) →
         ((k : ℕ) → has (marks came) k ≡ true → k < end + 2) → (t t' : Option L) → t ≡ get_or old name t →
         ((there k : ℕ) → has (slot_marks marks there t') k ≡ (has (slot_marks marks there t) k || (eqb there k || has
-            (marks came) k))) →
+        (marks came) k))) →
         SeedsOne marks firsts table rests (place, l) old (set old name t')
     seeds_name old count within name is came flow small t t' read joined = record {
       within = marks_step marks end old name came t t' inside within read joined small;
@@ -172,8 +186,11 @@ module _ {L : Type 0} (marks : L → List ℕ) (firsts : Bool) (table : Numbered
 
         at_name : set_of_number (all_marks marks (end + 2) (set old name t')) name ≡ slot_marks marks (end + 2) t'
         at_name = ap (λ x. set_of_number x name) (all_marks_set marks (end + 2) old name t')
-            ∙ at_set_same (all_marks marks (end + 2) old) name (slot_marks marks (end + 2) t') (omega (arith, inside,
-                length_all_marks marks (end + 2) old))
+            ∙ at_set_same (all_marks marks (end + 2) old) name (slot_marks marks (end + 2) t') (omega (
+              arith,
+              inside,
+              length_all_marks marks (end + 2) old,
+            ))
 
         at_other : (s : ℕ) → (name ≡ s → ⊥) → set_of_number (all_marks marks (end + 2) (set old name t')) s ≡ set_of_number
             (all_marks marks (end + 2) old) s
@@ -197,11 +214,11 @@ module _ {L : Type 0} (marks : L → List ℕ) (firsts : Bool) (table : Numbered
         forth s k h = ⊎_elim
             (λ (e : name ≡ s). ⊎_elim
             (λ z. inl (ap (λ y. has (set_of_number (all_marks marks (end + 2) old) y) k) (sym e) ∙ ap (λ y. has y k) (sym own)
-                ∙ z))
+            ∙ z))
             (λ z. inr (subst (λ y. Brings ((place, l) ∷ []) y k) e (brought_by k z)))
             (or_cases (has (slot_marks marks (end + 2) t) k) (eqb (end + 2) k || has (marks came) k)
             (sym (joined (end + 2) k) ∙ ap (λ y. has y k) (sym at_name)
-                ∙ ap (λ y. has (set_of_number (all_marks marks (end + 2) (set old name t')) y) k) e ∙ h)))
+            ∙ ap (λ y. has (set_of_number (all_marks marks (end + 2) (set old name t')) y) k) e ∙ h)))
             (λ (e : name ≡ s → ⊥). inl (ap (λ y. has y k) (sym (at_other s e)) ∙ h))
             (cases_eq name s)
 
@@ -222,11 +239,11 @@ module _ {L : Type 0} (marks : L → List ℕ) (firsts : Bool) (table : Numbered
         back s k (inr b) =
             let one : (place, l) ≡ (b.place, b.lookahead) = only (b.place, b.lookahead) b.held in
             let first : name ∷ n.0 ≡ s ∷ b.more = sym n.1 ∙ ap (λ (x : ℕ × L). rest_of table.places.items x.0) one
-                ∙ b.rest in
+            ∙ b.rest in
             let e : name ≡ s = cc in
             let mark : (k ≡ end + 2) ⊎ (comes firsts end (set_of_number rests (place + 1)) (marks l) k ≡ true) =
             subst (λ (x : ℕ × L). (k ≡ end + 2) ⊎ (comes firsts end (set_of_number rests (x.0 + 1)) (marks x.1) k ≡ true))
-                (sym one) b.mark in
+            (sym one) b.mark in
             subst (λ y. has (set_of_number (all_marks marks (end + 2) (set old name t')) y) k ≡ true) e (there_at k (inr (⊎_elim
             (λ z. or_left (eqb (end + 2) k) (has (marks came) k) (ap (λ j. eqb (end + 2) j) z ∙ eqb_self (end + 2)))
             (λ z. or_right (eqb (end + 2) k) (has (marks came) k) (flow k ∙ z)) mark)))
@@ -235,6 +252,6 @@ module _ {L : Type 0} (marks : L → List ℕ) (firsts : Bool) (table : Numbered
 pub started_more : {L : Type 0} (slots : List (Option L)) (rules : List NumberedRule) (i : ℕ) (rule : NumberedRule) →
     slice_get rules i ≡ Some rule →
     started_items slots (take (i + 1) rules) ≡ started_items slots (take i rules) ++ started_with rule.start
-        (get_or slots rule.left None)
+    (get_or slots rule.left None)
 started_more slots rules i rule e = ap (started_items slots) (taken_at rules i rule e)
     ∙ flat_more (λ (r : NumberedRule). started_with r.start (get_or slots r.left None)) (take i rules) rule

@@ -1,16 +1,13 @@
 -- The sets with which the search for first sets begins: none for names, and each terminal's alone.
 use Rattle.std.proofs.Common.{◌≡◌, ◌∙◌, ℕ, zero, suc, ◌+◌, ◌-◌, ◌<◌, ◌≤◌, true, false, ◌||◌, eqb}
-use Rattle.std.proofs.Common.{List, [], ◌∷◌, ◌++◌, length, map, refl, ap, sym, subst, arith}
-use Rattle.std.proofs.Common.{Some, None, slice_get, ◌⊎◌, inl, inr, ⊎_elim}
+use Rattle.std.proofs.Common.{List, [], ◌∷◌, ◌++◌, length, map, refl, ap, sym, arith}
+use Rattle.std.proofs.Common.{Some, slice_get, ⊎_elim}
 use Rattle.std.proofs.lemmas.Bool.{cases_lt}
-use Rattle.lalrpop_grammar_symbols.specs.declared.terminal.TerminalString.{TerminalString}
-use Rattle.lalrpop_grammar_repr.specs.declared.terminal_set.TerminalSet.{TerminalSet}
 use Rattle.lalrpop_sets.specs.Bits.{has}
-use Rattle.lalrpop_sets.specs.Tokens.{eof_number, number_alone}
+use Rattle.lalrpop_sets.specs.Tokens.{number_alone}
 use Rattle.lalrpop_lr1_first.specs.FirstNumbers.{AreSoundSets, AreTableSets, name_count, table_end, terminal_set}
 use Rattle.lalrpop_lr1_first.specs.NumberedGrammars.{IsNumberTable, table_names}
 use Rattle.lalrpop_lr1_first.specs.Numbers.{set_of_number}
-use Rattle.lalrpop_lr1_first.specs.Tables.{IsTerminalSet}
 use Rattle.lalrpop_lr1_first.specs.declared.numbered.Numbered.{Numbered}
 use Rattle.lalrpop_lr1_first.proofs.ListLemmas.{eqb_true}
 use Rattle.lalrpop_lr1_first.proofs.TableLemmas.{is_numbering}
@@ -90,10 +87,10 @@ module _ (table : Numbered) (is : IsNumberTable table) (empties sets : List (Lis
         ⊎_elim
         (λ (m : s - name_count table < table_end table).
         let z = eqb_true (s - name_count table) k (sym (high (s - name_count table) k m)
-            ∙ sym (ap (λ i. has (set_of_number sets i) k) e) ∙ h) in omega arith)
+        ∙ sym (ap (λ i. has (set_of_number sets i) k) e) ∙ h) in omega arith)
         (λ (m : table_end table ≤ s - name_count table).
         let w : false ≡ true = sym (ap (λ z. has z k) (past (s - name_count table) m))
-            ∙ sym (ap (λ i. has (set_of_number sets i) k) e) ∙ h in let v : ⊥ = cc in absurd v)
+        ∙ sym (ap (λ i. has (set_of_number sets i) k) e) ∙ h in let v : ⊥ = cc in absurd v)
         (cases_lt (s - name_count table) (table_end table)))
         (cases_lt s (name_count table));
     terminals = λ j k l. high j k l;
@@ -102,6 +99,9 @@ module _ (table : Numbered) (is : IsNumberTable table) (empties sets : List (Lis
   pub start_sound : AreSoundSets table sets
   start_sound A x h =
       let below = (is_numbering table.terminals.now is.terminals (table_names table) is.names).name_below h.symbol A h.symbol_is in
-      let w : false ≡ true = sym (ap (λ z. has z h.number) (low h.symbol (omega (arith, below,
-          long_map (λ b. b.now) table.names.items)))) ∙ h.held in
+      let w : false ≡ true = sym (ap (λ z. has z h.number) (low h.symbol (omega (
+        arith,
+        below,
+        long_map (λ b. b.now) table.names.items,
+      )))) ∙ h.held in
       let v : ⊥ = cc in absurd v

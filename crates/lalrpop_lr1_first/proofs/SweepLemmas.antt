@@ -1,15 +1,15 @@
 -- One rule more in a sweep over the rules of a grammar: for the sets of first tokens by number.
-use Rattle.std.proofs.Common.{◌≡◌, ◌∙◌, ℕ, suc, ◌+◌, ◌<◌, ◌≤◌, Bool, true, false, not, ◌||◌, ◌&&◌}
+use Rattle.std.proofs.Common.{◌≡◌, ◌∙◌, ℕ, ◌+◌, ◌<◌, ◌≤◌, Bool, true, false, not, ◌||◌, ◌&&◌}
 use Rattle.std.proofs.Common.{eqb, List, [], ◌∷◌, length, set}
-use Rattle.std.proofs.Common.{refl, sym, ap, subst, arith, ◌⊎◌, inl, inr, ⊎_elim, slice_get, Option, Some, None}
+use Rattle.std.proofs.Common.{refl, sym, ap, subst, arith, ◌⊎◌, inl, inr, ⊎_elim, slice_get, Option, Some}
 use Rattle.std.proofs.lemmas.Bool.{cases_lt}
-use Rattle.lalrpop_grammar_symbols.specs.Symbols.{Text, Terminal}
-use Rattle.lalrpop_lr1_theory.specs.Productions.{Symbol, terminal, nonterminal, Production, Next}
+use Rattle.lalrpop_grammar_symbols.specs.Symbols.{Text}
+use Rattle.lalrpop_lr1_theory.specs.Productions.{Symbol, nonterminal, Production, Next}
 use Rattle.lalrpop_lr1_theory.specs.FirstSets.{First0, TableSays}
 use Rattle.lalrpop_lr1_theory.proofs.FirstTableLemmas.{first_left, first_said}
 use Rattle.lalrpop_sets.specs.Bits.{has}
 use Rattle.lalrpop_lr1_first.specs.Numbers.{AreRulesOf, IsNumbering, IsRuleOf, RuleByNumbers, says, set_of_number}
-use Rattle.lalrpop_lr1_first.specs.FirstSteps.{AreClosedTo, AreSound, AreWithin, HasNext, HaveTerminals, SweepsTo, missing_in}
+use Rattle.lalrpop_lr1_first.specs.FirstSteps.{AreSound, AreWithin, HasNext, HaveTerminals, SweepsTo, missing_in}
 use Rattle.lalrpop_lr1_first.proofs.FirstNumberLemmas.{says_table}
 use Rattle.lalrpop_lr1_first.proofs.ListLemmas.{and_both, at_set_other, at_set_same, cases_eq, eqb_true, or_cases, or_left, or_right}
 use Rattle.lalrpop_lr1_first.proofs.ListLemmas.{set_itself, set_long, some_is}
@@ -21,7 +21,7 @@ pub says_within : (end : ℕ) (sets : List (List ℕ)) → AreWithin end sets �
 says_within end sets w [] k e = let z = eqb_true k end e in omega arith
 says_within end sets w (s ∷ xs) k e =
     go (or_cases (not (eqb k end) && has (set_of_number sets s) k) (has (set_of_number sets s) end && says sets end xs k) e)
-        (says_within end sets w xs k)
+    (says_within end sets w xs k)
   where
     go : ((not (eqb k end) && has (set_of_number sets s) k) ≡ true)
         ⊎ ((has (set_of_number sets s) end && says sets end xs k) ≡ true) →
@@ -96,7 +96,7 @@ module _ (G : Production → Type 0) (symbol_at : ℕ → Option Symbol) (next_a
             (subst (λ (y : Next). TableSays (HasNext symbol_at next_at end new) a.0.right y) h.next_is
             (says_table symbol_at next_at end names numbered new t rule.right a.0.right a.2.right h.number h.small z)))))
             (from_where h.number (ap (λ z. has z h.number) (sym (at_set_same new rule.left s l)
-                ∙ ap (set_of_number (set new rule.left s)) e) ∙ h.held))
+            ∙ ap (set_of_number (set new rule.left s)) e) ∙ h.held))
         go (inr e) = old h.symbol h.symbol_is (ap (λ z. has z h.number) (sym (at_set_other new rule.left h.symbol s e)) ∙ h.held)
 
     -- a rule that adds something
@@ -143,4 +143,4 @@ module _ (G : Production → Type 0) (symbol_at : ℕ → Option Symbol) (next_a
             some_is rule other (sym here ∙ ap (slice_get rules) (let w : i ≡ r = omega arith in w) ∙ there) in
             subst (λ (o : RuleByNumbers). says new end o.right k ≡ true → has (set_of_number new o.left) k ≡ true) t
             (λ w. ap (λ t. has t k) (sym e) ∙ joined k ∙ or_right (has (set_of_number new rule.left) k) (has f k) (is_first k
-                ∙ w)) said
+            ∙ w)) said

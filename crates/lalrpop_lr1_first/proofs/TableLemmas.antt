@@ -1,14 +1,13 @@
 -- A table of numbers in the theory: symbols, tokens and items by their numbers. For first sets and closures.
-use Rattle.std.proofs.Common.{append_assoc, ◌≡◌, ◌∙◌, ℕ, zero, suc, ◌+◌, ◌-◌, ◌<◌, ◌≤◌, List, []}
+use Rattle.std.proofs.Common.{◌≡◌, ◌∙◌, ℕ, zero, suc, ◌+◌, ◌-◌, ◌<◌, ◌≤◌, List, []}
 use Rattle.std.proofs.Common.{◌∷◌, ◌++◌, length, map, drop, refl, ap, sym, subst, arith}
-use Rattle.std.proofs.Common.{Some, None, Option, Contains, slice_get, ◌⊎◌, inl, inr, ⊎_elim}
+use Rattle.std.proofs.Common.{Some, None, Option, Contains, slice_get}
 use Rattle.std.specs.List.{AllByRecursion}
 use Rattle.std.specs.List.Sorted.{IsStrictlySortedBy}
 use Rattle.std.specs.Ordering.{ordering_reverse}
 use Rattle.std.specs.Prelude.{option_map}
 use Rattle.std.specs.declared.cmp.Ordering.{Ordering}
 use Rattle.std.specs.declared.cmp.Ordering.TheVariants.{Equal, Greater, Less}
-use Rattle.std.proofs.lemmas.Bool.{cases_lt}
 use Rattle.std.proofs.lemmas.Option.{slice_get_within}
 use Rattle.lalrpop_grammar_symbols.specs.Symbols.{Text, Terminal}
 use Rattle.lalrpop_grammar_symbols.specs.Views.{terminal_view}
@@ -28,7 +27,7 @@ use Rattle.lalrpop_lr1_first.specs.FirstNumbers.{AreSymbolsBelow, name_count, ru
 use Rattle.lalrpop_lr1_first.specs.ItemTables.{IsItemTable, StartsItem}
 use Rattle.lalrpop_lr1_first.specs.NumberedGrammars.{HasItemAt, IsSeenIn, IsNumberTable, table_names, table_productions}
 use Rattle.lalrpop_lr1_first.specs.Numbers.{AreRulesOf, IsNumbering, IsRuleOf, RuleByNumbers, SpellsSymbols}
-use Rattle.lalrpop_lr1_first.specs.Tables.{AreLaid, IsLaidAt, IsTerminalSet, end_until, laid_side, rest_of, symbol_of_number, symbol_or}
+use Rattle.lalrpop_lr1_first.specs.Tables.{IsLaidAt, IsTerminalSet, end_until, laid_side, rest_of, symbol_of_number, symbol_or}
 use Rattle.lalrpop_lr1_first.specs.Tables.{symbols_until}
 use Rattle.lalrpop_lr1_first.specs.declared.numbered.Numbered.{Numbered}
 use Rattle.lalrpop_lr1_first.specs.declared.place.NumberedRule.{NumberedRule}
@@ -219,7 +218,7 @@ module _ (table : Numbered) (is : IsNumberTable table) where
       let rule : h.rule ≡ l.rule = some_is h.rule l.rule (sym h.at_rule ∙ l.at) in
       let long : length l.numbers ≡ length h.production.symbols =
       spells_long at l.numbers (map production_symbol_view h.production.symbols) l.spelled
-          ∙ long_map production_symbol_view h.production.symbols in
+      ∙ long_map production_symbol_view h.production.symbols in
       ap (λ k. drop k table.places.items) h.place_is ∙ drop_both h.rule.start d table.places.items
       ∙ ap (λ (x : NumberedRule). drop d (drop x.start table.places.items)) rule ∙ ap (drop d) l.laid
       ∙ drop_side d l.numbers h.number l.more (omega (arith, long, h.within))
@@ -228,7 +227,7 @@ module _ (table : Numbered) (is : IsNumberTable table) where
   spelled_at i p d h =
       let l = laid_of i p d h in
       subst (λ xs. SpellsSymbols at xs (drop d p.right)) (sym (ap symbols_until (drop_of i p d h)
-          ∙ symbols_side (drop d l.numbers) h.number l.more))
+      ∙ symbols_side (drop d l.numbers) h.number l.more))
       (subst (λ (q : theory.Production). SpellsSymbols at (drop d l.numbers) (drop d q.right)) (sym h.seen)
       (spells_drop at d l.numbers (map production_symbol_view h.production.symbols) l.spelled))
 
@@ -272,7 +271,7 @@ module _ (table : Numbered) (is : IsNumberTable table) where
   is_item_table = record {
     of_grammar = λ i p d h. subst (Contains (map production_view (table_productions table))) (sym h.seen)
         (map_has production_view (table_productions table) h.production (get_contains (table_productions table) h.number h.production
-            h.at_production));
+        h.at_production));
     spelled = spelled_at;
     one = one_item;
     next = λ i s more e. until_next table.places.items i s more e;
@@ -283,9 +282,11 @@ module _ (table : Numbered) (is : IsNumberTable table) where
     all = λ p g.
         let m = in_map production_view (table_productions table) p g in
         let k = contains_get (table_productions table) m.0 m.1 in
-        let l = is.laid.at k.0 m.0 k.1 in
-        (l.rule, subst (λ (q : theory.Production). StartsItem at (HasItemAt table) table.rules.items l.rule q) m.2
-            (start_item k.0 l.rule m.0 l.at k.1));
+        let l = is.laid.at k.0 m.0 k.1 in (
+          l.rule,
+          subst (λ (q : theory.Production). StartsItem at (HasItemAt table) table.rules.items l.rule q) m.2
+              (start_item k.0 l.rule m.0 l.at k.1),
+        );
   }
 
   -- each number that is laid is a symbol's
@@ -330,8 +331,10 @@ module _ (table : Numbered) (is : IsNumberTable table) where
         let s = is_item_table.rule m.0 (get_contains table.rules.items r m.0 m.1) in (
           s.0,
           is_item_table.of_grammar m.0.start s.0 0 s.1.item,
-          subst (λ (x : RuleByNumbers). IsRuleOf at x s.0) m.2 (record { left = s.1.left;
-              right = is_item_table.spelled m.0.start s.0 0 s.1.item }),
+          subst (λ (x : RuleByNumbers). IsRuleOf at x s.0) m.2 (record {
+            left = s.1.left;
+            right = is_item_table.spelled m.0.start s.0 0 s.1.item;
+          }),
         );
     all = λ p g.
         let s = is_item_table.all p g in

@@ -1,6 +1,6 @@
 -- What closures of a grammar's items need: its table, the first set at each place, and the edges between nonterminals.
 use Rattle.std.specs.Prelude.{◌≡◌, ◌↔◌, ◌⊎◌, ◌+◌, ◌≤◌, ℕ, Bool, true, length, List, [], ◌∷◌, ◌++◌}
-use Rattle.std.specs.Prelude.{Option, Some, None, Contains, if◌then◌else◌, nat_lt, option_map, filter_map, flat_map, slice_index_or}
+use Rattle.std.specs.Prelude.{Option, Some, None, if◌then◌else◌, nat_lt, option_map, filter_map, flat_map, slice_index_or}
 use Rattle.lalrpop_grammar_repr.specs.declared.grammar.Grammar.{Grammar}
 use Rattle.lalrpop_lr1_theory.specs.Productions as theory
 use Rattle.lalrpop_lr1_theory.specs.Automata.{Marked}
@@ -10,7 +10,7 @@ use Rattle.lalrpop_lr1_first.specs.FirstNumbers.{AreSymbolFirsts, ArePlaceFirsts
 use Rattle.lalrpop_lr1_first.specs.Flows.{MarksAreWithin, all_marks}
 use Rattle.lalrpop_lr1_first.specs.ItemTables.{AreSeeded, HasMark, HasPlace, ListsItem, ListsNext, SeedBrings}
 use Rattle.lalrpop_lr1_first.specs.Listings.{HoldSame, productions_of_grammar}
-use Rattle.lalrpop_lr1_first.specs.NumberedGrammars.{HasItemAt, IsSeenIn, IsNumberTable, IsNumberTableOf, table_productions}
+use Rattle.lalrpop_lr1_first.specs.NumberedGrammars.{HasItemAt, IsSeenIn, IsNumberTable, table_productions}
 use Rattle.lalrpop_lr1_first.specs.Numbers.{set_of_number}
 use Rattle.lalrpop_lr1_first.specs.Tables.{rest_of}
 use Rattle.lalrpop_lr1_first.specs.declared.closure.Closures.{Closures}
@@ -73,7 +73,7 @@ pub record SeedsOne {L : Type 0} (marks : L → List ℕ) (firsts : Bool) (table
   pub brought : (s k : ℕ) → (has (set_of_number (all_marks marks (table_end table + 2) new) s) k ≡ true)
       ↔ ((has (set_of_number (all_marks marks (table_end table + 2) old) s) k ≡ true)
       ⊎ SeedBrings marks firsts (table_end table) (name_count table) (rest_of table.places.items) (set_of_number rests)
-          (item ∷ []) s k)
+      (item ∷ []) s k)
 
 -- the slots have what the items bring
 pub record SeedsAll {L : Type 0} (marks : L → List ℕ) (firsts : Bool) (table : Numbered) (rests : List (List ℕ)) (items : List (ℕ

@@ -34,7 +34,7 @@ AreSound G symbol_at next_at end sets = HoldsFirstSets G (HasNext symbol_at next
 abbrev pub AreClosedTo : ℕ → List RuleByNumbers → ℕ → List (List ℕ) → Type 0
 AreClosedTo end rules count sets =
     (r : ℕ) (rule : RuleByNumbers) (k : ℕ) → r < count → slice_get rules r ≡ Some rule →
-        says sets end rule.right k ≡ true →
+    says sets end rule.right k ≡ true →
     has (set_of_number sets rule.left) k ≡ true
 
 -- how many of the numbers below n the list lacks

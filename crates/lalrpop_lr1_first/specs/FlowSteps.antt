@@ -1,5 +1,5 @@
 -- How far marks have flowed: for the sweeps over edges.
-use Rattle.std.specs.Prelude.{ℕ, ◌+◌, ◌<◌, Bool, true, false, ◌||◌, ◌&&◌, not, List, nat_eq, ◌≡◌, Some, slice_get}
+use Rattle.std.specs.Prelude.{ℕ, ◌+◌, ◌<◌, Bool, true, false, ◌||◌, ◌&&◌, List, nat_eq, ◌≡◌, Some, slice_get}
 use Rattle.lalrpop_sets.specs.Bits.{has}
 use Rattle.lalrpop_lr1_first.specs.Numbers.{set_of_number}
 use Rattle.lalrpop_lr1_first.specs.FirstSteps.{missing_in}

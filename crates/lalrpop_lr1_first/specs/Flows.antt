@@ -1,6 +1,6 @@
 -- What flows along edges between slots: that something is there, and what may follow it. For closures of items.
-use Rattle.std.specs.Prelude.{ℕ, suc, ◌+◌, ◌<◌, ◌≤◌, Bool, true, false, ◌||◌, ◌&&◌, not, List, [], ◌∷◌}
-use Rattle.std.specs.Prelude.{length, map, nat_eq, ◌≡◌}
+use Rattle.std.specs.Prelude.{ℕ, ◌+◌, ◌<◌, ◌≤◌, Bool, true, ◌||◌, ◌&&◌, not, List, [], ◌∷◌}
+use Rattle.std.specs.Prelude.{map, nat_eq, ◌≡◌}
 use Rattle.std.specs.Prelude.{Option, Some, None, slice_get, slice_index_or}
 use Rattle.lalrpop_sets.specs.Bits.{has}
 use Rattle.lalrpop_lr1_first.specs.Numbers.{set_of_number}

@@ -1,6 +1,6 @@
 -- Items by their places, edges between nonterminals, and what a closure by numbers has: for the closure of items.
-use Rattle.std.specs.Prelude.{ℕ, ◌+◌, ◌<◌, ◌≤◌, Bool, true, List, [], ◌∷◌, drop, ◌≡◌, ◌↔◌, ◌⊎◌}
-use Rattle.std.specs.Prelude.{Option, Some, None, slice_get, Contains}
+use Rattle.std.specs.Prelude.{ℕ, ◌+◌, ◌<◌, ◌≤◌, Bool, true, List, ◌∷◌, drop, ◌≡◌, ◌↔◌, ◌⊎◌}
+use Rattle.std.specs.Prelude.{Option, Some, slice_get, Contains}
 use Rattle.lalrpop_lr1_theory.specs.Productions.{Symbol, nonterminal, Production, Next}
 use Rattle.lalrpop_lr1_theory.specs.FirstSets.{First0}
 use Rattle.lalrpop_sets.specs.Bits.{has}

@@ -1,5 +1,5 @@
 -- Symbols of grammars by numbers, and what a table with a set of numbers for each symbol says of symbols.
-use Rattle.std.specs.Prelude.{ℕ, ◌+◌, ◌<◌, ◌≤◌, Bool, true, ◌||◌, ◌&&◌, not, List, [], ◌∷◌, nat_eq}
+use Rattle.std.specs.Prelude.{ℕ, ◌+◌, ◌<◌, ◌≤◌, Bool, ◌||◌, ◌&&◌, not, List, [], ◌∷◌, nat_eq}
 use Rattle.std.specs.Prelude.{◌≡◌, Option, Some, None}
 use Rattle.std.specs.Prelude.{⊤, slice_get, slice_index_or}
 use Rattle.lalrpop_grammar_symbols.specs.Symbols.{Text, Terminal}

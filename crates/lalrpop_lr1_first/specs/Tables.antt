@@ -1,23 +1,17 @@
 -- The table of numbers of a grammar: its names and productions in order, and its right sides laid one behind the other.
-use Rattle.std.specs.Prelude.{ℕ, suc, ◌+◌, ◌-◌, ◌≤◌, List, [], ◌∷◌, ◌++◌, length, map, drop, flat_map}
-use Rattle.std.specs.Prelude.{◌≡◌, Option, Some, None, slice_get, All, Contains}
-use Rattle.std.specs.Borrow.{Bor}
-use Rattle.std.specs.List.Sorted.{IsStrictlySortedBy}
-use Rattle.lalrpop_grammar_symbols.specs.Symbols.{Text, Terminal}
+use Rattle.std.specs.Prelude.{ℕ, suc, ◌-◌, List, [], ◌∷◌, ◌++◌, length, map, drop}
+use Rattle.std.specs.Prelude.{◌≡◌, Option, Some, None, slice_get, Contains}
 use Rattle.lalrpop_grammar_symbols.specs.Views.{terminal_view}
-use Rattle.lalrpop_grammar_symbols.specs.contracts.names.NonterminalStringOrd.TheImpl as names_order
 use Rattle.lalrpop_grammar_symbols.specs.declared.names.NonterminalString.{NonterminalString}
 use Rattle.lalrpop_grammar_symbols.specs.declared.terminal.TerminalString.{TerminalString}
 use Rattle.lalrpop_grammar_repr.specs.Maps.{at_terminal}
-use Rattle.lalrpop_grammar_repr.specs.contracts.production.ProductionOrd.TheImpl as production_order
 use Rattle.lalrpop_grammar_repr.specs.declared.production.Production.{Production}
 use Rattle.lalrpop_grammar_repr.specs.declared.production.Symbol.{Symbol}
 use Rattle.lalrpop_grammar_repr.specs.declared.production.Symbol.TheVariants as symbols
 use Rattle.lalrpop_grammar_repr.specs.declared.terminal_set.TerminalSet.{TerminalSet}
 use Rattle.lalrpop_lr1_theory.specs.Productions as theory
 use Rattle.lalrpop_lr1_items.specs.Numbering.{IsNumberedByPlaces, NumbersArePlaces}
-use Rattle.lalrpop_lr1_items.specs.Views.{production_symbol_view, production_view}
-use Rattle.lalrpop_lr1_first.specs.Listings.{lent, names_in_production}
+use Rattle.lalrpop_lr1_items.specs.Views.{production_symbol_view}
 use Rattle.lalrpop_lr1_first.specs.Numbers.{SpellsSymbols}
 use Rattle.lalrpop_lr1_first.specs.declared.place.NumberedRule.{NumberedRule}
 use Rattle.lalrpop_lr1_first.specs.declared.place.Place.{Place}

@@ -1,4 +1,4 @@
-use Rattle.std.proofs.Common.{append-nil, ◌≡◌, ◌∙◌, ◌∷◌, [], ◌++◌, None, Some, ap, get_or, refl, rules, sym, take}
+use Rattle.std.proofs.Common.{append-nil, ◌≡◌, ◌∙◌, ◌∷◌, [], ◌++◌, ap, get_or, rules, sym, take}
 use Rattle.std.specs.List.{cons_option}
 use Rattle.std.specs.Prelude.{filter_map}
 use Rattle.lalrpop_lr1_first.specs.ClosureTables.{edge_of_rule}
@@ -19,10 +19,10 @@ loop-rule-preserved c =
     elim c.match-rule_edge.branch [
       | in-None w ↦ rw w.edges-is (c.loop-rule.invariant ∙ sym (append-nil front)
           ∙ ap (λ o. front ++ cons_option o []) (sym (sym c.rule_edge.ensures ∙ w.in-None.is))
-              ∙ sym (edges_more (edge_of_rule t) t.rules.items i rule there))
+          ∙ sym (edges_more (edge_of_rule t) t.rules.items i rule there))
       | in-Some+in_ok-push-in-Some w ↦
           let pushed : w.push.new.self.items ≡ c.loop-rule.edges.items ++ w.in-Some.edge ∷ [] = search rules in
           rw w.edges-is (pushed ∙ ap (λ l. l ++ w.in-Some.edge ∷ []) c.loop-rule.invariant
           ∙ ap (λ o. front ++ cons_option o []) (sym (sym c.rule_edge.ensures ∙ w.in-Some.is))
-              ∙ sym (edges_more (edge_of_rule t) t.rules.items i rule there))
+          ∙ sym (edges_more (edge_of_rule t) t.rules.items i rule there))
     ]

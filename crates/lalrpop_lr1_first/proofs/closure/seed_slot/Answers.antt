@@ -1,4 +1,4 @@
-use Rattle.std.proofs.Common.{◌≡◌, ◌∙◌, ◌+◌, ◌<◌, ℕ, ap, arith, length, sym, true}
+use Rattle.std.proofs.Common.{◌≡◌, ◌∙◌, ◌+◌, ℕ, ap, arith, sym}
 use Rattle.lalrpop_sets.specs.Bits.{has}
 use Rattle.lalrpop_lr1_first.specs.FirstNumbers.{name_count, table_end}
 use Rattle.lalrpop_lr1_first.specs.Flows.{comes}
@@ -24,7 +24,7 @@ returns-in_ok-join-in-Some-clause-seeded g c =
     let read = at_read_set rests (place + 1) c.index-first.result.now
     (omega (arith, within, c.requires.closures.firsts_are.place_firsts.count)) c.index-first.ensures in
     let flow : (k : ℕ) → has (marks c.in_ok-came-in-Some.came) k ≡ comes counts (table_end t) (set_of_number rests (place + 1))
-        (marks l) k =
+    (marks l) k =
     λ k. c.in_ok-came-in-Some.ensures k ∙ ap (λ f. comes counts (table_end t) f (marks l) k) read in
     seeds_name marks counts t rests place l c.args.slots.now.items c.requires.count c.requires.marks c.in-Some.name is
     c.in_ok-came-in-Some.came flow

@@ -1,4 +1,4 @@
-use Rattle.std.proofs.Common.{◌≡◌, ◌∙◌, ◌∷◌, [], ◌++◌, ◌+◌, subst, sym, take}
+use Rattle.std.proofs.Common.{subst, sym, take}
 use Rattle.lalrpop_lr1_first.specs.ClosureTables.{SeedsAll}
 use Rattle.lalrpop_lr1_first.proofs.AddLemmas.{taken_more}
 use Rattle.lalrpop_lr1_first.proofs.SeedLemmas.{seeds_more, seeds_none}

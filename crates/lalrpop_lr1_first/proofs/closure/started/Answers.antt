@@ -1,4 +1,4 @@
-use Rattle.std.proofs.Common.{append-nil, ◌≡◌, ◌∙◌, ◌∷◌, [], ◌++◌, ◌<◌, None, ap, get_or, length, refl, rules}
+use Rattle.std.proofs.Common.{append-nil, ◌≡◌, ◌∙◌, ◌∷◌, [], ◌++◌, ◌<◌, ap, get_or, length, refl, rules}
 use Rattle.std.proofs.Common.{sym, take}
 use Rattle.lalrpop_lr1_first.specs.ClosureTables.{started_items, started_with}
 use Rattle.lalrpop_lr1_first.specs.declared.place.NumberedRule.{NumberedRule}
@@ -21,12 +21,12 @@ loop-rule-preserved g c =
     elim c.match-slots-rule.branch [
       | in-None w ↦ rw w.items-is (c.loop-rule.invariant ∙ sym (append-nil front)
           ∙ ap (λ o. front ++ started_with rule.start o) (sym (read ∙ w.in-None.is))
-              ∙ sym (started_more slots rules_are i rule there))
+          ∙ sym (started_more slots rules_are i rule there))
       | in-Some+in_ok-try_clone-in-Some+in_ok-push-in-Some w ↦
           let pushed : w.push.new.self.items ≡ c.loop-rule.items.items ++ (rule.start, w.in_ok-try_clone-in-Some.field-0) ∷ [] =
-              search rules in
+          search rules in
           rw w.items-is (pushed ∙ ap (λ l. c.loop-rule.items.items ++ (rule.start, l) ∷ []) w.in_ok-try_clone-in-Some.ensures
           ∙ ap (λ l. l ++ (rule.start, w.in-Some.lookahead) ∷ []) c.loop-rule.invariant
           ∙ ap (λ o. front ++ started_with rule.start o) (sym (read ∙ w.in-Some.is))
-              ∙ sym (started_more slots rules_are i rule there))
+          ∙ sym (started_more slots rules_are i rule there))
     ]

@@ -1,12 +1,12 @@
-use Rattle.std.proofs.Common.{◌≡◌, ◌∙◌, ◌+◌, ℕ, ◌<◌, ◌||◌, arith, ap, drop, get_or, length, rules, slice_get}
-use Rattle.std.proofs.Common.{sym, true, false}
+use Rattle.std.proofs.Common.{◌∙◌, ◌+◌, ◌<◌, ◌||◌, ap, drop, length}
+use Rattle.std.proofs.Common.{sym}
 use Rattle.lalrpop_sets.specs.Bits.{has}
 use Rattle.lalrpop_sets.specs.Tokens.{eof_number}
 use Rattle.lalrpop_lr1_first.specs.Numbers.{set_of_number}
 use Rattle.lalrpop_lr1_first.specs.Tables.{symbols_until}
 use Rattle.lalrpop_lr1_first.proofs.ListLemmas.{at_read_set, read_default}
-use Rattle.lalrpop_lr1_first.proofs.PlaceLemmas.{below_at, drop_past, until_end, until_symbol}
-use Rattle.lalrpop_lr1_first.proofs.WalkLemmas.{gathered_all, gathered_more, gathered_stop}
+use Rattle.lalrpop_lr1_first.proofs.PlaceLemmas.{below_at, until_symbol}
+use Rattle.lalrpop_lr1_first.proofs.WalkLemmas.{gathered_more, gathered_stop}
 use Rattle.lalrpop_lr1_first.proofs.first_of.first_of_rest.Goals as goal
 
 pub returns-then-not-take_eof : goal.returns-then-not-take_eof

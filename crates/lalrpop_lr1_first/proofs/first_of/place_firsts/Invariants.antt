@@ -9,4 +9,4 @@ abbrev pub invariant-loop-place : goal.invariant-loop-place
 invariant-loop-place l =
     (length l.rests.items ≡ l.place)
     × ((i : ℕ) → i < l.place → (k : ℕ) → has (set_of_number l.rests.items i) k ≡ says l.sets (table_end l.table)
-        (rest_of l.table.places.items i) k)
+    (rest_of l.table.places.items i) k)

@@ -1,5 +1,5 @@
-use Rattle.std.proofs.Common.{◌≡◌, ◌∙◌, ◌+◌, ℕ, ◌<◌, ◌≤◌, ◌||◌, arith, ap, drop, get_or, length}
-use Rattle.std.proofs.Common.{slice_get, sym, subst, true, false, Some}
+use Rattle.std.proofs.Common.{◌≡◌, ◌∙◌, ℕ, ◌<◌, ◌||◌, arith, ap, drop, get_or, length}
+use Rattle.std.proofs.Common.{sym, subst}
 use Rattle.lalrpop_lr1_items.specs.Views.{next_of_number}
 use Rattle.lalrpop_sets.specs.Bits.{has}
 use Rattle.lalrpop_lr1_first.specs.FirstNumbers.{AreSymbolsBelow, name_count, rule_of, symbol_count, table_end, table_rules}
@@ -51,26 +51,30 @@ loop-rule-preserved c =
     c.loop-rule-test.true c.as_slice-rule-items.ensures.value in
     let here = get_mapped (rule_of t.places.items) t.rules.items i rule there in
     let new = c.loop-rule.sets.items in
-    let inside : rule.left < length new = omega (arith, left_below t c.requires.table i rule there, c.loop-rule.invariant.len,
-        c.requires.sets.count) in
+    let inside : rule.left < length new = omega (
+      arith,
+      left_below t c.requires.table i rule there,
+      c.loop-rule.invariant.len,
+      c.requires.sets.count,
+    ) in
     let read = at_read_set new rule.left c.index_mut.result.now inside c.index_mut.ensures.value in
     let is_first : (k : ℕ) → has c.in_ok-first.first k ≡ says new (table_end t) (rest_of t.places.items rule.start) k =
     λ k. c.in_ok-first.ensures k
     ∙ ap (λ s. says s (table_end t) (symbols_until c.places_from-rest.result.now) k) c.as_slice-in-loop-rule.ensures.value
     ∙ ap (λ xs. says new (table_end t) (symbols_until xs) k) (c.places_from-rest.ensures
-        ∙ ap (drop rule.start) c.as_slice.ensures.value) in
+    ∙ ap (drop rule.start) c.as_slice.ensures.value) in
     let joined : (k : ℕ) → has c.union_with.new.self k ≡ (has (set_of_number new rule.left) k || has c.in_ok-first.first k) =
     λ k. c.in_ok-union_with.ensures.joined k ∙ ap (λ s. has s k || has c.in_ok-first.first k) read in
     elim c.if-branch.branch [
       | then-branch w ↦ rw w.changed-is (sweep_grown (IsSeenIn (table_productions t)) (symbol_of_number (table_names t) t.terminals.now)
           (next_of_number t.terminals.now) (table_end t) (name_count t) (table_numbering t c.requires.table) (table_rules t)
           (rules_are t c.requires.table) new i (rule_of t.places.items rule) here c.in_ok-first.first c.union_with.new.self is_first
-              joined
+          joined
           c.args.sets.now.items c.loop-rule.changed c.loop-rule.invariant inside
           (let g = c.in_ok-union_with.ensures.grown w.if-branch.true in (g.0, g.1, ap (λ s. has s g.0) (sym read) ∙ g.2)))
       | else-branch w ↦ rw w.changed-is (sweep_same (IsSeenIn (table_productions t)) (symbol_of_number (table_names t) t.terminals.now)
           (next_of_number t.terminals.now) (table_end t) (name_count t) (table_numbering t c.requires.table) (table_rules t)
           (rules_are t c.requires.table) new i (rule_of t.places.items rule) here c.in_ok-first.first c.union_with.new.self is_first
-              joined
+          joined
           c.args.sets.now.items c.loop-rule.changed c.loop-rule.invariant (c.in_ok-union_with.ensures.same w.if-branch.false ∙ read))
     ]

@@ -1,5 +1,4 @@
-use Rattle.std.proofs.Common.{◌≡◌, ◌∙◌, ap, length, rules, subst, sym}
-use Rattle.lalrpop_lr1_first.specs.FirstNumbers.{AreSoundSets, AreTableSets}
+use Rattle.std.proofs.Common.{◌∙◌, rules}
 use Rattle.lalrpop_lr1_first.proofs.StartLemmas.{start_sets, start_sound}
 use Rattle.lalrpop_lr1_first.proofs.first_of.symbol_firsts.Goals as goal
 

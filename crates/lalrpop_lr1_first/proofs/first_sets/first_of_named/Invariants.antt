@@ -1,5 +1,4 @@
 use Rattle.std.proofs.Common.{drop}
-use Rattle.lalrpop_sets.specs.Bits.{Ascends}
 use Rattle.lalrpop_sets.specs.Tokens.{eof_number}
 use Rattle.lalrpop_lr1_first.specs.FirstSetsOf.{set_of_symbol}
 use Rattle.lalrpop_lr1_first.specs.FirstSteps.{IsGathered}

@@ -1,4 +1,4 @@
-use Rattle.std.proofs.Common.{◌≡◌, ◌+◌, ◌*◌, ℕ, length, cond}
+use Rattle.std.proofs.Common.{◌≡◌, ◌+◌, ◌*◌, length, cond}
 use Rattle.lalrpop_sets.specs.Tokens.{eof_number}
 use Rattle.lalrpop_lr1_first.specs.Flows.{MarksAreWithin, all_marks}
 use Rattle.lalrpop_lr1_first.specs.FlowEdges.{edges_seen}

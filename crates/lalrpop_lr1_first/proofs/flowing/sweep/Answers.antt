@@ -1,9 +1,8 @@
-use Rattle.std.proofs.Common.{◌≡◌, ◌∙◌, ◌+◌, ◌<◌, ◌||◌, ℕ, Some, ap, arith, eqb, get_or, length, refl, rules}
-use Rattle.std.proofs.Common.{slice_get, sym, true, false}
+use Rattle.std.proofs.Common.{◌≡◌, ◌∙◌, ◌+◌, ◌<◌, ℕ, ap, arith, get_or, length, refl, rules}
 use Rattle.lalrpop_sets.specs.Bits.{has}
 use Rattle.lalrpop_sets.specs.Tokens.{eof_number}
 use Rattle.lalrpop_lr1_first.specs.FlowEdges.{edge_seen, edges_seen}
-use Rattle.lalrpop_lr1_first.specs.Flows.{IsEdgeWithin, all_marks, comes, slot_marks}
+use Rattle.lalrpop_lr1_first.specs.Flows.{all_marks, comes}
 use Rattle.lalrpop_lr1_first.specs.Numbers.{set_of_number}
 use Rattle.lalrpop_lr1_first.specs.declared.flowing.Edge.{Edge}
 use Rattle.lalrpop_lr1_first.proofs.FlowLemmas.{at_none, flowed_start, marks_below, marks_step, small_came, step_grown, step_none}
@@ -89,11 +88,11 @@ loop-edge-preserved g c =
       | in-Some+in_ok-came-in-Some+in_ok-join-in-Some+then-branch w ↦
           let read = at_read_set firsts e.rest w.index-firsts-edge.result rest_in w.index-firsts-edge.is in
           let flow : (k : ℕ) → has (marks w.in_ok-came-in-Some.came) k ≡ comes counts end (set_of_number firsts e.rest)
-              (marks w.in-Some.lookahead) k =
+          (marks w.in-Some.lookahead) k =
           λ k. w.in_ok-came-in-Some.ensures k ∙ ap (λ f. comes counts end f (marks w.in-Some.lookahead) k) read in
           let bound = v.1 e.from w.in-Some.lookahead (at_none now e.from x from_in c.index.ensures ∙ w.in-Some.is) in
           let small = small_came marks counts end edges (length old) c.requires.edges i (edge_seen firsts e) here old now v.0
-              c.loop-edge.changed v.2 x c.index.ensures
+          c.loop-edge.changed v.2 x c.index.ensures
           w.in-Some.lookahead w.in-Some.is w.in_ok-came-in-Some.came flow w.index_mut.result.now w.join.new.slot w.index_mut.ensures.value
           w.in_ok-join-in-Some.ensures.joined bound in
           rw (w.slots-is, w.changed-is) (
@@ -104,17 +103,17 @@ loop-edge-preserved g c =
             step_grown marks counts end edges (length old) c.requires.edges i (edge_seen firsts e) here old now v.0 c.loop-edge.changed
                 v.2 x c.index.ensures
                 w.in-Some.lookahead w.in-Some.is w.in_ok-came-in-Some.came flow w.index_mut.result.now w.join.new.slot
-                    w.index_mut.ensures.value
+                w.index_mut.ensures.value
                 w.in_ok-join-in-Some.ensures.joined (w.in_ok-join-in-Some.ensures.grown w.if-branch.true (end + 2) small),
           )
       | in-Some+in_ok-came-in-Some+in_ok-join-in-Some+else-branch w ↦
           let read = at_read_set firsts e.rest w.index-firsts-edge.result rest_in w.index-firsts-edge.is in
           let flow : (k : ℕ) → has (marks w.in_ok-came-in-Some.came) k ≡ comes counts end (set_of_number firsts e.rest)
-              (marks w.in-Some.lookahead) k =
+          (marks w.in-Some.lookahead) k =
           λ k. w.in_ok-came-in-Some.ensures k ∙ ap (λ f. comes counts end f (marks w.in-Some.lookahead) k) read in
           let bound = v.1 e.from w.in-Some.lookahead (at_none now e.from x from_in c.index.ensures ∙ w.in-Some.is) in
           let small = small_came marks counts end edges (length old) c.requires.edges i (edge_seen firsts e) here old now v.0
-              c.loop-edge.changed v.2 x c.index.ensures
+          c.loop-edge.changed v.2 x c.index.ensures
           w.in-Some.lookahead w.in-Some.is w.in_ok-came-in-Some.came flow w.index_mut.result.now w.join.new.slot w.index_mut.ensures.value
           w.in_ok-join-in-Some.ensures.joined bound in
           rw (w.slots-is, w.changed-is) (
@@ -125,7 +124,7 @@ loop-edge-preserved g c =
             step_same marks counts end edges (length old) c.requires.edges i (edge_seen firsts e) here old now v.0 c.loop-edge.changed v.2
                 x c.index.ensures
                 w.in-Some.lookahead w.in-Some.is w.in_ok-came-in-Some.came flow w.index_mut.result.now w.join.new.slot
-                    w.index_mut.ensures.value
+                w.index_mut.ensures.value
                 w.in_ok-join-in-Some.ensures.joined (w.in_ok-join-in-Some.ensures.same w.if-branch.false),
           )
     ]

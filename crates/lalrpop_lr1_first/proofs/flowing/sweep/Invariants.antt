@@ -1,4 +1,4 @@
-use Rattle.std.proofs.Common.{◌≡◌, ◌+◌, length, false}
+use Rattle.std.proofs.Common.{◌≡◌, ◌+◌, length}
 use Rattle.lalrpop_sets.specs.Tokens.{eof_number}
 use Rattle.lalrpop_lr1_first.specs.Flows.{MarksAreWithin, all_marks}
 use Rattle.lalrpop_lr1_first.specs.FlowEdges.{edges_seen}

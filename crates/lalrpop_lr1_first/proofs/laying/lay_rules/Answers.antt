@@ -1,10 +1,9 @@
-use Rattle.std.proofs.Common.{◌≡◌, ◌∙◌, ◌++◌, ◌∷◌, [], ◌+◌, ap, rules, subst, sym, take}
-use Rattle.std.proofs.lemmas.List.{take_all}
+use Rattle.std.proofs.Common.{◌∙◌, ap, subst, sym, take}
 use Rattle.lalrpop_lr1_items.proofs.MemberLemmas.{map_has}
 use Rattle.lalrpop_lr1_first.specs.Listings.{lent}
 use Rattle.lalrpop_lr1_first.specs.Tables.{AreLaid}
 use Rattle.lalrpop_lr1_first.proofs.AddLemmas.{lent_more, taken_more}
-use Rattle.lalrpop_lr1_first.proofs.LayingLemmas.{laid_more, laid_none}
+use Rattle.lalrpop_lr1_first.proofs.LayingLemmas.{laid_more}
 use Rattle.lalrpop_lr1_first.proofs.laying.lay_rules.Goals as goal
 
 pub lay_rule-requires-clause-known : goal.lay_rule-requires-clause-known

@@ -1,8 +1,8 @@
-use Rattle.std.proofs.Common.{◌≡◌, ◌∙◌, ◌++◌, ◌∷◌, [], ◌+◌, ap, rules, subst, sym, take}
+use Rattle.std.proofs.Common.{rules, subst, sym, take}
 use Rattle.lalrpop_lr1_first.specs.Listings.{lent}
 use Rattle.lalrpop_lr1_first.specs.Tables.{LaysSymbols}
 use Rattle.lalrpop_lr1_first.proofs.AddLemmas.{taken_more}
-use Rattle.lalrpop_lr1_first.proofs.LayingLemmas.{lays_more, lays_none}
+use Rattle.lalrpop_lr1_first.proofs.LayingLemmas.{lays_more}
 use Rattle.lalrpop_lr1_first.proofs.laying.lay_symbols.Goals as goal
 
 pub loop-symbol-preserved : goal.loop-symbol-preserved

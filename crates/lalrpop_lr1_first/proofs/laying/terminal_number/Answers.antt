@@ -1,4 +1,4 @@
-use Rattle.std.proofs.Common.{◌≡◌, ◌∙◌, ◌<◌, ap, sym, arith, Some, length}
+use Rattle.std.proofs.Common.{◌∙◌, ◌<◌, ap, sym, arith, length}
 use Rattle.std.specs.Option.{option_copied}
 use Rattle.std.proofs.lemmas.Option.{slice_get_within}
 use Rattle.lalrpop_lr1_first.proofs.laying.terminal_number.Goals as goal

@@ -1,4 +1,4 @@
-use Rattle.std.proofs.Common.{◌∙◌, ◌+◌, ap, subst, sym, take}
+use Rattle.std.proofs.Common.{◌∙◌, ap, subst, sym, take}
 use Rattle.std.specs.Prelude.{flat_map}
 use Rattle.std.proofs.lemmas.List.{take_all}
 use Rattle.lalrpop_lr1_first.specs.Listings.{AddsTo, lent_in, names_in_symbol}

@@ -1,4 +1,4 @@
-use Rattle.std.proofs.Common.{◌∷◌, [], ◌+◌, subst, sym, take}
+use Rattle.std.proofs.Common.{◌∷◌, [], subst, sym, take}
 use Rattle.std.proofs.lemmas.List.{take_all}
 use Rattle.lalrpop_lr1_first.specs.Listings.{AddsTo, lent_in}
 use Rattle.lalrpop_lr1_first.proofs.AddLemmas.{adds_more, adds_none, taken_more}

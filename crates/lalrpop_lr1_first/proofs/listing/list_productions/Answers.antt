@@ -10,6 +10,6 @@ returns-clause-ordered c =
     let items = c.loop-production.listed.items in
     let none : c.loop-production.production-iterator ≡ [] = search rules in
     let same : items ≡ c.args.set.now.keys = sym (append-nil items) ∙ sym (ap (λ l. items ++ l) none)
-        ∙ c.loop-production.invariant in
+    ∙ c.loop-production.invariant in
     subst (λ ks. IsStrictlySortedBy (productions.ghosts).cmp (lent ks)) (sym same)
     (lent_sorted (productions.ghosts).cmp c.args.set.now.keys c.iter-production-items.ensures.ordered)

@@ -1,4 +1,4 @@
-use Rattle.std.proofs.Common.{◌≡◌, ◌∷◌, [], ◌++◌, ◌⊎◌, ◌↔◌, Contains, List, ap, refl, subst, rules, sym}
+use Rattle.std.proofs.Common.{◌≡◌, ◌∷◌, [], ◌++◌, ◌⊎◌, ◌↔◌, Contains, List, ap, subst, rules, sym}
 use Rattle.std.proofs.Common.{◌∙◌}
 use Rattle.std.specs.Prelude.{flat_map}
 use Rattle.lalrpop_grammar_symbols.specs.declared.names.NonterminalString.{NonterminalString}

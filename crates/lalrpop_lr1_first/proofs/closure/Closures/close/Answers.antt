@@ -1,13 +1,11 @@
-use Rattle.std.proofs.Common.{◌≡◌, ◌∙◌, ◌+◌, ◌↔◌, ◌<◌, ℕ, Some, ap, arith, length, slice_get, subst, sym}
+use Rattle.std.proofs.Common.{◌≡◌, ◌∙◌, ◌+◌, ◌↔◌, ℕ, ap, arith, length, slice_get, subst, sym}
 use Rattle.std.proofs.Common.{true}
 use Rattle.lalrpop_sets.specs.Bits.{has}
-use Rattle.lalrpop_sets.specs.Tokens.{eof_number}
 use Rattle.lalrpop_lr1_first.specs.ClosureTables.{started_items}
-use Rattle.lalrpop_lr1_first.specs.FirstNumbers.{name_count, table_end}
+use Rattle.lalrpop_lr1_first.specs.FirstNumbers.{table_end}
 use Rattle.lalrpop_lr1_first.specs.FlowEdges.{RestsAreWithin, edges_seen}
 use Rattle.lalrpop_lr1_first.specs.Flows.{EdgesAreWithin, Flows, all_marks}
 use Rattle.lalrpop_lr1_first.specs.Numbers.{set_of_number}
-use Rattle.lalrpop_lr1_first.specs.declared.place.NumberedRule.{NumberedRule}
 use Rattle.lalrpop_lr1_first.proofs.ClosingLemmas.{closes, edge_rests, edges_within}
 use Rattle.lalrpop_lr1_first.proofs.TableLemmas.{left_below}
 use Rattle.lalrpop_lr1_first.proofs.closure.Closures.close.Goals as goal

@@ -1,5 +1,4 @@
 use Rattle.std.proofs.Common.{◌≡◌, ◌∙◌, ap, rules}
-use Rattle.lalrpop_sets.specs.Bits.{has}
 use Rattle.lalrpop_sets.specs.Tokens.{eof_number}
 use Rattle.lalrpop_lr1_first.specs.FirstSetsOf.{set_of_symbol}
 use Rattle.lalrpop_lr1_first.specs.Numbers.{says_by}

@@ -1,4 +1,4 @@
-use Rattle.std.proofs.Common.{◌≡◌, ◌∙◌, ap, map, true}
+use Rattle.std.proofs.Common.{◌∙◌, ap, map, true}
 use Rattle.lalrpop_sets.specs.Tokens.{eof_number}
 use Rattle.lalrpop_lr1_items.specs.Views.{production_symbol_view}
 use Rattle.lalrpop_lr1_first.specs.Flows.{comes}

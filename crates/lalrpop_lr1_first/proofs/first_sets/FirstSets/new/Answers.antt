@@ -1,4 +1,4 @@
-use Rattle.std.proofs.Common.{◌≡◌, ◌∙◌, ap}
+use Rattle.std.proofs.Common.{◌∙◌, ap}
 use Rattle.lalrpop_lr1_first.specs.FirstSetsOf.{named_from}
 use Rattle.lalrpop_lr1_first.specs.Listings.{lent}
 use Rattle.lalrpop_lr1_first.proofs.TableFirstLemmas.{named_firsts}

@@ -1,4 +1,4 @@
-use Rattle.std.proofs.Common.{◌≡◌, ◌∙◌, ℕ, ◌+◌, ap, subst, sym, arith, Some, None, slice_get}
+use Rattle.std.proofs.Common.{◌≡◌, ◌∙◌, ap, sym, arith, Some, None, slice_get}
 use Rattle.std.specs.Option.{option_copied}
 use Rattle.lalrpop_grammar_repr.specs.Maps.{at_name}
 use Rattle.lalrpop_lr1_first.specs.Listings.{lent}

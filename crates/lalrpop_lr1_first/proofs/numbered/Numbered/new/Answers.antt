@@ -1,7 +1,5 @@
-use Rattle.std.proofs.Common.{◌≡◌, ◌∙◌, List, ap, refl, rules, subst, sym, Contains}
+use Rattle.std.proofs.Common.{◌≡◌, refl, rules, subst, sym, Contains}
 use Rattle.std.specs.Prelude.{flat_map}
-use Rattle.std.specs.Borrow.{Bor}
-use Rattle.lalrpop_grammar_symbols.specs.declared.names.NonterminalString.{NonterminalString}
 use Rattle.lalrpop_grammar_repr.specs.declared.production.Production.{Production}
 use Rattle.lalrpop_lr1_first.specs.Listings.{HoldSame, lent, lent_in, names_in_production, productions_of_grammar}
 use Rattle.lalrpop_lr1_first.specs.Tables.{AreLaid, IsKnownProduction}
@@ -23,7 +21,7 @@ lay_rules-requires-clause-known c =
     subst (λ qs. (p : Production) → Contains (lent qs) p →
     IsKnownProduction (lent c.in_ok-names.names.listed.items) g.terminals p) (sym at_laying)
     (known_production (lent c.in_ok-names.names.listed.items) g.terminals (lent ps) (productions_of_grammar g) listed same
-        c.requires.known)
+    c.requires.known)
 
 pub returns : goal.returns
 returns c =
