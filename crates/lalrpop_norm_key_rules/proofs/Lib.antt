@@ -1,0 +1,16 @@
+pub mod NamingLemmas
+pub mod InstanceListLemmas
+pub mod ArgumentLemmas
+pub mod DeclarationLemmas
+pub mod RuleListLemmas
+pub mod UsableLemmas
+pub mod WrittenLemmas
+pub mod UsableKeyLemmas
+pub mod AlikeLemmas
+pub mod ConversionLemmas
+pub mod FinishedLemmas
+pub mod FinishedGrammarLemmas
+pub mod AddedLemmas
+pub mod CallRuleLemmas
+pub mod CountLemmas
+pub mod ExamplesOfFinishedRules

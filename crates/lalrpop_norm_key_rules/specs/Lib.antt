@@ -1,0 +1,13 @@
+pub mod KeyedSymbols
+pub mod InstanceRules
+pub mod AddedRules
+pub mod FinishedRules
+pub mod RuleItems
+pub mod UsableSymbols
+pub mod KeyNaming
+pub mod WrittenRules
+pub mod KeyInstances
+pub mod KeyDeclarations
+pub mod RulesUnder
+pub mod WrittenKeys
+pub mod KeyRuleLaws

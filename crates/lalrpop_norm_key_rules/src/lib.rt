@@ -1,0 +1,18 @@
+//! The rules of keys: once macros are expanded, each call, repeat, group and lookaround has a rule of its own, under its name.
+#![tactic(auto)]
+
+mod added;
+mod alternatives;
+mod arguments;
+mod grammar;
+mod keys;
+mod laws;
+mod names;
+mod rules;
+mod symbols;
+mod types;
+mod written_rules;
+
+pub use grammar::with_rules;
+pub use keys::key_rules;
+pub use laws::key_rules_expand;
