@@ -38,7 +38,8 @@ module _ (features : List Text) (n : Text) where
       (filter (λ q. is_active features q.attributes) rs)))) (active r (inl refl)).rule
       ∙ go (bytes_eq r.name n) e (λ k. no_rule rs (λ q i. active q (inr i)) k)
     where
-      go : (b : Bool) → cond b (rule_between r ∷ filter (has_name n) (map rule_between rs)) (filter (has_name n) (map rule_between rs)) ≡ []
+      go : (b : Bool) → cond b (rule_between r ∷ filter (has_name n) (map rule_between rs))
+          (filter (has_name n) (map rule_between rs)) ≡ []
           → (filter (has_name n) (map rule_between rs) ≡ [] → filter (has_name n) (Enabled rs) ≡ [])
           → cond b (enabled_rule features r ∷ filter (has_name n) (Enabled rs)) (filter (has_name n) (Enabled rs)) ≡ []
       go true k later = cc
@@ -164,7 +165,8 @@ module _ (finds : Text → Text → Option Bool) (features : List Text) (w : Gra
   abbrev with_levels : EnabledGrammar → (ℕ → Option ℕ) → Scope
   with_levels h level = record { grammar = h; binding = b; owner = written.name; level_at = level }
 
-  closed_alike : (one two : ℕ → Option ℕ) → ((k : ℕ) → one k ≡ None) → ((k : ℕ) → two k ≡ None) → (xs : List WrittenSymbol)
+  closed_alike : (one two : ℕ → Option ℕ) → ((k : ℕ) → one k ≡ None) → ((k : ℕ) → two k ≡ None)
+      → (xs : List WrittenSymbol)
       → close_list (with_levels t one) 0 xs ≡ close_list (with_levels g two) 0 xs
   closed_alike one two one_none two_none xs =
       close_list_same t b written.name one (λ k. None) one_none 0 xs

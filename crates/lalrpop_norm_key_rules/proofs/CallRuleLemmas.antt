@@ -88,7 +88,8 @@ key_told c finds deep n given level x (Err (faults.Norm e)) is t = (n, given, le
 key_told c finds deep n given level x (Err faults.ConditionLimit) is t = (n, given, level, is, t)
 
 -- what is told of a key is told of one of them
-pub one_told : (c : KeyRules) (finds : Text → Text → Option Bool) (deep : Text → Bool) (keys : List Closed) (x : Closed) → Among keys x
+pub one_told : (c : KeyRules) (finds : Text → Text → Option Bool) (deep : Text → Bool) (keys : List Closed) (x : Closed)
+    → Among keys x
     → (f : NormFault) → TellsOfKey c finds deep x f → TellsOfOneKey c finds deep keys f
 one_told c finds deep keys x i faults.Memory t = tt
 one_told c finds deep keys x i (faults.Norm e) t = (x, i, t)

@@ -41,7 +41,7 @@ use Rattle.lalrpop_norm_key_rules.specs.KeyNaming.{AreSymbolsFor, SpellsNames}
 use Rattle.lalrpop_norm_key_rules.specs.KeyedSymbols.{AreKeyed, AreWrittenByName}
 use Rattle.lalrpop_norm_key_rules.specs.RulesUnder.{IsAddedRuleUnder, IsInstanceRuleUnder}
 use Rattle.lalrpop_norm_key_rules.specs.UsableSymbols.{AreUsable, IsRightGrammar, IsUsable}
-use Rattle.lalrpop_norm_key_rules.specs.WrittenKeys.{AreRulesOfKeys, IsCalledRule, IsRuleOfKey, TellsOfOneKey, span_at}
+use Rattle.lalrpop_norm_key_rules.specs.WrittenKeys.{AreRulesOfKeys, IsCalledRule, IsRuleOfKey, TellsOfOneKey, span_of_key}
 use Rattle.lalrpop_norm_key_rules.specs.KeyRuleLaws.{AreRulesUnderNames, TellsOfFoundKeys}
 use Rattle.lalrpop_norm_key_rules.specs.WrittenRules.{HasWritten, spelled_by, spelled_in, written_at}
 use Rattle.lalrpop_norm_key_rules.specs.declared.names.KeyNames.{KeyNames}
@@ -54,7 +54,8 @@ use Rattle.lalrpop_norm_key_rules.proofs.UsableLemmas.{listed_usable, zip_usable
 -- alternatives one by one
 becomes_list : (held one : Option Condition → Type 0) (was is : Alternative → Alternative → Type 0) (as_ bs : List Alternative)
     → ((c : Option Condition) → held c → one c) → ((c : Option Condition) → one c → held c)
-    → ((a b : Alternative) → Among as_ a → held a.condition → was a b → is a b) → AreInstancesBy held was as_ bs → AreInstancesBy one is as_ bs
+    → ((a b : Alternative) → Among as_ a → held a.condition → was a b → is a b) → AreInstancesBy held was as_ bs
+    → AreInstancesBy one is as_ bs
 becomes_list held one was is [] bs there back to e = e
 becomes_list held one was is (a ∷ as_) bs there back to (inl (h, b, rest, e, m, more)) =
     inl (
@@ -317,7 +318,9 @@ module _ (c : KeyRules) (finds : Text → Text → Option Bool) (w : Grammar) (s
         there = inside_there g right flat depth calls keys found_calls table (Closed.repeat Op.question x) i tt
 
         one : AreKeyed g.bares keys (x ∷ [])
-        one = inside_keyed x x (key_usable g right flat depth calls keys found_calls table (Closed.repeat Op.question x) i) (λ z k. there z (inr k))
+        one =
+            inside_keyed x x (key_usable g right flat depth calls keys found_calls table (Closed.repeat Op.question x) i)
+            (λ z k. there z (inr k))
 
         go : Among (added_choices (Closed.repeat Op.question x)) d → AreKeyed g.bares keys d.symbols
         go (inl e) = subst (λ (a : AddedChoice). AreKeyed g.bares keys a.symbols) e one
@@ -378,7 +381,8 @@ module _ (c : KeyRules) (finds : Text → Text → Option Bool) (w : Grammar) (s
     key_finished (Closed.name a n x) p q i m = absurd (key_is_key g right flat depth calls keys found_calls table (Closed.name a n x) i)
     key_finished Closed.faulty p q i m = absurd (key_is_key g right flat depth calls keys found_calls table Closed.faulty i)
 
-    pub rules_finished : (P : ℕ → TextSpan) (k : ℕ) (xs : List Closed) (rs : List Rule) → ((x : Closed) → Among xs x → Among keys x)
+    pub rules_finished : (P : ℕ → TextSpan) (k : ℕ) (xs : List Closed) (rs : List Rule)
+        → ((x : Closed) → Among xs x → Among keys x)
         → AreRulesFrom (λ i x q. IsRuleOfKey c finds x (f x) (P i) q) k xs rs
         → AreRulesFrom (λ i x q. IsFinishedRule g (rules_of w.items) f keys x (P i) q) k xs rs
     rules_finished P k [] rs there e = e
@@ -434,16 +438,19 @@ module _ (c : KeyRules) (finds : Text → Text → Option Bool) (w : Grammar) (s
 
 -- the rules of all keys
 pub finished_of : (c : KeyRules) (finds : Text → Text → Option Bool) (w : Grammar) (spans : List Span) (p : TextSpan) (ys : List Closed)
-    → grammar_view c.rules.now.grammar.now ≡ w → HasWritten c.written.now (rules_of w.items) → ys ≡ table_keys c.names.now.keys.now
+    → grammar_view c.rules.now.grammar.now ≡ w → HasWritten c.written.now (rules_of w.items)
+    → ys ≡ table_keys c.names.now.keys.now
     → (made : List Rule) → AreRulesOfKeys c finds spans p ys made
-    → AreRulesUnderNames finds c.rules.now.features.now w (table_keys c.names.now.keys.now) c.names.now.names.now (span_at spans p) made
+    → AreRulesUnderNames finds c.rules.now.features.now w (table_keys c.names.now.keys.now) c.names.now.names.now (span_of_key spans p)
+    made
 finished_of c finds w spans p ys same are all made m = λ known f named.
     rules_finished c finds w same are known.active known.right known.flat known.depth known.calls known.found known.table f named
-    (span_at spans p) 0 (table_keys c.names.now.keys.now) made (λ x i. i)
-    (subst (λ l. AreRulesFrom (λ i x r. IsRuleOfKey c finds x (f x) (span_at spans p i) r) 0 l made) all (m f named))
+    (span_of_key spans p) 0 (table_keys c.names.now.keys.now) made (λ x i. i)
+    (subst (λ l. AreRulesFrom (λ i x r. IsRuleOfKey c finds x (f x) (span_of_key spans p i) r) 0 l made) all (m f named))
 
 pub told_of : {T : Type 0} (c : KeyRules) (finds : Text → Text → Option Bool) (deep : Text → Bool) (w : Grammar) (ys : List Closed)
-    → grammar_view c.rules.now.grammar.now ≡ w → HasWritten c.written.now (rules_of w.items) → ys ≡ table_keys c.names.now.keys.now
+    → grammar_view c.rules.now.grammar.now ≡ w → HasWritten c.written.now (rules_of w.items)
+    → ys ≡ table_keys c.names.now.keys.now
     → (res : Result T NormFault) → IfErr res (TellsOfOneKey c finds deep ys)
     → IfErr res (TellsOfFoundKeys finds deep c.rules.now.features.now w (table_keys c.names.now.keys.now))
 told_of c finds deep w ys same are all (Ok x) t = t

@@ -12,13 +12,15 @@ use Rattle.lalrpop_grammar.specs.WrittenGrammar.{Ty, Tys}
 use Rattle.lalrpop_grammar.specs.Views.{tys, type_step, type_view}
 use Rattle.lalrpop_grammar_language.specs.Among.{Among}
 use Rattle.lalrpop_grammar_language.specs.Enabled.{EnabledGrammar, EnabledRule, has_text, rules_named}
-use Rattle.lalrpop_grammar_language.specs.Closing.{Binding, Scope, call_level, close, close_all, close_terminal, if_macro, if_plain, is_sound}
+use Rattle.lalrpop_grammar_language.specs.Closing.{Binding, Scope, call_level, close}
+use Rattle.lalrpop_grammar_language.specs.Closing.{close_all, close_terminal, if_macro, if_plain, is_sound}
 use Rattle.lalrpop_grammar_language.specs.Closing.{name_meaning, name_meaning_in, name_or, names_owner, only_value, parameter_value}
 use Rattle.lalrpop_grammar_language.specs.Closing.{plain_call, plain_name, sound_or_faulty}
 use Rattle.lalrpop_norm_back_laws.specs.KeyTypes.{ArePutTypes, IsLeftAsWritten, IsNamedType, IsPutType, repeat_ty}
 use Rattle.lalrpop_norm_key_table.specs.Tables.{table_keys}
 use Rattle.lalrpop_norm_key_rules.specs.KeyNaming.{IsSymbolOrNone, SpellsNames}
-use Rattle.lalrpop_norm_key_rules.specs.KeyDeclarations.{ArePutUnder, BindsMapped, IsNamedTypeUnder, IsPutUnder, IsSymbolTypeUnder, declaration_scope, repeat_path_of}
+use Rattle.lalrpop_norm_key_rules.specs.KeyDeclarations.{ArePutUnder, BindsMapped, IsNamedTypeUnder}
+use Rattle.lalrpop_norm_key_rules.specs.KeyDeclarations.{IsPutUnder, IsSymbolTypeUnder, declaration_scope, repeat_path_of}
 use Rattle.lalrpop_norm_key_rules.specs.KeyedSymbols.{IsMappedSymbol}
 use Rattle.lalrpop_norm_key_rules.specs.declared.names.KeyNames.{KeyNames}
 
@@ -143,13 +145,15 @@ types_on bares f keys s (y ∷ ys) us (z ∷ zs) vs (u, others, e, p, h) w =
       types_on bares f keys s ys us zs vs (subst (ArePutTypes bares f keys s (tys ys)) rest h) w,
     )
 
-pub put_more : (k : KeyNames) (g : EnabledGrammar) (r : EnabledRule) (b : Binding) (ys zs : List Ty) (y z : Ty) → ArePutUnder k g r b ys zs
+pub put_more : (k : KeyNames) (g : EnabledGrammar) (r : EnabledRule) (b : Binding) (ys zs : List Ty) (y z : Ty)
+    → ArePutUnder k g r b ys zs
     → IsPutUnder k g r b y z → ArePutUnder k g r b (ys ++ y ∷ []) (zs ++ z ∷ [])
 put_more k g r b ys zs y z h w = λ f spelled mapped.
     types_on g.bares f _ (declaration_scope g r b) ys (y ∷ []) zs (z ∷ []) (h f spelled mapped)
     (z, Tys.none, refl, w f spelled mapped, refl)
 
-pub put_on : (k : KeyNames) (g : EnabledGrammar) (r : EnabledRule) (b : Binding) (ys us zs vs : List Ty) (y z : Ty) → us ≡ ys ++ y ∷ []
+pub put_on : (k : KeyNames) (g : EnabledGrammar) (r : EnabledRule) (b : Binding) (ys us zs vs : List Ty) (y z : Ty)
+    → us ≡ ys ++ y ∷ []
     → vs ≡ zs ++ z ∷ [] → ArePutUnder k g r b ys zs → IsPutUnder k g r b y z → ArePutUnder k g r b us vs
 put_on k g r b ys us zs vs y z e d h w =
     subst (λ l. ArePutUnder k g r b l vs) (sym e) (subst (ArePutUnder k g r b (ys ++ y ∷ [])) (sym d) (put_more k g r b ys zs y z h w))

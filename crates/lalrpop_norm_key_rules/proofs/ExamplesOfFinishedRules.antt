@@ -89,7 +89,8 @@ abbrev with_argument : Origin
 with_argument = Origin.alternative (codes "M") (Sym.terminal tt (literal (codes "a")) ∷ []) 0
 
 -- the first alternative holds, the second doesn't; the parameter of the type is the argument
-instance_of_m : IsFinishedRule g (rules_of grammar.items) flat_key_text (m_of_a ∷ []) m_of_a here (made_m (made_alternative with_argument ∷ []))
+instance_of_m : IsFinishedRule g (rules_of grammar.items) flat_key_text (m_of_a ∷ []) m_of_a here
+    (made_m (made_alternative with_argument ∷ []))
 instance_of_m = (
   macro_m,
   record { among = inl refl; is_rule = refl; arguments = refl; flat = refl },

@@ -24,7 +24,8 @@ use Rattle.lalrpop_norm_key_rules.proofs.FinishedLemmas.{bares_of_made, finished
 use Rattle.lalrpop_norm_key_rules.proofs.FinishedLemmas.{finished_levels, finished_name, rules_of_made}
 
 -- lists of rules, each for a key by its name
-module _ (P : ℕ → Closed → Rule → Type 0) (f : Closed → Text) (named : (i : ℕ) (x : Closed) (r : Rule) → P i x r → r.name ≡ f x) where
+module _ (P : ℕ → Closed → Rule → Type 0) (f : Closed → Text)
+    (named : (i : ℕ) (x : Closed) (r : Rule) → P i x r → r.name ≡ f x) where
   pub rule_of_some : (k : ℕ) (xs : List Closed) (rs : List Rule) → AreRulesFrom P k xs rs → (r : Rule) → Among rs r
       → (i : ℕ) × (x : Closed) × Among xs x × P i x r
   rule_of_some k [] rs e r i = absurd (subst (λ l. Among l r) e i)
@@ -77,7 +78,8 @@ module _ (P : ℕ → Closed → Rule → Type 0) (f : Closed → Text) (named :
           (filter (has_name (f x)) (map rule_between rest))) c ∙ h
 
       go : (y ≡ x) ⊎ Among ys x
-          → (Among ys x → (i : ℕ) × (r : Rule) × P i x r × (filter (has_name (f x)) (map rule_between rest) ≡ rule_between r ∷ []))
+          → (Among ys x → (i : ℕ) × (r : Rule) × P i x r
+          × (filter (has_name (f x)) (map rule_between rest) ≡ rule_between r ∷ []))
           → (i : ℕ) × (r : Rule) × P i x r × (filter (has_name (f x)) (map rule_between rs) ≡ rule_between r ∷ [])
       go (inl same) later = (k, q, subst (λ z. P k z q) same p, here same)
       go (inr j) later = let w = later j in (w.0, w.1, w.2, other (bytes_eq q.name (f x)) refl j w.1 w.3)
@@ -118,7 +120,8 @@ key_among keys Closed.faulty h k = absurd k
 module _ (finds : Text → Text → Option Bool) (w : Grammar) (f : Closed → Text) (keys calls : List Closed) (places : ℕ → TextSpan)
     (made : List Rule) (flat : HasNoLevels (grammar_between finds w)) (table : IsKeyTable (grammar_between finds w) calls keys)
     (once : HasEachOnce keys) (apart : (x y : Closed) → Among keys x → Among keys y → f x ≡ f y → x ≡ y)
-    (own : (n : Text) (r : EnabledRule) → IsRule (grammar_between finds w) n r → r.parameters ≡ [] → f (Closed.call n Closeds.none None) ≡ n)
+    (own : (n : Text) (r : EnabledRule) → IsRule (grammar_between finds w) n r → r.parameters ≡ []
+    → f (Closed.call n Closeds.none None) ≡ n)
     (done : AreFinishedRules finds w f places keys made) where
   abbrev g : EnabledGrammar
   g = grammar_between finds w
@@ -255,7 +258,8 @@ module _ (finds : Text → Text → Option Bool) (w : Grammar) (f : Closed → T
   symbols_expanded (x ∷ xs) (u ∷ vs) k i v (inl e) = subst (IsExpandedSymbol h) e (symbol_expanded x u k.0 k.1 i.0)
   symbols_expanded (x ∷ xs) (u ∷ vs) k i v (inr j) = symbols_expanded xs vs k.2 i.1 v j
 
-  choice_expanded : (r : Rule) (i : ℕ) (x : Closed) → Done i x r → (c : Choice) → Among (rule_between r).choices c → IsExpandedChoice h c
+  choice_expanded : (r : Rule) (i : ℕ) (x : Closed) → Done i x r → (c : Choice) → Among (rule_between r).choices c
+      → IsExpandedChoice h c
   choice_expanded r i x m c j =
       let a = among_map choice_of (with_origins r.alternatives) c j in
       let b = among_map (λ (z : Alternative). (z.origin, z)) r.alternatives a.0 a.1 in

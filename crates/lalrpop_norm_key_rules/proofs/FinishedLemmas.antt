@@ -36,7 +36,8 @@ rules_of_made (WrittenItem.extern_token block ∷ items) rs = rules_of_made item
 rules_of_made (WrittenItem.intern_token entries ∷ items) rs = rules_of_made items rs
 rules_of_made (WrittenItem.import text ∷ items) rs = rules_of_made items rs
 
-pub bares_of_made : (items : List WrittenItem) (rs : List Rule) → bares_of (other_items items ++ map WrittenItem.nonterminal rs) ≡ bares_of items
+pub bares_of_made : (items : List WrittenItem) (rs : List Rule)
+    → bares_of (other_items items ++ map WrittenItem.nonterminal rs) ≡ bares_of items
 bares_of_made [] [] = refl
 bares_of_made [] (r ∷ rs) = bares_of_made [] rs
 bares_of_made (WrittenItem.nonterminal r ∷ items) rs = bares_of_made items rs
@@ -77,7 +78,8 @@ pub record IsPlainAlternative (bares : List Text) (f : Closed → Text) (keys : 
   pub side : List Closed
   pub symbols : AreWrittenByName bares f keys side b.expr
 
-instances_plain : (g : EnabledGrammar) (f : Closed → Text) (keys : List Closed) (r : EnabledRule) (args : Closeds) (as_ bs : List Alternative)
+instances_plain : (g : EnabledGrammar)
+    (f : Closed → Text) (keys : List Closed) (r : EnabledRule) (args : Closeds) (as_ bs : List Alternative)
     → AreInstancesBy (Holds g (bind r args)) (BecomesInInstance g f keys r args) as_ bs → (b : Alternative) → Among bs b
     → IsPlainAlternative g.bares f keys b
 instances_plain g f keys r args [] bs e b i = absurd (subst (λ l. Among l b) e i)
@@ -91,7 +93,8 @@ instances_plain g f keys r args (a ∷ as_) bs (inl (h, c, rest, e, m, more)) b 
 instances_plain g f keys r args (a ∷ as_) bs (inr (h, more)) b i = instances_plain g f keys r args as_ bs more b i
 
 added_plain : (bares : List Text) (f : Closed → Text) (keys : List Closed) (p : TextSpan) (cs : List AddedChoice) (bs : List Alternative)
-    → AreAddedAlternatives (AreWrittenByName bares f keys) p cs bs → (b : Alternative) → Among bs b → IsPlainAlternative bares f keys b
+    → AreAddedAlternatives (AreWrittenByName bares f keys) p cs bs → (b : Alternative) → Among bs b
+    → IsPlainAlternative bares f keys b
 added_plain bares f keys p [] bs e b i = absurd (subst (λ l. Among l b) e i)
 added_plain bares f keys p (c ∷ cs) bs (a, rest, e, m, more) b i = go (subst (λ l. Among l b) e i)
     (λ j. added_plain bares f keys p cs rest more b j)
@@ -110,14 +113,19 @@ no_levels_in (b ∷ bs) w =
 
 -- finished rules, form by form
 
-pub finished_alternatives : (g : EnabledGrammar) (rs : List Rule) (f : Closed → Text) (keys : List Closed) (x : Closed) (p : TextSpan) (q : Rule)
+pub finished_alternatives : (g : EnabledGrammar) (rs : List Rule)
+    (f : Closed → Text) (keys : List Closed) (x : Closed) (p : TextSpan) (q : Rule)
     → IsFinishedRule g rs f keys x p q → (b : Alternative) → Among q.alternatives b → IsPlainAlternative g.bares f keys b
 finished_alternatives g rs f keys (Closed.call n args level) p q (written, c, m) b i =
     instances_plain g f keys (rule_between written) args written.alternatives q.alternatives m.alternatives b i
-finished_alternatives g rs f keys (Closed.repeat op x) p q m b i = added_plain g.bares f keys p (added_choices (Closed.repeat op x)) q.alternatives m.alternatives b i
-finished_alternatives g rs f keys (Closed.group xs) p q m b i = added_plain g.bares f keys p (added_choices (Closed.group xs)) q.alternatives m.alternatives b i
-finished_alternatives g rs f keys Closed.lookahead p q m b i = added_plain g.bares f keys p (added_choices Closed.lookahead) q.alternatives m.alternatives b i
-finished_alternatives g rs f keys Closed.lookbehind p q m b i = added_plain g.bares f keys p (added_choices Closed.lookbehind) q.alternatives m.alternatives b i
+finished_alternatives g rs f keys (Closed.repeat op x) p q m b i =
+    added_plain g.bares f keys p (added_choices (Closed.repeat op x)) q.alternatives m.alternatives b i
+finished_alternatives g rs f keys (Closed.group xs) p q m b i =
+    added_plain g.bares f keys p (added_choices (Closed.group xs)) q.alternatives m.alternatives b i
+finished_alternatives g rs f keys Closed.lookahead p q m b i =
+    added_plain g.bares f keys p (added_choices Closed.lookahead) q.alternatives m.alternatives b i
+finished_alternatives g rs f keys Closed.lookbehind p q m b i =
+    added_plain g.bares f keys p (added_choices Closed.lookbehind) q.alternatives m.alternatives b i
 finished_alternatives g rs f keys (Closed.terminal t) p q m b i = absurd m
 finished_alternatives g rs f keys (Closed.choose x) p q m b i = absurd m
 finished_alternatives g rs f keys (Closed.name a n x) p q m b i = absurd m
@@ -135,7 +143,8 @@ finished_name g rs f keys (Closed.choose x) p q m = absurd m
 finished_name g rs f keys (Closed.name a n x) p q m = absurd m
 finished_name g rs f keys Closed.faulty p q m = absurd m
 
-pub finished_levels : (g : EnabledGrammar) (rs : List Rule) (f : Closed → Text) (keys : List Closed) (x : Closed) (p : TextSpan) (q : Rule)
+pub finished_levels : (g : EnabledGrammar) (rs : List Rule)
+    (f : Closed → Text) (keys : List Closed) (x : Closed) (p : TextSpan) (q : Rule)
     → IsFinishedRule g rs f keys x p q → has_levels (rule_between q) ≡ false
 finished_levels g rs f keys x p q m = no_levels_in q.alternatives (λ b i. (finished_alternatives g rs f keys x p q m b i).no_attributes)
 
@@ -168,7 +177,8 @@ finished_inlined g rs f keys Closed.faulty p q m = absurd m
 -- their choices
 
 one_choice : (bares : List Text) (f : Closed → Text) (keys : List Closed) (p : TextSpan) (a : Action) (o : Origin) (xs : List Closed)
-    (bs : List Alternative) → AreAddedAlternatives (AreWrittenByName bares f keys) p (record { action = a; origin = o; symbols = xs } ∷ []) bs
+    (bs : List Alternative)
+    → AreAddedAlternatives (AreWrittenByName bares f keys) p (record { action = a; origin = o; symbols = xs } ∷ []) bs
     → IsOneChoice bares f a o xs (seen bs)
 one_choice bares f keys p a o xs bs (b, rest, e, m, none) = (
   choice_of (b.origin, b),
@@ -226,7 +236,8 @@ finished_key_rule g rs f keys flat x p q m = record {
 }
 
 -- and what it declares
-pub finished_declaration : (g : EnabledGrammar) (rs : List Rule) (f : Closed → Text) (keys : List Closed) (x : Closed) (p : TextSpan) (q : Rule)
+pub finished_declaration : (g : EnabledGrammar) (rs : List Rule)
+    (f : Closed → Text) (keys : List Closed) (x : Closed) (p : TextSpan) (q : Rule)
     → IsFinishedRule g rs f keys x p q → IsKeyDeclaration g f keys x q.declared
 finished_declaration g rs f keys (Closed.call n args level) p q (written, c, m) = (rule_between written, c.is_rule, m.declared)
 finished_declaration g rs f keys (Closed.repeat op x) p q m =

@@ -1,7 +1,8 @@
 -- Keys and their names at the same place, and symbols written one after another; for the functions that write symbols.
 use Rattle.std.proofs.lemmas.Bool.{true≢false}
 use Rattle.std.proofs.lemmas.Option.{get_or_from_slice_get, slice_get_cases, slice_get_read}
-use Rattle.std.proofs.Common.{◌≡◌, ◌<◌, ◌≤◌, ◌⊎◌, ℕ, arith, get_or, length, zero, suc, List, [], ◌∷◌, ◌++◌, refl, ap, sym, ◌∙◌, subst, inl, inr, map}
+use Rattle.std.proofs.Common.{◌≡◌, ◌<◌, ◌≤◌, ◌⊎◌, ℕ, arith, get_or, length, zero, suc, List}
+use Rattle.std.proofs.Common.{[], ◌∷◌, ◌++◌, refl, ap, sym, ◌∙◌, subst, inl, inr, map}
 use Rattle.std.specs.Prelude.{Option, Some, None, IfSome, IsSome, slice_get, option_map}
 use Rattle.std.specs.Borrow.{Bor}
 use Rattle.lalrpop_grammar_symbols.specs.Symbols.{Text, Closed, WrittenSymbol}
@@ -25,7 +26,8 @@ got_among (y ∷ xs) zero x e = inl cc
 got_among (y ∷ xs) (suc i) x e = inr (got_among xs i x e)
 
 -- the name at the place of a key is the key's
-name_there : (k : KeyNames) (f : Closed → Text) (x : Closed) (i : ℕ) → slice_get (table_keys k.keys.now) i ≡ Some x → SpellsNames k f
+name_there : (k : KeyNames) (f : Closed → Text) (x : Closed) (i : ℕ) → slice_get (table_keys k.keys.now) i ≡ Some x
+    → SpellsNames k f
     → slice_get k.names.now i ≡ Some (f x)
 name_there k f x i here spelled =
     ap (λ l. slice_get l i) (sym spelled) ∙ get_map f (table_keys k.keys.now) i ∙ ap (option_map f) here
@@ -76,7 +78,8 @@ key_below k keys i all below = go (slice_get_cases keys i).1
     go (inr w) = absurd (omega (arith, w.0))
 
 -- one symbol more is written
-keyed_parts : (bares : List Text) (keys xs ys : List Closed) → AreKeyed bares keys (xs ++ ys) → AreKeyed bares keys xs × AreKeyed bares keys ys
+keyed_parts : (bares : List Text) (keys xs ys : List Closed) → AreKeyed bares keys (xs ++ ys)
+    → AreKeyed bares keys xs × AreKeyed bares keys ys
 keyed_parts bares keys [] ys h = (tt, h)
 keyed_parts bares keys (x ∷ xs) ys h = let w = keyed_parts bares keys xs ys h.2 in ((h.0, h.1, w.0), w.1)
 
@@ -93,7 +96,8 @@ symbols_on k xs ys vs ws h w = λ bares f spelled keyed.
     let p = keyed_parts bares (table_keys k.keys.now) xs ys keyed in
     (keyed, written_on bares f xs ys vs ws (h bares f spelled p.0).1 (w bares f spelled p.1).1)
 
-pub symbols_put : (k : KeyNames) (xs ys : List Closed) (vs ws : List WrittenSymbol) (x : Closed) (v : WrittenSymbol) → ys ≡ xs ++ x ∷ []
+pub symbols_put : (k : KeyNames) (xs ys : List Closed) (vs ws : List WrittenSymbol) (x : Closed) (v : WrittenSymbol)
+    → ys ≡ xs ++ x ∷ []
     → ws ≡ vs ++ v ∷ [] → AreSymbolsFor k xs vs → AreSymbolsFor k (x ∷ []) (v ∷ []) → AreSymbolsFor k ys ws
 symbols_put k xs ys vs ws x v e d h w =
     subst (λ l. AreSymbolsFor k l ws) (sym e)

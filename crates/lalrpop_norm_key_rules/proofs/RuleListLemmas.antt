@@ -10,7 +10,8 @@ use Rattle.lalrpop_grammar.specs.WrittenGrammar.{Rule}
 use Rattle.lalrpop_norm_key_rules.specs.FinishedRules.{AreRulesFrom}
 
 module _ (is : ℕ → Closed → Rule → Type 0) where
-  pub rules_more : (k j : ℕ) (xs : List Closed) (x : Closed) (rs : List Rule) (r : Rule) → k + length xs ≡ j → AreRulesFrom is k xs rs
+  pub rules_more : (k j : ℕ) (xs : List Closed) (x : Closed) (rs : List Rule) (r : Rule) → k + length xs ≡ j
+      → AreRulesFrom is k xs rs
       → is j x r → AreRulesFrom is k (xs ++ x ∷ []) (rs ++ r ∷ [])
   rules_more k j [] x rs r e w h =
       let here : k ≡ j = omega arith in
@@ -19,7 +20,8 @@ module _ (is : ℕ → Closed → Rule → Type 0) where
       (q, rest ++ r ∷ [], ap (λ l. l ++ r ∷ []) f, p, rules_more (k + 1) j xs x rest r (omega arith) more h)
 
   pub rules_put : (keys : List ClosedSymbol) (i : ℕ) (x : ClosedSymbol) (made new : List Rule) (r : Rule) → i < length keys
-      → x ≡ get_or keys i x → new ≡ made ++ r ∷ [] → AreRulesFrom is 0 (map closed_view (take i keys)) made → is i (closed_view x) r
+      → x ≡ get_or keys i x → new ≡ made ++ r ∷ [] → AreRulesFrom is 0 (map closed_view (take i keys)) made
+      → is i (closed_view x) r
       → AreRulesFrom is 0 (map closed_view (take (i + 1) keys)) new
   rules_put keys i x made new r below here more w h =
       subst (λ l. AreRulesFrom is 0 l new) (sym (take_next closed_view keys i x below here))

@@ -43,7 +43,8 @@ mutual
   calls_usable bares Closed.lookbehind c u i = absurd i
   calls_usable bares Closed.faulty c u i = absurd i
 
-  all_calls_usable : (bares : List Text) (xs : Closeds) (c : Closed) → AreUsable bares xs → Among (calls_in_all xs) c → IsUsable bares c
+  all_calls_usable : (bares : List Text) (xs : Closeds) (c : Closed) → AreUsable bares xs → Among (calls_in_all xs) c
+      → IsUsable bares c
   all_calls_usable bares Closeds.none c u i = absurd i
   all_calls_usable bares (Closeds.more x xs) c u i =
       either (among_parts (calls_in x) (calls_in_all xs) c i) (λ j. calls_usable bares x c u.0 j) (λ j. all_calls_usable bares xs c u.1 j)
@@ -81,7 +82,8 @@ mutual
   keys_usable bares Closed.lookbehind z u (inr i) = absurd i
   keys_usable bares Closed.faulty z u i = absurd u
 
-  all_keys_usable : (bares : List Text) (xs : Closeds) (z : Closed) → AreUsable bares xs → Among (keys_in_all xs) z → IsUsableKey bares z
+  all_keys_usable : (bares : List Text) (xs : Closeds) (z : Closed) → AreUsable bares xs → Among (keys_in_all xs) z
+      → IsUsableKey bares z
   all_keys_usable bares Closeds.none z u i = absurd i
   all_keys_usable bares (Closeds.more x xs) z u i =
       either (among_parts (keys_in x) (keys_in_all xs) z i) (λ j. keys_usable bares x z u.0 j) (λ j. all_keys_usable bares xs z u.1 j)
@@ -105,7 +107,8 @@ call_is_key Closed.faulty h = absurd (h tt)
 
 -- a symbol whose keys are there can be written by names
 
-keyed_rule : (bares : List Text) (keys : List Closed) (x : Closed) → IsUsable bares x → ((z : Closed) → Among (keys_in x) z → Among keys z)
+keyed_rule : (bares : List Text) (keys : List Closed) (x : Closed) → IsUsable bares x
+    → ((z : Closed) → Among (keys_in x) z → Among keys z)
     → HasKeyRule keys x
 keyed_rule bares keys (Closed.terminal (Terminal.quoted t)) u w = tt
 keyed_rule bares keys (Closed.terminal (Terminal.regex t)) u w = tt
@@ -285,9 +288,11 @@ module _ (g : EnabledGrammar) (right : IsRightGrammar g) (flat : HasNoLevels g) 
               ap Nonterminal.closed p.key_is ∙ ap (λ t. Nonterminal.closed (Closed.call t Closeds.none None)) (sym there.1),
             )
 
-        go : IsPlainKey g (Closed.call n args level) ⊎ (Among calls (Closed.call n args level) ⊎ IsMetKey g calls (Closed.call n args level))
+        go : IsPlainKey g (Closed.call n args level)
+            ⊎ (Among calls (Closed.call n args level) ⊎ IsMetKey g calls (Closed.call n args level))
             → IsRightCall g n args level
             × (IsRoot g (Nonterminal.closed (Closed.call n args level)) ⊎ Among calls (Closed.call n args level))
         go (inl p) = (right_plain p, inl (plain_is_root p))
-        go (inr (inl c)) = let w = found.chains (Closed.call n args level) c in ((chain_right g flat w.0 (Closed.call n args level) w.2).0, inr c)
+        go (inr (inl c)) =
+            let w = found.chains (Closed.call n args level) c in ((chain_right g flat w.0 (Closed.call n args level) w.2).0, inr c)
         go (inr (inr m)) = absurd m.no_call

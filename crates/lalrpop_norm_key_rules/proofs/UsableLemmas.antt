@@ -11,7 +11,8 @@ use Rattle.lalrpop_grammar_language.specs.Among.{Among}
 use Rattle.lalrpop_grammar_language.specs.Enabled.{EnabledGrammar, EnabledRule, Choice, IsRule, has_text}
 use Rattle.lalrpop_grammar_language.specs.Levels.{Rank}
 use Rattle.lalrpop_grammar_language.specs.Closing.{Binding, Scope, call_level, close, close_all, close_list, close_terminal}
-use Rattle.lalrpop_grammar_language.specs.Closing.{if_plain, if_macro, is_sound, are_sound, name_meaning, name_meaning_in, name_or, names_owner}
+use Rattle.lalrpop_grammar_language.specs.Closing.{if_plain, if_macro, is_sound, are_sound}
+use Rattle.lalrpop_grammar_language.specs.Closing.{name_meaning, name_meaning_in, name_or, names_owner}
 use Rattle.lalrpop_grammar_language.specs.Closing.{occurrences, parameter_value, plain_call, plain_name}
 use Rattle.lalrpop_grammar_language.specs.Closing.{right_side, scope_of, sound_or_faulty}
 use Rattle.lalrpop_grammar_language.specs.Admitting.{bind}
@@ -49,7 +50,8 @@ sound_stays bares x h = subst (λ b. IsUsable bares (cond b x Closed.faulty)) (s
 abbrev BindsUsable : List Text → Binding → Type 0
 BindsUsable bares b = (p : Text × Closed) → Among b p → IsUsable bares p.1
 
-pub listed_usable : (bares : List Text) (xs : Closeds) → AreUsable bares xs → (x : Closed) → Among (closed_list xs) x → IsUsable bares x
+pub listed_usable : (bares : List Text) (xs : Closeds) → AreUsable bares xs → (x : Closed) → Among (closed_list xs) x
+    → IsUsable bares x
 listed_usable bares Closeds.none h x i = absurd i
 listed_usable bares (Closeds.more y ys) h x (inl e) = subst (IsUsable bares) e h.0
 listed_usable bares (Closeds.more y ys) h x (inr i) = listed_usable bares ys h.1 x i
@@ -83,7 +85,8 @@ pub record IsRightSymbol (g : EnabledGrammar) (r : EnabledRule) (x : WrittenSymb
   pub count : IsRightCount g x
 
 module _ (s : Scope) (r : EnabledRule)
-    (bound : (n : Text) → has_text n r.parameters ≡ true → (c : Closed) × (parameter_value s.binding n ≡ Some c) × IsUsable s.grammar.bares c)
+    (bound : (n : Text) → has_text n r.parameters ≡ true
+    → (c : Closed) × (parameter_value s.binding n ≡ Some c) × IsUsable s.grammar.bares c)
     (free : (n : Text) → has_text n r.parameters ≡ false → parameter_value s.binding n ≡ None) where
   abbrev g : EnabledGrammar
   g = s.grammar
@@ -168,7 +171,8 @@ module _ (s : Scope) (r : EnabledRule)
       subst (IsUsable g.bares) e
       (sound_stays g.bares (close s k y) (close_usable k y (λ z i. w z (among_left (subsymbols y) (subsymbols_of (syms ys)) z i))))
   listed_side_usable k (y ∷ ys) w x (inr i) =
-      listed_side_usable (k + occurrences s.binding s.owner y) ys (λ z j. w z (among_right (subsymbols y) (subsymbols_of (syms ys)) z j)) x i
+      listed_side_usable (k + occurrences s.binding s.owner y) ys (λ z j. w z (among_right (subsymbols y) (subsymbols_of (syms ys)) z j))
+      x i
 
 -- the symbols of a right side, where the arguments can be written back
 pub side_usable : (g : EnabledGrammar) → IsRightGrammar g → (r : EnabledRule) → Among g.rules r → (args : Closeds)

@@ -21,9 +21,11 @@ AreRulesFrom is k [] rs = rs ≡ []
 AreRulesFrom is k (x ∷ xs) rs = (r : Rule) × (rest : List Rule) × (rs ≡ r ∷ rest) × is k x r × AreRulesFrom is (k + 1) xs rest
 
 -- an alternative in an instance of the rule
-abbrev pub BecomesInInstance : EnabledGrammar → (Closed → Text) → List Closed → EnabledRule → Closeds → Alternative → Alternative → Type 0
+abbrev pub BecomesInInstance : EnabledGrammar → (Closed → Text) → List Closed → EnabledRule → Closeds → Alternative
+    → Alternative → Type 0
 BecomesInInstance g f keys r args a made =
-    IsInstanceBy (AreWrittenByName g.bares f keys) (argument_list g.spelled args) (right_side g r (bind r args) (choice_of (a.origin, a), None))
+    IsInstanceBy (AreWrittenByName g.bares f keys) (argument_list g.spelled args)
+    (right_side g r (bind r args) (choice_of (a.origin, a), None))
     a made
 
 -- the type of a repeat of the symbol

@@ -18,7 +18,8 @@ pub record IsInstanceBy (symbols : List Closed → List WrittenSymbol → Type 0
   pub origin : b.origin ≡ origin_with args a.origin
 
 -- Of the alternatives those whose conditions hold become others, in order; the rest is left out.
-abbrev pub AreInstancesBy : (Option Condition → Type 0) → (Alternative → Alternative → Type 0) → List Alternative → List Alternative → Type 0
+abbrev pub AreInstancesBy : (Option Condition → Type 0) → (Alternative → Alternative → Type 0) → List Alternative
+    → List Alternative → Type 0
 AreInstancesBy held becomes [] bs = bs ≡ []
 AreInstancesBy held becomes (a ∷ as_) bs =
     (held a.condition × (b : Alternative) × (rest : List Alternative) × (bs ≡ b ∷ rest) × becomes a b

@@ -20,7 +20,8 @@ use Rattle.lalrpop_norm_key_rules.specs.declared.alternatives.Instance.{Instance
 use Rattle.lalrpop_norm_key_rules.specs.declared.names.KeyNames.{KeyNames}
 
 -- the alternative in an instance, with keys by their names
-abbrev pub BecomesUnder : KeyNames → EnabledGrammar → EnabledRule → Binding → List Argument → Alternative → Alternative → Type 0
+abbrev pub BecomesUnder : KeyNames → EnabledGrammar → EnabledRule → Binding → List Argument → Alternative → Alternative
+    → Type 0
 BecomesUnder k g r b args a made = IsInstanceBy (AreSymbolsFor k) args (flat_side g r b a) a made
 
 -- what an instance's parameters are bound to

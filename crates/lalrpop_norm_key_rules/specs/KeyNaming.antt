@@ -23,7 +23,8 @@ IsNameOfKey k x (Some n) = Among (table_keys k.keys.now) x × ((f : Closed → T
 -- the name of the key at a place
 abbrev pub IsNameAt : KeyNames → ℕ → Option (Bor Text) → Type 0
 IsNameAt k i None = (f : Closed → Text) → SpellsNames k f → (x : Closed) → slice_get (table_keys k.keys.now) i ≡ Some x → ⊥
-IsNameAt k i (Some n) = (f : Closed → Text) → SpellsNames k f → (x : Closed) → slice_get (table_keys k.keys.now) i ≡ Some x → n.now ≡ f x
+IsNameAt k i (Some n) =
+    (f : Closed → Text) → SpellsNames k f → (x : Closed) → slice_get (table_keys k.keys.now) i ≡ Some x → n.now ≡ f x
 
 -- the key by its name, or nothing where it isn't there
 abbrev pub IsKeySymbol : KeyNames → TextSpan → Closed → Option Symbol → Type 0

@@ -34,13 +34,15 @@ pub record HasFoundKeys (finds : Text → Text → Option Bool) (features : List
   pub table : IsKeyTable (grammar_between finds w) calls keys
 
 -- for such a grammar these are the finished rules of the keys under these names
-abbrev pub AreRulesUnderNames : (Text → Text → Option Bool) → List Text → Grammar → List Closed → List Text → (ℕ → TextSpan)
+abbrev pub AreRulesUnderNames : (Text → Text → Option Bool) → List Text → Grammar → List Closed → List Text
+    → (ℕ → TextSpan)
     → List Rule → Type 0
 AreRulesUnderNames finds features w keys names places made =
     HasFoundKeys finds features w keys → (f : Closed → Text) → map f keys ≡ names → AreFinishedRules finds w f places keys made
 
 -- for such a grammar something is told of a condition of a call that is made, or memory ran out
-abbrev pub TellsOfFoundKeys : (Text → Text → Option Bool) → (Text → Bool) → List Text → Grammar → List Closed → NormFault → Type 0
+abbrev pub TellsOfFoundKeys : (Text → Text → Option Bool) → (Text → Bool) → List Text → Grammar → List Closed → NormFault
+    → Type 0
 TellsOfFoundKeys finds deep features w keys fault =
     HasFoundKeys finds features w keys → TellsOfMadeCall (grammar_between finds w) deep fault
 
@@ -48,10 +50,12 @@ TellsOfFoundKeys finds deep features w keys fault =
 pub record AreKeyNames (finds : Text → Text → Option Bool) (w : Grammar) (f : Closed → Text) (keys : List Closed) : Type 0 where
   pub once : HasEachOnce keys
   pub apart : (x y : Closed) → Among keys x → Among keys y → f x ≡ f y → x ≡ y
-  pub own : (n : Text) (r : EnabledRule) → IsRule (grammar_between finds w) n r → r.parameters ≡ [] → f (Closed.call n Closeds.none None) ≡ n
+  pub own : (n : Text) (r : EnabledRule) → IsRule (grammar_between finds w) n r → r.parameters ≡ []
+      → f (Closed.call n Closeds.none None) ≡ n
 
 -- The macros of the grammar are expanded in the other one, with a rule for each key and no other.
-pub record HasExpandedMacros (finds : Text → Text → Option Bool) (w made : Grammar) (f : Closed → Text) (keys : List Closed) : Type 0 where
+pub record HasExpandedMacros (finds : Text → Text → Option Bool) (w made : Grammar)
+    (f : Closed → Text) (keys : List Closed) : Type 0 where
   pub rules : AreKeyRules (grammar_between finds w) (grammar_between finds made) f keys
   pub declared : DeclareKeyTypes (grammar_between finds w) (grammar_between finds made) f keys
   pub expansion : IsMacroExpansion (grammar_between finds w) (grammar_between finds made) f keys
@@ -70,5 +74,6 @@ FinishedRulesExpand =
 -- where names are resolved, no alternative has `!`, and no wrong number of arguments is told, the grammar is right
 abbrev pub CountsMakeRight : Type 0
 CountsMakeRight =
-    (finds : Text → Text → Option Bool) (w : Grammar) → IsResolved (grammar_between finds w) → HasNoRecovery (grammar_between finds w)
+    (finds : Text → Text → Option Bool) (w : Grammar) → IsResolved (grammar_between finds w)
+    → HasNoRecovery (grammar_between finds w)
     → arity_faults (grammar_between finds w) (rules_of w.items) ≡ [] → IsRightGrammar (grammar_between finds w)

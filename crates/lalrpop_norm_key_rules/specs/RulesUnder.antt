@@ -13,7 +13,8 @@ use Rattle.lalrpop_norm_key_rules.specs.KeyNaming.{AreSymbolsFor}
 use Rattle.lalrpop_norm_key_rules.specs.declared.names.KeyNames.{KeyNames}
 
 -- the rule of a call
-abbrev pub IsInstanceRuleUnder : KeyNames → EnabledGrammar → EnabledRule → Closeds → Binding → List Argument → Text → Rule → Rule
+abbrev pub IsInstanceRuleUnder : KeyNames → EnabledGrammar → EnabledRule → Closeds → Binding → List Argument → Text → Rule
+    → Rule
     → Type 0
 IsInstanceRuleUnder k g r args b as_written n written made =
     IsInstanceRule (IsDeclaredUnder k g r b) (Holds g b) (BecomesUnder k g r b as_written) args n written made

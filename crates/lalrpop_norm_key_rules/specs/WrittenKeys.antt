@@ -49,7 +49,8 @@ IsRuleOfKey c finds (Closed.name m n x) name p made = Unit {0}
 IsRuleOfKey c finds Closed.faulty name p made = Unit {0}
 
 -- something is told of a condition of the called rule, or memory ran out
-abbrev pub TellsOfCalledRule : KeyRules → (Text → Text → Option Bool) → (Text → Bool) → Text → Closeds → NormFault → Type 0
+abbrev pub TellsOfCalledRule : KeyRules → (Text → Text → Option Bool) → (Text → Bool) → Text → Closeds → NormFault
+    → Type 0
 TellsOfCalledRule c finds deep n args faults.Memory = Unit {0}
 TellsOfCalledRule c finds deep n args fault =
     (written : Rule) × (r : EnabledRule) × (written_at c.written.now n ≡ Some written) × IsRule (rules_with finds c.rules.now) n r
@@ -59,7 +60,8 @@ TellsOfCalledRule c finds deep n args fault =
 abbrev pub TellsOfKey : KeyRules → (Text → Text → Option Bool) → (Text → Bool) → Closed → NormFault → Type 0
 TellsOfKey c finds deep x faults.Memory = Unit {0}
 TellsOfKey c finds deep x fault =
-    (n : Text) × (args : Closeds) × (level : Option ℕ) × (x ≡ Closed.call n args level) × TellsOfCalledRule c finds deep n args fault
+    (n : Text) × (args : Closeds) × (level : Option ℕ) × (x ≡ Closed.call n args level)
+    × TellsOfCalledRule c finds deep n args fault
 
 abbrev pub TellsOfOneKey : KeyRules → (Text → Text → Option Bool) → (Text → Bool) → List Closed → NormFault → Type 0
 TellsOfOneKey c finds deep keys faults.Memory = Unit {0}
@@ -70,11 +72,11 @@ abbrev pub span_or : Option Span → TextSpan → TextSpan
 span_or None p = p
 span_or (Some s) p = span_view s
 
-abbrev pub span_at : List Span → TextSpan → ℕ → TextSpan
-span_at spans p i = span_or (slice_get spans i) p
+abbrev pub span_of_key : List Span → TextSpan → ℕ → TextSpan
+span_of_key spans p i = span_or (slice_get spans i) p
 
 -- one rule for each key, by its name
 abbrev pub AreRulesOfKeys : KeyRules → (Text → Text → Option Bool) → List Span → TextSpan → List Closed → List Rule → Type 0
 AreRulesOfKeys c finds spans p keys rules =
     (f : Closed → Text) → SpellsNames c.names.now f
-    → AreRulesFrom (λ i x r. IsRuleOfKey c finds x (f x) (span_at spans p i) r) 0 keys rules
+    → AreRulesFrom (λ i x r. IsRuleOfKey c finds x (f x) (span_of_key spans p i) r) 0 keys rules

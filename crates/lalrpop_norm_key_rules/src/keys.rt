@@ -10,7 +10,7 @@ ghost use Rattle.lalrpop_grammar_closed.specs.Views.{closed_view};
 ghost use Rattle.lalrpop_norm_key_table.specs.Tables.{IsKeyIndex, table_keys};
 ghost use Rattle.lalrpop_norm_key_rules.specs.KeyRuleLaws.{AreRulesUnderNames, TellsOfFoundKeys};
 ghost use Rattle.lalrpop_norm_key_rules.specs.KeyNaming.{IsNameAt};
-ghost use Rattle.lalrpop_norm_key_rules.specs.WrittenKeys.{AreReady, AreRulesOfKeys, TellsOfOneKey, span_at};
+ghost use Rattle.lalrpop_norm_key_rules.specs.WrittenKeys.{AreReady, AreRulesOfKeys, TellsOfOneKey, span_of_key};
 
 use crate::names::KeyNames;
 use crate::rules::{KeyRules, key_rule};
@@ -25,7 +25,7 @@ use std::alloc::Global;
 
 /// The span at the place, or the other one where there is none.
 fn span_of(spans: &[Span], place: usize, otherwise: Span) -> Span
-    ensures { span_view result ≡ span_at spans.now (span_view otherwise) place }
+    ensures { span_view result ≡ span_of_key spans.now (span_view otherwise) place }
 {
     match spans.get(place) {
         Some(span) => *span,
@@ -80,7 +80,7 @@ fn finished_rules<F: Finder>(
     requires written { HasWritten tables.now.written.now (rules_of (grammar_view grammar.now).items) }
     ensures made { IfOk result (λ made. AreRulesUnderNames (F.finds finder.now) tables.now.rules.now.features.now
         (grammar_view grammar.now) (table_keys tables.now.names.now.keys.now) tables.now.names.now.names.now
-        (span_at spans.now (span_view grammar.now.span)) (map nonterminal_view made)) }
+        (span_of_key spans.now (span_view grammar.now.span)) (map nonterminal_view made)) }
     ensures fault { IfErr result (TellsOfFoundKeys (F.finds finder.now) (F.too_deep finder.now)
         tables.now.rules.now.features.now (grammar_view grammar.now) (table_keys tables.now.names.now.keys.now)) }
 {
@@ -111,7 +111,7 @@ pub fn key_rules<F: Finder>(
     requires of_grammar { grammar_view rules.now.grammar.now ≡ grammar_view grammar.now }
     requires index { IsKeyIndex keys.now }
     ensures made { IfOk result (λ made. AreRulesUnderNames (F.finds finder.now) rules.now.features.now (grammar_view grammar.now)
-        (table_keys keys.now) names.now (span_at spans.now (span_view grammar.now.span)) (map nonterminal_view made)) }
+        (table_keys keys.now) names.now (span_of_key spans.now (span_view grammar.now.span)) (map nonterminal_view made)) }
     ensures fault { IfErr result (TellsOfFoundKeys (F.finds finder.now) (F.too_deep finder.now) rules.now.features.now
         (grammar_view grammar.now) (table_keys keys.now)) }
 {

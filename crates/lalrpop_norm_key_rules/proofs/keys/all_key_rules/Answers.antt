@@ -7,7 +7,7 @@ use Rattle.lalrpop_grammar_symbols.specs.Views.{span_view}
 use Rattle.lalrpop_grammar.specs.Views.{nonterminal_view}
 use Rattle.lalrpop_grammar_closed.specs.Views.{closed_view}
 use Rattle.lalrpop_norm_key_rules.specs.FinishedRules.{AreRulesFrom}
-use Rattle.lalrpop_norm_key_rules.specs.WrittenKeys.{IsRuleOfKey, span_at}
+use Rattle.lalrpop_norm_key_rules.specs.WrittenKeys.{IsRuleOfKey, span_of_key}
 use Rattle.lalrpop_norm_key_rules.proofs.NamingLemmas.{key_at_place, key_below}
 use Rattle.lalrpop_norm_key_rules.proofs.RuleListLemmas.{rules_put}
 use Rattle.lalrpop_norm_key_rules.proofs.keys.all_key_rules.Goals as goal
@@ -21,7 +21,7 @@ loop-place-preserved g c = λ f spelled.
     let x = c.index-keys-place.result in
     let r = nonterminal_view c.in_ok-key_rule.field-0 in
     let here = key_at_place tables.names.now keys i x c.requires.all c.loop-place-test.true c.index-keys-place.is in
-    rules_put (λ j y q. IsRuleOfKey tables finds y (f y) (span_at c.args.spans.now (span_view c.args.otherwise) j) q) keys i x
+    rules_put (λ j y q. IsRuleOfKey tables finds y (f y) (span_of_key c.args.spans.now (span_view c.args.otherwise) j) q) keys i x
     (map nonterminal_view c.loop-place.made) (map nonterminal_view c.push.new.self) r c.loop-place-test.true c.index-keys-place.is
     (ap (map nonterminal_view) c.in_ok-push.ensures.ok ∙ map-append nonterminal_view c.loop-place.made (c.in_ok-key_rule.field-0 ∷ []))
     (c.loop-place.invariant f spelled)
@@ -40,7 +40,8 @@ returns-clause-made g c = λ f spelled.
     let tables = c.args.tables.now in
     let finds = g.F.Finder.finds c.args.finder.now in
     subst (λ l. AreRulesFrom
-    (λ j y q. IsRuleOfKey tables finds y (f y) (span_at c.args.spans.now (span_view c.args.otherwise) j) q) 0 (map closed_view l) (map nonterminal_view c.loop-place.made))
+    (λ j y q. IsRuleOfKey tables finds y (f y) (span_of_key c.args.spans.now (span_view c.args.otherwise) j) q) 0 (map closed_view l)
+    (map nonterminal_view c.loop-place.made))
     (take_all c.loop-place.place c.args.keys.now (omega (arith, c.loop-place-test.false))) (c.loop-place.invariant f spelled)
 
 pub returns-in_err-key_rule-clause-fault : goal.returns-in_err-key_rule-clause-fault

@@ -10,7 +10,8 @@ pub returns-clause-made : goal.returns-clause-made
 returns-clause-made g c =
     ok_from _ _ c.all_key_rules.result
     (λ made m. finished_of c.args.tables.now (g.F.Finder.finds c.args.finder.now) (grammar_view c.args.grammar.now) c.args.spans.now
-    (span_view c.args.grammar.now.span) (map closed_view c.keys-keys.result.now) c.requires.of_grammar c.requires.written c.keys-keys.ensures
+    (span_view c.args.grammar.now.span) (map closed_view c.keys-keys.result.now) c.requires.of_grammar c.requires.written
+    c.keys-keys.ensures
     (map nonterminal_view made) m)
     c.all_key_rules.ensures.made
 

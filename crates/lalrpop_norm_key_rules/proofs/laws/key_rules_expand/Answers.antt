@@ -13,7 +13,8 @@ returns-clause-expanded c = λ finds features w f places keys made found names d
     let g = grammar_between finds w in
     let h = grammar_between finds (grammar_with_rules w made) in
     let rules = finished_key_rules finds w f keys found.calls places made found.flat found.table names.once names.apart names.own done in
-    let declared = finished_declarations finds w f keys found.calls places made found.flat found.table names.once names.apart names.own done in
+    let declared = finished_declarations finds w f keys found.calls places made found.flat found.table names.once names.apart names.own
+    done in
     let expansion = table_expansion g h f found.depth found.calls keys (λ n r i. found.flat r (rule_there g n r i).0) found.found
     found.table rules in
     record {
