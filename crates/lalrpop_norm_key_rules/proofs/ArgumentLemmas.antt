@@ -40,7 +40,8 @@ call_shown n (x ∷ xs) v p some e = ap without_marks e
 
 -- a call of a key
 pub key_argument :
-    (f : Text → Text) (x : Closed) (n spelled : Text) (args : List ClosedSymbol) (level : Option ℕ) (vs : List Symbol) (v : WrittenSymbol)
+    (f : Text → Text) (x : Closed) (n spelled : Text) (args : List ClosedSymbol) (level : Option ℕ) (vs : List Symbol)
+    (v : WrittenSymbol)
     → x ≡ Closed.call n (closeds (map closed_view args)) level → spelled ≡ f n
     → arguments_view vs ≡ argument_list f (closeds (map closed_view args))
     → without_marks v ≡ call_as_argument spelled (all_without_marks (syms (map symbol_view vs))) → without_marks v ≡ as_argument f x

@@ -42,7 +42,7 @@ use Rattle.lalrpop_norm_key_rules.specs.KeyedSymbols.{AreKeyed, AreWrittenByName
 use Rattle.lalrpop_norm_key_rules.specs.RulesUnder.{IsAddedRuleUnder, IsInstanceRuleUnder}
 use Rattle.lalrpop_norm_key_rules.specs.UsableSymbols.{AreUsable, IsRightGrammar, IsUsable}
 use Rattle.lalrpop_norm_key_rules.specs.WrittenKeys.{AreRulesOfKeys, IsCalledRule, IsRuleOfKey, TellsOfOneKey, span_of_key}
-use Rattle.lalrpop_norm_key_rules.specs.KeyRuleLaws.{AreRulesUnderNames, TellsOfFoundKeys}
+use Rattle.lalrpop_norm_key_rules.specs.KeyRuleLaws.{AreRulesUnderNames, TellsOfRightKeys}
 use Rattle.lalrpop_norm_key_rules.specs.WrittenRules.{HasWritten, spelled_by, spelled_in, written_at}
 use Rattle.lalrpop_norm_key_rules.specs.declared.names.KeyNames.{KeyNames}
 use Rattle.lalrpop_norm_key_rules.specs.declared.rules.KeyRules.{KeyRules}
@@ -452,7 +452,7 @@ pub told_of : {T : Type 0} (c : KeyRules) (finds : Text → Text → Option Bool
     → grammar_view c.rules.now.grammar.now ≡ w → HasWritten c.written.now (rules_of w.items)
     → ys ≡ table_keys c.names.now.keys.now
     → (res : Result T NormFault) → IfErr res (TellsOfOneKey c finds deep ys)
-    → IfErr res (TellsOfFoundKeys finds deep c.rules.now.features.now w (table_keys c.names.now.keys.now))
+    → IfErr res (TellsOfRightKeys finds deep c.rules.now.features.now w (table_keys c.names.now.keys.now))
 told_of c finds deep w ys same are all (Ok x) t = t
 told_of c finds deep w ys same are all (Err e) t = λ known.
     tells_of_key c finds w same are known.active known.right known.flat known.depth known.calls known.found known.table deep e

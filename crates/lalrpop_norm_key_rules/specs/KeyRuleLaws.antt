@@ -24,7 +24,7 @@ use Rattle.lalrpop_norm_key_rules.specs.UsableSymbols.{IsRightGrammar}
 
 -- A grammar between two passes of which nothing is disabled under the features, whose names are resolved, without levels and
 -- without `!` in an alternative; its calls are found, and these are its keys.
-pub record HasFoundKeys (finds : Text → Text → Option Bool) (features : List Text) (w : Grammar) (keys : List Closed) : Type 0 where
+pub record HasRightKeys (finds : Text → Text → Option Bool) (features : List Text) (w : Grammar) (keys : List Closed) : Type 0 where
   pub active : HasAllActive features (rules_of w.items)
   pub right : IsRightGrammar (grammar_between finds w)
   pub flat : HasNoLevels (grammar_between finds w)
@@ -38,16 +38,16 @@ abbrev pub AreRulesUnderNames : (Text → Text → Option Bool) → List Text �
     → (ℕ → TextSpan)
     → List Rule → Type 0
 AreRulesUnderNames finds features w keys names places made =
-    HasFoundKeys finds features w keys → (f : Closed → Text) → map f keys ≡ names → AreFinishedRules finds w f places keys made
+    HasRightKeys finds features w keys → (f : Closed → Text) → map f keys ≡ names → AreFinishedRules finds w f places keys made
 
 -- for such a grammar something is told of a condition of a call that is made, or memory ran out
-abbrev pub TellsOfFoundKeys : (Text → Text → Option Bool) → (Text → Bool) → List Text → Grammar → List Closed → NormFault
+abbrev pub TellsOfRightKeys : (Text → Text → Option Bool) → (Text → Bool) → List Text → Grammar → List Closed → NormFault
     → Type 0
-TellsOfFoundKeys finds deep features w keys fault =
-    HasFoundKeys finds features w keys → TellsOfMadeCall (grammar_between finds w) deep fault
+TellsOfRightKeys finds deep features w keys fault =
+    HasRightKeys finds features w keys → TellsOfMadeCall (grammar_between finds w) deep fault
 
 -- Keys have names of their own: no two share one, and a rule that is no macro keeps its name.
-pub record AreKeyNames (finds : Text → Text → Option Bool) (w : Grammar) (f : Closed → Text) (keys : List Closed) : Type 0 where
+pub record AreOwnNames (finds : Text → Text → Option Bool) (w : Grammar) (f : Closed → Text) (keys : List Closed) : Type 0 where
   pub once : HasEachOnce keys
   pub apart : (x y : Closed) → Among keys x → Among keys y → f x ≡ f y → x ≡ y
   pub own : (n : Text) (r : EnabledRule) → IsRule (grammar_between finds w) n r → r.parameters ≡ []
@@ -68,7 +68,7 @@ pub record HasExpandedMacros (finds : Text → Text → Option Bool) (w made : G
 abbrev pub FinishedRulesExpand : Type 0
 FinishedRulesExpand =
     (finds : Text → Text → Option Bool) (features : List Text) (w : Grammar) (f : Closed → Text) (places : ℕ → TextSpan)
-    (keys : List Closed) (made : List Rule) → HasFoundKeys finds features w keys → AreKeyNames finds w f keys
+    (keys : List Closed) (made : List Rule) → HasRightKeys finds features w keys → AreOwnNames finds w f keys
     → AreFinishedRules finds w f places keys made → HasExpandedMacros finds w (grammar_with_rules w made) f keys
 
 -- where names are resolved, no alternative has `!`, and no wrong number of arguments is told, the grammar is right

@@ -8,7 +8,7 @@ ghost use Rattle.lalrpop_grammar_rules.specs.RuleTable.{IsTable};
 ghost use Rattle.lalrpop_norm_key_rules.specs.WrittenRules.{HasWritten};
 ghost use Rattle.lalrpop_grammar_closed.specs.Views.{closed_view};
 ghost use Rattle.lalrpop_norm_key_table.specs.Tables.{IsKeyIndex, table_keys};
-ghost use Rattle.lalrpop_norm_key_rules.specs.KeyRuleLaws.{AreRulesUnderNames, TellsOfFoundKeys};
+ghost use Rattle.lalrpop_norm_key_rules.specs.KeyRuleLaws.{AreRulesUnderNames, TellsOfRightKeys};
 ghost use Rattle.lalrpop_norm_key_rules.specs.KeyNaming.{IsNameAt};
 ghost use Rattle.lalrpop_norm_key_rules.specs.WrittenKeys.{AreReady, AreRulesOfKeys, TellsOfOneKey, span_of_key};
 
@@ -81,7 +81,7 @@ fn finished_rules<F: Finder>(
     ensures made { IfOk result (λ made. AreRulesUnderNames (F.finds finder.now) tables.now.rules.now.features.now
         (grammar_view grammar.now) (table_keys tables.now.names.now.keys.now) tables.now.names.now.names.now
         (span_of_key spans.now (span_view grammar.now.span)) (map nonterminal_view made)) }
-    ensures fault { IfErr result (TellsOfFoundKeys (F.finds finder.now) (F.too_deep finder.now)
+    ensures fault { IfErr result (TellsOfRightKeys (F.finds finder.now) (F.too_deep finder.now)
         tables.now.rules.now.features.now (grammar_view grammar.now) (table_keys tables.now.names.now.keys.now)) }
 {
     let keys = tables.names.keys.keys();
@@ -112,7 +112,7 @@ pub fn key_rules<F: Finder>(
     requires index { IsKeyIndex keys.now }
     ensures made { IfOk result (λ made. AreRulesUnderNames (F.finds finder.now) rules.now.features.now (grammar_view grammar.now)
         (table_keys keys.now) names.now (span_of_key spans.now (span_view grammar.now.span)) (map nonterminal_view made)) }
-    ensures fault { IfErr result (TellsOfFoundKeys (F.finds finder.now) (F.too_deep finder.now) rules.now.features.now
+    ensures fault { IfErr result (TellsOfRightKeys (F.finds finder.now) (F.too_deep finder.now) rules.now.features.now
         (grammar_view grammar.now) (table_keys keys.now)) }
 {
     let written = written_rules(alloc, grammar)?;
