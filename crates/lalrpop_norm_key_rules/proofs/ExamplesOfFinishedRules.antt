@@ -1,5 +1,5 @@
 -- Computed examples of finished rules: an instance of a macro, a repeat and a group, each with answers that are refused.
-use Rattle.std.proofs.Common.{◌≡◌, List, [], ◌∷◌, ap, refl, inl, inr, subst}
+use Rattle.std.proofs.Common.{◌≡◌, List, [], ◌∷◌, ap, refl, inl, inr, subst, sym}
 use Rattle.std.specs.Str.{bytes_eq}
 use Rattle.std.proofs.lemmas.Bool.{true≢false}
 use Rattle.std.specs.Prelude.{Bool, true, false, Option, Some, None, codes}
@@ -7,11 +7,18 @@ use Rattle.lalrpop_grammar_symbols.specs.Symbols.{Text, TextSpan, Terminal, Op, 
 use Rattle.lalrpop_grammar_symbols.specs.Texts.{escape_byte}
 use Rattle.lalrpop_grammar.specs.WrittenGrammar.{Action, Alternative, Attr, ConditionTest, Grammar, Origin, Rule, Ty, Tys}
 use Rattle.lalrpop_grammar.specs.WrittenGrammar.{WrittenItem, rules_of}
+use Rattle.lalrpop_grammar_language.specs.Among.{Among}
 use Rattle.lalrpop_grammar_language.specs.Enabled.{EnabledGrammar}
-use Rattle.lalrpop_norm_expansion.specs.Between.{grammar_between}
+use Rattle.lalrpop_grammar_language.specs.Conditions.{Holds}
+use Rattle.lalrpop_grammar_language.specs.Admitting.{bind}
+use Rattle.lalrpop_norm_expansion.specs.Between.{grammar_between, rule_between}
 use Rattle.lalrpop_norm_expansion.specs.Keys.{flat_key_text}
+use Rattle.lalrpop_norm_expansion.specs.Types.{type_scope}
 use Rattle.lalrpop_norm_pass_laws.specs.KeyRules.{AreWrittenFor}
-use Rattle.lalrpop_norm_key_rules.specs.FinishedRules.{IsFinishedRule}
+use Rattle.lalrpop_norm_back_laws.specs.KeyTypes.{IsPutDeclaration}
+use Rattle.lalrpop_norm_key_rules.specs.FinishedRules.{BecomesInInstance, IsFinishedRule}
+use Rattle.lalrpop_norm_key_rules.specs.InstanceRules.{AreInstancesBy, IsInstanceRule}
+use Rattle.lalrpop_norm_key_rules.specs.KeyedSymbols.{AreWrittenByName}
 
 -- M<T>: Vec<T> = { T if T == "a" => x, T if T == "b" => y }, inlined
 abbrev here : TextSpan
@@ -206,3 +213,103 @@ star_of_itself_refused m =
     let same : second.0 ≡ added_here Origin.star_some (by_text star_key ∷ []) = cc (rest, second.2) in
     let written = subst (λ (z : Alternative). AreWrittenFor g.bares flat_key_text (plus_key ∷ []) z.expr) same second.3.symbols_are.1 in
     true≢false (ap (λ t. bytes_eq t (flat_key_text star_key)) written.0.0)
+
+-- `("a")` is `"a"`, and declares nothing
+abbrev group_key : Closed
+group_key = Closed.group (Closeds.more a_symbol Closeds.none)
+
+abbrev made_group : Option Ty → List WrittenSymbol → Rule
+made_group declared xs = record {
+  public = false;
+  name = flat_key_text group_key;
+  attributes = Attr.empty here (codes "inline") ∷ [];
+  span = here;
+  parameters = [];
+  declared = declared;
+  alternatives = added_here Origin.group xs ∷ [];
+}
+
+abbrev IsGroupRule : Rule → Type 0
+IsGroupRule q = IsFinishedRule g (rules_of grammar.items) flat_key_text (group_key ∷ []) group_key here q
+
+group_rule : IsGroupRule (made_group None (Sym.terminal here (literal (codes "a")) ∷ []))
+group_rule = record {
+  name = refl;
+  private = refl;
+  attributes = refl;
+  span = refl;
+  parameters = refl;
+  declared = refl;
+  alternatives = (
+    added_here Origin.group (Sym.terminal here (literal (codes "a")) ∷ []),
+    [],
+    refl,
+    record {
+      span = refl;
+      symbols_are = ((tt, tt, tt), ((refl, tt), tt));
+      unconditional = refl;
+      action = refl;
+      no_attributes = refl;
+      origin = refl;
+    },
+    refl,
+  );
+}
+
+-- refused: one with a type, and one without its symbol
+group_with_type_refused : (z : Ty) (xs : List WrittenSymbol) → IsGroupRule (made_group (Some z) xs) → ⊥
+group_with_type_refused z xs m = let e : Some z ≡ None = m.declared in cc
+
+group_without_symbol_refused : IsGroupRule (made_group None []) → ⊥
+group_without_symbol_refused m =
+    let a = m.alternatives in
+    let same : a.0 ≡ added_here Origin.group [] = cc (a.2) in
+    (subst (λ (z : Alternative). AreWrittenByName g.bares flat_key_text (group_key ∷ []) (a_symbol ∷ []) z.expr) same a.3.symbols_are).1
+
+-- an instance is one of the one macro
+abbrev arguments : Closeds
+arguments = Closeds.more a_symbol Closeds.none
+
+abbrev IsInstanceOf : Rule → Rule → Type 0
+IsInstanceOf r q =
+    IsInstanceRule (IsPutDeclaration g.bares flat_key_text (m_of_a ∷ []) (type_scope g (rule_between r) arguments))
+    (Holds g (bind (rule_between r) arguments)) (BecomesInInstance g flat_key_text (m_of_a ∷ []) (rule_between r) arguments)
+    arguments (flat_key_text m_of_a) r q
+
+one_macro : (q : Rule) → IsFinishedRule g (rules_of grammar.items) flat_key_text (m_of_a ∷ []) m_of_a here q → IsInstanceOf macro_m q
+one_macro q (written, c, m) = go written c.among m
+  where
+    go : (r : Rule) → Among (rules_of grammar.items) r → IsInstanceOf r q → IsInstanceOf macro_m q
+    go r (inl k) n = subst (λ (z : Rule). IsInstanceOf z q) (sym k) n
+    go r (inr k) n = absurd k
+
+-- refused: one whose origin has no arguments, and one whose type has the parameter
+abbrev without_argument : Alternative
+without_argument = made_alternative (Origin.alternative (codes "M") [] 0)
+
+bare_origin_refused : IsFinishedRule g (rules_of grammar.items) flat_key_text (m_of_a ∷ []) m_of_a here (made_m (without_argument ∷ []))
+    → ⊥
+bare_origin_refused m = go (one_macro (made_m (without_argument ∷ [])) m).alternatives
+  where
+    go : AreInstancesBy (Holds g (bind (rule_between macro_m) arguments))
+        (BecomesInInstance g flat_key_text (m_of_a ∷ []) (rule_between macro_m) arguments) macro_m.alternatives (without_argument ∷ [])
+        → ⊥
+    go (inl (h, b, rest, e, d, more)) =
+        let same : b ≡ without_argument = cc (e) in
+        let o = subst (λ (z : Alternative). z.origin ≡ with_argument) same d.origin in cc (o)
+    go (inr (h, more)) = h refl
+
+abbrev with_parameter : Ty
+with_parameter = Ty.nominal (codes "Vec") (Tys.more (Ty.id (codes "T")) Tys.none)
+
+parameter_left_refused : IsInstanceOf macro_m (record (made_m []) { declared = Some with_parameter }) → ⊥
+parameter_left_refused m =
+    let d = m.declared in
+    let vec = d.2 in
+    let first = vec.2 in
+    let put = first.3 in
+    let one : Some with_parameter ≡ Some d.0 = d.1 in
+    let two : d.0 ≡ Ty.nominal (codes "Vec") vec.0 = vec.1 in
+    let three : vec.0 ≡ Tys.more first.0 first.1 = first.2 in
+    let four : first.0 ≡ Ty.of_symbol put.0 = put.1 in
+    let inside : Ty.id (codes "T") ≡ Ty.of_symbol put.0 = cc (one, two, three, four) in cc
