@@ -1,0 +1,5 @@
+pub mod AmongLemmas
+pub mod WalkLemmas
+pub mod SearchLemmas
+pub mod NamedLemmas
+pub mod OrderLemmas

@@ -1,0 +1,4 @@
+pub mod InlinedNames
+pub mod InliningOrders
+pub mod InlineFaults
+pub mod OrderSearches

@@ -1,0 +1,9 @@
+//! Inlining: each place of an inlined nonterminal in a right side is replaced by each of its productions.
+#![tactic(auto)]
+
+mod fault;
+mod named;
+mod order;
+
+pub use fault::InlineFault;
+pub use order::inline_order;
