@@ -3,3 +3,4 @@ pub mod WalkLemmas
 pub mod SearchLemmas
 pub mod NamedLemmas
 pub mod OrderLemmas
+pub mod ExamplesOfInliningOrders

@@ -245,3 +245,31 @@ pub order_none : (g : NonterminalEntries) (order : List Text) → IsInliningOrde
     (n : Text) → IsInlinedIntoItself g n → ⊥
 order_none g order o all n r =
     no_return g [] order (order_next g order o) (λ n i m j. i) n ((order_all g order o all n).0 r.is_inlined) r.between r.chain
+
+-- names that are walked behind the same ones have one walk
+walk_unique : (g : NonterminalEntries) (before ns : List Text) (w v : OrderWalk) → IsOrderWalk g before ns w → IsOrderWalk g before ns v →
+    order_of_walk w ≡ order_of_walk v
+walk_unique g before [] OrderWalk.no_more OrderWalk.no_more h k = refl
+walk_unique g before [] OrderWalk.no_more (OrderWalk.met_before v) h k = absurd k
+walk_unique g before [] OrderWalk.no_more (OrderWalk.met_first l other v) h k = absurd k
+walk_unique g before [] (OrderWalk.met_before w) v h k = absurd h
+walk_unique g before [] (OrderWalk.met_first m inside w) v h k = absurd h
+walk_unique g before (x ∷ ns) OrderWalk.no_more v h k = absurd h
+walk_unique g before (x ∷ ns) (OrderWalk.met_before w) OrderWalk.no_more h k = absurd k
+walk_unique g before (x ∷ ns) (OrderWalk.met_before w) (OrderWalk.met_before v) h k = walk_unique g before ns w v h.1 k.1
+walk_unique g before (x ∷ ns) (OrderWalk.met_before w) (OrderWalk.met_first l other v) h k = absurd (k.1 h.0)
+walk_unique g before (x ∷ ns) (OrderWalk.met_first m inside w) OrderWalk.no_more h k = absurd k
+walk_unique g before (x ∷ ns) (OrderWalk.met_first m inside w) (OrderWalk.met_before v) h k = absurd (h.1 k.0)
+walk_unique g before (x ∷ ns) (OrderWalk.met_first m inside w) (OrderWalk.met_first l other v) h k =
+    let same : order_of_walk inside ≡ order_of_walk other =
+    walk_unique g before (reverse (inlined_named_by g x)) inside other h.2 k.2 in
+    let behind : order_of_walk w ≡ order_of_walk v =
+    walk_unique g (before ++ order_of_walk inside ++ x ∷ []) ns w v h.3
+    (subst (λ (o : List Text). IsOrderWalk g (before ++ o ++ x ∷ []) ns v) (sym same) k.3) in
+    ap (λ o. o ++ m ∷ order_of_walk w) same ∙ ap (λ y. order_of_walk other ++ y ∷ order_of_walk w) (h.0 ∙ sym k.0)
+    ∙ ap (λ o. order_of_walk other ++ l ∷ o) behind
+
+-- a grammar has one order
+pub order_unique : (g : NonterminalEntries) (order other : List Text) → IsInliningOrder g order → IsInliningOrder g other →
+    order ≡ other
+order_unique g order other o p = sym o.2 ∙ walk_unique g [] (inlined_names g) o.0 p.0 o.1 p.1 ∙ p.2

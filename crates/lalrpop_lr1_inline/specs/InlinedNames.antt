@@ -1,9 +1,10 @@
 -- Which nonterminals of a lowered grammar are inlined, and which of them the productions of each one name.
 use Rattle.std.specs.Prelude.{Bool, false, List, [], ◌∷◌, Option, Some, None, codes, filter, flat_map, map}
+use Rattle.std.specs.List.{list_any}
+use Rattle.std.specs.Str.{bytes_eq}
 use Rattle.lalrpop_grammar_symbols.specs.Symbols.{Text}
 use Rattle.lalrpop_grammar_symbols.specs.declared.names.NonterminalString.{NonterminalString}
-use Rattle.lalrpop_grammar.specs.Views.{attribute_view}
-use Rattle.lalrpop_grammar_language.specs.Enabled.{has_attr}
+use Rattle.lalrpop_grammar_types.specs.declared.attribute.Attribute.{Attribute}
 use Rattle.lalrpop_grammar_repr.specs.Maps.{at_name}
 use Rattle.lalrpop_grammar_repr.specs.Productions.{productions_in}
 use Rattle.lalrpop_grammar_repr.specs.declared.production.NonterminalData.{NonterminalData}
@@ -22,8 +23,12 @@ name_of_text n = record { 0 = n }
 abbrev pub data_named : NonterminalEntries → Text → Option NonterminalData
 data_named g n = at_name (name_of_text n) g
 
+-- the attribute is `inline`
+abbrev pub is_inline_mark : Attribute → Bool
+is_inline_mark a = bytes_eq a.id (codes "inline")
+
 abbrev pub is_marked_inline : NonterminalData → Bool
-is_marked_inline d = has_attr (codes "inline") (map attribute_view d.attributes)
+is_marked_inline d = list_any is_inline_mark d.attributes
 
 abbrev pub is_marked_data : Option NonterminalData → Bool
 is_marked_data None = false

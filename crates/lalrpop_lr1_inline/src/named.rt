@@ -1,22 +1,43 @@
 //! Which nonterminals are inlined, and sets of names.
 
 ghost use Rattle.std.specs.Prelude.{◌≡◌, ◌||◌, OnOk};
+ghost use Rattle.std.specs.List.{list_any};
 ghost use Rattle.std.specs.Str.{bytes_eq};
 ghost use Rattle.lalrpop_grammar_symbols.specs.Symbols.{Text};
 ghost use Rattle.lalrpop_grammar_rules.specs.RuleTable.{knows};
-ghost use Rattle.lalrpop_lr1_inline.specs.InlinedNames.{is_inlined_name, is_marked_inline};
+ghost use Rattle.lalrpop_lr1_inline.specs.InlinedNames.{is_inline_mark, is_inlined_name, is_marked_inline};
 
+use lalrpop_grammar::Attribute;
 use lalrpop_grammar_repr::{Grammar, NonterminalData};
-use lalrpop_grammar_rules::{INLINE, has_attribute};
+use lalrpop_grammar_rules::INLINE;
 use lalrpop_grammar_symbols::NonterminalString;
 use std::alloc::AllocError;
 use std::collections::HashMap;
+
+/// Whether the attribute is `inline`.
+fn is_mark(attribute: &Attribute) -> bool
+    ensures { result ≡ is_inline_mark attribute.now }
+{
+    attribute.id.as_str() == INLINE
+}
+
+/// Whether one of the attributes is `inline`.
+fn has_mark(attributes: &[Attribute]) -> bool
+    ensures { result ≡ list_any is_inline_mark attributes.now }
+{
+    for attribute in attributes {
+        if is_mark(attribute) {
+            return true;
+        }
+    }
+    false
+}
 
 /// Whether the nonterminal is marked `inline`.
 pub(crate) fn is_marked(rule: &NonterminalData) -> bool
     ensures { result ≡ is_marked_inline rule.now }
 {
-    has_attribute(INLINE, rule.attributes.as_slice())
+    has_mark(rule.attributes.as_slice())
 }
 
 /// Whether the grammar has a nonterminal of this name that is marked `inline`.
