@@ -16,16 +16,16 @@ use Rattle.lalrpop_lr1_inline.specs.InliningOrders.{IsInliningOrder, OrderWalk}
 use Rattle.lalrpop_lr1_inline.specs.InlineFaults.{IsInlinedIntoItself}
 use Rattle.lalrpop_lr1_inline.proofs.OrderLemmas.{order_named_first, order_unique}
 
-abbrev n : String → Symbol
+abbrev pub n : String → Symbol
 n s = symbols.Nonterminal (name_of_text (codes s))
 
-abbrev t : String → Symbol
+abbrev pub t : String → Symbol
 t s = symbols.Terminal (terminals.Bare (codes s))
 
-abbrev marked : List Attribute
+abbrev pub marked : List Attribute
 marked = record { span = record { 0 = 0; 1 = 0 }; id = codes "inline"; arg = args.Empty } ∷ []
 
-abbrev production : String → ℕ → List Symbol → Production
+abbrev pub production : String → ℕ → List Symbol → Production
 production s action side = record {
   nonterminal = name_of_text (codes s);
   symbols = side;
@@ -33,7 +33,7 @@ production s action side = record {
   span = record { 0 = 0; 1 = 0 };
 }
 
-abbrev rule : String → List Attribute → List Production → NonterminalString × NonterminalData
+abbrev pub rule : String → List Attribute → List Production → NonterminalString × NonterminalData
 rule s attributes ps = (name_of_text (codes s), record {
   name = name_of_text (codes s);
   attributes = attributes;
@@ -42,7 +42,7 @@ rule s attributes ps = (name_of_text (codes s), record {
 })
 
 -- S = A "z"; A = B "y"; B = { "p", "q" }, of which A and B are inlined
-abbrev nested : NonterminalEntries
+abbrev pub nested : NonterminalEntries
 nested =
     rule "A" marked (production "A" 0 (n "B" ∷ t "y" ∷ []) ∷ [])
     ∷ rule "B" marked (production "B" 1 (t "p" ∷ []) ∷ production "B" 2 (t "q" ∷ []) ∷ [])

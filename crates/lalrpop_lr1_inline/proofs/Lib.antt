@@ -3,4 +3,7 @@ pub mod WalkLemmas
 pub mod SearchLemmas
 pub mod NamedLemmas
 pub mod OrderLemmas
+pub mod RecordLemmas
+pub mod MadeLemmas
 pub mod ExamplesOfInliningOrders
+pub mod ExamplesOfInliningSteps

@@ -2,3 +2,4 @@ pub mod InlinedNames
 pub mod InliningOrders
 pub mod InlineFaults
 pub mod OrderSearches
+pub mod InliningSteps

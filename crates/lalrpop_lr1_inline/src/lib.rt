@@ -2,8 +2,10 @@
 #![tactic(auto)]
 
 mod fault;
+mod made;
 mod named;
 mod order;
+mod records;
 
 pub use fault::InlineFault;
 pub use order::inline_order;
