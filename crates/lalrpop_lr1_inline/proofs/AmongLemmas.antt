@@ -76,7 +76,8 @@ pub found_text : (n : Text) (ns : List Text) → has_text n ns ≡ true → Amon
 found_text n [] h = absurd (let wrong : false ≡ true = h in cc)
 found_text n (m ∷ ms) h = go (bytes_eq n m) refl h (λ k. found_text n ms k)
   where
-    go : (b : Bool) → bytes_eq n m ≡ b → (b || has_text n ms) ≡ true → (has_text n ms ≡ true → Among ms n) → Among (m ∷ ms) n
+    go : (b : Bool) → bytes_eq n m ≡ b → (b || has_text n ms) ≡ true → (has_text n ms ≡ true → Among ms n) → Among (m
+        ∷ ms) n
     go true e h ih = inl (sym ((bytes_eq-Decides n m).0 e))
     go false e h ih = inr (ih h)
 

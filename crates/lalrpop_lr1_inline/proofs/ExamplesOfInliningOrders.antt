@@ -11,7 +11,7 @@ use Rattle.lalrpop_grammar_repr.specs.declared.production.NonterminalData.{Nonte
 use Rattle.lalrpop_grammar_repr.specs.declared.production.Production.{Production}
 use Rattle.lalrpop_grammar_repr.specs.declared.production.Symbol.{Symbol}
 use Rattle.lalrpop_grammar_repr.specs.declared.production.Symbol.TheVariants as symbols
-use Rattle.lalrpop_lr1_inline.specs.InlinedNames.{NonterminalEntries, inlined_named_by, inlined_names, name_of_text}
+use Rattle.lalrpop_lr1_inline.specs.InlinedNames.{NonterminalEntries, inlined_named_by, name_of_text}
 use Rattle.lalrpop_lr1_inline.specs.InliningOrders.{IsInliningOrder, OrderWalk}
 use Rattle.lalrpop_lr1_inline.specs.InlineFaults.{IsInlinedIntoItself}
 use Rattle.lalrpop_lr1_inline.proofs.OrderLemmas.{order_named_first, order_unique}
@@ -34,12 +34,15 @@ production s action side = record {
 }
 
 abbrev pub rule : String → List Attribute → List Production → NonterminalString × NonterminalData
-rule s attributes ps = (name_of_text (codes s), record {
-  name = name_of_text (codes s);
-  attributes = attributes;
-  span = record { 0 = 0; 1 = 0 };
-  productions = ps;
-})
+rule s attributes ps = (
+  name_of_text (codes s),
+  record {
+    name = name_of_text (codes s);
+    attributes = attributes;
+    span = record { 0 = 0; 1 = 0 };
+    productions = ps;
+  },
+)
 
 -- S = A "z"; A = B "y"; B = { "p", "q" }, of which A and B are inlined
 abbrev pub nested : NonterminalEntries

@@ -1,5 +1,4 @@
 -- Computed examples of steps: the records and the productions that they make, in order, and what they don't make.
-use Prim.Native.String.{String}
 use Rattle.std.proofs.Common.{◌≡◌, ◌+◌, ℕ, List, [], ◌∷◌, refl, ap, inl, inr, arith, true, false, length, map}
 use Rattle.std.specs.Prelude.{Bool, None, codes}
 use Rattle.lalrpop_grammar_language.specs.Among.{Among}
@@ -11,8 +10,8 @@ use Rattle.lalrpop_grammar_repr.specs.declared.production.Production.{Production
 use Rattle.lalrpop_grammar_repr.specs.declared.production.Symbol.{Symbol}
 use Rattle.lalrpop_grammar_types.specs.declared.type_repr.TypeRepr.TheVariants as types
 use Rattle.lalrpop_lr1_inline.specs.InlinedNames.{NonterminalEntries}
-use Rattle.lalrpop_lr1_inline.specs.InliningSteps.{IsInlineDefinition, IsInlineStep, all_records_after, entries_after, numbers_after}
-use Rattle.lalrpop_lr1_inline.specs.InliningSteps.{productions_after, productions_named, records_in_place, records_of, side_of_record}
+use Rattle.lalrpop_lr1_inline.specs.InliningSteps.{IsInlineDefinition, all_records_after, entries_after, numbers_after}
+use Rattle.lalrpop_lr1_inline.specs.InliningSteps.{productions_after, productions_named, records_of}
 use Rattle.lalrpop_lr1_inline.proofs.ExamplesOfInliningOrders.{marked, n, nested, production, rule, t}
 
 abbrev by : ℕ → List Symbol → InlinedSymbol
@@ -40,7 +39,8 @@ in_order = refl
 
 -- each with an action of its own, behind those that are there
 four_made : productions_after (codes "Op") a_or_b (production "S" 2 both ∷ []) 3
-    ≡ production "S" 3 (t "a" ∷ t "a" ∷ []) ∷ production "S" 4 (t "a" ∷ t "b" ∷ []) ∷ production "S" 5 (t "b" ∷ t "a" ∷ [])
+    ≡ production "S" 3 (t "a" ∷ t "a" ∷ []) ∷ production "S" 4 (t "a" ∷ t "b" ∷ []) ∷ production "S" 5 (t "b" ∷ t "a"
+    ∷ [])
     ∷ production "S" 6 (t "b" ∷ t "b" ∷ []) ∷ []
 four_made = refl
 
@@ -61,11 +61,13 @@ two_made : productions_after (codes "Op") alike (production "S" 2 (n "Op" ∷ t 
 two_made = refl
 
 -- they aren't made one
-merged : (p : Production) → productions_after (codes "Op") alike (production "S" 2 (n "Op" ∷ t "x" ∷ []) ∷ []) 3 ≡ p ∷ [] → ⊥
+merged : (p : Production) → productions_after (codes "Op") alike (production "S" 2 (n "Op" ∷ t "x" ∷ []) ∷ []) 3 ≡ p
+    ∷ [] → ⊥
 merged p e = (let many : ◌≡◌ {A = ℕ} 2 1 = ap length e in omega (arith, many))
 
 -- a production that doesn't name it stays as it is, with its action
-stays : productions_after (codes "Op") alike (production "S" 2 (t "x" ∷ n "S" ∷ []) ∷ []) 3 ≡ production "S" 2 (t "x" ∷ n "S" ∷ []) ∷ []
+stays : productions_after (codes "Op") alike (production "S" 2 (t "x" ∷ n "S" ∷ []) ∷ []) 3 ≡ production "S" 2 (t "x"
+    ∷ n "S" ∷ []) ∷ []
 stays = refl
 
 -- one that names a nonterminal without productions is gone
@@ -87,7 +89,7 @@ after_A =
     rule "A" marked (production "A" 4 (t "p" ∷ t "y" ∷ []) ∷ production "A" 5 (t "q" ∷ t "y" ∷ []) ∷ [])
     ∷ rule "B" marked (production "B" 1 (t "p" ∷ []) ∷ production "B" 2 (t "q" ∷ []) ∷ [])
     ∷ rule "S" []
-        (production "S" 6 (t "p" ∷ t "y" ∷ t "z" ∷ []) ∷ production "S" 7 (t "q" ∷ t "y" ∷ t "z" ∷ []) ∷ []) ∷ []
+    (production "S" 6 (t "p" ∷ t "y" ∷ t "z" ∷ []) ∷ production "S" 7 (t "q" ∷ t "y" ∷ t "z" ∷ []) ∷ []) ∷ []
 
 -- inlined nonterminals stay
 second_step : entries_after (codes "A") (productions_named after_B (codes "A")) after_B 6 ≡ after_A
@@ -104,7 +106,8 @@ all_numbers = refl
 -- S = A; A = B B; B = C C; C = { "p", "q" }: numbers of all steps count, those of productions that a later step replaces too
 abbrev doubling : NonterminalEntries
 doubling =
-    rule "A" marked (production "A" 0 (n "B" ∷ n "B" ∷ []) ∷ []) ∷ rule "B" marked (production "B" 1 (n "C" ∷ n "C" ∷ []) ∷ [])
+    rule "A" marked (production "A" 0 (n "B" ∷ n "B" ∷ []) ∷ []) ∷ rule "B" marked (production "B" 1 (n "C" ∷ n "C" ∷ [])
+    ∷ [])
     ∷ rule "C" marked (production "C" 2 (t "p" ∷ []) ∷ production "C" 3 (t "q" ∷ []) ∷ [])
     ∷ rule "S" [] (production "S" 4 (n "A" ∷ []) ∷ []) ∷ []
 
@@ -119,11 +122,17 @@ abbrev some_actions : List ActionFnDefn
 some_actions = action_of true (codes "u8") ∷ action_of false (codes "u16") ∷ action_of false (codes "u32") ∷ []
 
 fails_by_inlined : IsInlineDefinition some_actions (production "S" 2 both) (a ∷ b ∷ [])
-    (record { fallible = true; ret_type = types.Opaque (codes "u32");
-      kind = kinds.Inline (record { action = record { 0 = 2 }; symbols = a ∷ b ∷ [] }) })
+    (record {
+      fallible = true;
+      ret_type = types.Opaque (codes "u32");
+      kind = kinds.Inline (record { action = record { 0 = 2 }; symbols = a ∷ b ∷ [] });
+    })
 fails_by_inlined = record { outer = action_of false (codes "u32"); has_outer = refl; fallible_is = refl; type_is = refl; kind_is = refl }
 
 fails_by_none : IsInlineDefinition some_actions (production "S" 2 both) (b ∷ b ∷ [])
-    (record { fallible = false; ret_type = types.Opaque (codes "u32");
-      kind = kinds.Inline (record { action = record { 0 = 2 }; symbols = b ∷ b ∷ [] }) })
+    (record {
+      fallible = false;
+      ret_type = types.Opaque (codes "u32");
+      kind = kinds.Inline (record { action = record { 0 = 2 }; symbols = b ∷ b ∷ [] });
+    })
 fails_by_none = record { outer = action_of false (codes "u32"); has_outer = refl; fallible_is = refl; type_is = refl; kind_is = refl }

@@ -1,5 +1,6 @@
 -- What records make, one after another: for the functions that put it behind what is there.
-use Rattle.std.proofs.Common.{◌≡◌, ◌+◌, ℕ, List, [], ◌∷◌, ◌++◌, refl, ap, sym, ◌∙◌, subst, append_assoc, length, length-append, map}
+use Rattle.std.proofs.Common.{◌≡◌, ◌+◌, ℕ, List, [], ◌∷◌, ◌++◌, ap, sym, ◌∙◌, subst, append_assoc}
+use Rattle.std.proofs.Common.{length, length-append, map}
 use Rattle.std.proofs.lemmas.List.{length-map}
 use Rattle.lalrpop_grammar_repr.specs.declared.action.ActionFnDefn.{ActionFnDefn}
 use Rattle.lalrpop_grammar_repr.specs.declared.action.InlinedSymbol.{InlinedSymbol}
@@ -18,7 +19,8 @@ with_production p rs = map (λ r. (p, r)) rs
 
 -- one production further on
 pub productions_on : (p : Production) (left rest : List Record) (r : Record) (k j : ℕ) (old new whole : List Production) →
-    left ≡ r ∷ rest → new ≡ old ++ production_of_record p r k ∷ [] → j ≡ k + 1 → old ++ productions_of_records p left k ≡ whole →
+    left ≡ r ∷ rest → new ≡ old ++ production_of_record p r k ∷ [] → j ≡ k + 1 →
+    old ++ productions_of_records p left k ≡ whole →
     new ++ productions_of_records p rest j ≡ whole
 productions_on p left rest r k j old new whole e f same h =
     ap (λ l. l ++ productions_of_records p rest j) f
@@ -31,7 +33,7 @@ pub definitions_on : (actions : List ActionFnDefn) (p : Production) (left rest :
     (all : List (Production × Record)) (first old new : List ActionFnDefn) → left ≡ r ∷ rest → new ≡ old ++ d ∷ [] →
     IsInlineDefinition actions p r d →
     ((ds : List ActionFnDefn) → AreInlineDefinitions actions (with_production p left) ds →
-        AddsDefinitions actions all first (old ++ ds)) →
+    AddsDefinitions actions all first (old ++ ds)) →
     (ds : List ActionFnDefn) → AreInlineDefinitions actions (with_production p rest) ds → AddsDefinitions actions all first (new ++ ds)
 definitions_on actions p left rest r d all first old new e f is h ds are =
     subst (λ (l : List ActionFnDefn). AddsDefinitions actions all first l)
@@ -42,7 +44,7 @@ definitions_on actions p left rest r d all first old new e f is h ds are =
 pub definitions_end : (actions : List ActionFnDefn) (p : Production) (left : List Record) (all : List (Production × Record))
     (first old : List ActionFnDefn) → left ≡ [] →
     ((ds : List ActionFnDefn) → AreInlineDefinitions actions (with_production p left) ds →
-        AddsDefinitions actions all first (old ++ ds)) → AddsDefinitions actions all first old
+    AddsDefinitions actions all first (old ++ ds)) → AddsDefinitions actions all first old
 definitions_end actions p left all first old e h =
     subst (λ (l : List ActionFnDefn). AddsDefinitions actions all first l) (append-none old)
     (h [] (subst (λ (l : List Record). AreInlineDefinitions actions (with_production p l) []) (sym e) tt))
@@ -82,7 +84,7 @@ pub added_on : (actions : List ActionFnDefn) (n : Text) (sources left rest : Lis
     (all : List (Production × Record)) (first old new : List ActionFnDefn) → left ≡ p ∷ rest →
     AddsDefinitions actions (with_production p (records_in_place n sources p)) old new →
     ((after : List ActionFnDefn) → AddsDefinitions actions (records_after n sources left) old after →
-        AddsDefinitions actions all first after) →
+    AddsDefinitions actions all first after) →
     (after : List ActionFnDefn) → AddsDefinitions actions (records_after n sources rest) new after →
     AddsDefinitions actions all first after
 added_on actions n sources left rest p all first old new e one h after more =

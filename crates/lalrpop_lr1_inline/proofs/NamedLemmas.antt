@@ -40,7 +40,8 @@ pub lookup_entry : (g : NonterminalEntries) → IsStrictlySortedBy (names.ghosts
 unfolding IsStrictlySortedBy
 lookup_entry [] sorted e i = absurd i
 lookup_entry (d ∷ g) sorted e (inl same) =
-    ap (λ b. cond b (Some d.1) (at_name e.0 g)) ((same_name e.0 d.0).1 (ap (λ (x : NonterminalString × NonterminalData). x.0) (sym same)))
+    ap (λ b. cond b (Some d.1) (at_name e.0 g)) ((same_name e.0 d.0).1 (ap (λ (x : NonterminalString
+    × NonterminalData). x.0) (sym same)))
     ∙ ap (λ (x : NonterminalString × NonterminalData). Some x.1) same
 lookup_entry (d ∷ g) sorted e (inr i) = go (is_eq ((names.ghosts).cmp e.0 d.0)) refl (lookup_entry g sorted.1 e i)
   where

@@ -1,5 +1,6 @@
 -- What an inlining order has: all that is inlined, each once, what one names before it; and so no chain returns.
-use Rattle.std.proofs.Common.{◌≡◌, List, [], ◌∷◌, ◌++◌, refl, ap, sym, ◌∙◌, subst, inl, inr, ◌⊎◌, true, append_assoc}
+use Rattle.std.proofs.Common.{◌≡◌, List, [], ◌∷◌, ◌++◌, refl, ap, sym, ◌∙◌, subst, inl, inr, ◌⊎◌, true}
+use Rattle.std.proofs.Common.{append_assoc}
 use Rattle.std.specs.Prelude.{reverse}
 use Rattle.lalrpop_grammar_symbols.specs.Symbols.{Text}
 use Rattle.lalrpop_grammar_language.specs.Among.{Among}
@@ -32,13 +33,15 @@ next-split g before [] ys h = subst (λ (l : List Text). AreNextNames g l ys) (s
 next-split g before (x ∷ xs) ys h =
     subst (λ (l : List Text). AreNextNames g l ys) (append_assoc before (x ∷ []) xs) (next-split g (before ++ x ∷ []) xs ys h.1)
 
-next-apart : (g : NonterminalEntries) (before xs : List Text) (m : Text) → AreNextNames g before xs → Among before m → Among xs m → ⊥
+next-apart : (g : NonterminalEntries) (before xs : List Text) (m : Text) → AreNextNames g before xs → Among before m →
+    Among xs m → ⊥
 next-apart g before [] m h i j = j
 next-apart g before (x ∷ xs) m h i (inl e) = h.0.0 (subst (Among before) (sym e) i)
 next-apart g before (x ∷ xs) m h i (inr j) = next-apart g (before ++ x ∷ []) xs m h.1 (among_left before (x ∷ []) m i) j
 
 -- each name of a walk was met before or is met
-walk_covers : (g : NonterminalEntries) (before ns : List Text) (w : OrderWalk) → IsOrderWalk g before ns w → (n : Text) → Among ns n →
+walk_covers : (g : NonterminalEntries) (before ns : List Text) (w : OrderWalk) → IsOrderWalk g before ns w → (n : Text) →
+    Among ns n →
     Among (before ++ order_of_walk w) n
 walk_covers g before [] OrderWalk.no_more h n i = absurd i
 walk_covers g before [] (OrderWalk.met_before w) h n i = absurd h
@@ -51,7 +54,8 @@ walk_covers g before (x ∷ ns) (OrderWalk.met_first m inside w) h n (inl e) =
     among_right before (order_of_walk inside ++ m ∷ order_of_walk w) n
     (among_right (order_of_walk inside) (m ∷ order_of_walk w) n (inl (h.0 ∙ e)))
 walk_covers g before (x ∷ ns) (OrderWalk.met_first m inside w) h n (inr i) =
-    go (among_parts (before ++ order_of_walk inside ++ x ∷ []) (order_of_walk w) n (walk_covers g (before ++ order_of_walk inside ++ x ∷ []) ns w h.3 n i))
+    go (among_parts (before ++ order_of_walk inside ++ x
+    ∷ []) (order_of_walk w) n (walk_covers g (before ++ order_of_walk inside ++ x ∷ []) ns w h.3 n i))
   where
     last : Among (x ∷ []) n ⊎ ⊥ → Among (before ++ (order_of_walk inside ++ m ∷ order_of_walk w)) n
     last (inl (inl e)) =
@@ -120,7 +124,8 @@ among_parted (x ∷ xs) n (inr i) =
     record { front = x ∷ r.front; back = r.back; parts = ap (λ l. x ∷ l) r.parts }
 
 -- no chain returns to a name that comes next
-no_return : (g : NonterminalEntries) (before xs : List Text) → AreNextNames g before xs → AreShut g before → (n : Text) → Among xs n →
+no_return : (g : NonterminalEntries) (before xs : List Text) → AreNextNames g before xs → AreShut g before → (n : Text) →
+    Among xs n →
     (between : List Text) → IsInlineChain g n between n → ⊥
 no_return g before xs h shut n i between c =
     let r = among_parted xs n i in
@@ -142,7 +147,8 @@ reached_inside g x n r = go r.reached
     named : Among (inlined_named_by g x) r.from
     named = among_reverse (inlined_named_by g x) r.from r.is_walked
 
-    go : (r.from ≡ n) ⊎ ((between : List Text) × IsInlineChain g r.from between n) → (between : List Text) × IsInlineChain g x between n
+    go : (r.from ≡ n) ⊎ ((between : List Text) × IsInlineChain g r.from between n) → (between : List Text)
+        × IsInlineChain g x between n
     go (inl e) = ([], subst (Among (inlined_named_by g x)) e named)
     go (inr c) = (r.from ∷ c.0, (named, c.1))
 
@@ -155,7 +161,8 @@ walk_reaches g before (x ∷ ns) OrderWalk.no_more h n i = absurd h
 walk_reaches g before (x ∷ ns) (OrderWalk.met_before w) h n i =
     let r = walk_reaches g before ns w h.1 n i in record { from = r.from; is_walked = inr r.is_walked; reached = r.reached }
 walk_reaches g before (x ∷ ns) (OrderWalk.met_first m inside w) h n i =
-    go (among_parts (order_of_walk inside) (m ∷ order_of_walk w) n i) (λ j. walk_reaches g before (reverse (inlined_named_by g x)) inside h.2 n j)
+    go (among_parts (order_of_walk inside) (m
+    ∷ order_of_walk w) n i) (λ j. walk_reaches g before (reverse (inlined_named_by g x)) inside h.2 n j)
     (λ j. walk_reaches g (before ++ order_of_walk inside ++ x ∷ []) ns w h.3 n j)
   where
     go : Among (order_of_walk inside) n ⊎ Among (m ∷ order_of_walk w) n →
@@ -247,7 +254,8 @@ order_none g order o all n r =
     no_return g [] order (order_next g order o) (λ n i m j. i) n ((order_all g order o all n).0 r.is_inlined) r.between r.chain
 
 -- names that are walked behind the same ones have one walk
-walk_unique : (g : NonterminalEntries) (before ns : List Text) (w v : OrderWalk) → IsOrderWalk g before ns w → IsOrderWalk g before ns v →
+walk_unique : (g : NonterminalEntries) (before ns : List Text) (w v : OrderWalk) → IsOrderWalk g before ns w →
+    IsOrderWalk g before ns v →
     order_of_walk w ≡ order_of_walk v
 walk_unique g before [] OrderWalk.no_more OrderWalk.no_more h k = refl
 walk_unique g before [] OrderWalk.no_more (OrderWalk.met_before v) h k = absurd k

@@ -1,5 +1,6 @@
 -- Records of one symbol more: for the functions that make them.
-use Rattle.std.proofs.Common.{◌≡◌, ◌+◌, ◌<◌, ℕ, List, [], ◌∷◌, ◌++◌, refl, ap, sym, ◌∙◌, append_assoc, drop, map}
+use Rattle.std.proofs.Common.{◌≡◌, ◌+◌, ◌<◌, ℕ, List, [], ◌∷◌, ◌++◌, refl, ap, sym, ◌∙◌}
+use Rattle.std.proofs.Common.{append_assoc, drop, map}
 use Rattle.std.proofs.Common.{add-one, drop-cons, get_or, length, suc}
 use Rattle.std.specs.Prelude.{flat_map}
 use Rattle.lalrpop_grammar_repr.specs.declared.action.InlinedSymbol.{InlinedSymbol}
@@ -61,7 +62,8 @@ behind_longer (f ∷ fronts) rest entries =
 
 -- one symbol further on
 pub records_on : (n : Text) (ps : List Production) (s : Symbol) (left side : List Symbol) (fronts more whole : List Record) →
-    left ≡ s ∷ side → more ≡ longer_records fronts (entries_for n ps s) → records_behind fronts (records_of n ps left) ≡ whole →
+    left ≡ s ∷ side → more ≡ longer_records fronts (entries_for n ps s) → records_behind fronts (records_of n ps left)
+    ≡ whole →
     records_behind more (records_of n ps side) ≡ whole
 records_on n ps s left side fronts more whole e f h =
     ap (λ l. records_behind l (records_of n ps side)) f ∙ behind_longer fronts (records_of n ps side) (entries_for n ps s)
@@ -78,9 +80,11 @@ records_start rest = append-none (map (λ r. [] ++ r) rest) ∙ same rest
 -- at the end nothing follows
 pub records_end : (fronts : List Record) → records_behind fronts ([] ∷ []) ≡ fronts
 records_end [] = refl
-records_end (f ∷ fronts) = ap (λ l. l ++ records_behind fronts ([] ∷ [])) (ap (λ x. x ∷ []) (append-none f)) ∙ ap (λ l. f ∷ l) (records_end fronts)
+records_end (f ∷ fronts) = ap (λ l. l ++ records_behind fronts ([] ∷ [])) (ap (λ x. x ∷ []) (append-none f)) ∙ ap (λ l. f
+    ∷ l) (records_end fronts)
 
 -- an item at a place, with what stands behind it
-pub item_front : {A : Type 0} (xs : List A) (i : ℕ) (x : A) → i < length xs → x ≡ get_or xs i x → drop i xs ≡ x ∷ drop (i + 1) xs
+pub item_front : {A : Type 0} (xs : List A) (i : ℕ) (x : A) → i < length xs → x ≡ get_or xs i x → drop i xs ≡ x
+    ∷ drop (i + 1) xs
 item_front xs i x lt is =
     drop-cons xs i x lt ∙ ap (λ y. y ∷ drop (suc i) xs) (sym is) ∙ ap (λ k. x ∷ drop k xs) (sym (add-one i))

@@ -1,5 +1,6 @@
 -- The search for the order, task by task: for `OrderSearch`.
-use Rattle.std.proofs.Common.{◌≡◌, ◌≤◌, ◌+◌, List, [], ◌∷◌, ◌++◌, refl, ap, sym, ◌∙◌, subst, inl, inr, true, false, arith}
+use Rattle.std.proofs.Common.{◌≡◌, ◌≤◌, ◌+◌, List, [], ◌∷◌, ◌++◌, refl, ap, sym, ◌∙◌, subst, inl}
+use Rattle.std.proofs.Common.{inr, true, false, arith}
 use Rattle.std.proofs.Common.{length, length-append}
 use Rattle.std.specs.Prelude.{Bool, map, reverse, flat_map, ◌||◌, if◌then◌else◌}
 use Rattle.std.specs.Str.{bytes_eq}
@@ -165,7 +166,8 @@ search_end g order entered left s = s.leads order refl
 
 -- how much is to come at most
 
-at_most : (g : NonterminalEntries) (entered more : Names) (n : Text) → ((m : Text) → knows more m ≡ (knows entered m || bytes_eq m n)) →
+at_most : (g : NonterminalEntries) (entered more : Names) (n : Text) → ((m : Text) → knows more m
+    ≡ (knows entered m || bytes_eq m n)) →
     (ns : List Text) → tasks_at g more ns ≤ tasks_at g entered ns
 at_most g entered more n one [] = omega arith
 at_most g entered more n one (m ∷ ms) = go (knows entered m) (knows more m) refl refl (at_most g entered more n one ms)
@@ -181,7 +183,8 @@ at_most g entered more n one (m ∷ ms) = go (knows entered m) (knows more m) re
         absurd (let wrong : true ≡ false = sym now ∙ f in cc)
 
 -- a name that is entered now has no tasks to come
-one_entered : (g : NonterminalEntries) (entered more : Names) (n : Text) → ((m : Text) → knows more m ≡ (knows entered m || bytes_eq m n)) →
+one_entered : (g : NonterminalEntries) (entered more : Names) (n : Text) → ((m : Text) → knows more m
+    ≡ (knows entered m || bytes_eq m n)) →
     knows entered n ≡ false → (ns : List Text) → Among ns n →
     tasks_at g more ns + 1 + length (inlined_named_by g n) ≤ tasks_at g entered ns
 one_entered g entered more n one unmet [] i = absurd i

@@ -1,6 +1,7 @@
 //! The productions that records make, and their actions.
 
-ghost use Rattle.std.specs.Prelude.{◌≡◌, ◌+◌, ◌<◌, ◌≤◌, ◌^◌, ◌||◌, ◌++◌, ◌∷◌, [], All, IfOk, OnOk, length, map, vec_len};
+ghost use Rattle.std.specs.Prelude.{◌≡◌, ◌+◌, ◌<◌, ◌≤◌, ◌^◌, ◌||◌, ◌++◌, ◌∷◌, [], All, IfOk};
+ghost use Rattle.std.specs.Prelude.{OnOk, length, map, vec_len};
 ghost use Rattle.std.specs.List.{list_any};
 ghost use Rattle.lalrpop_lr1_inline.specs.InliningSteps.{AddsDefinitions, IsInlineDefinition, action_fails, entry_fails};
 ghost use Rattle.lalrpop_lr1_inline.specs.InliningSteps.{production_of_record, productions_in_place, productions_of_records};
@@ -141,14 +142,7 @@ pub(crate) fn replace(
 {
     if has_named(production.symbols.as_slice(), name) {
         let found = records(alloc, production.symbols.as_slice(), name, sources)?;
-        add_made(
-            alloc,
-            actions,
-            &production,
-            found,
-            definitions,
-            productions,
-        )
+        add_made(alloc, actions, &production, found, definitions, productions)
     } else {
         productions.push(production)?;
         Ok(())

@@ -11,7 +11,8 @@ invariant-loop-made l = record {
       ≡ vec_len l.initial.definitions + vec_len l.fn.records;
   productions : l.productions
       ++ productions_of_records l.production (into_iter_items l.made-iterator) (length l.actions + vec_len l.definitions)
-      ≡ l.initial.productions ++ productions_of_records l.production l.fn.records.items (length l.actions + vec_len l.initial.definitions);
+      ≡ l.initial.productions ++ productions_of_records l.production l.fn.records.items (length l.actions + vec_len
+      l.initial.definitions);
   definitions : (ds : List ActionFnDefn)
       → AreInlineDefinitions l.actions (map (λ r. (l.production, r)) (into_iter_items l.made-iterator)) ds
       → AddsDefinitions l.actions (map (λ r. (l.production, r)) l.fn.records.items) l.initial.definitions.items

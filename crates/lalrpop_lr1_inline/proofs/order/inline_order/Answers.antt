@@ -7,7 +7,8 @@ use Rattle.lalrpop_lr1_inline.proofs.order.inline_order.Goals as goal
 pub returns-clause-all : goal.returns-clause-all
 returns-clause-all c =
     let g = c.args.grammar.now.nonterminals in
-    subst (HasAllInlined g) (sym (c.in_ok-copies.ensures ∙ ap order_view c.as_slice.ensures.value)) (order_all g _ c.in_ok-order.ensures.order c.in_ok-order.ensures.all)
+    subst (HasAllInlined g) (sym (c.in_ok-copies.ensures
+    ∙ ap order_view c.as_slice.ensures.value)) (order_all g _ c.in_ok-order.ensures.order c.in_ok-order.ensures.all)
 
 pub returns-clause-once : goal.returns-clause-once
 returns-clause-once c =
@@ -17,7 +18,8 @@ returns-clause-once c =
 pub returns-clause-named_first : goal.returns-clause-named_first
 returns-clause-named_first c =
     let g = c.args.grammar.now.nonterminals in
-    subst (HasNamedFirst g) (sym (c.in_ok-copies.ensures ∙ ap order_view c.as_slice.ensures.value)) (order_named_first g _ c.in_ok-order.ensures.order)
+    subst (HasNamedFirst g) (sym (c.in_ok-copies.ensures
+    ∙ ap order_view c.as_slice.ensures.value)) (order_named_first g _ c.in_ok-order.ensures.order)
 
 pub returns-clause-none : goal.returns-clause-none
 returns-clause-none c =

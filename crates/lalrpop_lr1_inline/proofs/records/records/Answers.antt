@@ -1,4 +1,4 @@
-use Rattle.std.proofs.Common.{◌≡◌, ◌+◌, ◌∙◌, [], ◌∷◌, ap, drop, map, subst, sym}
+use Rattle.std.proofs.Common.{◌+◌, ◌∙◌, ap, drop, sym}
 use Rattle.std.proofs.lemmas.List.{drop_all}
 use Rattle.lalrpop_lr1_inline.specs.InliningSteps.{records_of}
 use Rattle.lalrpop_lr1_inline.proofs.RecordLemmas.{item_front, records_behind, records_end, records_on, records_start}
