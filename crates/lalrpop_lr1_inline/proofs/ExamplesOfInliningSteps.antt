@@ -14,10 +14,10 @@ use Rattle.lalrpop_lr1_inline.specs.InliningSteps.{IsInlineDefinition, all_recor
 use Rattle.lalrpop_lr1_inline.specs.InliningSteps.{productions_after, productions_named, records_of}
 use Rattle.lalrpop_lr1_inline.proofs.ExamplesOfInliningOrders.{marked, n, nested, production, rule, t}
 
-abbrev by : ℕ → List Symbol → InlinedSymbol
+abbrev pub by : ℕ → List Symbol → InlinedSymbol
 by action side = inlined.Inlined (record { 0 = action }) side
 
-abbrev same : Symbol → InlinedSymbol
+abbrev pub same : Symbol → InlinedSymbol
 same s = inlined.Original s
 
 -- S = Op Op; Op = { "a", "b" }

@@ -7,3 +7,4 @@ pub mod RecordLemmas
 pub mod MadeLemmas
 pub mod ExamplesOfInliningOrders
 pub mod ExamplesOfInliningSteps
+pub mod ExamplesOfNamedProductions

@@ -7,7 +7,7 @@ use Rattle.lalrpop_grammar_repr.specs.declared.action.InlinedSymbol.{InlinedSymb
 use Rattle.lalrpop_grammar_repr.specs.declared.production.Production.{Production}
 use Rattle.lalrpop_grammar_repr.specs.declared.production.Symbol.{Symbol}
 use Rattle.lalrpop_grammar_symbols.specs.Symbols.{Text}
-use Rattle.lalrpop_lr1_inline.specs.InliningSteps.{entries_for, longer_records, records_of}
+use Rattle.lalrpop_lr1_inline.specs.InliningSteps.{record_entries, longer_records, records_of}
 use Rattle.lalrpop_lr1_inline.proofs.AmongLemmas.{append-none}
 
 abbrev Record : Type 0
@@ -62,11 +62,11 @@ behind_longer (f ∷ fronts) rest entries =
 
 -- one symbol further on
 pub records_on : (n : Text) (ps : List Production) (s : Symbol) (left side : List Symbol) (fronts more whole : List Record) →
-    left ≡ s ∷ side → more ≡ longer_records fronts (entries_for n ps s) → records_behind fronts (records_of n ps left)
+    left ≡ s ∷ side → more ≡ longer_records fronts (record_entries n ps s) → records_behind fronts (records_of n ps left)
     ≡ whole →
     records_behind more (records_of n ps side) ≡ whole
 records_on n ps s left side fronts more whole e f h =
-    ap (λ l. records_behind l (records_of n ps side)) f ∙ behind_longer fronts (records_of n ps side) (entries_for n ps s)
+    ap (λ l. records_behind l (records_of n ps side)) f ∙ behind_longer fronts (records_of n ps side) (record_entries n ps s)
     ∙ ap (λ l. records_behind fronts (records_of n ps l)) (sym e) ∙ h
 
 -- at the start the only front is empty

@@ -23,13 +23,13 @@ is_place n (symbols.Nonterminal m) = bytes_eq m.0 n
 is_place n (symbols.Terminal t) = false
 
 -- what a record may have for a symbol, in order: each of the nonterminal's productions at a place of it, else the symbol
-abbrev pub entries_for : Text → List Production → Symbol → List InlinedSymbol
-entries_for n ps s = if is_place n s then map (λ p. inlined.Inlined p.action p.symbols) ps else inlined.Original s ∷ []
+abbrev pub record_entries : Text → List Production → Symbol → List InlinedSymbol
+record_entries n ps s = if is_place n s then map (λ p. inlined.Inlined p.action p.symbols) ps else inlined.Original s ∷ []
 
 -- the records of a right side, in order: the last place changes first
 abbrev pub records_of : Text → List Production → List Symbol → List (List InlinedSymbol)
 records_of n ps [] = [] ∷ []
-records_of n ps (s ∷ side) = flat_map (λ e. map (λ r. e ∷ r) (records_of n ps side)) (entries_for n ps s)
+records_of n ps (s ∷ side) = flat_map (λ e. map (λ r. e ∷ r) (records_of n ps side)) (record_entries n ps s)
 
 -- records of one symbol more
 abbrev pub longer_records : List (List InlinedSymbol) → List InlinedSymbol → List (List InlinedSymbol)

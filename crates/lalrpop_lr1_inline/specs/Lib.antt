@@ -3,3 +3,4 @@ pub mod InliningOrders
 pub mod InlineFaults
 pub mod OrderSearches
 pub mod InliningSteps
+pub mod NamedProductions

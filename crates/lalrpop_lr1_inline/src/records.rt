@@ -3,7 +3,7 @@
 ghost use Rattle.std.specs.Prelude.{◌≡◌, ◌++◌, ◌∷◌, [], IfOk, OnOk, map};
 ghost use Rattle.std.specs.List.{list_any};
 ghost use Rattle.lalrpop_grammar_repr.specs.declared.action.InlinedSymbol.TheVariants as inlined;
-ghost use Rattle.lalrpop_lr1_inline.specs.InliningSteps.{entries_for, is_place, longer_records, records_of, side_of_entry};
+ghost use Rattle.lalrpop_lr1_inline.specs.InliningSteps.{record_entries, is_place, longer_records, records_of, side_of_entry};
 ghost use Rattle.lalrpop_lr1_inline.specs.InliningSteps.{side_of_record};
 
 use lalrpop_grammar_repr::{InlinedSymbol, Production, Symbol};
@@ -87,7 +87,11 @@ fn entry_by(alloc: Global, production: &Production) -> Result<InlinedSymbol, All
 }
 
 /// The records with the symbol kept behind each.
-fn kept(alloc: Global, fronts: Vec<Record>, symbol: &Symbol) -> Result<Vec<Record>, AllocError>
+fn keep_symbol(
+    alloc: Global,
+    fronts: Vec<Record>,
+    symbol: &Symbol,
+) -> Result<Vec<Record>, AllocError>
     ensures { IfOk result (λ longer. longer.items ≡ longer_records fronts.items (inlined.Original symbol.now ∷ [])) }
 {
     let mut longer = Vec::new(alloc);
@@ -141,12 +145,12 @@ fn grown(
     productions: &[Production],
 ) -> Result<Vec<Record>, AllocError>
     ensures { IfOk result (λ longer. longer.items
-        ≡ longer_records fronts.items (entries_for name.now.0 productions.now symbol.now)) }
+        ≡ longer_records fronts.items (record_entries name.now.0 productions.now symbol.now)) }
 {
     if is_named(symbol, name) {
         replaced(alloc, fronts.as_slice(), productions)
     } else {
-        kept(alloc, fronts, symbol)
+        keep_symbol(alloc, fronts, symbol)
     }
 }
 
