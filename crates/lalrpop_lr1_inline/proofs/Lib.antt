@@ -5,6 +5,8 @@ pub mod NamedLemmas
 pub mod OrderLemmas
 pub mod RecordLemmas
 pub mod MadeLemmas
+pub mod StepRuleLemmas
+pub mod RecordLabelLemmas
 pub mod ExamplesOfInliningOrders
 pub mod ExamplesOfInliningSteps
 pub mod ExamplesOfNamedProductions

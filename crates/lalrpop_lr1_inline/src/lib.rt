@@ -6,6 +6,7 @@ mod made;
 mod named;
 mod order;
 mod records;
+mod step;
 
 pub use fault::InlineFault;
 pub use order::inline_order;
