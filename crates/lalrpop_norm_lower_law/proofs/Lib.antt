@@ -1,0 +1,4 @@
+pub mod EntryLemmas
+pub mod LoweredLemmas
+pub mod PremiseLemmas
+pub mod ExamplesOfViews

@@ -1,0 +1,2 @@
+pub mod LoweredViews
+pub mod LoweredChains
