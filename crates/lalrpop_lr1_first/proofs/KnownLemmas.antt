@@ -9,7 +9,7 @@ use Rattle.lalrpop_grammar_repr.specs.declared.production.Symbol.{Symbol}
 use Rattle.lalrpop_grammar_repr.specs.declared.production.Symbol.TheVariants as symbols
 use Rattle.lalrpop_grammar_repr.specs.declared.terminal_set.TerminalSet.{TerminalSet}
 use Rattle.lalrpop_lr1_theory.proofs.ListLemmas.{contains_here, contains_later, contains_split}
-use Rattle.lalrpop_lr1_first.specs.Listings.{HoldSame, names_in_production, names_in_symbol}
+use Rattle.lalrpop_lr1_first.specs.Listings.{HoldSame, names_in_production, symbol_names}
 use Rattle.lalrpop_lr1_first.specs.Tables.{HaveNumberedTerminals, IsKnownProduction, IsKnownSymbol}
 
 -- what one element gives, the list gives
@@ -27,13 +27,13 @@ module _ (names : List NonterminalString) (ts : TerminalSet) (productions known 
   known_symbol : (p : Production) → Contains productions p → (x : Symbol) → Contains p.symbols x → IsKnownSymbol names ts x
   known_symbol p c (symbols.Nonterminal n) d =
       (listed n).1 (flat_has names_in_production productions p n c
-      (contains_later p.nonterminal n (flat_map names_in_symbol p.symbols)
-      (flat_has names_in_symbol p.symbols (symbols.Nonterminal n) n d (contains_here n []))))
+      (contains_later p.nonterminal n (flat_map symbol_names p.symbols)
+      (flat_has symbol_names p.symbols (symbols.Nonterminal n) n d (contains_here n []))))
   known_symbol p c (symbols.Terminal t) d = numbered p ((same p).0 c) (symbols.Terminal t) d
 
   pub known_production : (p : Production) → Contains productions p → IsKnownProduction names ts p
   known_production p c = record {
     name = (listed p.nonterminal).1 (flat_has names_in_production productions p p.nonterminal c
-        (contains_here p.nonterminal (flat_map names_in_symbol p.symbols)));
+        (contains_here p.nonterminal (flat_map symbol_names p.symbols)));
     side = known_symbol p c;
   }

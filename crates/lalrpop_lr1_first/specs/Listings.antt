@@ -13,13 +13,13 @@ abbrev pub productions_of_grammar : Grammar → List Production
 productions_of_grammar g = flat_map (λ e. e.1.productions) g.nonterminals
 
 -- the name of a symbol that is a nonterminal
-abbrev pub names_in_symbol : Symbol → List NonterminalString
-names_in_symbol (symbols.Nonterminal n) = n ∷ []
-names_in_symbol (symbols.Terminal t) = []
+abbrev pub symbol_names : Symbol → List NonterminalString
+symbol_names (symbols.Nonterminal n) = n ∷ []
+symbol_names (symbols.Terminal t) = []
 
 -- the names in a production
 abbrev pub names_in_production : Production → List NonterminalString
-names_in_production p = p.nonterminal ∷ flat_map names_in_symbol p.symbols
+names_in_production p = p.nonterminal ∷ flat_map symbol_names p.symbols
 
 -- what references lend
 abbrev pub lent : {X : Type 0} → List (Bor X) → List X

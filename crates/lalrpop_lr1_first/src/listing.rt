@@ -9,7 +9,7 @@ ghost use Rattle.lalrpop_lr1_first.specs.Listings.{
   lent,
   lent_in,
   names_in_production,
-  names_in_symbol,
+  symbol_names,
   productions_of_grammar,
 };
 
@@ -72,7 +72,7 @@ fn add_name_in<'g>(
     symbol: &'g Symbol,
     set: &mut BTreeSet<&'g NonterminalString>,
 ) -> Result<(), AllocError>
-    ensures { OnOk result (AddsTo (lent_in set.old) (lent_in set.new) (names_in_symbol symbol.now)) }
+    ensures { OnOk result (AddsTo (lent_in set.old) (lent_in set.new) (symbol_names symbol.now)) }
 {
     match symbol {
         Symbol::Nonterminal(name) => add_name(name, set),
@@ -85,7 +85,7 @@ fn add_names_in<'g>(
     symbols: &'g [Symbol],
     set: &mut BTreeSet<&'g NonterminalString>,
 ) -> Result<(), AllocError>
-    ensures { OnOk result (AddsTo (lent_in set.old) (lent_in set.new) (flat_map names_in_symbol symbols.now)) }
+    ensures { OnOk result (AddsTo (lent_in set.old) (lent_in set.new) (flat_map symbol_names symbols.now)) }
 {
     for symbol in symbols {
         add_name_in(symbol, set)?;

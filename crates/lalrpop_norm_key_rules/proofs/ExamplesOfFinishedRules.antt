@@ -264,7 +264,8 @@ group_without_symbol_refused : IsGroupRule (made_group None []) → ⊥
 group_without_symbol_refused m =
     let a = m.alternatives in
     let same : a.0 ≡ added_here Origin.group [] = cc (a.2) in
-    (subst (λ (z : Alternative). AreWrittenByName g.bares flat_key_text (group_key ∷ []) (a_symbol ∷ []) z.expr) same a.3.symbols_are).1
+    (subst (λ (z : Alternative). AreWrittenByName g.bares flat_key_text (group_key ∷ []) (a_symbol ∷ []) z.expr) same
+    a.3.symbols_are).1
 
 -- an instance is one of the one macro
 abbrev arguments : Closeds

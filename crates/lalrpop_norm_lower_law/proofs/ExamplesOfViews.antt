@@ -11,7 +11,7 @@ use Rattle.lalrpop_grammar_repr.specs.declared.production.NonterminalData.{Nonte
 use Rattle.lalrpop_norm_types.specs.TypeFaults.{nonterminal_of}
 use Rattle.lalrpop_norm_lower.specs.Lowered.{says_inline}
 use Rattle.lalrpop_norm_lower_law.specs.LoweredViews.{HasNoTokenizer, HasOneTokenizer, first_entries, found_names}
-use Rattle.lalrpop_norm_lower_law.specs.LoweredViews.{found_pairs, inlined_names}
+use Rattle.lalrpop_norm_lower_law.specs.LoweredViews.{found_pairs, names_marked_inline}
 
 abbrev named : String → NonterminalString
 named n = nonterminal_of (codes n)
@@ -49,7 +49,7 @@ module _ (d e : NonterminalData) (marked : says_inline d ≡ true) (unmarked : s
   abbrev names_of : List (NonterminalString × NonterminalData) → List Text
   names_of = map (λ x. x.0.0)
 
-  one_inlined : inlined_names both ≡ codes "L" ∷ []
+  one_inlined : names_marked_inline both ≡ codes "L" ∷ []
   one_inlined =
       ap (λ (b : Bool). names_of (cond b ((named "L", d) ∷ cond (says_inline e) ((named "S", e) ∷ []) [])
       (cond (says_inline e) ((named "S", e) ∷ []) []))) marked

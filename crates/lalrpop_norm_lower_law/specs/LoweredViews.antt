@@ -26,8 +26,8 @@ abbrev pub found_pairs : List (NonterminalString × NonterminalString) → List 
 found_pairs es = map (λ e. (e.0.0, e.1.0)) (found_entries es)
 
 -- the names of the nonterminals that say that they are inlined
-abbrev pub inlined_names : List (NonterminalString × NonterminalData) → List Text
-inlined_names es = map (λ e. e.0.0) (filter (λ e. says_inline e.1) (found_entries es))
+abbrev pub names_marked_inline : List (NonterminalString × NonterminalData) → List Text
+names_marked_inline es = map (λ e. e.0.0) (filter (λ e. says_inline e.1) (found_entries es))
 
 -- the lowered grammar with its tokenizer, as definitions see it: maps by what stands at their names
 abbrev pub lowered_view : Normalized → LoweredGrammar
@@ -37,7 +37,7 @@ lowered_view made = record {
   origins = map origin_view made.origins;
   nonterminals = found_names made.grammar.nonterminals;
   starts = found_pairs made.grammar.start_nonterminals;
-  inlined = inlined_names made.grammar.nonterminals;
+  inlined = names_marked_inline made.grammar.nonterminals;
   terminals = map terminal_view made.grammar.terminals.all;
   types = made.grammar.types.nonterminal_types;
   lalr = made.grammar.algorithm.lalr;
