@@ -1,6 +1,6 @@
 //! Sets of tokens.
 
-use crate::grammars::{grammar_of, token_of};
+use crate::grammars::{grammar_of, terminal_of, token_of};
 use lalrpop_grammar_repr::TerminalSet;
 use lalrpop_sets::{Collection, Token, TokenRef, TokenSet};
 use std::alloc::{AllocError, Global};
@@ -185,8 +185,9 @@ fn tokens_come_in_order(rt: HostRuntime) -> Result<(), Fail> {
 #[test]
 fn a_token_and_its_copy(rt: HostRuntime) -> Result<(), Fail> {
     let alloc = rt.alloc();
-    let c = token_of(alloc, "c")?;
+    let c = Token::Terminal(terminal_of(alloc, "c")?);
+    assert!(rt; *c.unwrap_terminal() == terminal_of(alloc, "c")?);
+    assert!(rt; c.try_clone()? == c);
     assert!(rt; format!(in alloc; "{c:?} {:?}", TokenRef::Eof)?.as_str() == "\"c\" Eof");
-    assert!(rt; c.try_clone()?.unwrap_terminal() == c.unwrap_terminal());
     Ok(())
 }
