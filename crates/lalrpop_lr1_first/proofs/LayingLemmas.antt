@@ -1,5 +1,5 @@
 -- Right sides that are laid one behind the other: one symbol and one production more. For the table of numbers.
-use Rattle.std.proofs.Common.{append-nil, append_assoc, ◌≡◌, ◌∙◌, ℕ, zero, suc, ◌≤◌, List, []}
+use Rattle.std.proofs.Common.{append-nil, append_assoc, ◌≡◌, ◌∙◌, ℕ, zero, suc, ◌<◌, ◌≤◌, List, []}
 use Rattle.std.proofs.Common.{◌∷◌, ◌++◌, length, map, drop, refl, ap, sym, subst, arith}
 use Rattle.std.proofs.Common.{Some, Option, slice_get, ◌⊎◌, inl, inr, ⊎_elim}
 use Rattle.std.proofs.Math.Seq.{drop-append_seam}
@@ -49,6 +49,7 @@ module _ (names : List NonterminalString) (ts : TerminalSet) where
       AreLaid names ts [] rules all
   laid_none rules all e f = record {
     count = e;
+    starts = λ q r one other less f g. absurd (omega (arith, slice_get_within rules r other g));
     symbols = λ i s h. absurd (omega (arith, slice_get_within all i (places.Symbol s) h));
     at = λ r p h. let w : ⊥ = cc in absurd w;
   }
@@ -92,6 +93,20 @@ module _ (names : List NonterminalString) (ts : TerminalSet) where
   drop_within (suc n) [] y ys e = let w : ⊥ = cc in absurd w
   drop_within (suc n) (x ∷ xs) y ys e = omega (arith, drop_within n xs y ys e)
 
+  drop_less : {X : Type 0} (n : ℕ) (xs : List X) (y : X) (ys : List X) → drop n xs ≡ y ∷ ys → n < length xs
+  drop_less zero [] y ys e = let w : ⊥ = cc in absurd w
+  drop_less zero (x ∷ xs) y ys e = omega arith
+  drop_less (suc n) [] y ys e = let w : ⊥ = cc in absurd w
+  drop_less (suc n) (x ∷ xs) y ys e = omega (arith, drop_less n xs y ys e)
+
+  get_some : {X : Type 0} (xs : List X) (r : ℕ) → r < length xs → (x : X) × (slice_get xs r ≡ Some x)
+  get_some [] r h = absurd (omega arith)
+  get_some (x ∷ xs) zero h = (x, refl)
+  get_some (x ∷ xs) (suc r) h = get_some xs r (omega arith)
+
+  some_is : {X : Type 0} (x y : X) → Some x ≡ Some y → x ≡ y
+  some_is x y e = cc
+
   pub side_first : (xs : List ℕ) (r : ℕ) (more : List Place) → (y : Place) × (ys : List Place)
       × (laid_side xs r ++ more ≡ y ∷ ys)
   side_first [] r more = (places.End r, more, refl)
@@ -101,6 +116,9 @@ module _ (names : List NonterminalString) (ts : TerminalSet) where
       AreLaid names ts productions rules all → LaysRule names ts (length rules) p rules rules' all all' →
       AreLaid names ts (productions ++ p ∷ []) rules' all'
   laid_more productions p rules rules' all all' h l = record {
+    starts = λ q r one other less f g. ascends q r one other less
+        (get_split rules l.rule q one (sym (ap (λ z. slice_get z q) l.rules) ∙ f))
+        (get_split rules l.rule r other (sym (ap (λ z. slice_get z r) l.rules) ∙ g));
     symbols = λ i s e. ⊎_elim (λ f. h.symbols i s f) (λ f. in_side l.numbers (map production_symbol_view p.symbols) l.spelled
         (length rules) f.0 s f.1)
         (get_parts all (laid_side l.numbers (length rules)) i (places.Symbol s) (sym (ap (λ z. slice_get z i) l.laid) ∙ e));
@@ -111,6 +129,24 @@ module _ (names : List NonterminalString) (ts : TerminalSet) where
       long : {X : Type 0} (xs : List X) (x : X) → length (xs ++ x ∷ []) ≡ suc (length xs)
       long [] x = refl
       long (y ∷ xs) x = ap suc (long xs x)
+
+      before : (q : ℕ) (one : NumberedRule) → slice_get rules q ≡ Some one → one.start < length all
+      before q one f =
+          let p = get_some productions q (omega (arith, slice_get_within rules q one f, h.count)) in
+          let a = h.at q p.0 p.1 in
+          let same : a.rule ≡ one = some_is a.rule one (sym a.at ∙ f) in
+          let y = side_first a.numbers q a.more in
+          subst (λ (x : NumberedRule). x.start < length all) same (drop_less a.rule.start all y.0 y.1 (a.laid ∙ y.2))
+
+      ascends : (q r : ℕ) (one other : NumberedRule) → q < r →
+          (slice_get rules q ≡ Some one) ⊎ ((q ≡ length rules) × (l.rule ≡ one)) →
+          (slice_get rules r ≡ Some other) ⊎ ((r ≡ length rules) × (l.rule ≡ other)) → one.start < other.start
+      ascends q r one other less (inl f) (inl g) = h.starts q r one other less f g
+      ascends q r one other less (inl f) (inr g) =
+          let start : l.rule.start ≡ other.start = ap (λ (x : NumberedRule). x.start) g.1 in
+          omega (arith, before q one f, l.start, start)
+      ascends q r one other less (inr f) (inl g) = absurd (omega (arith, f.0, less, slice_get_within rules r other g))
+      ascends q r one other less (inr f) (inr g) = absurd (omega (arith, f.0, g.0, less))
 
       go : (r : ℕ) (q : Production) → (slice_get productions r ≡ Some q) ⊎ ((r ≡ length productions) × (p ≡ q)) →
           IsLaidAt names ts rules' all' r q

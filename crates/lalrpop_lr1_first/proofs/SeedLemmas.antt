@@ -1,5 +1,5 @@
 -- What a seed brings to the slots of nonterminals, item by item: for closures.
-use Rattle.std.proofs.Common.{◌≡◌, ◌∙◌, ◌⊎◌, ℕ, zero, suc, ◌+◌, ◌<◌, ◌≤◌, Bool}
+use Rattle.std.proofs.Common.{◌≡◌, ◌∙◌, ◌⊎◌, ℕ, zero, suc, ◌+◌, ◌<◌, ◌≤◌, Bool, map}
 use Rattle.std.proofs.Common.{true, false, ◌||◌, eqb, List, [], ◌∷◌, ◌++◌, length, take, set, get_or}
 use Rattle.std.proofs.Common.{refl, sym, ap, subst, arith, inl, inr, ⊎_elim, slice_get, Option, Some, None, Contains}
 use Rattle.std.specs.List.{cons_option}
@@ -7,7 +7,7 @@ use Rattle.std.specs.Prelude.{if◌then◌else◌, nat_lt, filter_map}
 use Rattle.std.proofs.lemmas.Bool.{cases_lt}
 use Rattle.std.proofs.lemmas.List.Elements.{Contains-append_cases, Contains-append_left, Contains-append_right, filter_map-append}
 use Rattle.lalrpop_lr1_theory.proofs.ListLemmas.{contains_here, contains_split}
-use Rattle.lalrpop_sets.specs.Bits.{has}
+use Rattle.lalrpop_sets.specs.Bits.{Ascends, AscendsFrom, has}
 use Rattle.lalrpop_lr1_first.specs.ClosureTables.{SeedsAll, SeedsOne, name_first, started_items, started_with}
 use Rattle.lalrpop_lr1_first.specs.FirstNumbers.{name_count, table_end}
 use Rattle.lalrpop_lr1_first.specs.Flows.{MarksAreWithin, all_marks, comes, slot_marks}
@@ -35,6 +35,9 @@ taken_at (y ∷ xs) (suc i) x e =
 pub edges_more : {X Y : Type 0} (f : X → Option Y) (xs : List X) (i : ℕ) (x : X) → slice_get xs i ≡ Some x →
     filter_map f (take (i + 1) xs) ≡ filter_map f (take i xs) ++ cons_option (f x) []
 edges_more f xs i x e = ap (filter_map f) (taken_at xs i x e) ∙ filter_map-append f (take i xs) (x ∷ [])
+
+heads : (x y : ℕ) (xs ys : List ℕ) → x ∷ xs ≡ y ∷ ys → x ≡ y
+heads x y xs ys e = cc
 
 lt_true : (s n : ℕ) → nat_lt s n ≡ true → s < n
 lt_true s n h = grind arith
@@ -240,7 +243,7 @@ module _ {L : Type 0} (marks : L → List ℕ) (firsts : Bool) (table : Numbered
             let one : (place, l) ≡ (b.place, b.lookahead) = only (b.place, b.lookahead) b.held in
             let first : name ∷ n.0 ≡ s ∷ b.more = sym n.1 ∙ ap (λ (x : ℕ × L). rest_of table.places.items x.0) one
             ∙ b.rest in
-            let e : name ≡ s = cc in
+            let e : name ≡ s = heads name s n.0 b.more first in
             let mark : (k ≡ end + 2) ⊎ (comes firsts end (set_of_number rests (place + 1)) (marks l) k ≡ true) =
             subst (λ (x : ℕ × L). (k ≡ end + 2) ⊎ (comes firsts end (set_of_number rests (x.0 + 1)) (marks x.1) k ≡ true))
             (sym one) b.mark in
@@ -255,3 +258,29 @@ pub started_more : {L : Type 0} (slots : List (Option L)) (rules : List Numbered
     (get_or slots rule.left None)
 started_more slots rules i rule e = ap (started_items slots) (taken_at rules i rule e)
     ∙ flat_more (λ (r : NumberedRule). started_with r.start (get_or slots r.left None)) (take i rules) rule
+
+-- items that are started ascend, as the rules do
+ascend_from : {L : Type 0} (slots : List (Option L)) (rules : List NumberedRule) (a : ℕ) →
+    ((q : ℕ) (one : NumberedRule) → slice_get rules q ≡ Some one → a ≤ one.start) →
+    ((q r : ℕ) (one other : NumberedRule) → q < r → slice_get rules q ≡ Some one → slice_get rules r ≡ Some other →
+    one.start < other.start) →
+    AscendsFrom a (map (λ (x : ℕ × L). x.0) (started_items slots rules))
+ascend_from slots [] a above starts = tt
+ascend_from {L} slots (rule ∷ rules) a above starts =
+    go (get_or slots rule.left None)
+    (ascend_from slots rules a (λ q one e. above (suc q) one e) (λ q r one other less f g. starts (suc q) (suc r) one other
+    (omega arith) f g))
+    (ascend_from slots rules (suc rule.start) (λ q one e. omega (arith, starts 0 (suc q) rule one (omega arith) refl e))
+    (λ q r one other less f g. starts (suc q) (suc r) one other (omega arith) f g))
+  where
+    go : (o : Option L) → AscendsFrom a (map (λ (x : ℕ × L). x.0) (started_items slots rules)) →
+        AscendsFrom (suc rule.start) (map (λ (x : ℕ × L). x.0) (started_items slots rules)) →
+        AscendsFrom a (map (λ (x : ℕ × L). x.0) (started_with rule.start o ++ started_items slots rules))
+    go None same more = same
+    go (Some l) same more = (above 0 rule refl, more)
+
+pub started_ascend : {L : Type 0} (slots : List (Option L)) (rules : List NumberedRule) →
+    ((q r : ℕ) (one other : NumberedRule) → q < r → slice_get rules q ≡ Some one → slice_get rules r ≡ Some other →
+    one.start < other.start) →
+    Ascends (map (λ (x : ℕ × L). x.0) (started_items slots rules))
+started_ascend slots rules starts = ascend_from slots rules 0 (λ q one e. omega arith) starts

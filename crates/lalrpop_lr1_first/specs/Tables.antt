@@ -1,5 +1,5 @@
 -- The table of numbers of a grammar: its names and productions in order, and its right sides laid one behind the other.
-use Rattle.std.specs.Prelude.{ℕ, suc, ◌-◌, List, [], ◌∷◌, ◌++◌, length, map, drop}
+use Rattle.std.specs.Prelude.{ℕ, suc, ◌<◌, ◌-◌, List, [], ◌∷◌, ◌++◌, length, map, drop}
 use Rattle.std.specs.Prelude.{◌≡◌, Option, Some, None, slice_get, Contains}
 use Rattle.lalrpop_grammar_symbols.specs.Views.{terminal_view}
 use Rattle.lalrpop_grammar_symbols.specs.declared.names.NonterminalString.{NonterminalString}
@@ -97,10 +97,13 @@ pub record IsLaidAt (names : List NonterminalString) (ts : TerminalSet) (rules :
   pub left : symbol_of_number names ts rule.left ≡ Some (theory.nonterminal p.nonterminal.0)
   pub spelled : SpellsSymbols (symbol_of_number names ts) numbers (map production_symbol_view p.symbols)
 
--- each of the productions is laid, nothing else has a rule, and each number that is laid is a symbol's
+-- each of the productions is laid behind those before it, nothing else has a rule, and each number that is laid is a symbol's
 pub record AreLaid (names : List NonterminalString) (ts : TerminalSet) (productions : List Production) (rules : List NumberedRule)
     (all : List Place) : Type 0 where
   pub count : length rules ≡ length productions
+  pub starts : (q r : ℕ) (one other : NumberedRule) → q < r → slice_get rules q ≡ Some one →
+      slice_get rules r ≡ Some other →
+      one.start < other.start
   pub symbols : (i s : ℕ) → slice_get all i ≡ Some (places.Symbol s) →
       (x : theory.Symbol) × (symbol_of_number names ts s ≡ Some x)
   pub at : (r : ℕ) (p : Production) → slice_get productions r ≡ Some p → IsLaidAt names ts rules all r p

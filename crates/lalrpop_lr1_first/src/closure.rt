@@ -1,8 +1,8 @@
 //! Closures of items, for both lookaheads.
 
 ghost use Rattle.std.specs.Prelude.{◌≡◌, ◌≤◌, ◌+◌, ◌<◌, ◌∷◌, [], ℕ, true, None};
-ghost use Rattle.std.specs.Prelude.{Some, IfOk, OnOk, filter_map, length, slice_get, slice_index_or};
-ghost use Rattle.lalrpop_sets.specs.Bits.{has};
+ghost use Rattle.std.specs.Prelude.{Some, IfOk, OnOk, filter_map, length, map, slice_get, slice_index_or};
+ghost use Rattle.lalrpop_sets.specs.Bits.{Ascends, has};
 ghost use Rattle.lalrpop_lr1_first.specs.ClosureTables.{
   AreItems,
   ClosesSeed,
@@ -56,8 +56,8 @@ impl<'g> Closures<'g> {
         })
     }
 
-    /// The items that the seed brings with it, each with the dot in front and with its lookahead: with the seed they are its
-    /// closure. Items are told by their places.
+    /// The items that the seed brings with it, each with the dot in front and with its lookahead, in order, each once:
+    /// with the seed they are its closure. Items are told by their places.
     pub fn close<L: ClosureLookahead>(
         &self,
         alloc: Global,
@@ -66,7 +66,8 @@ impl<'g> Closures<'g> {
         requires closures { IsClosureTable self.now }
         requires items { AreItems self.now.numbered seed.now }
         requires marks { LookaheadsAreWithin L.marks (table_end self.now.numbered) seed.now }
-        ensures { IfOk result (λ brought. ClosesSeed L.marks L.firsts self.now.numbered seed.now brought.items) }
+        ensures ascending { IfOk result (λ brought. Ascends (map (λ item. item.0) brought.items)) }
+        ensures closes { IfOk result (λ brought. ClosesSeed L.marks L.firsts self.now.numbered seed.now brought.items) }
     {
         let mut slots = empty_slots(alloc, self.numbered.names.len())?;
         seed_slots(alloc, self, seed, &mut slots)?;

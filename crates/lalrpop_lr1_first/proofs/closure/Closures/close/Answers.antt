@@ -1,12 +1,13 @@
-use Rattle.std.proofs.Common.{◌≡◌, ◌∙◌, ◌+◌, ◌↔◌, ℕ, ap, arith, length, slice_get, subst, sym}
+use Rattle.std.proofs.Common.{◌≡◌, ◌∙◌, ◌+◌, ◌↔◌, ℕ, ap, arith, length, map, slice_get, subst, sym}
 use Rattle.std.proofs.Common.{true}
-use Rattle.lalrpop_sets.specs.Bits.{has}
+use Rattle.lalrpop_sets.specs.Bits.{Ascends, has}
 use Rattle.lalrpop_lr1_first.specs.ClosureTables.{started_items}
 use Rattle.lalrpop_lr1_first.specs.FirstNumbers.{table_end}
 use Rattle.lalrpop_lr1_first.specs.FlowEdges.{RestsAreWithin, edges_seen}
 use Rattle.lalrpop_lr1_first.specs.Flows.{EdgesAreWithin, Flows, all_marks}
 use Rattle.lalrpop_lr1_first.specs.Numbers.{set_of_number}
 use Rattle.lalrpop_lr1_first.proofs.ClosingLemmas.{closes, edge_rests, edges_within}
+use Rattle.lalrpop_lr1_first.proofs.SeedLemmas.{started_ascend}
 use Rattle.lalrpop_lr1_first.proofs.TableLemmas.{left_below}
 use Rattle.lalrpop_lr1_first.proofs.closure.Closures.close.Goals as goal
 
@@ -32,8 +33,15 @@ started-requires g c = λ r rule e.
     let long = ap length c.as_slice-4.ensures.value ∙ c.flow.ensures.count ∙ c.in_ok-seed_slots.ensures.count in
     omega (arith, below, long)
 
-pub returns : goal.returns
-returns g c =
+pub returns-clause-ascending : goal.returns-clause-ascending
+returns-clause-ascending g c =
+    let rules = c.args.self.now.numbered.rules.items in
+    subst (λ xs. Ascends (map (λ x. x.0) xs))
+    (sym (c.in_ok-brought.ensures ∙ ap (λ rs. started_items c.as_slice-4.result.now rs) c.as_slice-3.ensures.value))
+    (started_ascend c.as_slice-4.result.now rules c.requires.closures.numbers.laid.starts)
+
+pub returns-clause-closes : goal.returns-clause-closes
+returns-clause-closes g c =
     let marks = g.L.ClosureLookahead.marks in
     let counts = g.L.ClosureLookahead.firsts in
     let closures = c.args.self.now in
