@@ -56,6 +56,20 @@ impl<'g> Closures<'g> {
         })
     }
 
+    /// The grammar's table.
+    pub fn table(&self) -> &Numbered<'g>
+        ensures { result.now ≡ self.now.numbered }
+    {
+        &self.numbered
+    }
+
+    /// The first set of what stands from each place on, and of nothing behind the last place.
+    pub fn firsts(&self) -> &[TokenSet]
+        ensures { result.now ≡ self.now.firsts.items }
+    {
+        self.firsts.as_slice()
+    }
+
     /// The items that the seed brings with it, each with the dot in front and with its lookahead, in order, each once:
     /// with the seed they are its closure. Items are told by their places.
     pub fn close<L: ClosureLookahead>(

@@ -1,6 +1,6 @@
 //! The table of numbers of a grammar: what tables of states are built from.
 
-ghost use Rattle.std.specs.Prelude.{IfOk};
+ghost use Rattle.std.specs.Prelude.{◌≡◌, IfOk};
 ghost use Rattle.lalrpop_lr1_first.specs.NumberedGrammars.{HasItsTerminals, IsNumberTableOf};
 
 use crate::laying::lay_rules;
@@ -46,5 +46,40 @@ impl<'g> Numbered<'g> {
             rules,
             places,
         })
+    }
+
+    /// The names, in order: a name's number is its place.
+    pub fn names(&self) -> &[&'g NonterminalString]
+        ensures { result.now ≡ self.now.names.items }
+    {
+        self.names.as_slice()
+    }
+
+    /// The grammar's terminals.
+    pub fn terminals(&self) -> &'g TerminalSet
+        ensures { result.now ≡ self.now.terminals.now }
+    {
+        self.terminals
+    }
+
+    /// The productions, in order.
+    pub fn productions(&self) -> &[&'g Production]
+        ensures { result.now ≡ self.now.productions.items }
+    {
+        self.productions.as_slice()
+    }
+
+    /// The productions by numbers, in the same order.
+    pub fn rules(&self) -> &[NumberedRule]
+        ensures { result.now ≡ self.now.rules.items }
+    {
+        self.rules.as_slice()
+    }
+
+    /// What stands at each place.
+    pub fn places(&self) -> &[Place]
+        ensures { result.now ≡ self.now.places.items }
+    {
+        self.places.as_slice()
     }
 }
