@@ -6,6 +6,7 @@ pub mod OrderLemmas
 pub mod RecordLemmas
 pub mod MadeLemmas
 pub mod StepRuleLemmas
+pub mod MapRuleLemmas
 pub mod RecordLabelLemmas
 pub mod ExamplesOfInliningOrders
 pub mod ExamplesOfInliningSteps

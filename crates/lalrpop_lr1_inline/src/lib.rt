@@ -6,6 +6,7 @@ mod made;
 mod named;
 mod order;
 mod records;
+mod rules;
 mod step;
 
 pub use fault::InlineFault;
