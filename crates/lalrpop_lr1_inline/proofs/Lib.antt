@@ -7,6 +7,7 @@ pub mod RecordLemmas
 pub mod MadeLemmas
 pub mod StepRuleLemmas
 pub mod MapRuleLemmas
+pub mod AfterStepLemmas
 pub mod RecordLabelLemmas
 pub mod ExamplesOfInliningOrders
 pub mod ExamplesOfInliningSteps

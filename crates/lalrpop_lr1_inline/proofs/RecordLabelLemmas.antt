@@ -1,6 +1,7 @@
 -- The records of a right side are just those of a step of inlining, by the labels of the actions: for the law on inlined grammars.
 use Rattle.std.proofs.Common.{◌≡◌, ◌≢◌, ◌⊎◌, ℕ, List, [], ◌∷◌, ◌++◌, ◌∙◌}
 use Rattle.std.proofs.Common.{refl, ap, sym, subst, inl, inr, true, false, map}
+use Rattle.std.proofs.Common.{◌≡◌, ◌≢◌, ℕ, List, [], ◌∷◌, ◌++◌, ◌∙◌, refl, ap, sym, subst, inl, inr, true, false, map}
 use Rattle.std.specs.Prelude.{Bool, flat_map, if◌then◌else◌}
 use Rattle.std.specs.Str.{bytes_eq}
 use Rattle.std.proofs.lemmas.List.{map-append}
@@ -18,7 +19,7 @@ use Rattle.lalrpop_grammar_repr.specs.declared.production.Symbol.TheVariants as 
 use Rattle.lalrpop_norm_labels.specs.Labels.{BaseProductions, GrammarSymbols, Label}
 use Rattle.lalrpop_norm_labels.specs.Inlining.{Inlines}
 use Rattle.lalrpop_norm_labels.specs.Steps.{IsRecord, RecordedSymbol, symbols_after, symbols_before}
-use Rattle.lalrpop_lr1_inline.specs.InliningSteps.{is_place, record_entries, records_of, side_of_entry, side_of_record}
+use Rattle.lalrpop_lr1_inline.specs.InliningSteps.{record_entries, records_of, side_of_entry, side_of_record}
 use Rattle.lalrpop_lr1_inline.specs.NamedProductions.{entry_by_labels, record_by_labels, side_by_names, symbol_by_name}
 use Rattle.lalrpop_lr1_inline.proofs.AmongLemmas.{among_flat_map, among_left, among_right}
 
