@@ -11,7 +11,8 @@ use Rattle.lalrpop_grammar_repr.specs.declared.production.NonterminalData.{Nonte
 use Rattle.lalrpop_grammar_repr.specs.declared.production.Production.{Production}
 use Rattle.lalrpop_lr1_inline.specs.InlinedNames.{NonterminalEntries}
 use Rattle.lalrpop_lr1_inline.specs.InliningSteps.{all_records_after, entries_after, is_place, production_of_record, productions_after}
-use Rattle.lalrpop_lr1_inline.specs.InliningSteps.{productions_in_place, productions_of_records, records_after, records_in_place, records_of}
+use Rattle.lalrpop_lr1_inline.specs.InliningSteps.{productions_in_place, productions_of_records, records_after, records_in_place}
+use Rattle.lalrpop_lr1_inline.specs.InliningSteps.{records_of}
 use Rattle.lalrpop_lr1_inline.proofs.MadeLemmas.{count_on}
 use Rattle.lalrpop_lr1_inline.proofs.StepRuleLemmas.{all_count_on}
 

@@ -1,7 +1,6 @@
 -- The records of a right side are just those of a step of inlining, by the labels of the actions: for the law on inlined grammars.
-use Rattle.std.proofs.Common.{◌≡◌, ◌≢◌, ◌⊎◌, ℕ, List, [], ◌∷◌, ◌++◌, ◌∙◌}
-use Rattle.std.proofs.Common.{refl, ap, sym, subst, inl, inr, true, false, map}
-use Rattle.std.proofs.Common.{◌≡◌, ◌≢◌, ℕ, List, [], ◌∷◌, ◌++◌, ◌∙◌, refl, ap, sym, subst, inl, inr, true, false, map}
+use Rattle.std.proofs.Common.{◌≡◌, ◌≢◌, ℕ, List, [], ◌∷◌, ◌++◌, ◌∙◌, refl, ap, sym, subst, inl, inr}
+use Rattle.std.proofs.Common.{true, false, map}
 use Rattle.std.specs.Prelude.{Bool, flat_map, if◌then◌else◌}
 use Rattle.std.specs.Str.{bytes_eq}
 use Rattle.std.proofs.lemmas.List.{map-append}

@@ -1,6 +1,5 @@
-use Rattle.std.proofs.Common.{◌≡◌, ◌+◌, ◌<◌, ◌∷◌, ◌∙◌, ◌++◌, []}
-use Rattle.std.proofs.Common.{List, ap, length, arith, rules, subst, sym, vec_len}
-use Rattle.std.proofs.Common.{◌≡◌, ◌+◌, ◌<◌, ◌∷◌, ◌∙◌, ◌++◌, [], ap, length, arith, rules, subst, sym, vec_len}
+use Rattle.std.proofs.Common.{◌≡◌, ◌+◌, ◌<◌, ◌∷◌, ◌∙◌, ◌++◌, [], ap, length, arith, rules, subst, sym}
+use Rattle.std.proofs.Common.{vec_len}
 use Rattle.std.specs.Prelude.{All}
 use Rattle.std.specs.Vec.Iter.{into_iter_items}
 use Rattle.std.proofs.lemmas.List.{nil_from_length}
