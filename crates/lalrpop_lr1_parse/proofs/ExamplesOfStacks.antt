@@ -1,15 +1,14 @@
 -- Stacks of trees and of states, trees without productions, parts of lists and numbers of names, computed.
-use Rattle.std.proofs.Common.{◌≡◌, ℕ, zero, suc, ◌<◌, ◌≤◌, List, [], ◌∷◌, ◌++◌, length, Some, None}
+use Rattle.std.proofs.Common.{◌≡◌, ℕ, zero, suc, ◌<◌, ◌≤◌, [], ◌∷◌, Some, None}
 use Rattle.std.proofs.Common.{refl, arith, take}
 use Rattle.std.specs.Prelude.{slice_index}
-use Rattle.lalrpop_grammar_symbols.specs.Symbols.{Terminal, Text, TextSpan}
-use Rattle.lalrpop_lr1_theory.specs.Productions.{Production, Symbol, nonterminal, terminal}
-use Rattle.lalrpop_lr1_theory.specs.Automata.{Walk, goes, stands}
-use Rattle.lalrpop_lr1_theory.specs.Spans.{SpannedForest, leaf_at, leaf_spans, node_at, none_at, without_spans}
-use Rattle.lalrpop_lr1_theory.specs.Trees.{Forest, Move, leaf, node, none, reduce, shift}
+use Rattle.lalrpop_grammar_symbols.specs.Symbols.{Terminal, TextSpan}
+use Rattle.lalrpop_lr1_theory.specs.Productions.{Production, Symbol, terminal}
+use Rattle.lalrpop_lr1_theory.specs.Automata.{Walk, stands}
+use Rattle.lalrpop_lr1_theory.specs.Spans.{SpannedForest, leaf_at, node_at, none_at, without_spans}
+use Rattle.lalrpop_lr1_theory.specs.Trees.{reduce, shift}
 use Rattle.lalrpop_lr1_parse.specs.ExpandedViews.{nth_tree, root_children}
-use Rattle.lalrpop_lr1_parse.specs.NamedTrees.{NamedForest, name_forest, named_leaf, named_leaves, named_node, no_trees}
-use Rattle.lalrpop_lr1_parse.specs.Numbers.{HaveOneNumber}
+use Rattle.lalrpop_lr1_parse.specs.NamedTrees.{name_forest, named_leaf, named_leaves, named_node, no_trees}
 use Rattle.lalrpop_lr1_parse.specs.Rows.{AreNumbersOf, part_at}
 use Rattle.lalrpop_lr1_parse.specs.Stacks.{AreStatesOn, EndsByShift, by_shift, no_moves, ◌beside◌}
 use Rattle.lalrpop_lr1_parse.proofs.StackLemmas.{states_on}

@@ -1,30 +1,30 @@
 -- What an interpreter answers where the machine ends: for interpreting.
 use Rattle.std.proofs.Common.{◌≡◌, ◌∙◌, ℕ, ◌<◌, ◌≤◌, ◌⊎◌, inl, inr, Bool, true, false, cond, List, []}
 use Rattle.std.proofs.Common.{◌∷◌, length, map, ap, sym, refl, subst}
-use Rattle.std.proofs.Common.{Contains, Err, Ok, Result, arith, ◌++◌}
-use Rattle.std.specs.Prelude.{nat_lt, slice_get}
+use Rattle.std.proofs.Common.{Contains, Err, arith, ◌++◌}
+use Rattle.std.specs.Prelude.{nat_lt}
 use Rattle.std.proofs.lemmas.Bool.{cases_lt, lt-ltb, ltb-true}
 use Rattle.std.proofs.lemmas.List.{length-map}
 use Rattle.lalrpop_grammar.specs.declared.token.ScanToken.{ScanToken}
 use Rattle.lalrpop_grammar_symbols.specs.Symbols.{Terminal, Text}
 use Rattle.lalrpop_grammar_symbols.specs.Views.{terminal_view}
-use Rattle.lalrpop_grammar_symbols.specs.declared.terminal.TerminalString.{TerminalString}
 use Rattle.lalrpop_grammar_repr.specs.declared.terminal_set.TerminalSet.{TerminalSet}
 use Rattle.lalrpop_lr1_theory.specs.Answers.{IsRightParseAnswer, over_limit, tree, wrong_end, wrong_token}
 use Rattle.lalrpop_lr1_theory.specs.CheckedStates.{AreCheckedStates, IsStartAlone}
 use Rattle.lalrpop_lr1_theory.specs.Productions.{Production}
-use Rattle.lalrpop_lr1_theory.specs.Runs.{AcceptsWithin}
 use Rattle.lalrpop_lr1_theory.specs.Spans.{SpannedForest, without_spans}
 use Rattle.lalrpop_lr1_theory.specs.States.{State as TheoryState}
-use Rattle.lalrpop_lr1_theory.specs.Trees.{Forest, roots}
+use Rattle.lalrpop_lr1_theory.specs.Trees.{roots}
 use Rattle.lalrpop_lr1_theory.proofs.AnswerLemmas.{ends_right}
 use Rattle.lalrpop_lr1_items.specs.Views.{lr_state_view, token_lookahead}
 use Rattle.lalrpop_lr1_items.specs.declared.state.State.{State}
 use Rattle.lalrpop_lr1_parse.specs.Ends.{IsEndOfRun, MakesTree, MayRun, terminals_of}
 use Rattle.lalrpop_lr1_parse.specs.Interpretations.{IsInterpretFaultOf, IsHaltWithin, IsRightFault}
 use Rattle.lalrpop_lr1_parse.specs.Interpretations.{IsTreeOfTokens, MayInterpret, move_limit}
+use Rattle.lalrpop_lr1_parse.specs.Interpretations.{IsInterpretFaultOf, IsHaltWithin, IsRightFault, IsTreeOfTokens, MayInterpret}
+use Rattle.lalrpop_lr1_parse.specs.Interpretations.{move_limit}
 use Rattle.lalrpop_lr1_parse.specs.Interpretations.{wrong_place}
-use Rattle.lalrpop_lr1_parse.specs.NamedTrees.{name_forest, parse_tree_view, parse_tree_views}
+use Rattle.lalrpop_lr1_parse.specs.NamedTrees.{name_forest, parse_tree_views}
 use Rattle.lalrpop_lr1_parse.specs.Outcomes.{IsStuckAt, ShiftsAll}
 use Rattle.lalrpop_lr1_parse.specs.declared.action_table.ActionTable.{ActionTable}
 use Rattle.lalrpop_lr1_parse.specs.declared.interpret_fault.InterpretFault.{InterpretFault}

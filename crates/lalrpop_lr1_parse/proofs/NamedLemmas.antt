@@ -1,6 +1,6 @@
 -- Parse trees and lists of them as they are seen: for parse trees and for stacks of them.
-use Rattle.std.proofs.Common.{◌≡◌, ◌∙◌, ◌+◌, ◌-◌, ◌<◌, ◌≤◌, ℕ, zero, suc, List, [], ◌∷◌}
-use Rattle.std.proofs.Common.{◌++◌, length, map, take, drop, refl, sym, ap, subst}
+use Rattle.std.proofs.Common.{◌≡◌, ◌∙◌, ◌+◌, ◌-◌, ◌<◌, ◌≤◌, ℕ, suc, List, [], ◌∷◌}
+use Rattle.std.proofs.Common.{◌++◌, length, map, take, drop, refl, sym, ap}
 use Rattle.std.proofs.Common.{arith, length-append, append_assoc, get_or, take-append-drop}
 use Rattle.std.proofs.lemmas.List.{length-drop, length-map, take_more}
 use Rattle.lalrpop_grammar_symbols.specs.Views.{terminal_view}
@@ -8,11 +8,11 @@ use Rattle.lalrpop_grammar_symbols.specs.declared.names.NonterminalString.{Nonte
 use Rattle.lalrpop_grammar_symbols.specs.declared.terminal.TerminalString.{TerminalString}
 use Rattle.lalrpop_grammar_repr.specs.declared.production.Production.{Production}
 use Rattle.lalrpop_grammar_repr.specs.declared.production.Symbol.{Symbol}
-use Rattle.lalrpop_lr1_theory.specs.Spans.{SpannedForest, leaf_at, node_at, none_at, without_spans}
+use Rattle.lalrpop_lr1_theory.specs.Spans.{SpannedForest, node_at, none_at, without_spans}
 use Rattle.lalrpop_lr1_theory.specs.Trees.{Forest, leaf, node, none, roots, ◌and◌}
 use Rattle.lalrpop_lr1_theory.proofs.TreeLemmas.{roots-and}
 use Rattle.lalrpop_lr1_items.specs.Views.{production_symbol_view, production_view}
-use Rattle.lalrpop_lr1_parse.specs.NamedTrees.{NamedForest, name_forest, named_leaf, named_leaves, named_node, named_row, no_trees}
+use Rattle.lalrpop_lr1_parse.specs.NamedTrees.{NamedForest, name_forest, named_leaf, named_leaves, named_node, no_trees}
 use Rattle.lalrpop_lr1_parse.specs.NamedTrees.{parse_tree_before, parse_tree_step, parse_tree_view, parse_tree_views}
 use Rattle.lalrpop_lr1_parse.specs.Stacks.{◌beside◌}
 use Rattle.lalrpop_lr1_parse.specs.declared.parse_tree.ParseTree.{ParseTree}

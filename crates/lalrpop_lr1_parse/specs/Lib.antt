@@ -5,6 +5,7 @@ pub mod MadeTables
 pub mod NamedTrees
 pub mod Numbers
 pub mod Outcomes
+pub mod ParseTreeTexts
 pub mod Parses
 pub mod Rows
 pub mod Stacks

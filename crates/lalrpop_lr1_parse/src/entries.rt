@@ -1,17 +1,8 @@
 //! What states do, entry by entry, by names: what a table of actions is made of.
 
 ghost use Rattle.std.specs.Prelude.{◌≡◌, ◌++◌, ◌∷◌, [], OnOk, IfOk, flat_map, length, map};
-ghost use Rattle.lalrpop_lr1_parse.specs.Rows.{
-  AreRowsOf,
-  end_productions,
-  entry_view,
-  goto_entries,
-  goto_entry_view,
-  reduction_entries,
-  row_between,
-  shift_entry,
-  terminal_entries,
-};
+ghost use Rattle.lalrpop_lr1_parse.specs.Rows.{AreRowsOf, end_productions, entry_view, goto_entries, goto_entry_view};
+ghost use Rattle.lalrpop_lr1_parse.specs.Rows.{reduction_entries, row_between, shift_entry, terminal_entries};
 
 use crate::table_row::{PlaceRange, TableRow};
 use lalrpop_grammar_repr::{Production, TerminalSet};

@@ -7,13 +7,8 @@ ghost use Rattle.lalrpop_lr1_theory.specs.CheckedStates.{AreCheckedStates, IsSta
 ghost use Rattle.lalrpop_lr1_theory.specs.Productions.{Production};
 ghost use Rattle.lalrpop_sets.specs.TokensLeft.{token_or};
 ghost use Rattle.lalrpop_lr1_items.specs.Views.{lr_state_view, token_lookahead};
-ghost use Rattle.lalrpop_lr1_parse.specs.Interpretations.{
-  AreRightStates,
-  IsInterpretFaultOf,
-  IsHaltWithin,
-  IsRightInterpretation,
-  MayInterpret,
-};
+ghost use Rattle.lalrpop_lr1_parse.specs.Interpretations.{AreRightStates, IsInterpretFaultOf, IsHaltWithin, IsRightInterpretation};
+ghost use Rattle.lalrpop_lr1_parse.specs.Interpretations.{MayInterpret};
 ghost use Rattle.lalrpop_lr1_parse.specs.Parses.{AreParsable};
 ghost use Rattle.lalrpop_lr1_parse.specs.Tables.{IsTableOf};
 

@@ -16,6 +16,7 @@ mod numbering;
 mod parse;
 mod parse_tree;
 mod parse_tree_stack;
+mod parse_tree_text;
 mod stop;
 mod table_making;
 mod table_row;

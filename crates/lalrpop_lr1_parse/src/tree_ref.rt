@@ -5,14 +5,8 @@ ghost use Rattle.lalrpop_grammar_symbols.specs.Views.{span_view, terminal_view};
 ghost use Rattle.lalrpop_lr1_theory.specs.Spans.{without_spans};
 ghost use Rattle.lalrpop_lr1_theory.specs.Trees.{roots};
 ghost use Rattle.lalrpop_lr1_items.specs.Views.{production_view};
-ghost use Rattle.lalrpop_lr1_parse.specs.ExpandedViews.{
-  expanded_view,
-  root_children,
-  root_production,
-  root_span,
-  root_terminal,
-  nth_tree,
-};
+ghost use Rattle.lalrpop_lr1_parse.specs.ExpandedViews.{expanded_view, root_children, root_production, root_span, root_terminal};
+ghost use Rattle.lalrpop_lr1_parse.specs.ExpandedViews.{nth_tree};
 
 use crate::expanded_tree::{ExpandedTree, TreeLabel};
 use lalrpop_grammar_repr::Production;
