@@ -19,8 +19,6 @@ use Rattle.lalrpop_lr1_theory.proofs.AnswerLemmas.{ends_right}
 use Rattle.lalrpop_lr1_items.specs.Views.{lr_state_view, token_lookahead}
 use Rattle.lalrpop_lr1_items.specs.declared.state.State.{State}
 use Rattle.lalrpop_lr1_parse.specs.Ends.{IsEndOfRun, MakesTree, MayRun, terminals_of}
-use Rattle.lalrpop_lr1_parse.specs.Interpretations.{IsInterpretFaultOf, IsHaltWithin, IsRightFault}
-use Rattle.lalrpop_lr1_parse.specs.Interpretations.{IsTreeOfTokens, MayInterpret, move_limit}
 use Rattle.lalrpop_lr1_parse.specs.Interpretations.{IsInterpretFaultOf, IsHaltWithin, IsRightFault, IsTreeOfTokens, MayInterpret}
 use Rattle.lalrpop_lr1_parse.specs.Interpretations.{move_limit}
 use Rattle.lalrpop_lr1_parse.specs.Interpretations.{wrong_place}
