@@ -1,9 +1,9 @@
 -- Calls that are found one after another are the rounds of calls by least depth; for the search.
 use Rattle.std.proofs.Common.{◌≡◌, ℕ, zero, suc, List, [], ◌∷◌, ◌++◌, refl, ap, sym, ◌∙◌, subst, inl, inr}
 use Rattle.std.proofs.Common.{◌⊎◌, map, append-nil}
-use Rattle.std.proofs.Common.{append_assoc, ◌+◌, ◌<◌, arith, drop, get_or, length}
+use Rattle.std.proofs.Common.{append_assoc, ◌+◌, ◌<◌, ◌≤◌, arith, drop, get_or, length}
 use Rattle.std.proofs.lemmas.List.{drop-map, drop_at, length-map}
-use Rattle.std.specs.Prelude.{◌↔◌, Bool, true, Option, Some, None, filter, nat_lt}
+use Rattle.std.specs.Prelude.{◌↔◌, Bool, true, Option, Some, None, Result, Ok, Err, IfErr, filter, nat_lt}
 use Rattle.lalrpop_grammar_symbols.specs.Symbols.{Text, Closed, Closeds}
 use Rattle.lalrpop_grammar.specs.WrittenGrammar.{Rule}
 use Rattle.lalrpop_grammar_language.specs.Among.{Among}
@@ -25,8 +25,9 @@ use Rattle.lalrpop_grammar_repr.specs.declared.session.NormFault.{NormFault}
 use Rattle.lalrpop_grammar_repr.specs.declared.session.NormFault.TheVariants as faults
 use Rattle.lalrpop_norm_key_table.specs.Tables.{AddsKeys}
 use Rattle.lalrpop_norm_key_table.proofs.TableLemmas.{Extends, adds_extend}
-use Rattle.lalrpop_norm_keys.specs.FoundCalls.{AreCalls, FindsCalls, TellsOfMadeCall, TellsOfOneCall, plain_call_of, plain_calls}
-use Rattle.lalrpop_norm_keys.specs.Instances.{AreSymbolsOf}
+use Rattle.lalrpop_norm_keys.specs.FoundCalls.{AreCalls, FindsCalls, TellsOfAnyCall, TellsOfMadeCall, TellsOfOneCall}
+use Rattle.lalrpop_norm_keys.specs.FoundCalls.{plain_call_of, plain_calls}
+use Rattle.lalrpop_norm_keys.specs.Instances.{AreSymbolsOf, TellsOfCall}
 use Rattle.lalrpop_grammar_closed.specs.Views.{closed_view, closeds}
 use Rattle.lalrpop_grammar_closed.specs.declared.closed_symbol.ClosedSymbol.{ClosedSymbol}
 use Rattle.lalrpop_norm_keys.proofs.SymbolLemmas.{calls_are_calls}
@@ -239,6 +240,15 @@ plain_call_is (r ∷ rs) y i = go (among_parts (plain_call_of r r.parameters) (p
     go (inr j) later =
         let w = later j in record { rule = w.rule; among = inr w.among; no_macro = w.no_macro; call_is = w.call_is }
 
+-- a rule without parameters is one call, and one with parameters is none
+pub none_mapped : {A B : Type 0} (f : A → B) (xs : List A) → length xs < 1 → map f xs ≡ []
+none_mapped f [] lt = refl
+none_mapped f (x ∷ xs) lt = let wrong : ⊥ = omega (arith, lt) in absurd wrong
+
+pub no_plain_call : {A : Type 0} (r : Rule) (f : A → Text) (xs : List A) → 1 ≤ length xs → plain_call_of r (map f xs) ≡ []
+no_plain_call r f [] le = let wrong : ⊥ = omega (arith, le) in absurd wrong
+no_plain_call r f (x ∷ xs) le = refl
+
 plain_there : (r : Rule) (ps : List Text) → ps ≡ [] → Among (plain_call_of r ps) (Closed.call r.name Closeds.none None)
 plain_there r [] e = inl refl
 plain_there r (p ∷ ps) e = cc
@@ -326,6 +336,22 @@ told_of_walked g depth walked next a deep (faults.Norm e) (n, args, i, t) =
     let c = a.chains (Closed.call n args None) i in (n, args, inr (c.0, c.2), t)
 told_of_walked g depth walked next a deep faults.ConditionLimit (n, args, i, t) =
     let c = a.chains (Closed.call n args None) i in (n, args, inr (c.0, c.2), t)
+
+-- what is told of the call that a symbol is
+pub told_of_call : {T : Type 0} (g : EnabledGrammar) (deep : Text → Bool) (y : Closed) (n : Text) (args : Closeds)
+    (r : Result T NormFault) → y ≡ Closed.call n args None → IfErr r (TellsOfCall g deep n args)
+    → IfErr r (TellsOfOneCall g deep (y ∷ []))
+told_of_call g deep y n args (Ok x) e t = t
+told_of_call g deep y n args (Err faults.Memory) e t = tt
+told_of_call g deep y n args (Err (faults.Norm f)) e t = (n, args, inl e, t)
+told_of_call g deep y n args (Err faults.ConditionLimit) e t = (n, args, inl e, t)
+
+-- what is told of a call is told of some rule
+pub told_of_any : (g : EnabledGrammar) (deep : Text → Bool) (ys : List Closed) (f : NormFault) → TellsOfOneCall g deep ys f
+    → TellsOfAnyCall g deep f
+told_of_any g deep ys faults.Memory t = tt
+told_of_any g deep ys (faults.Norm e) (n, args, i, t) = (n, args, t)
+told_of_any g deep ys faults.ConditionLimit (n, args, i, t) = (n, args, t)
 
 -- what is told of one of several calls is told of them
 pub told_wider : (g : EnabledGrammar) (deep : Text → Bool) (ys zs : List Closed) → ((y : Closed) → Among ys y → Among zs y)

@@ -1,6 +1,6 @@
 -- The symbols on the right sides of a call of a rule without levels have just the calls that occur in it and the keys that stand
 -- there; for the search.
-use Rattle.std.proofs.Common.{◌≡◌, ◌≢◌, List, [], refl, ap, sym, ◌∙◌, subst, inl, inr}
+use Rattle.std.proofs.Common.{◌≡◌, ◌≢◌, List, [], ◌∷◌, refl, ap, cond, sym, ◌∙◌, subst, inl, inr, true}
 use Rattle.std.proofs.Common.{◌⊎◌, map, length}
 use Rattle.std.specs.Prelude.{Bool, false, Option, Some, None, is_some, zip, Result, Ok, Err, IfOk, IfErr}
 use Rattle.std.proofs.lemmas.List.{length-map}
@@ -9,7 +9,7 @@ use Rattle.lalrpop_grammar_symbols.specs.declared.names.NonterminalString.{Nonte
 use Rattle.lalrpop_grammar.specs.WrittenGrammar.{Origin}
 use Rattle.lalrpop_grammar_language.specs.Among.{Among}
 use Rattle.lalrpop_grammar_language.specs.Enabled.{EnabledGrammar, EnabledRule, Choice, IsRule}
-use Rattle.lalrpop_grammar_language.specs.Levels.{Rank, has_levels, ranked_choices}
+use Rattle.lalrpop_grammar_language.specs.Levels.{Rank, has_levels, rank_after, ranked_choices, with_ranks, written_assoc, written_level}
 use Rattle.lalrpop_grammar_language.specs.Closing.{Binding, right_side}
 use Rattle.lalrpop_grammar_language.specs.Conditions.{Holds}
 use Rattle.lalrpop_grammar_language.specs.Admitting.{argument_list, bind, rank_level}
@@ -17,8 +17,10 @@ use Rattle.lalrpop_grammar_language.specs.Expansion.{GrammarSymbol, Nonterminal,
 use Rattle.lalrpop_grammar_language.specs.Expansion.{grammar_symbol, origin_with}
 use Rattle.lalrpop_grammar_language.proofs.PlaceLemmas.{among_map}
 use Rattle.lalrpop_norm_expansion.specs.Depth.{CallOccursIn, calls_in_all, calls_in_grammar_symbol}
+use Rattle.lalrpop_norm_expansion.specs.Premises.{HasNoLevels}
 use Rattle.lalrpop_norm_expansion.proofs.AmongLemmas.{map_among}
-use Rattle.lalrpop_norm_expansion.proofs.LevelLemmas.{no_rank, ranked_flat}
+use Rattle.lalrpop_norm_expansion.proofs.ExpansionListLemmas.{rule_there}
+use Rattle.lalrpop_norm_expansion.proofs.LevelLemmas.{no_rank}
 use Rattle.lalrpop_norm_pass_laws.specs.KeyTables.{KeyStandsIn, keys_in_all}
 use Rattle.lalrpop_grammar_closed.specs.Views.{binding_of, closed_view, closeds}
 use Rattle.lalrpop_grammar_closed.specs.declared.closed_symbol.ClosedSymbol.{ClosedSymbol}
@@ -173,50 +175,44 @@ binding_same r ps as_ e =
 pub as_many : (as_ : List ClosedSymbol) → length (closed_list (closeds (map closed_view as_))) ≡ length as_
 as_many as_ = ap length (closed_list-closeds (map closed_view as_)) ∙ length-map as_ closed_view
 
+-- the alternatives with their ranks are written ones
+written_ranked : (last : Option Rank) (cs : List Choice) (p : Choice × Option Rank) → Among (with_ranks last cs) p → Among cs p.0
+written_ranked last [] p i = i
+written_ranked last (c ∷ cs) p (inl e) = inl (ap (λ (q : Choice × Option Rank). q.0) e)
+written_ranked last (c ∷ cs) p (inr i) = inr (written_ranked (rank_after last (written_level c) (written_assoc c)) cs p i)
+
+written_choice : (r : EnabledRule) (p : Choice × Option Rank) → Among (ranked_choices r) p → Among r.choices p.0
+written_choice r p i = go (has_levels r) i
+  where
+    go : (b : Bool) → Among (cond b (with_ranks None r.choices) (map (λ c. (c, None)) r.choices)) p → Among r.choices p.0
+    go true j = written_ranked None r.choices p j
+    go false j =
+        let w = among_map (λ c. (c, None)) r.choices p j in
+        subst (Among r.choices) (ap (λ (q : Choice × Option Rank). q.0) w.2) w.1
+
 -- what is told of the alternatives is told of the call
 pub tells_of_call : (g : EnabledGrammar) (deep : Text → Bool) (n : Text) (args : Closeds) (r : EnabledRule) → IsRule g n r
-    → has_levels r ≡ false → (f : NormFault) → TellsOfSome g.finds deep (bind r args) (ranked_choices r) f
-    → TellsOfCall g deep n args f
-tells_of_call g deep n args r is flat faults.Memory t = tt
-tells_of_call g deep n args r is flat (faults.Norm e) (p, i, t) =
-    let w = among_map (λ c. (c, None)) r.choices p (subst (λ ps. Among ps p) (ranked_flat r flat) i) in (
-      p.0,
-      bind r args,
-      record {
-        rule = r;
-        is_rule = is;
-        among = subst (Among r.choices) (ap (λ (q : Choice × Option Rank). q.0) w.2) w.1;
-        binding_is = refl;
-      },
-      t,
-    )
-tells_of_call g deep n args r is flat faults.ConditionLimit (p, i, t) =
-    let w = among_map (λ c. (c, None)) r.choices p (subst (λ ps. Among ps p) (ranked_flat r flat) i) in (
-      p.0,
-      bind r args,
-      record {
-        rule = r;
-        is_rule = is;
-        among = subst (Among r.choices) (ap (λ (q : Choice × Option Rank). q.0) w.2) w.1;
-        binding_is = refl;
-      },
-      t,
-    )
+    → (f : NormFault) → TellsOfSome g.finds deep (bind r args) (ranked_choices r) f → TellsOfCall g deep n args f
+tells_of_call g deep n args r is faults.Memory t = tt
+tells_of_call g deep n args r is (faults.Norm e) (p, i, t) =
+    (p.0, bind r args, record { rule = r; is_rule = is; among = written_choice r p i; binding_is = refl }, t)
+tells_of_call g deep n args r is faults.ConditionLimit (p, i, t) =
+    (p.0, bind r args, record { rule = r; is_rule = is; among = written_choice r p i; binding_is = refl }, t)
 
--- the symbols that are answered, and the faults
-pub symbols_ok : (g : EnabledGrammar) (n : Text) (args : Closeds) (r : EnabledRule) → IsRule g n r → has_levels r ≡ false
+-- the symbols that are answered where no rule has levels, and the faults
+pub symbols_ok : (g : EnabledGrammar) (n : Text) (args : Closeds) (r : EnabledRule) → IsRule g n r
     → length (closed_list args) ≡ length r.parameters → (b : Binding) → b ≡ bind r args
     → (res : Result (List ClosedSymbol) NormFault)
     → IfOk res (λ xs. AddsSides g r b (ranked_choices r) [] (map closed_view xs))
-    → IfOk res (λ xs. AreSymbolsOf g (Closed.call n args None) (map closed_view xs))
-symbols_ok g n args r is flat full b same (Ok xs) h =
-    symbols_of_sides g n args r is flat full (map closed_view xs)
+    → IfOk res (λ xs. HasNoLevels g → AreSymbolsOf g (Closed.call n args None) (map closed_view xs))
+symbols_ok g n args r is full b same (Ok xs) h = λ flat.
+    symbols_of_sides g n args r is (flat r (rule_there g n r is).0) full (map closed_view xs)
     (subst (λ d. AddsSides g r d (ranked_choices r) [] (map closed_view xs)) same h)
-symbols_ok g n args r is flat full b same (Err e) h = h
+symbols_ok g n args r is full b same (Err e) h = h
 
 pub symbols_err : (g : EnabledGrammar) (deep : Text → Bool) (n : Text) (args : Closeds) (r : EnabledRule) → IsRule g n r
-    → has_levels r ≡ false → (b : Binding) → b ≡ bind r args → (res : Result (List ClosedSymbol) NormFault)
+    → (b : Binding) → b ≡ bind r args → (res : Result (List ClosedSymbol) NormFault)
     → IfErr res (TellsOfSome g.finds deep b (ranked_choices r)) → IfErr res (TellsOfCall g deep n args)
-symbols_err g deep n args r is flat b same (Ok xs) h = h
-symbols_err g deep n args r is flat b same (Err e) h =
-    tells_of_call g deep n args r is flat e (subst (λ d. TellsOfSome g.finds deep d (ranked_choices r) e) same h)
+symbols_err g deep n args r is b same (Ok xs) h = h
+symbols_err g deep n args r is b same (Err e) h =
+    tells_of_call g deep n args r is e (subst (λ d. TellsOfSome g.finds deep d (ranked_choices r) e) same h)

@@ -88,9 +88,10 @@ call_and_standing g y known mid all a s = record {
 
 -- a call as it is told, with what was found in it
 pub found_ok : {T E : Type 0} (g : EnabledGrammar) (y v : Closed) (known mid all : List Closed) (r : Result T E) → AddsKey known y mid
-    → y ≡ v → OnOk r (AddsStanding g v mid all) → OnOk r (FindsKeys g (y ∷ []) known all)
-found_ok g y v known mid all (Ok x) a e h =
-    call_and_standing g y known mid all a (subst (λ u. AddsStanding g u mid all) (sym e) h)
+    → y ≡ v → OnOk r (HasNoLevels g → AddsStanding g v mid all)
+    → OnOk r (HasNoLevels g → AreCalls (y ∷ []) → FindsKeys g (y ∷ []) known all)
+found_ok g y v known mid all (Ok x) a e h = λ flat are.
+    call_and_standing g y known mid all a (subst (λ u. AddsStanding g u mid all) (sym e) (h flat))
 found_ok g y v known mid all (Err x) a e h = h
 
 -- a call in which nothing stands

@@ -43,10 +43,20 @@ TellsOfOneCall g deep ys faults.Memory = Unit {0}
 TellsOfOneCall g deep ys fault =
     (n : Text) × (args : Closeds) × Among ys (Closed.call n args None) × TellsOfCall g deep n args fault
 
+-- the calls that were found stand in a table, each at its text
+abbrev pub HasCallIndex : FoundCalls → Type 0
+HasCallIndex (found.All calls) = IsKeyIndex calls
+HasCallIndex (found.TooDeep x) = Unit {0}
+
 -- the calls of the grammar, each once, or one that is too deep
 abbrev pub HasFoundCalls : EnabledGrammar → ℕ → FoundCalls → Type 0
 HasFoundCalls g limit (found.All calls) = IsKeyIndex calls × AreCallsToDepth g limit (table_keys calls) []
 HasFoundCalls g limit (found.TooDeep x) = IsTooDeep g limit (closed_view x)
+
+-- a condition of some rule can't be asked under some arguments; or memory ran out
+abbrev pub TellsOfAnyCall : EnabledGrammar → (Text → Bool) → NormFault → Type 0
+TellsOfAnyCall g deep faults.Memory = Unit {0}
+TellsOfAnyCall g deep fault = (n : Text) × (args : Closeds) × TellsOfCall g deep n args fault
 
 -- a condition of a call that is made, or of a rule, can't be asked; or memory ran out
 abbrev pub TellsOfMadeCall : EnabledGrammar → (Text → Bool) → NormFault → Type 0

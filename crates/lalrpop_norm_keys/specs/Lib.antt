@@ -2,5 +2,6 @@ pub mod MacroFaults
 pub mod Instances
 pub mod FoundCalls
 pub mod FoundKeys
+pub mod SearchPremises
 pub mod Arity
 pub mod TableLaws

@@ -12,6 +12,7 @@ use Rattle.lalrpop_norm_pass_laws.specs.KeyTables.{IsKeyTable}
 use Rattle.lalrpop_grammar_repr.specs.declared.session.NormFault.{NormFault}
 use Rattle.lalrpop_norm_keys.specs.Arity.{arity_faults}
 use Rattle.lalrpop_norm_keys.specs.FoundCalls.{TellsOfMadeCall}
+use Rattle.lalrpop_norm_keys.specs.SearchPremises.{CanSearch}
 
 -- nothing of the rule is disabled under the features
 pub record IsActiveRule (features : List Text) (r : Rule) : Type 0 where
@@ -60,5 +61,4 @@ PremisesComeBack =
     (finds : Text → Text → Option Bool) (features : List Text) (w : Grammar) → HasAllActive features (rules_of w.items)
     → HasNoLevels (grammar_between finds w)
     → ((q : EnabledRule) → Among (grammar_between finds w).rules q → IsRule (grammar_between finds w) q.name q)
-    → HasNoLevels (enabled_grammar finds features w)
-    × ((r : EnabledRule) → Among (enabled_grammar finds features w).rules r → IsRule (enabled_grammar finds features w) r.name r)
+    → CanSearch (enabled_grammar finds features w) features w

@@ -117,8 +117,8 @@ fn bound_symbols<F: Finder>(
     Ok(symbols)
 }
 
-/// The symbols on the right sides of the call of a rule without levels: of the alternatives whose conditions hold for the
-/// arguments, in order.
+/// The symbols on the right sides of the call of a rule: of the alternatives whose conditions hold for the arguments, in order.
+/// Where no rule has levels, they are just those.
 ///
 /// # Errors
 ///
@@ -132,8 +132,8 @@ pub(crate) fn symbols_of<F: Finder>(
     args: &[ClosedSymbol],
 ) -> Result<List<ClosedSymbol>, NormFault>
     requires table { IsTable rules.now }
-    requires flat { HasNoLevels (rules_view rules.now) }
-    ensures symbols { IfOk result (λ xs. AreSymbolsOf (rules_with (F.finds finder.now) rules.now)
+    ensures symbols { IfOk result (λ xs. HasNoLevels (rules_view rules.now)
+        → AreSymbolsOf (rules_with (F.finds finder.now) rules.now)
         (Closed.call name.now (closeds (map closed_view args.now)) None) (map closed_view xs)) }
     ensures fault { IfErr result (TellsOfCall (rules_with (F.finds finder.now) rules.now) (F.too_deep finder.now)
         name.now (closeds (map closed_view args.now))) }

@@ -1,21 +1,20 @@
 //! The keys of a grammar: its rules that are no macros, the calls of macros that it makes, and the repeats, groups and lookarounds
 //! that stand in these.
 
-ghost use Rattle.std.specs.Prelude.{ℕ, ◌≡◌, [], ◌∷◌, IfErr, IfOk, OnOk, None, map, true};
+ghost use Rattle.std.specs.Prelude.{◌≡◌, [], ◌∷◌, IfErr, IfOk, OnOk, None, map};
 ghost use Rattle.lalrpop_grammar_symbols.specs.Symbols.{Closed, Closeds};
 ghost use Rattle.lalrpop_grammar.specs.Views.{grammar_view, nonterminal_view};
-ghost use Rattle.lalrpop_grammar.specs.WrittenGrammar.{Rule, rules_of};
-ghost use Rattle.lalrpop_grammar_language.specs.Among.{Among};
-ghost use Rattle.lalrpop_grammar_language.specs.Enabled.{EnabledRule, IsRule, is_active};
+ghost use Rattle.lalrpop_grammar.specs.WrittenGrammar.{rules_of};
 ghost use Rattle.lalrpop_grammar_rules.specs.RuleTable.{IsTable, rules_view, rules_with};
 ghost use Rattle.lalrpop_grammar_closed.specs.Views.{closed_view, closeds};
 ghost use Rattle.lalrpop_norm_expansion.specs.Premises.{HasNoLevels};
-ghost use Rattle.lalrpop_norm_expansion.specs.Rounds.{AreCallsToDepth};
 ghost use Rattle.lalrpop_norm_pass_laws.specs.KeyTables.{IsKeyTable};
 ghost use Rattle.lalrpop_norm_key_table.specs.Tables.{IsKeyIndex, table_keys};
-ghost use Rattle.lalrpop_norm_keys.specs.FoundCalls.{AreCalls, TellsOfMadeCall, TellsOfOneCall, plain_call_of, plain_calls};
+ghost use Rattle.lalrpop_norm_keys.specs.FoundCalls.{AreCalls, TellsOfAnyCall, TellsOfMadeCall, TellsOfOneCall};
+ghost use Rattle.lalrpop_norm_keys.specs.FoundCalls.{plain_call_of, plain_calls};
 ghost use Rattle.lalrpop_norm_keys.specs.FoundKeys.{AddsStanding, FindsKeys};
 ghost use Rattle.lalrpop_norm_keys.specs.Instances.{TellsOfCall};
+ghost use Rattle.lalrpop_norm_keys.specs.SearchPremises.{AreAllCalls, CanSearch};
 
 use crate::called::unleveled_call;
 use crate::instances::symbols_of;
@@ -37,10 +36,10 @@ fn add_standing<F: Finder>(
     keys: &mut KeyTable,
 ) -> Result<(), NormFault>
     requires table { IsTable rules.now }
-    requires flat { HasNoLevels (rules_view rules.now) }
     requires index { IsKeyIndex keys.old }
     ensures index { OnOk result (IsKeyIndex keys.new) }
-    ensures found { OnOk result (AddsStanding (rules_with (F.finds finder.now) rules.now)
+    ensures found { OnOk result (HasNoLevels (rules_view rules.now)
+        → AddsStanding (rules_with (F.finds finder.now) rules.now)
         (Closed.call name.now (closeds (map closed_view args.now)) None) (table_keys keys.old) (table_keys keys.new)) }
     ensures fault { IfErr result (TellsOfCall (rules_with (F.finds finder.now) rules.now) (F.too_deep finder.now)
         name.now (closeds (map closed_view args.now))) }
@@ -60,11 +59,10 @@ fn add_keys_of<F: Finder>(
     keys: &mut KeyTable,
 ) -> Result<(), NormFault>
     requires table { IsTable rules.now }
-    requires flat { HasNoLevels (rules_view rules.now) }
-    requires call { AreCalls (closed_view call.now ∷ []) }
     requires index { IsKeyIndex keys.old }
     ensures index { OnOk result (IsKeyIndex keys.new) }
-    ensures found { OnOk result (FindsKeys (rules_with (F.finds finder.now) rules.now)
+    ensures found { OnOk result (HasNoLevels (rules_view rules.now) → AreCalls (closed_view call.now ∷ [])
+        → FindsKeys (rules_with (F.finds finder.now) rules.now)
         (closed_view call.now ∷ []) (table_keys keys.old) (table_keys keys.new)) }
     ensures fault { IfErr result (TellsOfOneCall (rules_with (F.finds finder.now) rules.now) (F.too_deep finder.now)
         (closed_view call.now ∷ [])) }
@@ -92,10 +90,10 @@ fn add_keys_of_rule<F: Finder>(
     keys: &mut KeyTable,
 ) -> Result<(), NormFault>
     requires table { IsTable rules.now }
-    requires flat { HasNoLevels (rules_view rules.now) }
     requires index { IsKeyIndex keys.old }
     ensures index { OnOk result (IsKeyIndex keys.new) }
-    ensures found { OnOk result (FindsKeys (rules_with (F.finds finder.now) rules.now)
+    ensures found { OnOk result (HasNoLevels (rules_view rules.now)
+        → FindsKeys (rules_with (F.finds finder.now) rules.now)
         (plain_call_of (nonterminal_view rule.now) (nonterminal_view rule.now).parameters)
         (table_keys keys.old) (table_keys keys.new)) }
     ensures fault { IfErr result (TellsOfOneCall (rules_with (F.finds finder.now) rules.now) (F.too_deep finder.now)
@@ -119,10 +117,10 @@ fn add_keys_of_rules<F: Finder>(
     keys: &mut KeyTable,
 ) -> Result<(), NormFault>
     requires table { IsTable rules.now }
-    requires flat { HasNoLevels (rules_view rules.now) }
     requires index { IsKeyIndex keys.old }
     ensures index { OnOk result (IsKeyIndex keys.new) }
-    ensures found { OnOk result (FindsKeys (rules_with (F.finds finder.now) rules.now)
+    ensures found { OnOk result (HasNoLevels (rules_view rules.now)
+        → FindsKeys (rules_with (F.finds finder.now) rules.now)
         (plain_calls (rules_of (grammar_view grammar.now).items)) (table_keys keys.old) (table_keys keys.new)) }
     ensures fault { IfErr result (TellsOfOneCall (rules_with (F.finds finder.now) rules.now) (F.too_deep finder.now)
         (plain_calls (rules_of (grammar_view grammar.now).items))) }
@@ -142,11 +140,10 @@ fn add_keys_of_calls<F: Finder>(
     keys: &mut KeyTable,
 ) -> Result<(), NormFault>
     requires table { IsTable rules.now }
-    requires flat { HasNoLevels (rules_view rules.now) }
-    requires calls { AreCalls (map closed_view calls.now) }
     requires index { IsKeyIndex keys.old }
     ensures index { OnOk result (IsKeyIndex keys.new) }
-    ensures found { OnOk result (FindsKeys (rules_with (F.finds finder.now) rules.now)
+    ensures found { OnOk result (HasNoLevels (rules_view rules.now) → AreCalls (map closed_view calls.now)
+        → FindsKeys (rules_with (F.finds finder.now) rules.now)
         (map closed_view calls.now) (table_keys keys.old) (table_keys keys.new)) }
     ensures fault { IfErr result (TellsOfOneCall (rules_with (F.finds finder.now) rules.now) (F.too_deep finder.now)
         (map closed_view calls.now)) }
@@ -157,8 +154,8 @@ fn add_keys_of_calls<F: Finder>(
     Ok(())
 }
 
-/// The keys of the grammar, each once: its rules that are no macros, these calls, and what stands in both. The calls are all that
-/// the grammar makes.
+/// The keys of the grammar, each once: its rules that are no macros, these calls, and what stands in both. That rests on calls that
+/// are all that the grammar makes, and on rules without levels, of which no two share a name and the features disable none.
 ///
 /// # Errors
 ///
@@ -172,16 +169,16 @@ pub fn find_keys<F: Finder>(
 ) -> Result<KeyTable, NormFault>
     requires table { IsTable rules.now }
     requires of_grammar { grammar_view rules.now.grammar.now ≡ grammar_view grammar.now }
-    requires flat { HasNoLevels (rules_view rules.now) }
-    requires single { (r : EnabledRule) → Among (rules_view rules.now).rules r → IsRule (rules_view rules.now) r.name r }
-    requires enabled { (r : Rule) → Among (rules_of (grammar_view grammar.now).items) r
-        → is_active rules.now.features.now r.attributes ≡ true }
-    requires calls { (depth : ℕ)
-        × AreCallsToDepth (rules_with (F.finds finder.now) rules.now) depth (table_keys calls.now) [] }
     ensures index { IfOk result IsKeyIndex }
-    ensures keys { IfOk result (λ keys. IsKeyTable (rules_with (F.finds finder.now) rules.now)
-        (table_keys calls.now) (table_keys keys)) }
-    ensures fault { IfErr result (TellsOfMadeCall (rules_with (F.finds finder.now) rules.now) (F.too_deep finder.now)) }
+    ensures keys { IfOk result (λ keys.
+        CanSearch (rules_with (F.finds finder.now) rules.now) rules.now.features.now (grammar_view grammar.now)
+        → AreAllCalls (rules_with (F.finds finder.now) rules.now) (table_keys calls.now)
+        → IsKeyTable (rules_with (F.finds finder.now) rules.now) (table_keys calls.now) (table_keys keys)) }
+    ensures fault { IfErr result (λ fault.
+        CanSearch (rules_with (F.finds finder.now) rules.now) rules.now.features.now (grammar_view grammar.now)
+        → AreAllCalls (rules_with (F.finds finder.now) rules.now) (table_keys calls.now)
+        → TellsOfMadeCall (rules_with (F.finds finder.now) rules.now) (F.too_deep finder.now) fault) }
+    ensures condition { IfErr result (TellsOfAnyCall (rules_with (F.finds finder.now) rules.now) (F.too_deep finder.now)) }
 {
     let mut keys = KeyTable::new(alloc);
     add_keys_of_rules(alloc, finder, rules, grammar, &mut keys)?;

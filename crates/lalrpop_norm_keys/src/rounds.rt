@@ -1,19 +1,17 @@
 //! The calls of macros that a grammar makes, found by least depth, round by round.
 
-ghost use Rattle.std.specs.Prelude.{◌≡◌, [], ◌∷◌, IfErr, IfOk, OnOk, None, drop, map, true};
+ghost use Rattle.std.specs.Prelude.{◌≡◌, [], ◌∷◌, IfErr, IfOk, OnOk, None, drop, map};
 ghost use Rattle.lalrpop_grammar_symbols.specs.Symbols.{Closed};
 ghost use Rattle.lalrpop_grammar.specs.Views.{grammar_view, nonterminal_view};
 ghost use Rattle.lalrpop_grammar.specs.WrittenGrammar.{rules_of};
-ghost use Rattle.lalrpop_grammar.specs.WrittenGrammar.{Rule};
-ghost use Rattle.lalrpop_grammar_language.specs.Among.{Among};
-ghost use Rattle.lalrpop_grammar_language.specs.Enabled.{EnabledRule, IsRule, is_active};
 ghost use Rattle.lalrpop_grammar_rules.specs.RuleTable.{IsTable, rules_view, rules_with};
 ghost use Rattle.lalrpop_grammar_closed.specs.Views.{closed_view, closeds};
 ghost use Rattle.lalrpop_norm_expansion.specs.Premises.{HasNoLevels};
 ghost use Rattle.lalrpop_norm_key_table.specs.Tables.{IsKeyIndex, table_keys};
-ghost use Rattle.lalrpop_norm_keys.specs.FoundCalls.{AreCalls, FindsCalls, HasFoundCalls, TellsOfMadeCall, TellsOfOneCall, plain_call_of};
-ghost use Rattle.lalrpop_norm_keys.specs.FoundCalls.{plain_calls};
+ghost use Rattle.lalrpop_norm_keys.specs.FoundCalls.{AreCalls, FindsCalls, HasCallIndex, HasFoundCalls, TellsOfAnyCall};
+ghost use Rattle.lalrpop_norm_keys.specs.FoundCalls.{TellsOfMadeCall, TellsOfOneCall, plain_call_of, plain_calls};
 ghost use Rattle.lalrpop_norm_keys.specs.Instances.{TellsOfCall};
+ghost use Rattle.lalrpop_norm_keys.specs.SearchPremises.{CanSearch};
 
 use crate::called::unleveled_call;
 use crate::instances::symbols_of;
@@ -44,10 +42,10 @@ fn add_calls_of<F: Finder>(
     calls: &mut KeyTable,
 ) -> Result<(), NormFault>
     requires table { IsTable rules.now }
-    requires flat { HasNoLevels (rules_view rules.now) }
     requires index { IsKeyIndex calls.old }
     ensures index { OnOk result (IsKeyIndex calls.new) }
-    ensures found { OnOk result (FindsCalls (rules_with (F.finds finder.now) rules.now)
+    ensures found { OnOk result (HasNoLevels (rules_view rules.now)
+        → FindsCalls (rules_with (F.finds finder.now) rules.now)
         (Closed.call name.now (closeds (map closed_view args.now)) None ∷ []) (table_keys calls.old) (table_keys calls.new)) }
     ensures fault { IfErr result (TellsOfCall (rules_with (F.finds finder.now) rules.now) (F.too_deep finder.now)
         name.now (closeds (map closed_view args.now))) }
@@ -67,10 +65,10 @@ fn add_calls_of_rule<F: Finder>(
     calls: &mut KeyTable,
 ) -> Result<(), NormFault>
     requires table { IsTable rules.now }
-    requires flat { HasNoLevels (rules_view rules.now) }
     requires index { IsKeyIndex calls.old }
     ensures index { OnOk result (IsKeyIndex calls.new) }
-    ensures found { OnOk result (FindsCalls (rules_with (F.finds finder.now) rules.now)
+    ensures found { OnOk result (HasNoLevels (rules_view rules.now)
+        → FindsCalls (rules_with (F.finds finder.now) rules.now)
         (plain_call_of (nonterminal_view rule.now) (nonterminal_view rule.now).parameters)
         (table_keys calls.old) (table_keys calls.new)) }
     ensures fault { IfErr result (TellsOfOneCall (rules_with (F.finds finder.now) rules.now) (F.too_deep finder.now)
@@ -91,10 +89,10 @@ fn add_calls_of_rules<F: Finder>(
     calls: &mut KeyTable,
 ) -> Result<(), NormFault>
     requires table { IsTable rules.now }
-    requires flat { HasNoLevels (rules_view rules.now) }
     requires index { IsKeyIndex calls.old }
     ensures index { OnOk result (IsKeyIndex calls.new) }
-    ensures found { OnOk result (FindsCalls (rules_with (F.finds finder.now) rules.now)
+    ensures found { OnOk result (HasNoLevels (rules_view rules.now)
+        → FindsCalls (rules_with (F.finds finder.now) rules.now)
         (plain_calls (rules_of (grammar_view grammar.now).items)) (table_keys calls.old) (table_keys calls.new)) }
     ensures fault { IfErr result (TellsOfOneCall (rules_with (F.finds finder.now) rules.now) (F.too_deep finder.now)
         (plain_calls (rules_of (grammar_view grammar.now).items))) }
@@ -114,11 +112,10 @@ fn add_calls_of_call<F: Finder>(
     calls: &mut KeyTable,
 ) -> Result<(), NormFault>
     requires table { IsTable rules.now }
-    requires flat { HasNoLevels (rules_view rules.now) }
-    requires call { AreCalls (closed_view call.now ∷ []) }
     requires index { IsKeyIndex calls.old }
     ensures index { OnOk result (IsKeyIndex calls.new) }
-    ensures found { OnOk result (FindsCalls (rules_with (F.finds finder.now) rules.now)
+    ensures found { OnOk result (HasNoLevels (rules_view rules.now) → AreCalls (closed_view call.now ∷ [])
+        → FindsCalls (rules_with (F.finds finder.now) rules.now)
         (closed_view call.now ∷ []) (table_keys calls.old) (table_keys calls.new)) }
     ensures fault { IfErr result (TellsOfOneCall (rules_with (F.finds finder.now) rules.now) (F.too_deep finder.now)
         (closed_view call.now ∷ [])) }
@@ -138,11 +135,10 @@ fn add_round<F: Finder>(
     calls: &mut KeyTable,
 ) -> Result<(), NormFault>
     requires table { IsTable rules.now }
-    requires flat { HasNoLevels (rules_view rules.now) }
-    requires next { AreCalls (map closed_view next.now) }
     requires index { IsKeyIndex calls.old }
     ensures index { OnOk result (IsKeyIndex calls.new) }
-    ensures found { OnOk result (FindsCalls (rules_with (F.finds finder.now) rules.now)
+    ensures found { OnOk result (HasNoLevels (rules_view rules.now) → AreCalls (map closed_view next.now)
+        → FindsCalls (rules_with (F.finds finder.now) rules.now)
         (map closed_view next.now) (table_keys calls.old) (table_keys calls.new)) }
     ensures fault { IfErr result (TellsOfOneCall (rules_with (F.finds finder.now) rules.now) (F.too_deep finder.now)
         (map closed_view next.now)) }
@@ -179,7 +175,8 @@ fn copies_from(
 }
 
 /// The calls that the grammar makes, by least depth: round by round those that occur in what was found before. They are all,
-/// unless one is deeper than the limit.
+/// unless one is deeper than the limit. That rests on rules without levels, of which no two share a name and the features disable
+/// none.
 ///
 /// # Errors
 ///
@@ -194,12 +191,14 @@ pub fn find_calls<F: Finder>(
 ) -> Result<FoundCalls, NormFault>
     requires table { IsTable rules.now }
     requires of_grammar { grammar_view rules.now.grammar.now ≡ grammar_view grammar.now }
-    requires flat { HasNoLevels (rules_view rules.now) }
-    requires single { (r : EnabledRule) → Among (rules_view rules.now).rules r → IsRule (rules_view rules.now) r.name r }
-    requires enabled { (r : Rule) → Among (rules_of (grammar_view grammar.now).items) r
-        → is_active rules.now.features.now r.attributes ≡ true }
-    ensures found { IfOk result (HasFoundCalls (rules_with (F.finds finder.now) rules.now) limit) }
-    ensures fault { IfErr result (TellsOfMadeCall (rules_with (F.finds finder.now) rules.now) (F.too_deep finder.now)) }
+    ensures index { IfOk result HasCallIndex }
+    ensures found { IfOk result (λ found.
+        CanSearch (rules_with (F.finds finder.now) rules.now) rules.now.features.now (grammar_view grammar.now)
+        → HasFoundCalls (rules_with (F.finds finder.now) rules.now) limit found) }
+    ensures fault { IfErr result (λ fault.
+        CanSearch (rules_with (F.finds finder.now) rules.now) rules.now.features.now (grammar_view grammar.now)
+        → TellsOfMadeCall (rules_with (F.finds finder.now) rules.now) (F.too_deep finder.now) fault) }
+    ensures condition { IfErr result (TellsOfAnyCall (rules_with (F.finds finder.now) rules.now) (F.too_deep finder.now)) }
 {
     let mut calls = KeyTable::new(alloc);
     add_calls_of_rules(alloc, finder, rules, grammar, &mut calls)?;

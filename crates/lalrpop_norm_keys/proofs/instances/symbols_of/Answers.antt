@@ -5,14 +5,13 @@ use Rattle.lalrpop_grammar_symbols.specs.declared.names.NonterminalString.{Nonte
 use Rattle.lalrpop_grammar_rules.specs.Details.{enabled_rule_view}
 use Rattle.lalrpop_grammar_rules.specs.RuleTable.{rules_with}
 use Rattle.lalrpop_grammar_closed.specs.Views.{binding_of, closed_view, closeds}
-use Rattle.lalrpop_norm_expansion.proofs.ExpansionListLemmas.{rule_there}
 use Rattle.lalrpop_norm_keys.specs.Instances.{AreSymbolsOf}
 use Rattle.lalrpop_norm_keys.proofs.InstanceLemmas.{as_many, binding_same, nothing_without_arguments, symbols_err, symbols_of_none}
 use Rattle.lalrpop_norm_keys.proofs.InstanceLemmas.{symbols_ok}
 use Rattle.lalrpop_norm_keys.proofs.instances.symbols_of.Goals as goal
 
 pub returns-then-len-args-clause-symbols : goal.returns-then-len-args-clause-symbols
-returns-then-len-args-clause-symbols g c =
+returns-then-len-args-clause-symbols g c = λ flat.
     let t = rules_with (g.F.Finder.finds c.args.finder.now) c.args.rules.now in
     let n = c.args.name.now in
     let args = closeds (map closed_view c.args.args.now) in
@@ -30,7 +29,7 @@ returns-clause-symbols g c =
     let args = closeds (map closed_view c.args.args.now) in
     let r = enabled_rule_view c.args.rules.now.features.now c.in-Some.rule.now in
     let ps = (c.in-Some.rule.now.written.now).args in
-    symbols_ok t n args r c.in-Some.ensures.0 (c.requires.flat r (rule_there t n r c.in-Some.ensures.0).0)
+    symbols_ok t n args r c.in-Some.ensures.0
     (as_many c.args.args.now ∙ sym c.if-len-args.false ∙ c.len.ensures ∙ sym (length-map ps (λ (q : NonterminalString). q.0)))
     (binding_of ps c.args.args.now) (binding_same r ps c.args.args.now refl) c.bound_symbols.result c.bound_symbols.ensures.symbols
 
@@ -41,6 +40,5 @@ returns-clause-fault g c =
     let args = closeds (map closed_view c.args.args.now) in
     let r = enabled_rule_view c.args.rules.now.features.now c.in-Some.rule.now in
     let ps = (c.in-Some.rule.now.written.now).args in
-    symbols_err t (g.F.Finder.too_deep c.args.finder.now) n args r c.in-Some.ensures.0
-    (c.requires.flat r (rule_there t n r c.in-Some.ensures.0).0) (binding_of ps c.args.args.now)
+    symbols_err t (g.F.Finder.too_deep c.args.finder.now) n args r c.in-Some.ensures.0 (binding_of ps c.args.args.now)
     (binding_same r ps c.args.args.now refl) c.bound_symbols.result c.bound_symbols.ensures.fault

@@ -3,13 +3,14 @@ use Rattle.lalrpop_grammar_symbols.specs.Symbols.{Closed}
 use Rattle.lalrpop_grammar_rules.specs.RuleTable.{rules_with}
 use Rattle.lalrpop_grammar_closed.specs.Views.{closed_view, closeds}
 use Rattle.lalrpop_norm_key_table.specs.Tables.{table_keys}
+use Rattle.lalrpop_norm_keys.proofs.FoundLemmas.{told_of_call}
 use Rattle.lalrpop_norm_keys.proofs.KeyLemmas.{found_ok, keys_of_leveled}
 use Rattle.lalrpop_norm_keys.proofs.keys.add_keys_of.Goals as goal
 
 pub returns-in_default-clause-found : goal.returns-in_default-clause-found
-returns-in_default-clause-found g c =
-    keys_of_leveled (rules_with (g.F.Finder.finds c.args.finder.now) c.args.rules.now) c.requires.flat (closed_view c.args.call.now)
-    c.requires.call c.in_default.ensures.none (table_keys c.args.keys.now) (table_keys c.add.new.self) c.in_ok-add.ensures.added
+returns-in_default-clause-found g c = λ flat are.
+    keys_of_leveled (rules_with (g.F.Finder.finds c.args.finder.now) c.args.rules.now) flat (closed_view c.args.call.now)
+    are c.in_default.ensures.none (table_keys c.args.keys.now) (table_keys c.add.new.self) c.in_ok-add.ensures.added
 
 pub returns-clause-found : goal.returns-clause-found
 returns-clause-found g c =
@@ -17,3 +18,9 @@ returns-clause-found g c =
     (Closed.call c.in-Some.called.name.now (closeds (map closed_view c.in-Some.called.args.now)) None) (table_keys c.args.keys.now)
     (table_keys c.add.new.self) (table_keys c.add_standing.new.keys) c.add_standing.result c.in_ok-add.ensures.added
     c.in-Some.ensures.some c.add_standing.ensures.found
+
+pub returns-clause-fault : goal.returns-clause-fault
+returns-clause-fault g c =
+    told_of_call (rules_with (g.F.Finder.finds c.args.finder.now) c.args.rules.now) (g.F.Finder.too_deep c.args.finder.now)
+    (closed_view c.args.call.now) c.in-Some.called.name.now (closeds (map closed_view c.in-Some.called.args.now)) c.add_standing.result
+    c.in-Some.ensures.some c.add_standing.ensures.fault

@@ -12,13 +12,8 @@ use Rattle.lalrpop_norm_keys.proofs.keys.add_keys_of_calls.Goals as goal
 pub loop-call-init : goal.loop-call-init
 loop-call-init g c = record {
   index = c.requires.index;
-  found = keys_of_none (rules_with (g.F.Finder.finds c.args.finder.now) c.args.rules.now) (table_keys c.args.keys.now);
+  found = λ flat are. keys_of_none (rules_with (g.F.Finder.finds c.args.finder.now) c.args.rules.now) (table_keys c.args.keys.now);
 }
-
-pub add_keys_of-requires-clause-call : goal.add_keys_of-requires-clause-call
-add_keys_of-requires-clause-call g c = λ y i k.
-    c.requires.calls y
-    (item_among closed_view c.args.calls.now c.loop-call.call-index c.call-item.result y c.loop-call-test.true c.call-item.is i) k
 
 pub returns-in_err-add_keys_of-clause-fault : goal.returns-in_err-add_keys_of-clause-fault
 returns-in_err-add_keys_of-clause-fault g c =
@@ -42,7 +37,9 @@ loop-call-preserved g c =
     let new = table_keys c.add_keys_of.new.keys in
     record {
       index = c.in_ok-add_keys_of.ensures.index;
-      found = subst (λ ys. FindsKeys t ys old new) (sym (take_next closed_view calls i x c.loop-call-test.true c.call-item.is))
-          (keys_together t (map closed_view (take i calls)) (closed_view x ∷ []) old mid new c.loop-call.invariant.found
-          c.in_ok-add_keys_of.ensures.found);
+      found = λ flat are. subst (λ ys. FindsKeys t ys old new)
+          (sym (take_next closed_view calls i x c.loop-call-test.true c.call-item.is))
+          (keys_together t (map closed_view (take i calls)) (closed_view x ∷ []) old mid new (c.loop-call.invariant.found flat are)
+          (c.in_ok-add_keys_of.ensures.found flat (λ y k.
+          are y (item_among closed_view calls i x y c.loop-call-test.true c.call-item.is k))));
     }

@@ -1,14 +1,15 @@
-use Rattle.std.proofs.Common.{[], ap, map, subst, sym}
+use Rattle.std.proofs.Common.{[], ap, map, subst}
 use Rattle.std.specs.Prelude.{filter}
 use Rattle.std.proofs.lemmas.Result.{err_from_is_err_and}
 use Rattle.lalrpop_grammar.specs.Views.{grammar_view}
 use Rattle.lalrpop_grammar.specs.WrittenGrammar.{rules_of}
 use Rattle.lalrpop_grammar_language.specs.Enabled.{enabled_rule, is_active}
 use Rattle.lalrpop_grammar_rules.specs.RuleTable.{rules_with}
+use Rattle.lalrpop_grammar_closed.specs.Views.{closed_view}
 use Rattle.lalrpop_norm_key_table.specs.Tables.{table_keys}
-use Rattle.lalrpop_norm_keys.specs.FoundCalls.{AreCalls, plain_calls}
+use Rattle.lalrpop_norm_keys.specs.FoundCalls.{plain_calls}
 use Rattle.lalrpop_norm_keys.specs.FoundKeys.{FindsKeys}
-use Rattle.lalrpop_norm_keys.proofs.FoundLemmas.{told_of_rules, told_of_walked, walked_are_calls}
+use Rattle.lalrpop_norm_keys.proofs.FoundLemmas.{told_of_any, told_of_rules, told_of_walked, walked_are_calls}
 use Rattle.lalrpop_norm_keys.proofs.KeyLemmas.{keys_found, keys_together}
 use Rattle.lalrpop_norm_keys.proofs.keys.find_keys.Goals as goal
 
@@ -17,17 +18,18 @@ returns-in_err-add_keys_of_rules-clause-fault g c =
     let features = c.args.rules.now.features.now in
     let p = err_from_is_err_and c.from_residual.result c.from_residual.ensures.1 in
     rw (p.1, p.2)
-    (told_of_rules (rules_with (g.F.Finder.finds c.args.finder.now) c.args.rules.now) features
+    (λ can all. told_of_rules (rules_with (g.F.Finder.finds c.args.finder.now) c.args.rules.now) features
     (rules_of (grammar_view c.args.grammar.now).items)
     (ap (λ w. map (enabled_rule features) (filter (λ r. is_active features r.attributes) (rules_of w.items)))
-    c.requires.of_grammar) c.requires.enabled c.requires.single c.requires.flat (g.F.Finder.too_deep c.args.finder.now) _
+    c.requires.of_grammar) can.enabled can.single can.flat (g.F.Finder.too_deep c.args.finder.now) _
     c.in_err-add_keys_of_rules.ensures.fault)
 
-pub add_keys_of_calls-requires-clause-calls : goal.add_keys_of_calls-requires-clause-calls
-add_keys_of_calls-requires-clause-calls g c =
-    subst AreCalls (sym c.keys.ensures)
-    (walked_are_calls (rules_with (g.F.Finder.finds c.args.finder.now) c.args.rules.now) c.requires.calls.0 (table_keys c.args.calls.now)
-    [] c.requires.calls.1)
+pub returns-in_err-add_keys_of_rules-clause-condition : goal.returns-in_err-add_keys_of_rules-clause-condition
+returns-in_err-add_keys_of_rules-clause-condition g c =
+    let p = err_from_is_err_and c.from_residual.result c.from_residual.ensures.1 in
+    rw (p.1, p.2)
+    (told_of_any (rules_with (g.F.Finder.finds c.args.finder.now) c.args.rules.now) (g.F.Finder.too_deep c.args.finder.now)
+    (plain_calls (rules_of (grammar_view c.args.grammar.now).items)) _ c.in_err-add_keys_of_rules.ensures.fault)
 
 pub returns-in_err-add_keys_of_calls-clause-fault : goal.returns-in_err-add_keys_of_calls-clause-fault
 returns-in_err-add_keys_of_calls-clause-fault g c =
@@ -35,20 +37,29 @@ returns-in_err-add_keys_of_calls-clause-fault g c =
     let deep = g.F.Finder.too_deep c.args.finder.now in
     let p = err_from_is_err_and c.from_residual-in_err-add_keys_of_calls.result c.from_residual-in_err-add_keys_of_calls.ensures.1 in
     rw (p.1, p.2)
-    (told_of_walked t c.requires.calls.0 (table_keys c.args.calls.now) [] c.requires.calls.1 deep _
+    (λ can all. told_of_walked t all.0 (table_keys c.args.calls.now) [] all.1 deep _
     (rw c.keys.ensures at c.in_err-add_keys_of_calls.ensures.fault))
 
+pub returns-in_err-add_keys_of_calls-clause-condition : goal.returns-in_err-add_keys_of_calls-clause-condition
+returns-in_err-add_keys_of_calls-clause-condition g c =
+    let p = err_from_is_err_and c.from_residual-in_err-add_keys_of_calls.result c.from_residual-in_err-add_keys_of_calls.ensures.1 in
+    rw (p.1, p.2)
+    (told_of_any (rules_with (g.F.Finder.finds c.args.finder.now) c.args.rules.now) (g.F.Finder.too_deep c.args.finder.now)
+    (map closed_view c.keys.result.now) _ c.in_err-add_keys_of_calls.ensures.fault)
+
 pub returns-clause-keys : goal.returns-clause-keys
-returns-clause-keys g c =
+returns-clause-keys g c = λ can all_calls.
     let t = rules_with (g.F.Finder.finds c.args.finder.now) c.args.rules.now in
     let features = c.args.rules.now.features.now in
     let rs = rules_of (grammar_view c.args.grammar.now).items in
     let calls = table_keys c.args.calls.now in
     let mid = table_keys c.add_keys_of_rules.new.keys in
     let all = table_keys c.add_keys_of_calls.new.keys in
-    let first = subst (λ l. FindsKeys t (plain_calls rs) l mid) c.new-keys.ensures.empty c.in_ok-add_keys_of_rules.ensures.found in
-    let second = subst (λ l. FindsKeys t l mid all) c.keys.ensures c.in_ok-add_keys_of_calls.ensures.found in
+    let first = subst (λ l. FindsKeys t (plain_calls rs) l mid) c.new-keys.ensures.empty
+    (c.in_ok-add_keys_of_rules.ensures.found can.flat) in
+    let second : FindsKeys t calls mid all =
+    (rw c.keys.ensures at c.in_ok-add_keys_of_calls.ensures.found) can.flat (walked_are_calls t all_calls.0 calls [] all_calls.1) in
     keys_found t features rs
     (ap (λ w. map (enabled_rule features) (filter (λ r. is_active features r.attributes) (rules_of w.items)))
-    c.requires.of_grammar) c.requires.enabled c.requires.single c.requires.flat c.requires.calls.0 calls c.requires.calls.1 all
+    c.requires.of_grammar) can.enabled can.single can.flat all_calls.0 calls all_calls.1 all
     (keys_together t (plain_calls rs) calls [] mid all first second)

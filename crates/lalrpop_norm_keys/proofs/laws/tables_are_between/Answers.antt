@@ -30,4 +30,8 @@ pub returns-clause-premises : goal.returns-clause-premises
 returns-clause-premises c = λ finds features w active flat single.
     let g = enabled_grammar finds features w in
     let h = grammar_between finds w in
-    (flat_back g h (table_alike finds features w active) flat, single_back g h (table_alike finds features w active) single)
+    record {
+      flat = flat_back g h (table_alike finds features w active) flat;
+      single = single_back g h (table_alike finds features w active) single;
+      enabled = λ r i. (active r i).rule;
+    }

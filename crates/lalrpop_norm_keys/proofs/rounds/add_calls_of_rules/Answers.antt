@@ -19,15 +19,15 @@ loop-rule-preserved g c =
     let split = ap plain_calls c.in-Some.ensures.steps in
     record {
       index = c.in_ok-add_calls_of_rule.ensures.index;
-      left = λ all w. c.loop-rule.invariant.left all (subst (λ l. FindsCalls t l old all) (sym split)
-          (found_together t (plain_call_of r r.parameters) rest old new all c.in_ok-add_calls_of_rule.ensures.found w));
+      left = λ flat all w. c.loop-rule.invariant.left flat all (subst (λ l. FindsCalls t l old all) (sym split)
+          (found_together t (plain_call_of r r.parameters) rest old new all (c.in_ok-add_calls_of_rule.ensures.found flat) w));
       among = λ y i. c.loop-rule.invariant.among y
           (subst (λ l. Among l y) (sym split) (among_right (plain_call_of r r.parameters) rest y i));
     }
 
 pub returns-clause-found : goal.returns-clause-found
-returns-clause-found g c =
+returns-clause-found g c = λ flat.
     let t = rules_with (g.F.Finder.finds c.args.finder.now) c.args.rules.now in
     let now = table_keys c.loop-rule.calls in
-    c.loop-rule.invariant.left now
+    c.loop-rule.invariant.left flat now
     (subst (λ l. FindsCalls t l now now) (sym (ap plain_calls c.in-None.ensures.steps.0)) (found_of_none t [] now (λ y x i o. i)))

@@ -8,11 +8,6 @@ use Rattle.lalrpop_norm_keys.specs.FoundCalls.{FindsCalls}
 use Rattle.lalrpop_norm_keys.proofs.FoundLemmas.{found_together, item_among, told_wider}
 use Rattle.lalrpop_norm_keys.proofs.rounds.add_round.Goals as goal
 
-pub add_calls_of_call-requires-clause-call : goal.add_calls_of_call-requires-clause-call
-add_calls_of_call-requires-clause-call g c = λ y i k.
-    c.requires.next y
-    (item_among closed_view c.args.next.now c.loop-call.call-index c.call-item.result y c.loop-call-test.true c.call-item.is i) k
-
 pub returns-in_err-add_calls_of_call-clause-fault : goal.returns-in_err-add_calls_of_call-clause-fault
 returns-in_err-add_calls_of_call-clause-fault g c =
     let t = rules_with (g.F.Finder.finds c.args.finder.now) c.args.rules.now in
@@ -35,7 +30,9 @@ loop-call-preserved g c =
     let new = table_keys c.add_calls_of_call.new.calls in
     record {
       index = c.in_ok-add_calls_of_call.ensures.index;
-      found = subst (λ ys. FindsCalls t ys old new) (sym (take_next closed_view next i x c.loop-call-test.true c.call-item.is))
-          (found_together t (map closed_view (take i next)) (closed_view x ∷ []) old mid new c.loop-call.invariant.found
-          c.in_ok-add_calls_of_call.ensures.found);
+      found = λ flat are. subst (λ ys. FindsCalls t ys old new)
+          (sym (take_next closed_view next i x c.loop-call-test.true c.call-item.is))
+          (found_together t (map closed_view (take i next)) (closed_view x ∷ []) old mid new (c.loop-call.invariant.found flat are)
+          (c.in_ok-add_calls_of_call.ensures.found flat (λ y k.
+          are y (item_among closed_view next i x y c.loop-call-test.true c.call-item.is k))));
     }
