@@ -1,6 +1,7 @@
 pub mod SymbolLemmas
 pub mod SideLemmas
 pub mod InstanceLemmas
+pub mod AskedLemmas
 pub mod FoundLemmas
 pub mod OriginLemmas
 pub mod PlainGrammarLemmas

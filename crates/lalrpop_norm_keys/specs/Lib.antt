@@ -1,5 +1,6 @@
 pub mod MacroFaults
 pub mod Instances
+pub mod AskedConditions
 pub mod FoundCalls
 pub mod FoundKeys
 pub mod SearchPremises

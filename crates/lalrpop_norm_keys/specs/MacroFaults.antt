@@ -4,7 +4,7 @@ use Rattle.lalrpop_grammar_symbols.specs.Symbols.{Text, TextSpan, Terminal, Clos
 use Rattle.lalrpop_grammar_symbols.specs.Views.{span_view}
 use Rattle.lalrpop_grammar.specs.WrittenGrammar.{Condition}
 use Rattle.lalrpop_grammar_language.specs.Closing.{Binding, parameter_value}
-use Rattle.lalrpop_grammar_closed.specs.Finding.{IsSearch, IsUnread}
+use Rattle.lalrpop_grammar_closed.specs.Finding.{IsReadWhereAsked, IsSearch, IsUnread}
 use Rattle.lalrpop_grammar_closed.specs.declared.condition.ConditionFault.{ConditionFault}
 use Rattle.lalrpop_grammar_closed.specs.declared.condition.ConditionFault.TheVariants as unknown
 use Rattle.lalrpop_grammar_symbols.specs.declared.span.Span.{Span}
@@ -59,6 +59,10 @@ TellsOfAlternative finds deep b (Some c) fault = TellsOfCondition finds deep c (
 abbrev pub IsAskedOfLiteral : Binding → Option Condition → Type 0
 IsAskedOfLiteral b None = Unit {0}
 IsAskedOfLiteral b (Some c) = IsQuotedLiteral (parameter_value b c.parameter)
+
+-- the condition can be asked: of a quoted literal, and the pattern of a search is read
+abbrev pub IsAskable : (Text → Text → Option Bool) → (Text → Bool) → Binding → Option Condition → Type 0
+IsAskable finds deep b o = IsAskedOfLiteral b o × IsReadWhereAsked finds deep b o
 
 -- what is told of a condition for which it isn't known whether it holds
 abbrev pub told_fault_of : ConditionFault → Span → NormFault

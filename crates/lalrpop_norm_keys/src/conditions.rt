@@ -6,7 +6,7 @@ ghost use Rattle.lalrpop_grammar_language.specs.Closing.{parameter_value};
 ghost use Rattle.lalrpop_grammar_language.specs.Conditions.{Holds};
 ghost use Rattle.lalrpop_grammar_rules.specs.RuleTable.{rules_with};
 ghost use Rattle.lalrpop_grammar_closed.specs.Scopes.{binding_view};
-ghost use Rattle.lalrpop_norm_keys.specs.MacroFaults.{IsAskedOfLiteral, IsQuotedLiteral, TellsOfAlternative, told_fault_of};
+ghost use Rattle.lalrpop_norm_keys.specs.MacroFaults.{IsAskable, IsQuotedLiteral, TellsOfAlternative, told_fault_of};
 ghost use Rattle.lalrpop_grammar_closed.specs.Views.{closed_view};
 
 use lalrpop_grammar::Condition;
@@ -77,7 +77,8 @@ pub(crate) fn asked<F: Finder>(
     ensures exact { IfOk result (λ yes. IsTrue yes
         ↔ Holds (rules_with (F.finds finder.now) rules.now) (binding_view binding.entry)
         (option_map condition_view condition.now)) }
-    ensures literal { OnOk result (IsAskedOfLiteral (binding_view binding.entry) (option_map condition_view condition.now)) }
+    ensures askable { OnOk result (IsAskable (F.finds finder.now) (F.too_deep finder.now)
+        (binding_view binding.entry) (option_map condition_view condition.now)) }
     ensures fault { IfErr result (TellsOfAlternative (F.finds finder.now) (F.too_deep finder.now)
         (binding_view binding.entry) (option_map condition_view condition.now)) }
 {

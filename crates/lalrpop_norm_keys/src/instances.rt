@@ -11,7 +11,8 @@ ghost use Rattle.lalrpop_grammar_rules.specs.Ranks.{rank_view};
 ghost use Rattle.lalrpop_grammar_rules.specs.RuleTable.{IsKept, IsTable, rules_view, rules_with};
 ghost use Rattle.lalrpop_grammar_closed.specs.Views.{binding_of, closed_view, closeds};
 ghost use Rattle.lalrpop_norm_expansion.specs.Premises.{HasNoLevels};
-ghost use Rattle.lalrpop_norm_keys.specs.MacroFaults.{TellsOfAlternative};
+ghost use Rattle.lalrpop_norm_keys.specs.AskedConditions.{AreAskable, AsksRightly};
+ghost use Rattle.lalrpop_norm_keys.specs.MacroFaults.{IsAskable, TellsOfAlternative};
 ghost use Rattle.lalrpop_norm_keys.specs.Instances.{AddsSide, AddsSides, AreSymbolsOf, AreTight, TellsOfCall, TellsOfSome, kept_from};
 
 use crate::conditions::asked;
@@ -49,6 +50,9 @@ fn add_side<F: Finder>(
         (enabled_rule_view rules.now.features.now rule.now) (binding_of rule.now.written.now.args args.now)
         (choice_of (Origin.start, alternative_view choice.now.alternative.now), option_map rank_view choice.now.rank)
         (map closed_view symbols.old) (map closed_view symbols.new)) }
+    ensures asked { OnOk result (IsAskable (F.finds finder.now) (F.too_deep finder.now)
+        (binding_of rule.now.written.now.args args.now)
+        (option_map condition_view choice.now.alternative.now.condition)) }
     ensures fault { IfErr result (TellsOfAlternative (F.finds finder.now) (F.too_deep finder.now)
         (binding_of rule.now.written.now.args args.now)
         (option_map condition_view choice.now.alternative.now.condition)) }
@@ -83,6 +87,8 @@ fn add_choice<F: Finder>(
         (enabled_rule_view rules.now.features.now rule.now) (binding_of rule.now.written.now.args args.now)
         (kept_from rule.now.written.now.name.0 0 (choice.now ∷ []))
         (map closed_view symbols.old) (map closed_view symbols.new)) }
+    ensures asked { OnOk result (AreAskable (F.finds finder.now) (F.too_deep finder.now)
+        (binding_of rule.now.written.now.args args.now) (kept_from rule.now.written.now.name.0 0 (choice.now ∷ []))) }
     ensures fault { IfErr result (TellsOfSome (F.finds finder.now) (F.too_deep finder.now)
         (binding_of rule.now.written.now.args args.now) (kept_from rule.now.written.now.name.0 0 (choice.now ∷ []))) }
 {
@@ -105,6 +111,9 @@ fn bound_symbols<F: Finder>(
     ensures symbols { IfOk result (λ xs. AddsSides (rules_with (F.finds finder.now) rules.now)
         (enabled_rule_view rules.now.features.now rule.now) (binding_of rule.now.written.now.args args.now)
         (ranked_choices (enabled_rule_view rules.now.features.now rule.now)) [] (map closed_view xs)) }
+    ensures asked { OnOk result (AreAskable (F.finds finder.now) (F.too_deep finder.now)
+        (binding_of rule.now.written.now.args args.now)
+        (ranked_choices (enabled_rule_view rules.now.features.now rule.now))) }
     ensures fault { IfErr result (TellsOfSome (F.finds finder.now) (F.too_deep finder.now)
         (binding_of rule.now.written.now.args args.now)
         (ranked_choices (enabled_rule_view rules.now.features.now rule.now))) }
@@ -135,6 +144,8 @@ pub(crate) fn symbols_of<F: Finder>(
     ensures symbols { IfOk result (λ xs. HasNoLevels (rules_view rules.now)
         → AreSymbolsOf (rules_with (F.finds finder.now) rules.now)
         (Closed.call name.now (closeds (map closed_view args.now)) None) (map closed_view xs)) }
+    ensures asked { OnOk result (AsksRightly (rules_with (F.finds finder.now) rules.now) (F.too_deep finder.now)
+        name.now (closeds (map closed_view args.now))) }
     ensures fault { IfErr result (TellsOfCall (rules_with (F.finds finder.now) rules.now) (F.too_deep finder.now)
         name.now (closeds (map closed_view args.now))) }
 {

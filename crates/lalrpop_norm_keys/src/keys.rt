@@ -10,6 +10,7 @@ ghost use Rattle.lalrpop_grammar_closed.specs.Views.{closed_view, closeds};
 ghost use Rattle.lalrpop_norm_expansion.specs.Premises.{HasNoLevels};
 ghost use Rattle.lalrpop_norm_pass_laws.specs.KeyTables.{IsKeyTable};
 ghost use Rattle.lalrpop_norm_key_table.specs.Tables.{IsKeyIndex, table_keys};
+ghost use Rattle.lalrpop_norm_keys.specs.AskedConditions.{AskRightly, AsksRightly, HasAskedConditions};
 ghost use Rattle.lalrpop_norm_keys.specs.FoundCalls.{AreCalls, TellsOfAnyCall, TellsOfMadeCall, TellsOfOneCall};
 ghost use Rattle.lalrpop_norm_keys.specs.FoundCalls.{plain_call_of, plain_calls};
 ghost use Rattle.lalrpop_norm_keys.specs.FoundKeys.{AddsStanding, FindsKeys};
@@ -41,6 +42,8 @@ fn add_standing<F: Finder>(
     ensures found { OnOk result (HasNoLevels (rules_view rules.now)
         → AddsStanding (rules_with (F.finds finder.now) rules.now)
         (Closed.call name.now (closeds (map closed_view args.now)) None) (table_keys keys.old) (table_keys keys.new)) }
+    ensures asked { OnOk result (AsksRightly (rules_with (F.finds finder.now) rules.now) (F.too_deep finder.now)
+        name.now (closeds (map closed_view args.now))) }
     ensures fault { IfErr result (TellsOfCall (rules_with (F.finds finder.now) rules.now) (F.too_deep finder.now)
         name.now (closeds (map closed_view args.now))) }
 {
@@ -64,6 +67,8 @@ fn add_keys_of<F: Finder>(
     ensures found { OnOk result (HasNoLevels (rules_view rules.now) → AreCalls (closed_view call.now ∷ [])
         → FindsKeys (rules_with (F.finds finder.now) rules.now)
         (closed_view call.now ∷ []) (table_keys keys.old) (table_keys keys.new)) }
+    ensures asked { OnOk result (AskRightly (rules_with (F.finds finder.now) rules.now) (F.too_deep finder.now)
+        (closed_view call.now ∷ [])) }
     ensures fault { IfErr result (TellsOfOneCall (rules_with (F.finds finder.now) rules.now) (F.too_deep finder.now)
         (closed_view call.now ∷ [])) }
 {
@@ -96,6 +101,8 @@ fn add_keys_of_rule<F: Finder>(
         → FindsKeys (rules_with (F.finds finder.now) rules.now)
         (plain_call_of (nonterminal_view rule.now) (nonterminal_view rule.now).parameters)
         (table_keys keys.old) (table_keys keys.new)) }
+    ensures asked { OnOk result (AskRightly (rules_with (F.finds finder.now) rules.now) (F.too_deep finder.now)
+        (plain_call_of (nonterminal_view rule.now) (nonterminal_view rule.now).parameters)) }
     ensures fault { IfErr result (TellsOfOneCall (rules_with (F.finds finder.now) rules.now) (F.too_deep finder.now)
         (plain_call_of (nonterminal_view rule.now) (nonterminal_view rule.now).parameters)) }
 {
@@ -122,6 +129,8 @@ fn add_keys_of_rules<F: Finder>(
     ensures found { OnOk result (HasNoLevels (rules_view rules.now)
         → FindsKeys (rules_with (F.finds finder.now) rules.now)
         (plain_calls (rules_of (grammar_view grammar.now).items)) (table_keys keys.old) (table_keys keys.new)) }
+    ensures asked { OnOk result (AskRightly (rules_with (F.finds finder.now) rules.now) (F.too_deep finder.now)
+        (plain_calls (rules_of (grammar_view grammar.now).items))) }
     ensures fault { IfErr result (TellsOfOneCall (rules_with (F.finds finder.now) rules.now) (F.too_deep finder.now)
         (plain_calls (rules_of (grammar_view grammar.now).items))) }
 {
@@ -145,6 +154,8 @@ fn add_keys_of_calls<F: Finder>(
     ensures found { OnOk result (HasNoLevels (rules_view rules.now) → AreCalls (map closed_view calls.now)
         → FindsKeys (rules_with (F.finds finder.now) rules.now)
         (map closed_view calls.now) (table_keys keys.old) (table_keys keys.new)) }
+    ensures asked { OnOk result (AskRightly (rules_with (F.finds finder.now) rules.now) (F.too_deep finder.now)
+        (map closed_view calls.now)) }
     ensures fault { IfErr result (TellsOfOneCall (rules_with (F.finds finder.now) rules.now) (F.too_deep finder.now)
         (map closed_view calls.now)) }
 {
@@ -174,6 +185,10 @@ pub fn find_keys<F: Finder>(
         CanSearch (rules_with (F.finds finder.now) rules.now) rules.now.features.now (grammar_view grammar.now)
         → AreAllCalls (rules_with (F.finds finder.now) rules.now) (table_keys calls.now)
         → IsKeyTable (rules_with (F.finds finder.now) rules.now) (table_keys calls.now) (table_keys keys)) }
+    ensures asked { IfOk result (λ keys.
+        CanSearch (rules_with (F.finds finder.now) rules.now) rules.now.features.now (grammar_view grammar.now)
+        → AreAllCalls (rules_with (F.finds finder.now) rules.now) (table_keys calls.now)
+        → HasAskedConditions (rules_with (F.finds finder.now) rules.now) (F.too_deep finder.now)) }
     ensures fault { IfErr result (λ fault.
         CanSearch (rules_with (F.finds finder.now) rules.now) rules.now.features.now (grammar_view grammar.now)
         → AreAllCalls (rules_with (F.finds finder.now) rules.now) (table_keys calls.now)

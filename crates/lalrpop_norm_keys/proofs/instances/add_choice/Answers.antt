@@ -4,6 +4,7 @@ use Rattle.lalrpop_grammar_rules.specs.Details.{choice_view, choices_view, enabl
 use Rattle.lalrpop_grammar_closed.specs.Views.{binding_of}
 use Rattle.lalrpop_norm_keys.specs.Instances.{AreTight}
 use Rattle.lalrpop_norm_keys.proofs.SideLemmas.{tells_one_err}
+use Rattle.lalrpop_norm_keys.proofs.AskedLemmas.{askable_one_ok}
 use Rattle.lalrpop_norm_keys.proofs.instances.add_choice.Goals as goal
 
 pub add_side-requires-clause-tighter : goal.add_side-requires-clause-tighter
@@ -18,3 +19,9 @@ returns-in-Some-clause-fault g c =
     tells_one_err (g.F.Finder.finds c.args.finder.now) (g.F.Finder.too_deep c.args.finder.now)
     (binding_of (c.args.rule.now.written.now).args c.args.args.now) (c.args.rule.now.written.now).name.0 c.in-Some.choice c.args.choice.now
     c.in-Some.is c.add_side.result c.add_side.ensures.fault
+
+pub returns-in-Some-clause-asked : goal.returns-in-Some-clause-asked
+returns-in-Some-clause-asked g c =
+    askable_one_ok (g.F.Finder.finds c.args.finder.now) (g.F.Finder.too_deep c.args.finder.now)
+    (binding_of (c.args.rule.now.written.now).args c.args.args.now) (c.args.rule.now.written.now).name.0 c.in-Some.choice c.args.choice.now
+    c.in-Some.is c.add_side.result c.add_side.ensures.asked

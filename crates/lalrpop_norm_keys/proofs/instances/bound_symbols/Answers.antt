@@ -5,8 +5,11 @@ use Rattle.lalrpop_grammar_language.specs.Levels.{levels, ranked_choices}
 use Rattle.lalrpop_grammar_rules.specs.Details.{choices_view, enabled_rule_view}
 use Rattle.lalrpop_grammar_rules.specs.RuleTable.{rules_with}
 use Rattle.lalrpop_grammar_closed.specs.Views.{binding_of, closed_view}
-use Rattle.lalrpop_norm_keys.specs.Instances.{AddsSides, AreTight, kept_from}
-use Rattle.lalrpop_norm_keys.proofs.SideLemmas.{kept_are_ranked, kept_are_tight, tells_of_all, tight_first}
+use Rattle.lalrpop_norm_keys.specs.Instances.{AddsSides, AreTight, TellsOfSome, kept_from}
+use Rattle.lalrpop_norm_keys.proofs.SideLemmas.{kept_are_ranked, kept_are_tight, sides_next, tells_later, tells_of_all, tight_first}
+use Rattle.lalrpop_norm_keys.proofs.SideLemmas.{tight_others}
+use Rattle.lalrpop_norm_keys.specs.AskedConditions.{AreAskable}
+use Rattle.lalrpop_norm_keys.proofs.AskedLemmas.{askable_next}
 use Rattle.lalrpop_norm_keys.proofs.instances.bound_symbols.Goals as goal
 
 pub loop-choice-init : goal.loop-choice-init
@@ -23,6 +26,7 @@ loop-choice-init g c =
       left = λ new w. subst (λ l. AddsSides t r b (kept_from n 0 c.as_slice-choices.result.now) (map closed_view l) new)
           c.new-symbols.ensures w;
       faults = λ f h. h;
+      asked = λ h. h;
     }
 
 pub add_choice-requires-clause-tight : goal.add_choice-requires-clause-tight
@@ -71,3 +75,47 @@ returns-clause-symbols g c =
     subst (λ ps. AddsSides t r b ps [] now)
     (ap (kept_from n 0) c.as_slice-choices.ensures ∙ kept_are_ranked features rule c.requires.kept)
     (c.loop-choice.invariant.left now done)
+
+pub returns-clause-asked : goal.returns-clause-asked
+returns-clause-asked g c =
+    let features = c.args.rules.now.features.now in
+    let rule = c.args.rule.now in
+    let cs = c.as_slice-choices.result.now in
+    let i = c.loop-choice.choice-index in
+    let n = (rule.written.now).name.0 in
+    let finds = g.F.Finder.finds c.args.finder.now in
+    let deep = g.F.Finder.too_deep c.args.finder.now in
+    let b = binding_of (rule.written.now).args c.args.args.now in
+    let nothing : drop i cs ≡ [] = drop_all i cs c.loop-choice-test.false in
+    let none : AreAskable finds deep b (kept_from n i (drop i cs)) =
+    subst (λ l. AreAskable finds deep b (kept_from n i l)) (sym nothing) (λ p j. absurd j) in
+    subst (AreAskable finds deep b)
+    (ap (kept_from n 0) c.as_slice-choices.ensures ∙ kept_are_ranked features rule c.requires.kept)
+    (c.loop-choice.invariant.asked none)
+
+pub loop-choice-preserved : goal.loop-choice-preserved
+loop-choice-preserved g c =
+    let features = c.args.rules.now.features.now in
+    let rule = c.args.rule.now in
+    let r = enabled_rule_view features rule in
+    let n = (rule.written.now).name.0 in
+    let t = rules_with (g.F.Finder.finds c.args.finder.now) c.args.rules.now in
+    let deep = g.F.Finder.too_deep c.args.finder.now in
+    let b = binding_of (rule.written.now).args c.args.args.now in
+    let cs = c.as_slice-choices.result.now in
+    let i = c.loop-choice.choice-index in
+    let x = c.choice-item.result in
+    let rest = drop (i + 1) cs in
+    let old = map closed_view c.loop-choice.symbols in
+    let mid = map closed_view c.add_choice.new.symbols in
+    let here : drop i cs ≡ x ∷ rest =
+    drop_more cs i x c.loop-choice-test.true ∙ ap (λ y. y ∷ rest) (sym c.choice-item.is) in
+    record {
+      tight = tight_others (levels r) n i x rest (subst (λ l. AreTight (levels r) (choices_view n i l)) here c.loop-choice.invariant.tight);
+      left = λ new w. c.loop-choice.invariant.left new (subst (λ l. AddsSides t r b (kept_from n i l) old new) (sym here)
+          (sides_next t r b n i x rest old mid new c.in_ok-add_choice.ensures.added w));
+      faults = λ f h. c.loop-choice.invariant.faults f (subst (λ l. TellsOfSome t.finds deep b (kept_from n i l) f) (sym here)
+          (tells_later t.finds deep b n i x rest f h));
+      asked = λ h. c.loop-choice.invariant.asked (subst (λ l. AreAskable t.finds deep b (kept_from n i l)) (sym here)
+          (askable_next t.finds deep b n i x rest c.in_ok-add_choice.ensures.asked h));
+    }

@@ -5,10 +5,12 @@ use Rattle.lalrpop_grammar_repr.specs.declared.session.NormFault.{NormFault}
 use Rattle.lalrpop_grammar_rules.specs.Details.{choices_view, enabled_rule_view}
 use Rattle.lalrpop_grammar_rules.specs.RuleTable.{rules_with}
 use Rattle.lalrpop_grammar_closed.specs.Views.{binding_of, closed_view}
+use Rattle.lalrpop_norm_keys.specs.AskedConditions.{AreAskable}
 use Rattle.lalrpop_norm_keys.specs.Instances.{AddsSides, AreTight, TellsOfSome, kept_from}
 use Rattle.lalrpop_norm_keys.proofs.instances.bound_symbols.Given as goal
 
--- the alternatives that are left have the next tighter levels, and their sides and their faults complete those of all
+-- the alternatives that are left have the next tighter levels, and their sides, faults and askable conditions complete
+-- those of all
 abbrev pub invariant-loop-choice : goal.invariant-loop-choice
 invariant-loop-choice g l =
     let r = enabled_rule_view l.rules.features.now l.rule in
@@ -22,4 +24,6 @@ invariant-loop-choice g l =
       faults : (f : NormFault) → TellsOfSome t.finds (g.F.Finder.too_deep l.finder) b
           (kept_from name l.choice-index (drop l.choice-index l.choices)) f
           → TellsOfSome t.finds (g.F.Finder.too_deep l.finder) b (kept_from name 0 l.choices) f;
+      asked : AreAskable t.finds (g.F.Finder.too_deep l.finder) b (kept_from name l.choice-index (drop l.choice-index l.choices))
+          → AreAskable t.finds (g.F.Finder.too_deep l.finder) b (kept_from name 0 l.choices);
     }

@@ -5,6 +5,7 @@ use Rattle.lalrpop_grammar_closed.specs.Views.{closed_view, closeds}
 use Rattle.lalrpop_norm_key_table.specs.Tables.{table_keys}
 use Rattle.lalrpop_norm_keys.proofs.FoundLemmas.{told_of_call}
 use Rattle.lalrpop_norm_keys.proofs.KeyLemmas.{found_ok, keys_of_leveled}
+use Rattle.lalrpop_norm_keys.proofs.AskedLemmas.{ask_no_call, ask_one_ok}
 use Rattle.lalrpop_norm_keys.proofs.keys.add_keys_of.Goals as goal
 
 pub returns-in_default-clause-found : goal.returns-in_default-clause-found
@@ -24,3 +25,14 @@ returns-clause-fault g c =
     told_of_call (rules_with (g.F.Finder.finds c.args.finder.now) c.args.rules.now) (g.F.Finder.too_deep c.args.finder.now)
     (closed_view c.args.call.now) c.in-Some.called.name.now (closeds (map closed_view c.in-Some.called.args.now)) c.add_standing.result
     c.in-Some.ensures.some c.add_standing.ensures.fault
+
+pub returns-in_default-clause-asked : goal.returns-in_default-clause-asked
+returns-in_default-clause-asked g c =
+    ask_no_call (rules_with (g.F.Finder.finds c.args.finder.now) c.args.rules.now) (g.F.Finder.too_deep c.args.finder.now)
+    (closed_view c.args.call.now) c.in_default.ensures.none
+
+pub returns-clause-asked : goal.returns-clause-asked
+returns-clause-asked g c =
+    ask_one_ok (rules_with (g.F.Finder.finds c.args.finder.now) c.args.rules.now) (g.F.Finder.too_deep c.args.finder.now)
+    (closed_view c.args.call.now) c.in-Some.called.name.now (closeds (map closed_view c.in-Some.called.args.now))
+    c.in-Some.ensures.some c.add_standing.result c.add_standing.ensures.asked

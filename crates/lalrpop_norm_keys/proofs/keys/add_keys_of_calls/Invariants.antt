@@ -3,6 +3,7 @@ use Rattle.lalrpop_grammar_rules.specs.RuleTable.{rules_with}
 use Rattle.lalrpop_grammar_closed.specs.Views.{closed_view}
 use Rattle.lalrpop_norm_expansion.specs.Premises.{HasNoLevels}
 use Rattle.lalrpop_norm_key_table.specs.Tables.{IsKeyIndex, table_keys}
+use Rattle.lalrpop_norm_keys.specs.AskedConditions.{AskRightly}
 use Rattle.lalrpop_norm_keys.specs.FoundCalls.{AreCalls}
 use Rattle.lalrpop_norm_keys.specs.FoundKeys.{FindsKeys}
 use Rattle.lalrpop_norm_keys.proofs.keys.add_keys_of_calls.Given as goal
@@ -13,4 +14,6 @@ invariant-loop-call g l = record {
   found : HasNoLevels (rules_with (g.F.Finder.finds l.finder) l.rules) → AreCalls (map closed_view l.calls)
       → FindsKeys (rules_with (g.F.Finder.finds l.finder) l.rules) (map closed_view (take l.call-index l.calls))
       (table_keys l.initial.keys) (table_keys l.keys);
+  asked : AskRightly (rules_with (g.F.Finder.finds l.finder) l.rules) (g.F.Finder.too_deep l.finder)
+      (map closed_view (take l.call-index l.calls));
 }

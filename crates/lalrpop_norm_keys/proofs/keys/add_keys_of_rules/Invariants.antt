@@ -7,6 +7,7 @@ use Rattle.lalrpop_grammar_language.specs.Among.{Among}
 use Rattle.lalrpop_grammar_rules.specs.RuleTable.{rules_with}
 use Rattle.lalrpop_norm_expansion.specs.Premises.{HasNoLevels}
 use Rattle.lalrpop_norm_key_table.specs.Tables.{IsKeyIndex, table_keys}
+use Rattle.lalrpop_norm_keys.specs.AskedConditions.{AskRightly}
 use Rattle.lalrpop_norm_keys.specs.FoundCalls.{plain_calls}
 use Rattle.lalrpop_norm_keys.specs.FoundKeys.{FindsKeys}
 use Rattle.lalrpop_norm_keys.proofs.keys.add_keys_of_rules.Given as goal
@@ -20,4 +21,6 @@ invariant-loop-rule g l =
           → FindsKeys t (plain_calls (rules_of (grammar_view l.grammar).items)) (table_keys l.initial.keys) all;
       among : (y : Closed) → Among (plain_calls (rules_left l.rule-iterator)) y
           → Among (plain_calls (rules_of (grammar_view l.grammar).items)) y;
+      asked : AskRightly t (g.F.Finder.too_deep l.finder) (plain_calls (rules_left l.rule-iterator))
+          → AskRightly t (g.F.Finder.too_deep l.finder) (plain_calls (rules_of (grammar_view l.grammar).items));
     }

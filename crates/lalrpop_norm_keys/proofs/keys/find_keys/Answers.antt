@@ -11,6 +11,8 @@ use Rattle.lalrpop_norm_keys.specs.FoundCalls.{plain_calls}
 use Rattle.lalrpop_norm_keys.specs.FoundKeys.{FindsKeys}
 use Rattle.lalrpop_norm_keys.proofs.FoundLemmas.{told_of_any, told_of_rules, told_of_walked, walked_are_calls}
 use Rattle.lalrpop_norm_keys.proofs.KeyLemmas.{keys_found, keys_together}
+use Rattle.lalrpop_norm_keys.specs.AskedConditions.{AskRightly}
+use Rattle.lalrpop_norm_keys.proofs.AskedLemmas.{all_asked}
 use Rattle.lalrpop_norm_keys.proofs.keys.find_keys.Goals as goal
 
 pub returns-in_err-add_keys_of_rules-clause-fault : goal.returns-in_err-add_keys_of_rules-clause-fault
@@ -63,3 +65,15 @@ returns-clause-keys g c = λ can all_calls.
     (ap (λ w. map (enabled_rule features) (filter (λ r. is_active features r.attributes) (rules_of w.items)))
     c.requires.of_grammar) can.enabled can.single can.flat all_calls.0 calls all_calls.1 all
     (keys_together t (plain_calls rs) calls [] mid all first second)
+
+pub returns-clause-asked : goal.returns-clause-asked
+returns-clause-asked g c = λ can all_calls.
+    let t = rules_with (g.F.Finder.finds c.args.finder.now) c.args.rules.now in
+    let deep = g.F.Finder.too_deep c.args.finder.now in
+    let features = c.args.rules.now.features.now in
+    let calls = table_keys c.args.calls.now in
+    let asked : AskRightly t deep calls = rw c.keys.ensures at c.in_ok-add_keys_of_calls.ensures.asked in
+    all_asked t features (rules_of (grammar_view c.args.grammar.now).items)
+    (ap (λ w. map (enabled_rule features) (filter (λ r. is_active features r.attributes) (rules_of w.items)))
+    c.requires.of_grammar) can.enabled can.single can.flat all_calls.0 calls all_calls.1 deep
+    c.in_ok-add_keys_of_rules.ensures.asked asked
