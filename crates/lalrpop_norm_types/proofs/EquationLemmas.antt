@@ -1,6 +1,6 @@
 -- Equations of rules as steps of derivations of types, both ways; for the search for types.
 use Rattle.std.specs.Prelude.{Option, Some, None, option_map, map, filter, length}
-use Rattle.std.proofs.Common.{◌≡◌, ℕ, zero, suc, List, [], ◌∷◌, refl, ap, sym, ◌∙◌, subst, Bool, true, inl, inr}
+use Rattle.std.proofs.Common.{◌≡◌, ℕ, zero, suc, List, [], ◌∷◌, refl, ap, sym, ◌∙◌, subst, Bool, true, false, cond, inl, inr}
 use Rattle.lalrpop_grammar_symbols.specs.Symbols.{Text, Terminal, Closed, Closeds, syms}
 use Rattle.lalrpop_grammar.specs.WrittenGrammar.{Action, Alternative, Condition, Grammar, Rule, Ty, rules_of}
 use Rattle.lalrpop_grammar_language.specs.Among.{Among}
@@ -10,6 +10,7 @@ use Rattle.lalrpop_grammar_language.specs.Closing.{occurrences_in, right_side}
 use Rattle.lalrpop_grammar_language.specs.Conditions.{Holds}
 use Rattle.lalrpop_grammar_language.specs.Admitting.{bind}
 use Rattle.lalrpop_grammar_language.specs.Expansion.{InExpansion, Nonterminal}
+use Rattle.lalrpop_grammar_language.proofs.ComparisonLemmas.{same_text-refl}
 use Rattle.lalrpop_grammar_language.proofs.PlaceLemmas.{among_filter, among_map, same_text-eq}
 use Rattle.lalrpop_norm_expansion.specs.Between.{grammar_between, rule_between, with_origins}
 use Rattle.lalrpop_norm_expansion.specs.Premises.{IsExpanded}
@@ -59,9 +60,65 @@ equation_rule h e i =
     let m = among_flat_map equations_of_rule (rules_of h.items) e i in
     subst (λ r. Among (rules_of h.items) r) (sym (equation_of_rule m.0 m.0.declared e m.2)) m.1
 
+-- an equation of the grammar is one of its own rule
+pub equation_own : (h : Grammar) (e : TypeEquation) → Among (type_equations h) e → Among (equations_of_rule e.rule) e
+equation_own h e i =
+    let m = among_flat_map equations_of_rule (rules_of h.items) e i in
+    subst (λ r. Among (equations_of_rule r) e) (sym (equation_of_rule m.0 m.0.declared e m.2)) m.2
+
+-- where each rule stands for its name, a rule is found by it
+
+abbrev StandForNames : List Rule → Type 0
+StandForNames rs = (r : Rule) → Among rs r → filter (has_name r.name) (map rule_between rs) ≡ rule_between r ∷ []
+
+not_behind : (n : Text) (x : EnabledRule) (xs : List EnabledRule) → has_name n x ≡ true
+    → filter (has_name n) (x ∷ xs) ≡ x ∷ [] → (y : EnabledRule) → Among xs y → has_name n y ≡ true → ⊥
+not_behind n x xs first e y i named = go (has_name n x) first e
+  where
+    go : (b : Bool) → b ≡ true → cond b (x ∷ filter (has_name n) xs) (filter (has_name n) xs) ≡ x ∷ [] → ⊥
+    go true f h =
+        let rest : filter (has_name n) xs ≡ [] = cc in
+        subst (λ l. Among l y) rest (keeps (has_name n) xs y i named)
+    go false f h = absurd (let wrong : ⊥ = cc in wrong)
+
+pub one_by_name : (rs : List Rule) → StandForNames rs → (a b : Rule) → Among rs a → Among rs b → a.name ≡ b.name → a ≡ b
+one_by_name [] h a b i j e = absurd i
+one_by_name (r ∷ rs) h a b (inl f) (inl k) e = sym f ∙ k
+one_by_name (r ∷ rs) h a b (inl f) (inr j) e =
+    absurd (not_behind r.name (rule_between r) (map rule_between rs) (same_text-refl r.name) (h r (inl refl)) (rule_between b)
+    (map_among rule_between rs b j) (named (ap (λ (x : Rule). x.name) f ∙ e)))
+  where
+    named : r.name ≡ b.name → has_name r.name (rule_between b) ≡ true
+    named same = ap (λ n. has_name n (rule_between b)) same ∙ same_text-refl b.name
+one_by_name (r ∷ rs) h a b (inr i) (inl k) e =
+    absurd (not_behind r.name (rule_between r) (map rule_between rs) (same_text-refl r.name) (h r (inl refl)) (rule_between a)
+    (map_among rule_between rs a i) (named (ap (λ (x : Rule). x.name) k ∙ sym e)))
+  where
+    named : r.name ≡ a.name → has_name r.name (rule_between a) ≡ true
+    named same = ap (λ n. has_name n (rule_between a)) same ∙ same_text-refl a.name
+one_by_name (r ∷ rs) h a b (inr i) (inr j) e = one_by_name rs (λ q k. behind q k) a b i j e
+  where
+    behind : (q : Rule) → Among rs q → filter (has_name q.name) (map rule_between rs) ≡ rule_between q ∷ []
+    behind q k = go (has_name q.name (rule_between r)) refl (h q (inr k))
+      where
+        go : (c : Bool) → has_name q.name (rule_between r) ≡ c
+            → cond c (rule_between r ∷ filter (has_name q.name) (map rule_between rs))
+            (filter (has_name q.name) (map rule_between rs)) ≡ rule_between q ∷ []
+            → filter (has_name q.name) (map rule_between rs) ≡ rule_between q ∷ []
+        go false f m = m
+        go true f m =
+            let rest : filter (has_name q.name) (map rule_between rs) ≡ [] = cc in
+            absurd (subst (λ l. Among l (rule_between q)) rest
+            (keeps (has_name q.name) (map rule_between rs) (rule_between q) (map_among rule_between rs q k) (same_text-refl q.name)))
+
 module _ (finds : Text → Text → Option Bool) (h : Grammar) (w : IsExpanded (grammar_between finds h)) where
   abbrev g : EnabledGrammar
   g = grammar_between finds h
+
+  -- no two rules share a name
+  pub rule_by_name : (a b : Rule) → Among (rules_of h.items) a → Among (rules_of h.items) b → a.name ≡ b.name → a ≡ b
+  rule_by_name a b i j e =
+      one_by_name (rules_of h.items) (λ r k. w.rules (rule_between r) (map_among rule_between (rules_of h.items) r k)) a b i j e
 
   names : names_between g ≡ known_names h
   names = ap (λ l. record { rules = l; bares = g.bares }) (names_same (rules_of h.items))

@@ -1,9 +1,9 @@
 -- Computed examples of equations of rules, of types by a table, and of faults of types that may be told.
 use Prim.Native.String.{String}
-use Rattle.std.proofs.Common.{◌≡◌, ℕ, List, [], ◌∷◌, refl, sym, ◌∙◌, subst, inl, inr, Bool, true, false, cond, map}
+use Rattle.std.proofs.Common.{◌≡◌, ℕ, List, [], ◌∷◌, refl, ap, sym, ◌∙◌, subst, inl, inr, Bool, true, false, cond, map}
 use Rattle.std.specs.Prelude.{Option, Some, None, Err, codes, if◌then◌else◌}
 use Rattle.std.specs.Str.{bytes_eq}
-use Rattle.lalrpop_grammar_symbols.specs.Symbols.{Op, Sym, Terminal, WrittenSymbol}
+use Rattle.lalrpop_grammar_symbols.specs.Symbols.{Op, Sym, Terminal, Text, WrittenSymbol}
 use Rattle.lalrpop_grammar.specs.WrittenGrammar.{Action, Alternative, Grammar, Rule, Ty, Tys, WrittenItem}
 use Rattle.lalrpop_grammar_language.specs.Among.{Among}
 use Rattle.lalrpop_grammar_language.proofs.PlaceLemmas.{same_text-eq}
@@ -14,13 +14,15 @@ use Rattle.lalrpop_grammar_repr.specs.declared.session.NormFault.{NormFault}
 use Rattle.lalrpop_grammar_repr.specs.declared.session.NormFault.TheVariants as faults
 use Rattle.lalrpop_norm_expansion.specs.Types.{GroundType, GroundTypes, IsGrounded, text_type}
 use Rattle.lalrpop_norm_expansion.specs.Between.{grammar_between}
+use Rattle.lalrpop_norm_expansion.specs.Premises.{IsExpanded}
 use Rattle.lalrpop_norm_types.specs.TypesByTable.{RuleTypes, chosen_symbols, known_names}
 use Rattle.lalrpop_norm_types.specs.Equations.{TypeEquation, TypeSource, source_ground_type, type_equations}
-use Rattle.lalrpop_norm_types.specs.TypeFaults.{IsTypeFault, WhereExpanded, nonterminal_of, rule_symbol}
+use Rattle.lalrpop_norm_types.specs.TypeFaults.{HasTwoEquations, IsTypeFault, WhereExpanded, nonterminal_of, rule_symbol}
 use Rattle.lalrpop_norm_types.specs.NamedRules.{rules_in_source}
 use Rattle.lalrpop_norm_types.specs.TerminalTypes.{grammar_terminals}
 use Rattle.lalrpop_norm_types.specs.ProgramViews.{IsRightTable}
 use Rattle.lalrpop_norm_types.proofs.EquationLemmas.{equation_grounded}
+use Rattle.lalrpop_norm_types.proofs.GrownTableLemmas.{Stays, source_stays}
 use Rattle.lalrpop_norm_types.proofs.SearchLemmas.{disagreement}
 use Rattle.lalrpop_norm_types.proofs.UntypedLemmas.{first_told, in_table}
 
@@ -113,7 +115,10 @@ abbrev x_rule : Rule
 x_rule = rule_typed "X" None (default (rule "X" ∷ []) ∷ [])
 
 nothing_right : (g : Grammar) → IsRightTable g nothing_known
-nothing_right g finds w n t e = absurd (let wrong : ⊥ = cc in wrong)
+nothing_right g = record {
+  grounded = λ finds w n t e. absurd (let wrong : ⊥ = cc in wrong);
+  given = λ n t e. absurd (let wrong : ⊥ = cc in wrong);
+}
 
 circular_told : IsTypeFault (of_rules (x_rule ∷ [])) (told (kinds.NoType (nonterminal_of (codes "X"))) 1 8)
 circular_told =
@@ -130,17 +135,33 @@ disagreeing = of_rules (two_kinds ∷ [])
 -- a text for X is right where an equation of X gives one from nothing
 text_right : (g : Grammar) (e : TypeEquation) → Among (type_equations g) e → e.rule.name ≡ codes "X"
     → source_ground_type (known_names g) nothing_known e.source ≡ Some text_type → IsRightTable g a_text
-text_right g e i named given finds w n t f = go (bytes_eq n (codes "X")) refl f
+text_right g e i named given = record {
+  grounded = λ finds w n t f. grounded_at finds w n t (bytes_eq n (codes "X")) refl f;
+  given = λ n t f. given_at n t (bytes_eq n (codes "X")) refl f;
+}
   where
-    go : (b : Bool) → bytes_eq n (codes "X") ≡ b → cond b (Some text_type) None ≡ Some t
+    grounded_at : (finds : Text → Text → Option Bool) → IsExpanded (grammar_between finds g) → (n : Text) (t : GroundType)
+        (b : Bool) → bytes_eq n (codes "X") ≡ b → cond b (Some text_type) None ≡ Some t
         → IsGrounded (grammar_between finds g) (rule_symbol n) t
-    go true h k =
+    grounded_at finds w n t true h k =
         let is : text_type ≡ t = cc in
         let same : n ≡ codes "X" = same_text-eq n (codes "X") h in
         subst (λ u. IsGrounded (grammar_between finds g) (rule_symbol n) u) is
         (subst (λ m. IsGrounded (grammar_between finds g) (rule_symbol m) text_type) (named ∙ sym same)
-        (equation_grounded finds g w nothing_known (nothing_right g finds w) e i text_type given))
-    go false h k = absurd (let wrong : ⊥ = cc in wrong)
+        (equation_grounded finds g w nothing_known ((nothing_right g).grounded finds w) e i text_type given))
+    grounded_at finds w n t false h k = absurd (let wrong : ⊥ = cc in wrong)
+
+    nothing_grows : (m : Text) → Stays (nothing_known m) (a_text m)
+    nothing_grows m t f = absurd (let wrong : ⊥ = cc in wrong)
+
+    given_at : (n : Text) (t : GroundType) (b : Bool) → bytes_eq n (codes "X") ≡ b → cond b (Some text_type) None ≡ Some t
+        → (d : TypeEquation) × Among (type_equations g) d × (d.rule.name ≡ n)
+        × (source_ground_type (known_names g) a_text d.source ≡ Some t)
+    given_at n t true h k =
+        let is : Some text_type ≡ Some t = k in
+        (e, i, named ∙ sym (same_text-eq n (codes "X") h),
+        source_stays (known_names g) nothing_known a_text nothing_grows e.source text_type given ∙ is)
+    given_at n t false h k = absurd (let wrong : ⊥ = cc in wrong)
 
 differing_told : IsTypeFault disagreeing (told kinds.TypesDisagree 1 8)
 differing_told =
@@ -148,6 +169,21 @@ differing_told =
     (two_types text_type text_type) (inr (inl refl))
     (text_right disagreeing (record { rule = two_kinds; source = TypeSource.symbols (lit "a" ∷ []) }) (inl refl) refl refl) refl
     (Err (told kinds.TypesDisagree 1 8)) (refl, text_type, refl, λ e. cc)
+
+-- where X declares a type, no two equations differ, so no two types are told of it
+abbrev declared_x : Rule
+declared_x = rule_typed "X" (Some (Ty.id (codes "T"))) (default (lit "a" ∷ []) ∷ default (lit "b" ∷ rule "X" ∷ []) ∷ [])
+
+abbrev declared_one : TypeEquation
+declared_one = record { rule = declared_x; source = TypeSource.declared (Ty.id (codes "T")) }
+
+declared_refused : HasTwoEquations declared_x → ⊥
+declared_refused h = go h.first_of h.second_of
+  where
+    go : Among (declared_one ∷ []) h.first → Among (declared_one ∷ []) h.second → ⊥
+    go (inl f) (inl s) = h.differ (ap (λ (e : TypeEquation). e.source) (sym f ∙ s))
+    go (inl f) (inr j) = absurd j
+    go (inr i) k = absurd i
 
 -- X = { "a", X } has that of "a" alone
 abbrev x_itself : Rule

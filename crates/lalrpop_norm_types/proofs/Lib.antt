@@ -2,6 +2,7 @@ pub mod ClosedTypeLemmas
 pub mod SourceTypeLemmas
 pub mod ExpandedLemmas
 pub mod EquationLemmas
+pub mod GrownTableLemmas
 pub mod TableLemmas
 pub mod FrontLemmas
 pub mod GroundLemmas

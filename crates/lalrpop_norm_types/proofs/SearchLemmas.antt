@@ -1,23 +1,25 @@
 -- What is found at one equation, as faults of the grammar; for the search for types.
-use Rattle.std.proofs.Common.{◌≡◌, ◌<◌, ℕ, zero, suc, sym, refl, subst, inl, inr, List, [], ◌∷◌}
+use Rattle.std.proofs.Common.{◌≡◌, ◌∙◌, ◌<◌, ℕ, zero, suc, ap, sym, refl, subst, inl, inr, List, [], ◌∷◌}
 use Rattle.std.proofs.Common.{arith, get_or, length}
-use Rattle.std.specs.Prelude.{IfErr, MatchResult, Option, Some, Result, Ok, Err}
+use Rattle.std.specs.Prelude.{Bool, IfErr, MatchResult, Option, Some, Result, Ok, Err}
+use Rattle.lalrpop_grammar_symbols.specs.Symbols.{Text}
 use Rattle.lalrpop_grammar.specs.WrittenGrammar.{Grammar, rules_of}
 use Rattle.lalrpop_grammar_language.specs.Among.{Among}
 use Rattle.lalrpop_grammar_repr.specs.declared.session.NormFault.{NormFault}
 use Rattle.lalrpop_grammar_repr.specs.declared.session.NormFault.TheVariants as faults
 use Rattle.lalrpop_grammar_types.specs.declared.type_repr.TypeRepr.{TypeRepr}
 use Rattle.lalrpop_norm_expansion.specs.Between.{grammar_between}
+use Rattle.lalrpop_norm_expansion.specs.Premises.{IsExpanded}
 use Rattle.lalrpop_norm_expansion.specs.Types.{GroundType}
 use Rattle.lalrpop_norm_expansion.proofs.AmongLemmas.{map_among}
 use Rattle.lalrpop_norm_types.specs.TypesByTable.{RuleTypes, known_names}
-use Rattle.lalrpop_norm_types.specs.Equations.{TypeEquation, source_ground_type, type_equations}
-use Rattle.lalrpop_norm_types.specs.TypeFaults.{IsTypeFault, TypeFaultStands}
+use Rattle.lalrpop_norm_types.specs.Equations.{TypeEquation, equations_of_rule, source_ground_type, type_equations}
+use Rattle.lalrpop_norm_types.specs.TypeFaults.{HasTwoEquations, IsToldTypeFault, IsTypeFault}
 use Rattle.lalrpop_norm_types.specs.Searching.{IsDisagreement, IsNewType}
 use Rattle.lalrpop_norm_types.specs.ProgramViews.{AreEquations, IsRightTable, equation_view, grammar_of}
 use Rattle.lalrpop_norm_types.specs.declared.equations.Equation.{Equation}
 use Rattle.lalrpop_norm_types.specs.declared.names.Names.{Names}
-use Rattle.lalrpop_norm_types.proofs.EquationLemmas.{equation_grounded, equation_rule}
+use Rattle.lalrpop_norm_types.proofs.EquationLemmas.{equation_grounded, equation_own, equation_rule, rule_by_name}
 
 -- a type that differs from the table's is a fault of the rule
 pub disagreement : (g : Grammar) (e : TypeEquation) (table : RuleTypes) (t : GroundType) → Among (type_equations g) e
@@ -26,7 +28,7 @@ pub disagreement : (g : Grammar) (e : TypeEquation) (table : RuleTypes) (t : Gro
     → MatchResult r (IsNewType (table e.rule.name) t) (IsDisagreement (table e.rule.name) t e.rule) → IfErr r (IsTypeFault g)
 disagreement g e table t i right f (Ok o) h = tt
 disagreement g e table t i right f (Err (faults.Norm error)) h = λ finds w.
-    subst (λ k. TypeFaultStands (grammar_between finds g) (rules_of g.items) k) (sym h.0) (
+    subst (λ k. IsToldTypeFault (grammar_between finds g) (rules_of g.items) k) (sym h.0) (
       e.rule,
       equation_rule g e i,
       refl,
@@ -34,10 +36,27 @@ disagreement g e table t i right f (Err (faults.Norm error)) h = λ finds w.
         first = h.1;
         second = t;
         differ = h.3;
-        first_is = right finds w e.rule.name h.1 h.2;
-        second_is = equation_grounded finds g w table (right finds w) e i t f;
+        first_is = right.grounded finds w e.rule.name h.1 h.2;
+        second_is = equation_grounded finds g w table (right.grounded finds w) e i t f;
       },
+      two_equations finds w (right.given e.rule.name h.1 h.2),
     )
+  where
+    -- that of the table's type and this one
+    two_equations : (finds : Text → Text → Option Bool) → IsExpanded (grammar_between finds g)
+        → (d : TypeEquation) × Among (type_equations g) d × (d.rule.name ≡ e.rule.name)
+        × (source_ground_type (known_names g) table d.source ≡ Some h.1) → HasTwoEquations e.rule
+    two_equations finds w u = record {
+      first = u.0;
+      second = e;
+      first_of = subst (λ r. Among (equations_of_rule r) u.0)
+          (rule_by_name finds g w u.0.rule e.rule (equation_rule g u.0 u.1) (equation_rule g e i) u.2) (equation_own g u.0 u.1);
+      second_of = equation_own g e i;
+      differ = λ same.
+          let known : Some h.1 ≡ Some t = sym u.3 ∙ ap (source_ground_type (known_names g) table) same ∙ f in
+          let wrong : h.1 ≡ t = cc in
+          h.3 wrong;
+    }
 disagreement g e table t i right f (Err faults.Memory) h = absurd h
 disagreement g e table t i right f (Err faults.ConditionLimit) h = absurd h
 

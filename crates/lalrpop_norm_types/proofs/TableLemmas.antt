@@ -19,13 +19,16 @@ use Rattle.lalrpop_grammar_language.specs.Among.{Among}
 use Rattle.lalrpop_grammar_repr.specs.Maps.{at_name, with_name}
 use Rattle.lalrpop_grammar_types.specs.declared.type_repr.TypeRepr.{TypeRepr}
 use Rattle.lalrpop_norm_expansion.specs.Between.{grammar_between}
+use Rattle.lalrpop_norm_expansion.specs.Premises.{IsExpanded}
 use Rattle.lalrpop_norm_expansion.specs.Types.{GroundType, IsGrounded}
 use Rattle.lalrpop_norm_types.specs.GroundViews.{type_repr_view}
 use Rattle.lalrpop_norm_types.specs.TypesByTable.{RuleTypes, known_names}
-use Rattle.lalrpop_norm_types.specs.Equations.{GivesType, TypeEquation, one_untyped, type_equations, untyped_equations}
+use Rattle.lalrpop_norm_types.specs.Equations.{GivesType, TypeEquation, TypeSource, one_untyped, source_ground_type, type_equations}
+use Rattle.lalrpop_norm_types.specs.Equations.{untyped_equations}
 use Rattle.lalrpop_norm_types.specs.TypeFaults.{nonterminal_of, rule_symbol}
 use Rattle.lalrpop_norm_types.specs.ProgramViews.{IsRightTable, rule_types}
 use Rattle.lalrpop_norm_types.proofs.EquationLemmas.{equation_grounded}
+use Rattle.lalrpop_norm_types.proofs.GrownTableLemmas.{Stays, source_stays}
 
 module _ {K X : Type 0} (R : K → K → Ordering) (decides : (a b : K) → Decides (is_eq (R a b)) (a ≡ b)) where
   over_equal : (b : Bool) (v w : X) (rest : Option X) → cond b (Some v) rest ≡ cond b (Some v) (cond b (Some w) rest)
@@ -139,16 +142,43 @@ module _ (g : Grammar) (e : TypeEquation) (i : Among (type_equations g) e) (es :
     (n : NonterminalString) (ty : TypeRepr) (named : n.0 ≡ e.rule.name) where
   pub right_put : IsRightTable g (rule_types es) → GivesType (known_names g) (rule_types es) e (type_repr_view ty)
       → IsRightTable g (rule_types (with_name es n ty))
-  right_put right gives finds w m t f = go (type_put es n ty m)
+  right_put right gives = record {
+    grounded = λ finds w m t f. grounded_put finds w m t f (type_put es n ty m);
+    given = λ m t f. given_put m t f (type_put es n ty m);
+  }
     where
-      go : IsPut es n ty m
-          → IsGrounded (grammar_between finds g) (rule_symbol m) t
-      go (inl same) = right finds w m t (sym same ∙ f)
-      go (inr new) =
+      grounded_put : (finds : Text → Text → Option Bool) → IsExpanded (grammar_between finds g) → (m : Text) (t : GroundType)
+          → rule_types (with_name es n ty) m ≡ Some t → IsPut es n ty m → IsGrounded (grammar_between finds g) (rule_symbol m) t
+      grounded_put finds w m t f (inl same) = right.grounded finds w m t (sym same ∙ f)
+      grounded_put finds w m t f (inr new) =
           let is : type_repr_view ty ≡ t = cc in
           subst (λ u. IsGrounded (grammar_between finds g) (rule_symbol m) u) is
           (subst (λ k. IsGrounded (grammar_between finds g) (rule_symbol k) (type_repr_view ty)) (sym (new.0 ∙ named))
-          (equation_grounded finds g w (rule_types es) (right finds w) e i (type_repr_view ty) gives.given))
+          (equation_grounded finds g w (rule_types es) (right.grounded finds w) e i (type_repr_view ty) gives.given))
+
+      -- what stood there stands there: the name had none
+      stays : (m : Text) → Stays (rule_types es m) (rule_types (with_name es n ty) m)
+      stays m t f = go (type_put es n ty m)
+        where
+          go : IsPut es n ty m → rule_types (with_name es n ty) m ≡ Some t
+          go (inl same) = same ∙ f
+          go (inr new) =
+              let none : rule_types es m ≡ None = ap (rule_types es) (new.0 ∙ named) ∙ gives.untyped in
+              absurd (let wrong : ⊥ = cc in wrong)
+
+      still : (s : TypeSource) (t : GroundType) → source_ground_type (known_names g) (rule_types es) s ≡ Some t
+          → source_ground_type (known_names g) (rule_types (with_name es n ty)) s ≡ Some t
+      still s t f = source_stays (known_names g) (rule_types es) (rule_types (with_name es n ty)) stays s t f
+
+      given_put : (m : Text) (t : GroundType) → rule_types (with_name es n ty) m ≡ Some t → IsPut es n ty m
+          → (d : TypeEquation) × Among (type_equations g) d × (d.rule.name ≡ m)
+          × (source_ground_type (known_names g) (rule_types (with_name es n ty)) d.source ≡ Some t)
+      given_put m t f (inl same) =
+          let u = right.given m t (sym same ∙ f) in
+          (u.0, u.1, u.2, still u.0.source t u.3)
+      given_put m t f (inr new) =
+          let is : type_repr_view ty ≡ t = cc in
+          (e, i, sym (new.0 ∙ named), still e.source (type_repr_view ty) gives.given ∙ ap Some is)
 
   pub fewer_left : GivesType (known_names g) (rule_types es) e (type_repr_view ty)
       → untyped_equations (rule_types (with_name es n ty)) (type_equations g) + 1 ≤ untyped_equations (rule_types es) (type_equations g)

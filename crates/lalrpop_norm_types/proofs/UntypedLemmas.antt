@@ -19,7 +19,7 @@ use Rattle.lalrpop_norm_types.specs.GroundViews.{type_repr_view}
 use Rattle.lalrpop_norm_types.specs.TypesByTable.{RuleTypes, known_names}
 use Rattle.lalrpop_norm_types.specs.Equations.{AllAgree, type_equations}
 use Rattle.lalrpop_norm_types.specs.TypeFaults.{HasNoType, HasNoTypeFault, HasRuleTypes, IsTypeFault, IsUntypedRule, TypeFault}
-use Rattle.lalrpop_norm_types.specs.TypeFaults.{TypeFaultStands, WhereExpanded, is_part_rule, nonterminal_of, rule_symbol}
+use Rattle.lalrpop_norm_types.specs.TypeFaults.{IsToldTypeFault, WhereExpanded, is_part_rule, nonterminal_of, rule_symbol}
 use Rattle.lalrpop_norm_types.specs.Searching.{TellsUntyped, is_untyped_rule}
 use Rattle.lalrpop_norm_types.specs.ProgramViews.{IsRightTable, rule_types}
 use Rattle.lalrpop_norm_types.proofs.EquationLemmas.{all_found}
@@ -65,7 +65,7 @@ module _ (g : Grammar) (table : RuleTypes) (right : IsRightTable g table) (all :
   told : (r : Rule) (fault : NormFault) → Among rs r
       → WhereExpanded g (λ e. IsUntypedRule e rs r) → TellsUntyped r fault → IsTypeFault g fault
   told r (faults.Norm error) i untyped tells = λ finds w.
-      subst (λ k. TypeFaultStands (grammar_between finds g) rs k) (sym tells) (r, i, refl, refl, untyped finds w)
+      subst (λ k. IsToldTypeFault (grammar_between finds g) rs k) (sym tells) (r, i, refl, refl, untyped finds w)
   told r faults.Memory i untyped tells = tt
   told r faults.ConditionLimit i untyped tells = absurd tells
 
@@ -109,7 +109,7 @@ module _ (g : Grammar) (table : RuleTypes) (right : IsRightTable g table) (all :
       lacks : (finds : Text → Text → Option Bool) → IsExpanded (grammar_between finds g) → (n : Text)
           → HasNoType (grammar_between finds g) n → (o : Option GroundType) → table n ≡ o → table n ≡ None
       lacks finds w n h None e = e
-      lacks finds w n h (Some t) e = absurd (h t (right finds w n t e))
+      lacks finds w n h (Some t) e = absurd (h t (right.grounded finds w n t e))
 
 typed_then : (o : Option GroundType) (b : Bool) → (is_none o && (true || b)) ≡ false → is_none o ≡ false
 typed_then None b e = absurd (let wrong : ⊥ = cc in wrong)
@@ -128,7 +128,7 @@ module _ (g : Grammar) (es : List (NonterminalString × TypeRepr)) (right : IsRi
           → IsSomeAnd o (λ t. IsGrounded (grammar_between finds g) (rule_symbol n) (type_repr_view t))
       go None f = let is : is_none (rule_types es n) ≡ true = ap (λ o. is_none (option_map type_repr_view o)) f in
           absurd (let wrong : ⊥ = cc in wrong)
-      go (Some t) f = right finds w n (type_repr_view t) (ap (option_map type_repr_view) f)
+      go (Some t) f = right.grounded finds w n (type_repr_view t) (ap (option_map type_repr_view) f)
 
   has_entry : (r : Rule) → Among (rules_of g.items) r → is_none (rule_types es r.name) ≡ false
   has_entry r i =
@@ -139,7 +139,7 @@ module _ (g : Grammar) (es : List (NonterminalString × TypeRepr)) (right : IsRi
   pub rules_typed : WhereExpanded g (λ e. HasRuleTypes e (rules_of g.items) es)
   rules_typed finds w = record {
     typed = λ r i. some_type finds w r.name (has_entry r i);
-    right = λ n t e. right finds w n (type_repr_view t) (ap (option_map type_repr_view) e);
+    right = λ n t e. right.grounded finds w n (type_repr_view t) (ap (option_map type_repr_view) e);
     once = λ r t u i h k.
         let one = in_table g (rule_types es) right all finds w r.name t h in
         let two = in_table g (rule_types es) right all finds w r.name u k in

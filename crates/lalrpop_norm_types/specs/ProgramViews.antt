@@ -5,12 +5,13 @@ use Rattle.lalrpop_grammar_symbols.specs.Views.{symbol_view}
 use Rattle.lalrpop_grammar_symbols.specs.declared.names.NonterminalString.{NonterminalString}
 use Rattle.lalrpop_grammar.specs.Views.{grammar_view, nonterminal_view, type_view}
 use Rattle.lalrpop_grammar.specs.WrittenGrammar as pure
+use Rattle.lalrpop_grammar_language.specs.Among.{Among}
 use Rattle.lalrpop_grammar_repr.specs.Maps.{at_name}
 use Rattle.lalrpop_grammar_types.specs.declared.type_repr.TypeRepr.{TypeRepr}
 use Rattle.lalrpop_norm_expansion.specs.Types.{GroundType, IsGrounded}
 use Rattle.lalrpop_norm_types.specs.GroundViews.{type_repr_view}
 use Rattle.lalrpop_norm_types.specs.TypesByTable.{KnownNames, RuleTypes, known_names}
-use Rattle.lalrpop_norm_types.specs.Equations.{TypeEquation, TypeSource as PureSource, type_equations}
+use Rattle.lalrpop_norm_types.specs.Equations.{TypeEquation, TypeSource as PureSource, source_ground_type, type_equations}
 use Rattle.lalrpop_norm_types.specs.TypeFaults.{WhereExpanded, nonterminal_of, rule_symbol}
 use Rattle.lalrpop_norm_types.specs.declared.equations.Equation.{Equation}
 use Rattle.lalrpop_norm_types.specs.declared.equations.TypeSource.{TypeSource}
@@ -38,6 +39,9 @@ equation_view e = record { rule = nonterminal_view e.rule.now; source = source_v
 abbrev pub AreEquations : Names → List Equation → Type 0
 AreEquations names es = map equation_view es ≡ type_equations (grammar_of names)
 
--- each type in the table is one that its rule has
-abbrev pub IsRightTable : pure.Grammar → RuleTypes → Type 0
-IsRightTable g table = WhereExpanded g (λ e. (n : Text) (t : GroundType) → table n ≡ Some t → IsGrounded e (rule_symbol n) t)
+-- Each type in the table is one that its rule has, and one that an equation of the rule gives by the table.
+pub record IsRightTable (g : pure.Grammar) (table : RuleTypes) : Type 0 where
+  pub grounded : WhereExpanded g (λ e. (n : Text) (t : GroundType) → table n ≡ Some t → IsGrounded e (rule_symbol n) t)
+  pub given : (n : Text) (t : GroundType) → table n ≡ Some t
+      → (e : TypeEquation) × Among (type_equations g) e × (e.rule.name ≡ n)
+      × (source_ground_type (known_names g) table e.source ≡ Some t)

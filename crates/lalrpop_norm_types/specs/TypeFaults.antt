@@ -15,6 +15,7 @@ use Rattle.lalrpop_grammar_types.specs.declared.type_repr.TypeRepr.{TypeRepr}
 use Rattle.lalrpop_norm_expansion.specs.Between.{grammar_between}
 use Rattle.lalrpop_norm_expansion.specs.Premises.{IsExpanded}
 use Rattle.lalrpop_norm_expansion.specs.Types.{GroundType, IsGrounded}
+use Rattle.lalrpop_norm_types.specs.Equations.{TypeEquation, equations_of_rule}
 use Rattle.lalrpop_norm_types.specs.GroundViews.{type_repr_view}
 
 -- the closed symbol of a rule of an expanded grammar
@@ -76,6 +77,21 @@ TypeFaultStands g rs (TypeFault.untyped n p) =
     (r : Rule) × Among rs r × (r.span ≡ p) × (r.name ≡ n) × IsUntypedRule g rs r
 TypeFaultStands g rs TypeFault.other = ⊥
 
+-- two of the rule's equations differ: so it declares no type, and two alternatives without user code give it types
+pub record HasTwoEquations (r : Rule) : Type 0 where
+  pub first : TypeEquation
+  pub second : TypeEquation
+  pub first_of : Among (equations_of_rule r) first
+  pub second_of : Among (equations_of_rule r) second
+  pub differ : first.source ≢ second.source
+
+-- A fault is told of a rule that has it: that two types differ, of one to which two equations give types.
+abbrev pub IsToldTypeFault : EnabledGrammar → List Rule → TypeFault → Type 0
+IsToldTypeFault g rs (TypeFault.disagree p) =
+    (r : Rule) × Among rs r × (r.span ≡ p) × HasTwoTypes g r.name × HasTwoEquations r
+IsToldTypeFault g rs (TypeFault.untyped n p) = TypeFaultStands g rs (TypeFault.untyped n p)
+IsToldTypeFault g rs TypeFault.other = ⊥
+
 -- where the grammar is an expanded one, whatever conditions find
 abbrev pub WhereExpanded : Grammar → (EnabledGrammar → Type 0) → Type 0
 WhereExpanded g P = (finds : Text → Text → Option Bool) → IsExpanded (grammar_between finds g) → P (grammar_between finds g)
@@ -83,7 +99,7 @@ WhereExpanded g P = (finds : Text → Text → Option Bool) → IsExpanded (gram
 -- the pass's own fault stands, or memory ran out
 abbrev pub IsTypeFault : Grammar → NormFault → Type 0
 IsTypeFault g (faults.Norm error) =
-    WhereExpanded g (λ e. TypeFaultStands e (rules_of g.items) (type_fault error.kind (span_view error.span)))
+    WhereExpanded g (λ e. IsToldTypeFault e (rules_of g.items) (type_fault error.kind (span_view error.span)))
 IsTypeFault g faults.Memory = Unit {0}
 IsTypeFault g faults.ConditionLimit = ⊥
 

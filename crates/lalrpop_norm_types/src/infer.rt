@@ -36,8 +36,8 @@ fn rule_types(alloc: Global, grammar: &Grammar) -> Result<RuleTypes, NormFault>
 ///
 /// # Errors
 ///
-/// A rule has two types that differ, or none, each told with the span of the rule; one of a repeat or a group is told only where
-/// no other rule lacks a type. And memory runs out.
+/// A rule has two types that differ, by two alternatives without user code, or none, each told with the span of the rule; one of a
+/// repeat or a group is told only where no other rule lacks a type. And memory runs out.
 pub fn infer_types(alloc: Global, grammar: &Grammar) -> Result<Types, NormFault>
     ensures types { IfOk result (λ made. WhereExpanded (grammar_view grammar.now)
         (λ e. HasRuleTypes e (rules_of (grammar_view grammar.now).items) made.nonterminal_types)) }
