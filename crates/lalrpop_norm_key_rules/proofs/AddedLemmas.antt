@@ -5,9 +5,9 @@ use Rattle.lalrpop_grammar_symbols.specs.Symbols.{Text, TextSpan, Closed}
 use Rattle.lalrpop_grammar.specs.WrittenGrammar.{Alternative, Rule, Ty}
 use Rattle.lalrpop_norm_key_rules.specs.AddedRules.{AreAddedAlternatives, IsAddedType, added_choices, inline_attributes, is_added_inlined}
 use Rattle.lalrpop_norm_key_rules.specs.KeyDeclarations.{IsRepeatTypeUnder}
-use Rattle.lalrpop_norm_key_rules.specs.KeyNaming.{AreSymbolsFor}
+use Rattle.lalrpop_norm_key_symbols.specs.KeyNaming.{AreSymbolsFor}
 use Rattle.lalrpop_norm_key_rules.specs.RulesUnder.{IsAddedRuleUnder}
-use Rattle.lalrpop_norm_key_rules.specs.declared.names.KeyNames.{KeyNames}
+use Rattle.lalrpop_norm_key_symbols.specs.declared.names.KeyNames.{KeyNames}
 
 -- what holds of what was made holds in other words too
 pub ok_from : {T E : Type 0} (P Q : T → Type 0) (r : Result T E) → ((x : T) → P x → Q x) → IfOk r P → IfOk r Q

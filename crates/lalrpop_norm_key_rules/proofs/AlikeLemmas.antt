@@ -22,7 +22,7 @@ use Rattle.lalrpop_norm_keys.proofs.OriginLemmas.{close_list_same}
 use Rattle.lalrpop_norm_keys.proofs.PlainGrammarLemmas.{table_alike}
 use Rattle.lalrpop_norm_key_rules.specs.InstanceRules.{flat_side}
 use Rattle.lalrpop_norm_key_rules.specs.KeyDeclarations.{declaration_scope}
-use Rattle.lalrpop_norm_key_rules.specs.WrittenRules.{first_written, spelled_by}
+use Rattle.lalrpop_norm_key_symbols.specs.WrittenRules.{first_written, spelled_by}
 
 -- called rules
 

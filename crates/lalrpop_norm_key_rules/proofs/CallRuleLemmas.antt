@@ -21,7 +21,7 @@ use Rattle.lalrpop_norm_keys.proofs.InstanceLemmas.{as_many, binding_same}
 use Rattle.lalrpop_norm_key_rules.specs.KeyInstances.{TellsOfOneIn}
 use Rattle.lalrpop_norm_key_rules.specs.RulesUnder.{IsInstanceRuleUnder}
 use Rattle.lalrpop_norm_key_rules.specs.WrittenKeys.{IsCallRule, IsCalledRule, TellsOfCalledRule, TellsOfKey, TellsOfOneKey}
-use Rattle.lalrpop_norm_key_rules.specs.WrittenRules.{spelled_in, written_at}
+use Rattle.lalrpop_norm_key_symbols.specs.WrittenRules.{spelled_in, written_at}
 use Rattle.lalrpop_norm_key_rules.specs.declared.rules.KeyRules.{KeyRules}
 
 module _ (c : KeyRules) (finds : Text → Text → Option Bool) (n : Text) (as_ : List ClosedSymbol) where

@@ -37,14 +37,14 @@ use Rattle.lalrpop_norm_key_rules.specs.FinishedRules.{IsRepeatType}
 use Rattle.lalrpop_norm_key_rules.specs.InstanceRules.{AreInstancesBy}
 use Rattle.lalrpop_norm_key_rules.specs.KeyDeclarations.{BindsMapped}
 use Rattle.lalrpop_norm_key_rules.specs.KeyInstances.{BecomesUnder}
-use Rattle.lalrpop_norm_key_rules.specs.KeyNaming.{AreSymbolsFor, SpellsNames}
-use Rattle.lalrpop_norm_key_rules.specs.KeyedSymbols.{AreKeyed, AreWrittenByName}
+use Rattle.lalrpop_norm_key_symbols.specs.KeyNaming.{AreSymbolsFor, SpellsNames}
+use Rattle.lalrpop_norm_key_symbols.specs.KeyedSymbols.{AreKeyed, AreWrittenByName}
 use Rattle.lalrpop_norm_key_rules.specs.RulesUnder.{IsAddedRuleUnder, IsInstanceRuleUnder}
 use Rattle.lalrpop_norm_key_rules.specs.UsableSymbols.{AreUsable, IsRightGrammar, IsUsable}
 use Rattle.lalrpop_norm_key_rules.specs.WrittenKeys.{AreRulesOfKeys, IsCalledRule, IsRuleOfKey, TellsOfOneKey, span_of_key}
 use Rattle.lalrpop_norm_key_rules.specs.KeyRuleLaws.{AreRulesUnderNames, TellsOfRightKeys}
-use Rattle.lalrpop_norm_key_rules.specs.WrittenRules.{HasWritten, spelled_by, spelled_in, written_at}
-use Rattle.lalrpop_norm_key_rules.specs.declared.names.KeyNames.{KeyNames}
+use Rattle.lalrpop_norm_key_symbols.specs.WrittenRules.{HasWritten, spelled_by, spelled_in, written_at}
+use Rattle.lalrpop_norm_key_symbols.specs.declared.names.KeyNames.{KeyNames}
 use Rattle.lalrpop_norm_key_rules.specs.declared.rules.KeyRules.{KeyRules}
 use Rattle.lalrpop_norm_key_rules.proofs.AlikeLemmas.{called, declaration_alike, holds_alike, listed_alike, side_alike, spelled_alike}
 use Rattle.lalrpop_norm_key_rules.proofs.UsableKeyLemmas.{all_keyed, call_holder, inside_there, key_is_key, key_usable, rule_side_usable}

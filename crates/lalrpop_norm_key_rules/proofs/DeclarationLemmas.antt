@@ -18,11 +18,11 @@ use Rattle.lalrpop_grammar_language.specs.Closing.{name_meaning, name_meaning_in
 use Rattle.lalrpop_grammar_language.specs.Closing.{plain_call, plain_name, sound_or_faulty}
 use Rattle.lalrpop_norm_back_laws.specs.KeyTypes.{ArePutTypes, IsLeftAsWritten, IsNamedType, IsPutType, repeat_ty}
 use Rattle.lalrpop_norm_key_table.specs.Tables.{table_keys}
-use Rattle.lalrpop_norm_key_rules.specs.KeyNaming.{IsSymbolOrNone, SpellsNames}
+use Rattle.lalrpop_norm_key_symbols.specs.KeyNaming.{IsSymbolOrNone, SpellsNames}
 use Rattle.lalrpop_norm_key_rules.specs.KeyDeclarations.{ArePutUnder, BindsMapped, IsNamedTypeUnder}
 use Rattle.lalrpop_norm_key_rules.specs.KeyDeclarations.{IsPutUnder, IsSymbolTypeUnder, declaration_scope, repeat_path_of}
-use Rattle.lalrpop_norm_key_rules.specs.KeyedSymbols.{IsMappedSymbol}
-use Rattle.lalrpop_norm_key_rules.specs.declared.names.KeyNames.{KeyNames}
+use Rattle.lalrpop_norm_key_symbols.specs.KeyedSymbols.{IsMappedSymbol}
+use Rattle.lalrpop_norm_key_symbols.specs.declared.names.KeyNames.{KeyNames}
 
 -- what a parameter is bound to
 abbrev IsMappedValue : List Text → Option Closed → Type 0

@@ -18,7 +18,7 @@ use Rattle.lalrpop_norm_pass_laws.specs.KeyRules.{AreWrittenFor}
 use Rattle.lalrpop_norm_back_laws.specs.KeyTypes.{IsPutDeclaration}
 use Rattle.lalrpop_norm_key_rules.specs.FinishedRules.{BecomesInInstance, IsFinishedRule}
 use Rattle.lalrpop_norm_key_rules.specs.InstanceRules.{AreInstancesBy, IsInstanceRule}
-use Rattle.lalrpop_norm_key_rules.specs.KeyedSymbols.{AreWrittenByName}
+use Rattle.lalrpop_norm_key_symbols.specs.KeyedSymbols.{AreWrittenByName}
 
 -- M<T>: Vec<T> = { T if T == "a" => x, T if T == "b" => y }, inlined
 abbrev here : TextSpan

@@ -17,7 +17,7 @@ use Rattle.lalrpop_norm_pass_laws.specs.KeyRules.{AreWrittenFor, IsKey, IsWritte
 use Rattle.lalrpop_norm_pass_laws.specs.KeyTables.{AreKeyRules, IsKeyTable}
 use Rattle.lalrpop_norm_back_laws.specs.KeyTypes.{DeclareKeyTypes, HasKeyRule, IsKeyDeclaration}
 use Rattle.lalrpop_norm_key_rules.specs.FinishedRules.{AreFinishedRules, AreRulesFrom, IsFinishedRule}
-use Rattle.lalrpop_norm_key_rules.specs.KeyedSymbols.{AreKeyed, IsMappedSymbol}
+use Rattle.lalrpop_norm_key_symbols.specs.KeyedSymbols.{AreKeyed, IsMappedSymbol}
 use Rattle.lalrpop_norm_key_table.specs.Tables.{HasEachOnce}
 use Rattle.lalrpop_norm_key_rules.specs.RuleItems.{grammar_with_rules}
 use Rattle.lalrpop_norm_key_rules.proofs.FinishedLemmas.{bares_of_made, finished_alternatives, finished_declaration, finished_key_rule}

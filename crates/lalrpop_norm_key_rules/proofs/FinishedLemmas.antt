@@ -22,7 +22,7 @@ use Rattle.lalrpop_norm_back_laws.specs.KeyTypes.{IsKeyDeclaration}
 use Rattle.lalrpop_norm_key_rules.specs.AddedRules.{AddedChoice, AreAddedAlternatives, added_choices}
 use Rattle.lalrpop_norm_key_rules.specs.FinishedRules.{BecomesInInstance, IsFinishedRule}
 use Rattle.lalrpop_norm_key_rules.specs.InstanceRules.{AreInstancesBy}
-use Rattle.lalrpop_norm_key_rules.specs.KeyedSymbols.{AreWrittenByName}
+use Rattle.lalrpop_norm_key_symbols.specs.KeyedSymbols.{AreWrittenByName}
 use Rattle.lalrpop_norm_key_rules.specs.RuleItems.{other_items}
 
 -- items

@@ -1,10 +1,7 @@
-pub mod NamingLemmas
 pub mod InstanceListLemmas
-pub mod ArgumentLemmas
 pub mod DeclarationLemmas
 pub mod RuleListLemmas
 pub mod UsableLemmas
-pub mod WrittenLemmas
 pub mod UsableKeyLemmas
 pub mod AlikeLemmas
 pub mod ConversionLemmas

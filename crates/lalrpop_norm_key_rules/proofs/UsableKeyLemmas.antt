@@ -23,7 +23,7 @@ use Rattle.lalrpop_norm_back_laws.specs.KeyTypes.{HasKeyRule}
 use Rattle.lalrpop_norm_keys.proofs.FoundLemmas.{chain_is_call}
 use Rattle.lalrpop_norm_keys.proofs.RightCallLemmas.{IsRightCall, chain_right}
 use Rattle.lalrpop_norm_keys.proofs.SymbolLemmas.{calls_of_symbol, same_keys}
-use Rattle.lalrpop_norm_key_rules.specs.KeyedSymbols.{AreKeyed, IsMappedSymbol}
+use Rattle.lalrpop_norm_key_symbols.specs.KeyedSymbols.{AreKeyed, IsMappedSymbol}
 use Rattle.lalrpop_norm_key_rules.specs.UsableSymbols.{AreUsable, IsRightGrammar, IsUsable}
 use Rattle.lalrpop_norm_key_rules.proofs.UsableLemmas.{side_usable}
 

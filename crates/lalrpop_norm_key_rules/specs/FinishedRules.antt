@@ -12,7 +12,7 @@ use Rattle.lalrpop_norm_expansion.specs.Types.{type_scope}
 use Rattle.lalrpop_norm_pass_laws.specs.KeyRules.{IsWrittenFor}
 use Rattle.lalrpop_norm_back_laws.specs.KeyTypes.{IsPutDeclaration, repeat_ty}
 use Rattle.lalrpop_norm_key_rules.specs.AddedRules.{IsAddedRule}
-use Rattle.lalrpop_norm_key_rules.specs.KeyedSymbols.{AreWrittenByName}
+use Rattle.lalrpop_norm_key_symbols.specs.KeyedSymbols.{AreWrittenByName}
 use Rattle.lalrpop_norm_key_rules.specs.InstanceRules.{IsInstanceBy, IsInstanceRule}
 
 -- one rule for each key, from a place on

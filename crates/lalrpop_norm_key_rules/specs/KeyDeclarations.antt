@@ -10,9 +10,9 @@ use Rattle.lalrpop_grammar_language.specs.Closing.{Binding, Scope}
 use Rattle.lalrpop_norm_pass_laws.specs.KeyRules.{IsWrittenFor}
 use Rattle.lalrpop_norm_back_laws.specs.KeyTypes.{ArePutTypes, IsPutDeclaration, IsPutType, IsSymbolType, repeat_ty}
 use Rattle.lalrpop_norm_key_table.specs.Tables.{table_keys}
-use Rattle.lalrpop_norm_key_rules.specs.KeyNaming.{SpellsNames}
-use Rattle.lalrpop_norm_key_rules.specs.KeyedSymbols.{AreKeyed, IsMappedSymbol}
-use Rattle.lalrpop_norm_key_rules.specs.declared.names.KeyNames.{KeyNames}
+use Rattle.lalrpop_norm_key_symbols.specs.KeyNaming.{SpellsNames}
+use Rattle.lalrpop_norm_key_symbols.specs.KeyedSymbols.{AreKeyed, IsMappedSymbol}
+use Rattle.lalrpop_norm_key_symbols.specs.declared.names.KeyNames.{KeyNames}
 
 -- where a declared type of the rule is read
 abbrev pub declaration_scope : EnabledGrammar → EnabledRule → Binding → Scope

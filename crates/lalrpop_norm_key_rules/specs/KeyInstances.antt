@@ -14,10 +14,10 @@ use Rattle.lalrpop_grammar_repr.specs.declared.session.NormFault.TheVariants as 
 use Rattle.lalrpop_norm_key_table.specs.Tables.{IsKeyIndex}
 use Rattle.lalrpop_norm_keys.specs.MacroFaults.{TellsOfAlternative}
 use Rattle.lalrpop_norm_key_rules.specs.InstanceRules.{IsInstanceBy, flat_side}
-use Rattle.lalrpop_norm_key_rules.specs.KeyNaming.{AreSymbolsFor}
-use Rattle.lalrpop_norm_key_rules.specs.WrittenRules.{arguments_view}
+use Rattle.lalrpop_norm_key_symbols.specs.KeyNaming.{AreSymbolsFor}
+use Rattle.lalrpop_norm_key_symbols.specs.WrittenRules.{arguments_view}
 use Rattle.lalrpop_norm_key_rules.specs.declared.alternatives.Instance.{Instance}
-use Rattle.lalrpop_norm_key_rules.specs.declared.names.KeyNames.{KeyNames}
+use Rattle.lalrpop_norm_key_symbols.specs.declared.names.KeyNames.{KeyNames}
 
 -- the alternative in an instance, with keys by their names
 abbrev pub BecomesUnder : KeyNames → EnabledGrammar → EnabledRule → Binding → List Argument → Alternative → Alternative

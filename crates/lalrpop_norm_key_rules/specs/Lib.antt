@@ -1,11 +1,8 @@
-pub mod KeyedSymbols
 pub mod InstanceRules
 pub mod AddedRules
 pub mod FinishedRules
 pub mod RuleItems
 pub mod UsableSymbols
-pub mod KeyNaming
-pub mod WrittenRules
 pub mod KeyInstances
 pub mod KeyDeclarations
 pub mod RulesUnder

@@ -9,8 +9,8 @@ use Rattle.lalrpop_norm_key_rules.specs.AddedRules.{AddedChoice, AreAddedAlterna
 use Rattle.lalrpop_norm_key_rules.specs.InstanceRules.{IsInstanceRule}
 use Rattle.lalrpop_norm_key_rules.specs.KeyDeclarations.{IsDeclaredUnder, IsRepeatTypeUnder}
 use Rattle.lalrpop_norm_key_rules.specs.KeyInstances.{BecomesUnder}
-use Rattle.lalrpop_norm_key_rules.specs.KeyNaming.{AreSymbolsFor}
-use Rattle.lalrpop_norm_key_rules.specs.declared.names.KeyNames.{KeyNames}
+use Rattle.lalrpop_norm_key_symbols.specs.KeyNaming.{AreSymbolsFor}
+use Rattle.lalrpop_norm_key_symbols.specs.declared.names.KeyNames.{KeyNames}
 
 -- the rule of a call
 abbrev pub IsInstanceRuleUnder : KeyNames → EnabledGrammar → EnabledRule → Closeds → Binding → List Argument → Text → Rule

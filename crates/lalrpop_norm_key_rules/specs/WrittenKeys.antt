@@ -14,8 +14,8 @@ use Rattle.lalrpop_norm_key_table.specs.Tables.{IsKeyIndex}
 use Rattle.lalrpop_norm_key_rules.specs.RulesUnder.{IsAddedRuleUnder, IsInstanceRuleUnder}
 use Rattle.lalrpop_norm_key_rules.specs.FinishedRules.{AreRulesFrom}
 use Rattle.lalrpop_norm_key_rules.specs.KeyInstances.{TellsOfOneIn}
-use Rattle.lalrpop_norm_key_rules.specs.KeyNaming.{SpellsNames}
-use Rattle.lalrpop_norm_key_rules.specs.WrittenRules.{spelled_in, written_at}
+use Rattle.lalrpop_norm_key_symbols.specs.KeyNaming.{SpellsNames}
+use Rattle.lalrpop_norm_key_symbols.specs.WrittenRules.{spelled_in, written_at}
 use Rattle.lalrpop_norm_key_rules.specs.declared.rules.KeyRules.{KeyRules}
 
 -- what the program knows of its tables

@@ -15,16 +15,15 @@ ghost use Rattle.lalrpop_grammar_closed.specs.Views.{closed_view, closeds};
 ghost use Rattle.lalrpop_norm_key_table.specs.Tables.{IsKeyIndex};
 ghost use Rattle.lalrpop_norm_key_rules.specs.AddedRules.{IsAddedAlternative, added_choices, inline_attributes};
 ghost use Rattle.lalrpop_norm_key_rules.specs.RulesUnder.{AreAddedUnder, IsAddedRuleUnder};
-ghost use Rattle.lalrpop_norm_key_rules.specs.KeyNaming.{AreSymbolsFor};
+ghost use Rattle.lalrpop_norm_key_symbols.specs.KeyNaming.{AreSymbolsFor};
 
-use crate::names::KeyNames;
-use crate::symbols::written_side;
 use crate::types::{place_type, repeat_type};
 use lalrpop_grammar::{ActionKind, Alternative, NonterminalData, Origin, Visibility};
 use lalrpop_grammar_closed::ClosedSymbol;
 use lalrpop_grammar_rules::INLINE;
 use lalrpop_grammar_symbols::{Atom, Boxed, List, NonterminalString, RepeatOp, Span};
 use lalrpop_grammar_types::{Attribute, AttributeArg, TypeRef};
+use lalrpop_norm_key_symbols::{KeyNames, written_side};
 use std::alloc::{AllocError, Global};
 use std::slice;
 

@@ -8,7 +8,7 @@ ghost use Rattle.lalrpop_grammar_rules.specs.RuleTable.{rules_with};
 ghost use Rattle.lalrpop_grammar_closed.specs.Scopes.{binding_view};
 ghost use Rattle.lalrpop_grammar_closed.specs.Views.{closed_view};
 ghost use Rattle.lalrpop_norm_keys.specs.MacroFaults.{TellsOfAlternative, told_fault_of};
-ghost use Rattle.lalrpop_norm_key_rules.specs.KeyNaming.{AreSymbolsFor};
+ghost use Rattle.lalrpop_norm_key_symbols.specs.KeyNaming.{AreSymbolsFor};
 ghost use Rattle.lalrpop_norm_key_rules.specs.KeyInstances.{
   BecomesIn,
   HoldsIn,
@@ -18,15 +18,14 @@ ghost use Rattle.lalrpop_norm_key_rules.specs.KeyInstances.{
   instance_rule_view,
 };
 ghost use Rattle.lalrpop_norm_key_rules.specs.InstanceRules.{AreInstancesBy, IsInstanceBy, PutsInstance, flat_side};
-ghost use Rattle.lalrpop_norm_key_rules.specs.WrittenRules.{arguments_view};
+ghost use Rattle.lalrpop_norm_key_symbols.specs.WrittenRules.{arguments_view};
 
-use crate::names::KeyNames;
-use crate::symbols::written_side;
 use lalrpop_grammar::{ActionKind, Alternative, Condition, Origin};
 use lalrpop_grammar_closed::{Binding, ClosedSymbol, ConditionFault, Finder, holds, right_side};
 use lalrpop_grammar_repr::{NormError, NormErrorKind, NormFault};
 use lalrpop_grammar_rules::{Choice, EnabledRule, Rules};
 use lalrpop_grammar_symbols::{List, Span, Symbol, clone_symbols};
+use lalrpop_norm_key_symbols::{KeyNames, written_side};
 use std::alloc::{AllocError, Global};
 
 /// An instance of a macro, or a rule without parameters.

@@ -5,21 +5,20 @@ ghost use Rattle.lalrpop_grammar_symbols.specs.Views.{span_view};
 ghost use Rattle.lalrpop_grammar.specs.Views.{grammar_view, nonterminal_view};
 ghost use Rattle.lalrpop_grammar.specs.WrittenGrammar.{rules_of};
 ghost use Rattle.lalrpop_grammar_rules.specs.RuleTable.{IsTable};
-ghost use Rattle.lalrpop_norm_key_rules.specs.WrittenRules.{HasWritten};
+ghost use Rattle.lalrpop_norm_key_symbols.specs.WrittenRules.{HasWritten};
 ghost use Rattle.lalrpop_grammar_closed.specs.Views.{closed_view};
 ghost use Rattle.lalrpop_norm_key_table.specs.Tables.{IsKeyIndex, table_keys};
 ghost use Rattle.lalrpop_norm_key_rules.specs.KeyRuleLaws.{AreRulesUnderNames, TellsOfRightKeys};
-ghost use Rattle.lalrpop_norm_key_rules.specs.KeyNaming.{IsNameAt};
+ghost use Rattle.lalrpop_norm_key_symbols.specs.KeyNaming.{IsNameAt};
 ghost use Rattle.lalrpop_norm_key_rules.specs.WrittenKeys.{AreReady, AreRulesOfKeys, TellsOfOneKey, span_of_key};
 
-use crate::names::KeyNames;
 use crate::rules::{KeyRules, key_rule};
-use crate::written_rules::written_rules;
 use lalrpop_grammar::{Grammar, NonterminalData};
 use lalrpop_grammar_closed::{ClosedSymbol, Finder};
 use lalrpop_grammar_repr::NormFault;
 use lalrpop_grammar_rules::Rules;
 use lalrpop_grammar_symbols::{Atom, List, Span};
+use lalrpop_norm_key_symbols::{KeyNames, written_rules};
 use lalrpop_norm_key_table::KeyTable;
 use std::alloc::Global;
 

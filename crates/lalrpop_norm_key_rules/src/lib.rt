@@ -3,15 +3,11 @@
 
 mod added;
 mod alternatives;
-mod arguments;
 mod grammar;
 mod keys;
 mod laws;
-mod names;
 mod rules;
-mod symbols;
 mod types;
-mod written_rules;
 
 pub use grammar::with_rules;
 pub use keys::key_rules;

@@ -11,20 +11,18 @@ ghost use Rattle.lalrpop_norm_key_rules.specs.InstanceRules.{stays_public};
 ghost use Rattle.lalrpop_norm_key_rules.specs.RulesUnder.{IsInstanceRuleUnder};
 ghost use Rattle.lalrpop_norm_key_rules.specs.KeyInstances.{IsReady, TellsOfOneIn, instance_binding, instance_rule_view};
 ghost use Rattle.lalrpop_norm_key_rules.specs.WrittenKeys.{AreReady, IsCallRule, IsRuleOfKey, TellsOfCalledRule, TellsOfKey};
-ghost use Rattle.lalrpop_norm_key_rules.specs.WrittenRules.{arguments_view, spelled_in};
+ghost use Rattle.lalrpop_norm_key_symbols.specs.WrittenRules.{arguments_view, spelled_in};
 
 use crate::added::{Added, empty_rule, group_rule, lookahead_rule, lookbehind_rule, repeat_rule};
 use crate::alternatives::{Instance, instance_alternatives};
-use crate::arguments::arguments;
-use crate::names::KeyNames;
 use crate::types::put_declaration;
-use crate::written_rules::{WrittenRules, find_written};
 use lalrpop_grammar::{NonterminalData, Visibility};
 use lalrpop_grammar_closed::{ClosedSymbol, Finder};
 use lalrpop_grammar_repr::NormFault;
 use lalrpop_grammar_rules::{EnabledRule, Rules};
 use lalrpop_grammar_symbols::{Atom, List, NonterminalString, Span};
 use lalrpop_grammar_types::clone_attributes;
+use lalrpop_norm_key_symbols::{KeyNames, WrittenRules, arguments, find_written};
 use std::alloc::{AllocError, Global};
 
 /// What the rules of keys are written by.

@@ -23,14 +23,13 @@ ghost use Rattle.lalrpop_norm_key_rules.specs.KeyDeclarations.{
 ghost use Rattle.lalrpop_norm_key_rules.specs.KeyInstances.{IsReady, instance_binding, instance_rule_view};
 
 use crate::alternatives::{Instance, binding_in, closed_side};
-use crate::names::KeyNames;
-use crate::symbols::{written_or_error, written_symbol};
 use lalrpop_grammar::{Alternative, Origin};
 use lalrpop_grammar_closed::{Bound, ClosedSymbol, bound_to};
 use lalrpop_grammar_symbols::{
     Atom, Boxed, List, RepeatOp, Span, Symbol, SymbolKind, TerminalString,
 };
 use lalrpop_grammar_types::TypeRef;
+use lalrpop_norm_key_symbols::{KeyNames, written_or_error, written_symbol};
 use std::alloc::{AllocError, Global};
 
 /// The last of the symbols.

@@ -2,8 +2,8 @@ use Rattle.std.proofs.Common.{◌∙◌, ap, map, subst}
 use Rattle.lalrpop_grammar.specs.Views.{alternative_view}
 use Rattle.lalrpop_grammar_closed.specs.Views.{closed_view}
 use Rattle.lalrpop_norm_key_rules.specs.InstanceRules.{IsInstanceBy}
-use Rattle.lalrpop_norm_key_rules.specs.KeyNaming.{AreSymbolsFor}
-use Rattle.lalrpop_norm_key_rules.specs.WrittenRules.{arguments_view}
+use Rattle.lalrpop_norm_key_symbols.specs.KeyNaming.{AreSymbolsFor}
+use Rattle.lalrpop_norm_key_symbols.specs.WrittenRules.{arguments_view}
 use Rattle.lalrpop_norm_key_rules.proofs.AddedLemmas.{ok_from}
 use Rattle.lalrpop_norm_key_rules.proofs.alternatives.held_alternative.Goals as goal
 

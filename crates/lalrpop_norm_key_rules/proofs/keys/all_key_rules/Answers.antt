@@ -8,7 +8,7 @@ use Rattle.lalrpop_grammar.specs.Views.{nonterminal_view}
 use Rattle.lalrpop_grammar_closed.specs.Views.{closed_view}
 use Rattle.lalrpop_norm_key_rules.specs.FinishedRules.{AreRulesFrom}
 use Rattle.lalrpop_norm_key_rules.specs.WrittenKeys.{IsRuleOfKey, span_of_key}
-use Rattle.lalrpop_norm_key_rules.proofs.NamingLemmas.{key_at_place, key_below}
+use Rattle.lalrpop_norm_key_symbols.proofs.NamingLemmas.{key_at_place, key_below}
 use Rattle.lalrpop_norm_key_rules.proofs.RuleListLemmas.{rules_put}
 use Rattle.lalrpop_norm_key_rules.proofs.keys.all_key_rules.Goals as goal
 

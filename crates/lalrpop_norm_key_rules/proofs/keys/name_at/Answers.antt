@@ -1,4 +1,4 @@
-use Rattle.lalrpop_norm_key_rules.proofs.NamingLemmas.{name_at_place}
+use Rattle.lalrpop_norm_key_symbols.proofs.NamingLemmas.{name_at_place}
 use Rattle.lalrpop_norm_key_rules.proofs.keys.name_at.Goals as goal
 
 pub returns : goal.returns

@@ -4,7 +4,7 @@ use Rattle.lalrpop_grammar_rules.specs.Details.{enabled_rule_view}
 use Rattle.lalrpop_grammar_rules.specs.RuleTable.{rules_with}
 use Rattle.lalrpop_grammar_closed.specs.Views.{binding_of, closed_view, closeds}
 use Rattle.lalrpop_norm_key_rules.specs.RulesUnder.{IsInstanceRuleUnder}
-use Rattle.lalrpop_norm_key_rules.specs.WrittenRules.{arguments_view}
+use Rattle.lalrpop_norm_key_symbols.specs.WrittenRules.{arguments_view}
 use Rattle.lalrpop_norm_key_rules.proofs.AddedLemmas.{ok_from}
 use Rattle.lalrpop_norm_key_rules.proofs.rules.called_rule.Goals as goal
 

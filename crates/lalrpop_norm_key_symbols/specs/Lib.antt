@@ -1,0 +1,3 @@
+pub mod KeyedSymbols
+pub mod KeyNaming
+pub mod WrittenRules
