@@ -5,6 +5,7 @@ pub mod RightRankLemmas
 pub mod ArityLemmas
 pub mod TokenFaultLemmas
 pub mod PartTypeLemmas
+pub mod PartEquationLemmas
 pub mod TypeFaultLemmas
 pub mod StandingLemmas
 pub mod ExamplesOfStandingFaults

@@ -1,6 +1,6 @@
 -- What a pass tells stands in the written grammar, and where none is told none stands; for the laws of faults.
-use Rattle.std.proofs.Common.{◌≡◌, ℕ, List, [], ◌∷◌, ◌++◌, refl, ap, sym, ◌∙◌, subst, Bool, true, false}
-use Rattle.std.proofs.Common.{inl, inr, ◌⊎◌}
+use Rattle.std.proofs.Common.{◌≡◌, ℕ, List, [], ◌∷◌, ◌++◌, refl, ap, sym, ◌∙◌, subst, Bool}
+use Rattle.std.proofs.Common.{inl}
 use Rattle.std.specs.Prelude.{Option, Some, None, map, option_map, ◌↔◌}
 use Rattle.lalrpop_grammar_symbols.specs.Symbols.{Text, TextSpan, Terminal, Closed}
 use Rattle.lalrpop_grammar_symbols.specs.Views.{span_view}
@@ -38,8 +38,8 @@ use Rattle.lalrpop_norm_keys.specs.MacroFaults.{TellsOfAlternative}
 use Rattle.lalrpop_norm_entries.specs.Checked.{IsTokenChecked}
 use Rattle.lalrpop_norm_entries.specs.Faults.{TokenStands, IsTokenFault}
 use Rattle.lalrpop_norm_entries.specs.Places.{FirstPlaces}
-use Rattle.lalrpop_norm_types.specs.TypeFaults.{HasRuleTypes, HasTwoTypes, IsTypeFault, IsUntypedRule, TypeFault, type_fault}
-use Rattle.lalrpop_norm_types.specs.TypeFaults.{TypeFaultStands, is_part_rule}
+use Rattle.lalrpop_norm_types.specs.TypeFaults.{HasRuleTypes, HasTwoTypes, IsToldTypeFault, IsTypeFault, IsUntypedRule, TypeFault}
+use Rattle.lalrpop_norm_types.specs.TypeFaults.{TypeFaultStands, type_fault}
 use Rattle.lalrpop_norm_chain.specs.PremiseLaws.{resolved_part}
 use Rattle.lalrpop_norm_chain.specs.Chains.{IsMacroChain}
 use Rattle.lalrpop_norm_chain.proofs.ChainLemmas.{between_behind}
@@ -49,12 +49,13 @@ use Rattle.lalrpop_norm_fault_chain.specs.TokenFaults.{enabled_places}
 use Rattle.lalrpop_norm_fault_chain.specs.WrittenTypeFaults.{IsDisagreeing, IsUntyped}
 use Rattle.lalrpop_norm_fault_chain.specs.StandingFaults.{IsRightToNames, IsRightToLevels, IsRightToMacros}
 use Rattle.lalrpop_norm_fault_chain.specs.StandingFaults.{IsRightToTokens, IsStandingFault}
-use Rattle.lalrpop_norm_fault_chain.specs.FaultLaws.{IsLevelChain, IsToldOfPart}
+use Rattle.lalrpop_norm_fault_chain.specs.FaultLaws.{IsLevelChain}
 use Rattle.lalrpop_norm_fault_chain.proofs.LevelFaultLemmas.{level_faults_stay}
 use Rattle.lalrpop_norm_fault_chain.proofs.ArityLemmas.{resolved_arity, arity_back, arity_forth}
 use Rattle.lalrpop_norm_fault_chain.proofs.MadeConditionLemmas.{IsBlindToLevels, resolved_condition, leveled_condition}
 use Rattle.lalrpop_norm_fault_chain.proofs.TokenFaultLemmas.{token_back, token_forth}
 use Rattle.lalrpop_norm_fault_chain.proofs.TypeFaultLemmas.{disagreeing, untyped, none_disagrees, none_untyped}
+use Rattle.lalrpop_norm_fault_chain.proofs.TypeFaultLemmas.{two_equations_no_part}
 
 -- levels
 
@@ -359,18 +360,15 @@ module _ (finds : Text → Text → Option Bool) (deep : Text → Bool) (feature
     expanded_still = subst IsExpanded (sym checked_is) c.macros.expanded
 
     disagree_stands : IsRightToTokens finds deep features limit w → (p : TextSpan) →
-        TypeFaultStands (grammar_between finds checked) (rules_of checked.items) (TypeFault.disagree p) →
+        IsToldTypeFault (grammar_between finds checked) (rules_of checked.items) (TypeFault.disagree p) →
         IsStandingFault finds deep features limit w kinds.TypesDisagree p
-        ⊎ IsToldOfPart (grammar_between finds checked) (rules_of checked.items) kinds.TypesDisagree p
-    disagree_stands right p u = go (is_part_rule u.0) refl
-      where
-        go : (b : Bool) → is_part_rule u.0 ≡ b → IsStandingFault finds deep features limit w kinds.TypesDisagree p
-            ⊎ IsToldOfPart (grammar_between finds checked) (rules_of checked.items) kinds.TypesDisagree p
-        go true e = inr (u.0, u.1, u.2, u.3, e)
-        go false e = inl (IsStandingFault.types_disagree p right
-            (subst (λ (q : TextSpan). IsDisagreeing (enabled_grammar finds features w) (without_disabled features w) q) u.2
-            (disagreeing finds features w leveled expanded c u.0 (subst (λ (rs : List Rule). Among rs u.0) checked_rules u.1)
-            (subst (λ (g : EnabledGrammar). HasTwoTypes g u.0.name) checked_is u.3) e)))
+    disagree_stands right p u =
+        let i = subst (λ (rs : List Rule). Among rs u.0) checked_rules u.1 in
+        IsStandingFault.types_disagree p right
+        (subst (λ (q : TextSpan). IsDisagreeing (enabled_grammar finds features w) (without_disabled features w) q) u.2
+        (disagreeing finds features w leveled expanded c u.0 i
+        (subst (λ (g : EnabledGrammar). HasTwoTypes g u.0.name) checked_is u.3)
+        (two_equations_no_part finds features w leveled expanded c u.0 i u.4)))
 
     untyped_stands : IsRightToTokens finds deep features limit w → (n : NonterminalString) (p : TextSpan) →
         TypeFaultStands (grammar_between finds checked) (rules_of checked.items) (TypeFault.untyped n.0 p) →
@@ -383,11 +381,10 @@ module _ (finds : Text → Text → Option Bool) (deep : Text → Bool) (feature
         (here (λ g rs. IsUntypedRule g rs u.0) u.4))))
 
     type_stands_at : IsRightToTokens finds deep features limit w → (kind : NormErrorKind) (p : TextSpan) →
-        TypeFaultStands (grammar_between finds checked) (rules_of checked.items) (type_fault kind p) →
+        IsToldTypeFault (grammar_between finds checked) (rules_of checked.items) (type_fault kind p) →
         IsStandingFault finds deep features limit w kind p
-        ⊎ IsToldOfPart (grammar_between finds checked) (rules_of checked.items) kind p
     type_stands_at right kinds.TypesDisagree p u = disagree_stands right p u
-    type_stands_at right (kinds.NoType n) p u = inl (untyped_stands right n p u)
+    type_stands_at right (kinds.NoType n) p u = untyped_stands right n p u
     type_stands_at right (kinds.DuplicateDefinition name) p u = absurd u
     type_stands_at right kinds.SecondMatchBlock p u = absurd u
     type_stands_at right (kinds.UnknownAttribute name) p u = absurd u
@@ -413,7 +410,6 @@ module _ (finds : Text → Text → Option Bool) (deep : Text → Bool) (feature
 
     pub type_stands : (error : NormError) → IsRightToTokens finds deep features limit w → IsTypeFault checked (faults.Norm error) →
         IsStandingFault finds deep features limit w error.kind (span_view error.span)
-        ⊎ IsToldOfPart (grammar_between finds checked) (rules_of checked.items) error.kind (span_view error.span)
     type_stands error right told = type_stands_at right error.kind (span_view error.span) (told finds expanded_still)
 
     no_among : {A : Type 0} (l : List A) (a : A) → l ≡ [] → Among l a → ⊥

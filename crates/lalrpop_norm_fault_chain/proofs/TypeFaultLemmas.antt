@@ -35,12 +35,13 @@ use Rattle.lalrpop_norm_level_laws.proofs.LeveledRuleLemmas.{rule_of_key, rules_
 use Rattle.lalrpop_norm_level_laws.proofs.LevelFitLemmas.{IsCallOf}
 use Rattle.lalrpop_norm_level_laws.proofs.LevelExpansionLemmas.{call_of, well_in}
 use Rattle.lalrpop_norm_level_laws.proofs.WellLeveledLemmas.{IsWellOrFaulty}
+use Rattle.lalrpop_norm_back_laws.specs.KeyTypes.{IsKeyDeclaration, repeat_ty}
 use Rattle.lalrpop_norm_back_laws.proofs.KeyStepLemmas.{macros_keep_types}
 use Rattle.lalrpop_norm_back_laws.proofs.NameBackLemmas.{names_back}
 use Rattle.lalrpop_norm_types.specs.GroundViews.{type_repr_view}
 use Rattle.lalrpop_norm_types.specs.TypeFaults.{rule_symbol, nonterminal_of, HasTwoTypes, HasNoType, is_part_rule, is_part_choice}
 use Rattle.lalrpop_norm_types.specs.TypeFaults.{is_part_origin}
-use Rattle.lalrpop_norm_types.specs.TypeFaults.{IsUntypedRule, HasRuleTypes}
+use Rattle.lalrpop_norm_types.specs.TypeFaults.{IsUntypedRule, HasRuleTypes, HasTwoEquations}
 use Rattle.lalrpop_norm_chain.specs.PremiseLaws.{resolved_part}
 use Rattle.lalrpop_norm_chain.specs.Chains.{IsMacroChain}
 use Rattle.lalrpop_norm_chain.proofs.SourceLemmas.{resolved_source, leveled_source}
@@ -51,6 +52,7 @@ use Rattle.lalrpop_norm_chain.proofs.FrontLemmas.{closed_to}
 use Rattle.lalrpop_norm_chain.proofs.FrontLemmas.{levelable, same_leveled, prefix_leveled, types_expanded, has_rule}
 use Rattle.lalrpop_norm_fault_chain.specs.WrittenTypeFaults.{IsCallAt, IsDisagreeing, IsUntyped}
 use Rattle.lalrpop_norm_fault_chain.proofs.PartTypeLemmas.{key_typed}
+use Rattle.lalrpop_norm_fault_chain.proofs.PartEquationLemmas.{none_declared, not_one_alternative}
 
 -- where names differ, a rule is found by its name
 
@@ -384,6 +386,39 @@ module _ (finds : Text → Text → Option Bool) (features : List Text) (w level
   kind_of q i u p =
       no_part_key q (c.macros.expansion.rules u.key u.among).0 (key_rule_is q i u) u.key (c.macros.expansion.keys_only u.key u.among)
       (c.macros.expansion.rules u.key u.among).2.choices p
+
+  -- the rule of a repeat declares a type, and that of a group has one alternative
+  no_part_of : (q : Rule) (e : EnabledRule) → rule_between q ≡ e → HasTwoEquations q → (x : Closed)
+      → IsKeyDeclaration mid named_key c.macros.keys x q.declared → AreKeyChoices mid named_key x e.choices → is_part_rule q ≡ false
+  no_part_of q e same t (Closed.call n args level) d h = instance_no_part n args level q e same h
+  no_part_of q e same t (Closed.repeat op y) d h = absurd (none_declared q t (repeat_ty op d.0) d.1)
+  no_part_of q e same t (Closed.group ys) d h =
+      let u = first_choice q e same h.0 [] h.1 in
+      absurd (not_one_alternative q t u.0 (u.2 ∙ ap (λ l. u.0 ∷ l) (no_more u.1 (behind u.0 u.1 u.2))))
+    where
+      behind : (a : Alternative) (rest : List Alternative) → q.alternatives ≡ a ∷ rest → map choice_of (with_origins rest) ≡ []
+      behind a rest f =
+          let list : map choice_of (with_origins (a ∷ rest)) ≡ h.0 ∷ [] =
+          ap (λ (x : List Alternative). map choice_of (with_origins x)) (sym f) ∙ ap (λ (x : EnabledRule). x.choices) same ∙ h.1 in
+          cc
+
+      no_more : (rest : List Alternative) → map choice_of (with_origins rest) ≡ [] → rest ≡ []
+      no_more [] f = refl
+      no_more (a ∷ rest) f = absurd (let wrong : ⊥ = cc in wrong)
+  no_part_of q e same t Closed.lookahead d h = part_of q e same h.0 [] h.1 Origin.look h.2.origin
+  no_part_of q e same t Closed.lookbehind d h = part_of q e same h.0 [] h.1 Origin.look h.2.origin
+  no_part_of q e same t (Closed.terminal z) d h = absurd h
+  no_part_of q e same t (Closed.choose y) d h = absurd h
+  no_part_of q e same t (Closed.name m n y) d h = absurd h
+  no_part_of q e same t Closed.faulty d h = absurd h
+
+  -- so a rule with two equations is no part
+  pub two_equations_no_part : (q : Rule) → Among (rules_of expanded.items) q → HasTwoEquations q → is_part_rule q ≡ false
+  two_equations_no_part q i t =
+      let u = from_key q i in
+      no_part_of q (c.macros.expansion.rules u.key u.among).0 (key_rule_is q i u) t u.key
+      (c.macros.types u.key (rule_between q) u.among (subst (λ (n : Text). IsRule new n (rule_between q)) u.name_is (rule_named q i)))
+      (c.macros.expansion.rules u.key u.among).2.choices
 
   -- two types
 

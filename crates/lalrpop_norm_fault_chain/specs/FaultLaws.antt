@@ -1,12 +1,10 @@
 -- What the laws say of faults: what a pass tells of the grammar that it got stands in the written one, and where none is told,
 -- none stands there.
-use Rattle.std.specs.Prelude.{ℕ, ◌≡◌, ◌⊎◌, true, Bool, List, [], Option}
+use Rattle.std.specs.Prelude.{ℕ, ◌≡◌, Bool, List, [], Option}
 use Rattle.lalrpop_grammar_symbols.specs.Symbols.{Text, TextSpan, Terminal, Closed}
 use Rattle.lalrpop_grammar_symbols.specs.Views.{span_view}
 use Rattle.lalrpop_grammar_symbols.specs.declared.names.NonterminalString.{NonterminalString}
-use Rattle.lalrpop_grammar.specs.WrittenGrammar.{Rule, Grammar, rules_of}
-use Rattle.lalrpop_grammar_language.specs.Among.{Among}
-use Rattle.lalrpop_grammar_language.specs.Enabled.{EnabledGrammar}
+use Rattle.lalrpop_grammar.specs.WrittenGrammar.{Grammar, rules_of}
 use Rattle.lalrpop_grammar_closed.specs.Finding.{IsSearch}
 use Rattle.lalrpop_grammar_repr.specs.declared.norm_error.NormError.{NormError}
 use Rattle.lalrpop_grammar_repr.specs.declared.norm_error.NormErrorKind.{NormErrorKind}
@@ -26,7 +24,7 @@ use Rattle.lalrpop_norm_keys.specs.MacroFaults.{ConditionError}
 use Rattle.lalrpop_norm_entries.specs.Checked.{IsTokenChecked}
 use Rattle.lalrpop_norm_entries.specs.Faults.{IsTokenFault}
 use Rattle.lalrpop_norm_entries.specs.Places.{FirstPlaces}
-use Rattle.lalrpop_norm_types.specs.TypeFaults.{HasRuleTypes, HasTwoTypes, IsTypeFault, is_part_rule}
+use Rattle.lalrpop_norm_types.specs.TypeFaults.{HasRuleTypes, IsTypeFault}
 use Rattle.lalrpop_norm_chain.specs.PremiseLaws.{resolved_part}
 use Rattle.lalrpop_norm_chain.specs.Chains.{IsMacroChain}
 use Rattle.lalrpop_norm_fault_chain.specs.MadeConditions.{HasConditionWhere, HasWrongCondition}
@@ -110,13 +108,7 @@ RightTokensAreRight =
     → IsMacroChain finds features w leveled expanded → ((l : Terminal) → first l ≡ enabled_places features w l)
     → IsTokenChecked first expanded checked → IsRightToTokens finds deep features limit w
 
--- two types that differ are told of the rule of a repeat or a group
-abbrev pub IsToldOfPart : EnabledGrammar → List Rule → NormErrorKind → TextSpan → Type 0
-IsToldOfPart e rs kinds.TypesDisagree p =
-    (r : Rule) × Among rs r × (r.span ≡ p) × HasTwoTypes e r.name × (is_part_rule r ≡ true)
-IsToldOfPart e rs _ p = ⊥
-
--- A fault of types, but for two types of a repeat or a group.
+-- a fault of types
 abbrev pub TypeFaultsStand : Type 0
 TypeFaultsStand =
     (finds : Text → Text → Option Bool) (deep : Text → Bool) (features : List Text) (limit : ℕ)
@@ -124,7 +116,6 @@ TypeFaultsStand =
     → IsMacroChain finds features w leveled expanded → IsTokenChecked first expanded checked
     → IsTypeFault checked (faults.Norm error)
     → IsStandingFault finds deep features limit w error.kind (span_view error.span)
-    ⊎ IsToldOfPart (grammar_between finds checked) (rules_of checked.items) error.kind (span_view error.span)
 
 -- where each rule has its one type, no fault stands
 abbrev pub NoFaultStands : Type 0

@@ -33,7 +33,7 @@ pub fn token_faults_stand()
     ensures none { RightTokensAreRight }
 {}
 
-/// The law of faults of types. Two types that are told of a repeat or a group are of a nonterminal that no written rule is.
+/// The law of faults of types. Two types that differ are told of no repeat and no group, since those have one equation.
 pub fn type_faults_stand()
     ensures { TypeFaultsStand }
 {}
