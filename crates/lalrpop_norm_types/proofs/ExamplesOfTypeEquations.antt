@@ -158,9 +158,12 @@ text_right g e i named given = record {
         → (d : TypeEquation) × Among (type_equations g) d × (d.rule.name ≡ n)
         × (source_ground_type (known_names g) a_text d.source ≡ Some t)
     given_at n t true h k =
-        let is : Some text_type ≡ Some t = k in
-        (e, i, named ∙ sym (same_text-eq n (codes "X") h),
-        source_stays (known_names g) nothing_known a_text nothing_grows e.source text_type given ∙ is)
+        let is : Some text_type ≡ Some t = k in (
+          e,
+          i,
+          named ∙ sym (same_text-eq n (codes "X") h),
+          source_stays (known_names g) nothing_known a_text nothing_grows e.source text_type given ∙ is,
+        )
     given_at n t false h k = absurd (let wrong : ⊥ = cc in wrong)
 
 differing_told : IsTypeFault disagreeing (told kinds.TypesDisagree 1 8)
