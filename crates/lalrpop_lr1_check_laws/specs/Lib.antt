@@ -1,0 +1,4 @@
+pub mod NameClosures
+pub mod CoverTests
+pub mod HandedNexts
+pub mod CheckLaws
