@@ -110,9 +110,9 @@ module _ (G : Production → Type 0) (s : Text) where
         one_edge = cover.one;
         unmoved_start = λ p i h. let r = item_begun ((cover.start p (suc i)).0 h) in omega (arith, r.0);
         start_brings = λ q. (
-              λ h. let r = item_begun ((cover.start q 0).0 h) in (r.1, r.2),
-              λ h. (cover.start q 0).1 (begun_item h.1 q refl h.0),
-            );
+          λ h. let r = item_begun ((cover.start q 0).0 h) in (r.1, r.2),
+          λ h. (cover.start q 0).1 (begun_item h.1 q refl h.0),
+        );
         moved_bring = brings;
       }
 
@@ -133,15 +133,15 @@ module _ (G : Production → Type 0) (s : Text) where
           names_over h =
               names_hold (IsNameBehindDot (IsMovedItem (Item m))) (BeginsWithName G) (IsNameBrought G (IsShifted Item n X))
               (λ A b.
-                  let c = tests.comes_back n X m e b.production b.item.0
-                  (subst (λ j. Item m b.production j) b.item.1 b.item.2) in
-                  seeded A (record {
-                    production = b.production;
-                    dot = b.dot;
-                    rest = b.rest;
-                    item = record { dot = b.item.0; rest = c.rest; on = b.item.1; item = c.item; before = c.before };
-                    before = b.before;
-                  }))
+              let c = tests.comes_back n X m e b.production b.item.0
+              (subst (λ j. Item m b.production j) b.item.1 b.item.2) in
+              seeded A (record {
+                production = b.production;
+                dot = b.dot;
+                rest = b.rest;
+                item = record { dot = b.item.0; rest = c.rest; on = b.item.1; item = c.item; before = c.before };
+                before = b.before;
+              }))
               (λ A B d k. stepped B d k) h
       in_closure n X m e p (suc i) h =
           let c = tests.comes_back n X m e p i h in
@@ -178,9 +178,9 @@ module _ (G : Production → Type 0) (s : Text) where
       pub passes_cover : IsCover G s Item Edge
       passes_cover = record {
         start = λ p i. (
-              start_in p i,
-              λ d. let r = item_begun d in subst (λ j. Item 0 p j) (sym r.0) ((tests.start_brings p).1 (r.1, r.2)),
-            );
+          start_in p i,
+          λ d. let r = item_begun d in subst (λ j. Item 0 p j) (sym r.0) ((tests.start_brings p).1 (r.1, r.2)),
+        );
         onward = λ n p i X b h e. let k = tests.moves_on n p i X b h e in (k.0, k.1);
         one = tests.one_edge;
         next = λ n X m e p i. (in_closure n X m e p i, out_of_closure n X m e p i);

@@ -4,6 +4,7 @@ use Rattle.lalrpop_lr1_check_laws.proofs.HandedLemmas.{reduces_carried, reduces_
 use Rattle.lalrpop_lr1_check_laws.proofs.carried_are_handed.Goals as goal
 
 pub returns : goal.returns
-returns c = λ grammar s states.
-    (λ f. reduces_handed (Contains grammar) s (HasItem states) (HasEdge states) (Reduces states) f,
-    λ f. reduces_carried (Contains grammar) s (HasItem states) (HasEdge states) (Reduces states) f)
+returns c = λ grammar s states. (
+  λ f. reduces_handed (Contains grammar) s (HasItem states) (HasEdge states) (Reduces states) f,
+  λ f. reduces_carried (Contains grammar) s (HasItem states) (HasEdge states) (Reduces states) f,
+)
