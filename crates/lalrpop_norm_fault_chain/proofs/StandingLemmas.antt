@@ -41,6 +41,8 @@ use Rattle.lalrpop_norm_entries.specs.Places.{FirstPlaces}
 use Rattle.lalrpop_norm_types.specs.TypeFaults.{HasRuleTypes, HasTwoTypes, IsToldTypeFault, IsTypeFault, IsUntypedRule, TypeFault}
 use Rattle.lalrpop_norm_types.specs.TypeFaults.{TypeFaultStands, type_fault}
 use Rattle.lalrpop_norm_chain.specs.PremiseLaws.{resolved_part}
+use Rattle.lalrpop_norm_place_law.specs.CallPlaces.{IsPlaceBelow}
+use Rattle.lalrpop_norm_place_law.proofs.DeepPlaceLemmas.{deep_call_written}
 use Rattle.lalrpop_norm_chain.specs.Chains.{IsMacroChain}
 use Rattle.lalrpop_norm_chain.proofs.ChainLemmas.{between_behind}
 use Rattle.lalrpop_norm_chain.proofs.FrontLemmas.{same_expanded, block_is, span_is, to}
@@ -271,8 +273,13 @@ module _ (finds : Text → Text → Option Bool) (deep : Text → Bool) (feature
       (IsStandingFault.arity (span_view error.span) right (arity_here (span_view error.span) told.1))
 
   pub depth_stands : (y : Closed) (p : TextSpan) → IsRightToLevels features w → IsTooDeep (grammar_between finds leveled) limit y →
+      IsPlaceBelow (grammar_between finds leveled) limit y p →
       IsStandingFault finds deep features limit w (kinds.MacroDepth limit) p
-  depth_stands y p right h = let u = deep_here y h in IsStandingFault.depth u.0 p right u.1
+  depth_stands y p right h at =
+      let u = deep_call_written finds features w c.levels.names c.read levelable limit y p
+      (subst (λ (g : Grammar). IsTooDeep (grammar_between finds g) limit y) c.levels.value h)
+      (subst (λ (g : Grammar). IsPlaceBelow (grammar_between finds g) limit y p) c.levels.value at) in
+      IsStandingFault.depth u.0 p right u.1 u.2
 
   pub condition_stands : (error : NormError) → IsRightToLevels features w →
       TellsOfMadeCall (grammar_between finds leveled) deep (faults.Norm error) →
@@ -427,7 +434,7 @@ module _ (finds : Text → Text → Option Bool) (deep : Text → Bool) (feature
     none_stands table right types kind p (IsStandingFault.level k q a h) =
         no_among _ _ (ap (map told_fault) right.before.before.levels) h
     none_stands table right types kind p (IsStandingFault.arity q a h) = no_among _ _ right.before.arity h
-    none_stands table right types kind p (IsStandingFault.depth x q a h) = right.before.depth x h
+    none_stands table right types kind p (IsStandingFault.depth x q a h at) = right.before.depth x h
     none_stands table right types kind p (IsStandingFault.condition k q a h) = right.before.conditions (condition_error k q) h
     none_stands table right types kind p (IsStandingFault.token k q a h) = right.tokens k q h
     none_stands table right types kind p (IsStandingFault.types_disagree q a h) =

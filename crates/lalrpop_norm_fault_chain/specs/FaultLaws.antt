@@ -21,6 +21,7 @@ use Rattle.lalrpop_norm_checks.specs.Faults.{HasNoCheckFault}
 use Rattle.lalrpop_norm_keys.specs.Arity.{arity_faults, TellsArity}
 use Rattle.lalrpop_norm_keys.specs.FoundCalls.{TellsOfMadeCall}
 use Rattle.lalrpop_norm_keys.specs.MacroFaults.{ConditionError}
+use Rattle.lalrpop_norm_place_law.specs.CallPlaces.{IsPlaceBelow}
 use Rattle.lalrpop_norm_entries.specs.Checked.{IsTokenChecked}
 use Rattle.lalrpop_norm_entries.specs.Faults.{IsTokenFault}
 use Rattle.lalrpop_norm_entries.specs.Places.{FirstPlaces}
@@ -60,12 +61,13 @@ ArityFaultsStand =
     → TellsArity (arity_faults (grammar_between finds leveled) (rules_of leveled.items)) (faults.Norm error)
     → IsStandingFault finds deep features limit w error.kind (span_view error.span)
 
--- a call that is too deep
+-- a call that is too deep, with its place
 abbrev pub DepthFaultsStand : Type 0
 DepthFaultsStand =
     (finds : Text → Text → Option Bool) (deep : Text → Bool) (features : List Text) (limit : ℕ) (w leveled : Grammar) (y : Closed)
     (p : TextSpan) → IsRightToLevels features w → IsLevelChain finds features w leveled
-    → IsTooDeep (grammar_between finds leveled) limit y → IsStandingFault finds deep features limit w (kinds.MacroDepth limit) p
+    → IsTooDeep (grammar_between finds leveled) limit y → IsPlaceBelow (grammar_between finds leveled) limit y p
+    → IsStandingFault finds deep features limit w (kinds.MacroDepth limit) p
 
 -- a condition
 abbrev pub ConditionFaultsStand : Type 0

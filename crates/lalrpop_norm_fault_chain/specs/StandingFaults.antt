@@ -15,6 +15,7 @@ use Rattle.lalrpop_norm_level_faults.specs.LevelErrors.{told_fault}
 use Rattle.lalrpop_norm_checks.specs.Faults.{CheckStands, HasNoCheckFault}
 use Rattle.lalrpop_norm_keys.specs.Arity.{arity_faults}
 use Rattle.lalrpop_norm_keys.specs.MacroFaults.{ConditionError, condition_error}
+use Rattle.lalrpop_norm_place_law.specs.WrittenPlaces.{IsWrittenPlace}
 use Rattle.lalrpop_norm_fault_chain.specs.MadeConditions.{HasWrongCondition}
 use Rattle.lalrpop_norm_fault_chain.specs.TokenFaults.{enabled_places, TokenStandsAt}
 use Rattle.lalrpop_norm_fault_chain.specs.WrittenTypeFaults.{IsDisagreeing, IsUntyped}
@@ -44,7 +45,7 @@ pub record IsRightToTokens (finds : Text → Text → Option Bool) (deep : Text 
   pub tokens : (kind : NormErrorKind) (p : TextSpan) →
       TokenStandsAt (enabled_places features w) (enabled_grammar finds features w) w kind p → ⊥
 
--- The fault stands in the written grammar, with this span. Where a call that is too deep stands isn't said.
+-- The fault stands in the written grammar, with this span.
 pub data IsStandingFault (finds : Text → Text → Option Bool) (deep : Text → Bool) (features : List Text) (limit : ℕ)
     (w : Grammar) : NormErrorKind → TextSpan → Type 0 where
   check : (kind : NormErrorKind) (p : TextSpan) → CheckStands kind p w → IsStandingFault finds deep features limit w kind p
@@ -62,7 +63,7 @@ pub data IsStandingFault (finds : Text → Text → Option Bool) (deep : Text �
       → Among (arity_faults (grammar_between finds (without_disabled features w)) (rules_of (without_disabled features w).items)) p
       → IsStandingFault finds deep features limit w kinds.WrongNumberOfArguments p
   depth : (x : Closed) (p : TextSpan) → IsRightToLevels features w → IsTooDeep (enabled_grammar finds features w) limit x
-      → IsStandingFault finds deep features limit w (kinds.MacroDepth limit) p
+      → IsWrittenPlace finds features w limit x p → IsStandingFault finds deep features limit w (kinds.MacroDepth limit) p
   condition : (kind : NormErrorKind) (p : TextSpan) → IsRightToLevels features w
       → HasWrongCondition (grammar_between finds (without_disabled features w)) deep (condition_error kind p)
       → IsStandingFault finds deep features limit w kind p

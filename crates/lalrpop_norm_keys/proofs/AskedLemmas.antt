@@ -10,8 +10,6 @@ use Rattle.lalrpop_grammar_language.specs.Enabled.{EnabledGrammar, EnabledRule, 
 use Rattle.lalrpop_grammar_language.specs.Levels.{Rank, ranked_choices}
 use Rattle.lalrpop_grammar_language.specs.Closing.{Binding}
 use Rattle.lalrpop_grammar_language.specs.Admitting.{bind}
-use Rattle.lalrpop_grammar_language.specs.Expansion.{IsRoot, Nonterminal}
-use Rattle.lalrpop_norm_expansion.specs.Depth.{HasCallChain}
 use Rattle.lalrpop_norm_expansion.specs.Premises.{HasNoLevels}
 use Rattle.lalrpop_norm_expansion.specs.Rounds.{AreCallsToDepth}
 use Rattle.lalrpop_norm_expansion.proofs.AmongLemmas.{among_parts}

@@ -68,7 +68,7 @@ module _ (g h : EnabledGrammar) (alike : plain_grammar g ≡ plain_grammar h) wh
 
 -- numbers of arguments
 
-flat_map-same : {A B : Type 0} (f k : A → List B) → ((x : A) → f x ≡ k x) → (xs : List A) → flat_map f xs ≡ flat_map k xs
+pub flat_map-same : {A B : Type 0} (f k : A → List B) → ((x : A) → f x ≡ k x) → (xs : List A) → flat_map f xs ≡ flat_map k xs
 flat_map-same f k e [] = refl
 flat_map-same f k e (x ∷ xs) = ap₂ (λ a b. a ++ b) (e x) (flat_map-same f k e xs)
 

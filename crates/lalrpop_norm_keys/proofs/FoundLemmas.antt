@@ -1,17 +1,15 @@
 -- Calls that are found one after another are the rounds of calls by least depth; for the search.
 use Rattle.std.proofs.Common.{◌≡◌, ℕ, zero, suc, List, [], ◌∷◌, ◌++◌, refl, ap, sym, ◌∙◌, subst, inl, inr}
 use Rattle.std.proofs.Common.{◌⊎◌, map, append-nil}
-use Rattle.std.proofs.Common.{append_assoc, ◌+◌, ◌<◌, ◌≤◌, arith, drop, get_or, length}
+use Rattle.std.proofs.Common.{append_assoc, ◌+◌, ◌<◌, arith, drop, get_or, length}
 use Rattle.std.proofs.lemmas.List.{drop-map, drop_at, length-map}
-use Rattle.std.specs.Prelude.{◌↔◌, Bool, true, Option, Some, None, Result, Ok, Err, IfErr, filter, nat_lt}
+use Rattle.std.specs.Prelude.{Bool, true, Option, Some, None, Result, Ok, Err, IfErr, IfOk, filter}
 use Rattle.lalrpop_grammar_symbols.specs.Symbols.{Text, Closed, Closeds}
-use Rattle.lalrpop_grammar.specs.WrittenGrammar.{Rule}
+use Rattle.lalrpop_grammar_symbols.specs.Views.{span_view}
+use Rattle.lalrpop_grammar.specs.WrittenGrammar.{Grammar, Rule}
 use Rattle.lalrpop_grammar_language.specs.Among.{Among}
 use Rattle.lalrpop_grammar_language.specs.Enabled.{EnabledGrammar, EnabledRule, IsRule, enabled_rule, is_active}
-use Rattle.lalrpop_grammar_language.specs.Levels.{greatest}
-use Rattle.lalrpop_grammar_language.specs.Expansion.{GrammarSymbol, HasLevel, IsRoot, Nonterminal, Produces, RightSide}
-use Rattle.lalrpop_grammar_language.specs.Admitting.{rank_level}
-use Rattle.lalrpop_grammar.specs.WrittenGrammar.{Origin}
+use Rattle.lalrpop_grammar_language.specs.Expansion.{GrammarSymbol, HasLevel, IsRoot, Nonterminal}
 use Rattle.lalrpop_grammar_language.proofs.PlaceLemmas.{among_filter, among_map}
 use Rattle.lalrpop_norm_expansion.specs.Depth.{CallOccursIn, HasCallChain, IsTooDeep, calls_in_all, calls_in_grammar_symbol}
 use Rattle.lalrpop_norm_expansion.specs.Premises.{HasNoLevels}
@@ -19,84 +17,73 @@ use Rattle.lalrpop_norm_expansion.specs.Rounds.{AreCallsToDepth}
 use Rattle.lalrpop_norm_expansion.proofs.AmongLemmas.{among_either, among_left, among_parts, among_right, map_among}
 use Rattle.lalrpop_norm_expansion.proofs.DepthLemmas.{before_rounds, left_too_deep, one_deeper}
 use Rattle.lalrpop_norm_expansion.proofs.ExpansionListLemmas.{rule_there}
-use Rattle.lalrpop_norm_expansion.proofs.LevelLemmas.{keeps, no_levels, no_rank}
+use Rattle.lalrpop_norm_expansion.proofs.LevelLemmas.{keeps, no_levels}
 use Rattle.lalrpop_norm_pass_laws.specs.KeyTables.{IsNoCall}
 use Rattle.lalrpop_grammar_repr.specs.declared.session.NormFault.{NormFault}
 use Rattle.lalrpop_grammar_repr.specs.declared.session.NormFault.TheVariants as faults
 use Rattle.lalrpop_norm_key_table.specs.Tables.{AddsKeys}
 use Rattle.lalrpop_norm_key_table.proofs.TableLemmas.{Extends, adds_extend}
-use Rattle.lalrpop_norm_keys.specs.FoundCalls.{AreCalls, FindsCalls, TellsOfAnyCall, TellsOfMadeCall, TellsOfOneCall}
-use Rattle.lalrpop_norm_keys.specs.FoundCalls.{plain_call_of, plain_calls}
-use Rattle.lalrpop_norm_keys.specs.Instances.{AreSymbolsOf, TellsOfCall}
+use Rattle.lalrpop_norm_keys.specs.FoundCalls.{AreCalls, FindsCalls, HasCallIndex, HasFoundCalls, IsToldAt, TellsOfAnyCall}
+use Rattle.lalrpop_norm_keys.specs.FoundCalls.{TellsOfMadeCall, TellsOfOneCall, plain_call_of, plain_calls}
+use Rattle.lalrpop_norm_keys.specs.SearchPremises.{CanSearch}
+use Rattle.lalrpop_norm_keys.specs.declared.rounds.FoundCalls.{FoundCalls}
+use Rattle.lalrpop_norm_keys.specs.declared.rounds.FoundCalls.TheVariants as found
+use Rattle.lalrpop_norm_place_law.specs.CallPlaces.{IsMadeAt, IsPlaceBelow}
+use Rattle.lalrpop_norm_keys.specs.Instances.{TellsOfCall}
+use Rattle.lalrpop_norm_keys.specs.StandingCalls.{CallStandsIn, HasCallsOf}
 use Rattle.lalrpop_grammar_closed.specs.Views.{closed_view, closeds}
 use Rattle.lalrpop_grammar_closed.specs.declared.closed_symbol.ClosedSymbol.{ClosedSymbol}
+use Rattle.lalrpop_norm_keys.proofs.StandingCallLemmas.{occurring_stands, standing_occurs}
 use Rattle.lalrpop_norm_keys.proofs.SymbolLemmas.{calls_are_calls}
 
--- calls that are added are found, where they are those that occur in a symbol
-pub found_of_adds : (g : EnabledGrammar) (y : Closed) (known xs all : List Closed) → AddsKeys known xs all
-    → ((x : Closed) → Among xs x ↔ CallOccursIn g y x) → FindsCalls g (y ∷ []) known all
-found_of_adds g y known xs all a are =
+-- the calls in the symbols on the right sides of a call are found, where they are added
+pub found_of_symbols : (g : EnabledGrammar) (y : Closed) (known all xs us : List Closed) → xs ≡ calls_in_all (closeds us)
+    → HasCallsOf g y us → AddsKeys known xs all → FindsCalls g (y ∷ []) known all
+found_of_symbols g y known all xs us e are a =
     let w = adds_extend known xs all a in record {
       found = w.found;
       all_is = w.all_is;
-      occurs = λ x i. (y, inl refl, (are x).0 (w.of_added x i));
+      stands = λ x i. (y, inl refl, (are x).0 (subst (λ l. Among l x) e (w.of_added x i)));
       fresh = w.fresh;
       complete = λ z x i o. complete w z x i o;
     }
   where
-    complete : Extends known xs all → (z x : Closed) → Among (y ∷ []) z → CallOccursIn g z x → Among all x
-    complete w z x (inl e) o = w.complete x ((are x).1 (subst (λ v. CallOccursIn g v x) (sym e) o))
+    complete : Extends known xs all → (z x : Closed) → Among (y ∷ []) z → CallStandsIn g z x → Among all x
+    complete w z x (inl f) o =
+        w.complete x (subst (λ l. Among l x) (sym e) ((are x).1 (subst (λ v. CallStandsIn g v x) (sym f) o)))
     complete w z x (inr i) o = absurd i
 
--- so are the calls in the symbols on its right sides
-pub found_of_symbols : (g : EnabledGrammar) (y : Closed) (known all xs us : List Closed) → xs ≡ calls_in_all (closeds us)
-    → AreSymbolsOf g y us → AddsKeys known xs all → FindsCalls g (y ∷ []) known all
-found_of_symbols g y known all xs us e are a =
-    found_of_adds g y known (calls_in_all (closeds us)) all (subst (λ l. AddsKeys known l all) e a) are.calls
-
--- where nothing occurs nothing is found
-pub found_of_none : (g : EnabledGrammar) (ys known : List Closed) → ((y x : Closed) → Among ys y → CallOccursIn g y x → ⊥)
+-- where nothing stands nothing is found
+pub found_of_none : (g : EnabledGrammar) (ys known : List Closed) → ((y x : Closed) → Among ys y → CallStandsIn g y x → ⊥)
     → FindsCalls g ys known known
 found_of_none g ys known out = record {
   found = [];
   all_is = sym (append-nil known);
-  occurs = λ x i. absurd i;
+  stands = λ x i. absurd i;
   fresh = λ x i k. i;
   complete = λ y x i o. absurd (out y x i o);
 }
 
--- a call that isn't one of a rule without levels produces nothing, where no rule has levels
-pub leveled_is_barren : (g : EnabledGrammar) → HasNoLevels g → (y : Closed) → (IsNoCall y → ⊥)
-    → ((n : Text) (args : Closeds) → y ≡ Closed.call n args None → ⊥) → (o : Origin) (side : RightSide)
-    → Produces g (Nonterminal.closed y) o side → ⊥
-leveled_is_barren g flat (Closed.call n args None) c k o side m = k n args refl
-leveled_is_barren g flat (Closed.call n args (Some l)) c k o side (inl b) =
-    let here = flat b.rule (rule_there g n b.rule b.fits.rule).0 in
-    let none : rank_level b.choice.1 ≡ None = ap rank_level (no_rank b.rule b.choice here b.fits.written) in
-    let wrong : None ≡ Some l = sym none ∙ b.level_is in cc
-leveled_is_barren g flat (Closed.call n args (Some l)) c k o side (inr p) =
-    let here = flat p.rule (rule_there g n p.rule p.is_rule).0 in
-    let wrong : None ≡ Some p.to =
-    sym (ap (λ (ns : List ℕ). greatest (filter (λ (j : ℕ). nat_lt j p.from) ns)) (no_levels p.rule here)) ∙ p.to_is in cc
-leveled_is_barren g flat (Closed.terminal t) c k o side m = c tt
-leveled_is_barren g flat (Closed.repeat op x) c k o side m = c tt
-leveled_is_barren g flat (Closed.group xs) c k o side m = c tt
-leveled_is_barren g flat (Closed.choose x) c k o side m = c tt
-leveled_is_barren g flat (Closed.name a n x) c k o side m = c tt
-leveled_is_barren g flat Closed.lookahead c k o side m = c tt
-leveled_is_barren g flat Closed.lookbehind c k o side m = c tt
-leveled_is_barren g flat Closed.faulty c k o side m = c tt
-
--- so nothing is found in it
-pub found_of_leveled : (g : EnabledGrammar) → HasNoLevels g → (y : Closed) → AreCalls (y ∷ [])
+-- so it is in what is no call without a level
+pub found_of_leveled : (g : EnabledGrammar) (y : Closed)
     → ((n : Text) (args : Closeds) → y ≡ Closed.call n args None → ⊥) → (known : List Closed)
     → FindsCalls g (y ∷ []) known known
-found_of_leveled g flat y c k known = found_of_none g (y ∷ []) known out
+found_of_leveled g y k known = found_of_none g (y ∷ []) known out
   where
-    out : (z x : Closed) → Among (y ∷ []) z → CallOccursIn g z x → ⊥
-    out z x (inl e) o =
-        leveled_is_barren g flat y (c y (inl refl)) k o.origin o.side
-        (subst (λ v. Produces g (Nonterminal.closed v) o.origin o.side) (sym e) o.produced)
+    at_level : (z x : Closed) → ((n : Text) (args : Closeds) → z ≡ Closed.call n args None → ⊥) → CallStandsIn g z x → ⊥
+    at_level (Closed.call n args None) x none o = none n args refl
+    at_level (Closed.call n args (Some l)) x none o = o
+    at_level (Closed.terminal t) x none o = o
+    at_level (Closed.repeat op z) x none o = o
+    at_level (Closed.group zs) x none o = o
+    at_level (Closed.choose z) x none o = o
+    at_level (Closed.name a n z) x none o = o
+    at_level Closed.lookahead x none o = o
+    at_level Closed.lookbehind x none o = o
+    at_level Closed.faulty x none o = o
+
+    out : (z x : Closed) → Among (y ∷ []) z → CallStandsIn g z x → ⊥
+    out z x (inl e) o = at_level y x k (subst (λ v. CallStandsIn g v x) (sym e) o)
     out z x (inr i) o = i
 
 -- what is found in symbols and then in others
@@ -105,14 +92,14 @@ pub found_together : (g : EnabledGrammar) (ys zs known mid all : List Closed) �
 found_together g ys zs known mid all v w = record {
   found = v.found ++ w.found;
   all_is = w.all_is ∙ ap (λ l. l ++ w.found) v.all_is ∙ append_assoc known v.found w.found;
-  occurs = λ x i. occurs x (among_parts v.found w.found x i);
+  stands = λ x i. stands x (among_parts v.found w.found x i);
   fresh = λ x i k. fresh x (among_parts v.found w.found x i) k;
   complete = λ y x i o. complete y x (among_parts ys zs y i) o;
 }
   where
-    occurs : (x : Closed) → Among v.found x ⊎ Among w.found x → (y : Closed) × Among (ys ++ zs) y × CallOccursIn g y x
-    occurs x (inl i) = let o = v.occurs x i in (o.0, among_left ys zs o.0 o.1, o.2)
-    occurs x (inr i) = let o = w.occurs x i in (o.0, among_right ys zs o.0 o.1, o.2)
+    stands : (x : Closed) → Among v.found x ⊎ Among w.found x → (y : Closed) × Among (ys ++ zs) y × CallStandsIn g y x
+    stands x (inl i) = let o = v.stands x i in (o.0, among_left ys zs o.0 o.1, o.2)
+    stands x (inr i) = let o = w.stands x i in (o.0, among_right ys zs o.0 o.1, o.2)
 
     known_mid : (x : Closed) → Among known x → Among mid x
     known_mid x k = subst (λ l. Among l x) (sym v.all_is) (among_left known v.found x k)
@@ -124,36 +111,9 @@ found_together g ys zs known mid all v w = record {
     fresh x (inl i) k = v.fresh x i k
     fresh x (inr i) k = w.fresh x i (known_mid x k)
 
-    complete : (y x : Closed) → Among ys y ⊎ Among zs y → CallOccursIn g y x → Among all x
+    complete : (y x : Closed) → Among ys y ⊎ Among zs y → CallStandsIn g y x → Among all x
     complete y x (inl i) o = mid_all x (v.complete y x i o)
     complete y x (inr i) o = w.complete y x i o
-
--- one round more of calls by least depth
-pub found_round : (g : EnabledGrammar) (depth : ℕ) (walked next all : List Closed) → AreCallsToDepth g depth walked next
-    → (w : FindsCalls g next (walked ++ next) all) → AreCallsToDepth g (suc depth) (walked ++ next) w.found
-found_round g depth walked next all a w = one_deeper g depth walked next w.found a (record {
-  occurs = w.occurs;
-  fresh = λ x i k. w.fresh x i (among_either walked next x k);
-  complete = λ y x i o. split x (among_parts (walked ++ next) w.found x (subst (λ l. Among l x) w.all_is (w.complete y x i o)));
-})
-  where
-    split : (x : Closed) → Among (walked ++ next) x ⊎ Among w.found x → (Among walked x ⊎ Among next x) ⊎ Among w.found x
-    split x (inl i) = inl (among_parts walked next x i)
-    split x (inr i) = inr i
-
--- the calls found by a round stand behind the others
-pub round_kept : (g : EnabledGrammar) (depth : ℕ) (walked next all later : List Closed) → AreCallsToDepth g depth walked next
-    → FindsCalls g next (walked ++ next) all → later ≡ drop (length (walked ++ next)) all
-    → (x : List Closed) × (all ≡ x ++ later) × AreCallsToDepth g (depth + 1) x later
-round_kept g depth walked next all later a w e =
-    let same : later ≡ w.found =
-    e ∙ ap (drop (length (walked ++ next))) w.all_is ∙ drop_at (walked ++ next) w.found (length (walked ++ next)) refl in
-    let deeper : suc depth ≡ depth + 1 = omega arith in (
-      walked ++ next,
-      w.all_is ∙ ap (λ l. (walked ++ next) ++ l) (sym same),
-      subst (λ k. AreCallsToDepth g k (walked ++ next) later) deeper
-          (subst (AreCallsToDepth g (suc depth) (walked ++ next)) (sym same) (found_round g depth walked next all a w)),
-    )
 
 -- what is copied behind the known calls is what is left of all
 pub later_calls : (before now later : List ClosedSymbol) (known all : List Closed) → map closed_view before ≡ known
@@ -214,6 +174,53 @@ pub next_are_calls : (g : EnabledGrammar) (depth : ℕ) (walked next : List Clos
     → AreCalls next
 next_are_calls g depth walked next a = λ y i. chain_is_call g (suc depth) y (a.next_chains y i)
 
+-- one round more of calls by least depth, where no rule has levels
+pub found_round : (g : EnabledGrammar) → HasNoLevels g → (depth : ℕ) (walked next all : List Closed)
+    → AreCallsToDepth g depth walked next → AreCalls next → (w : FindsCalls g next (walked ++ next) all)
+    → AreCallsToDepth g (suc depth) (walked ++ next) w.found
+found_round g flat depth walked next all a calls w = one_deeper g depth walked next w.found a (record {
+  occurs = λ x i. let o = w.stands x i in (o.0, o.1, standing_occurs g flat o.0 x o.2);
+  fresh = λ x i k. w.fresh x i (among_either walked next x k);
+  complete = λ y x i o. split x (among_parts (walked ++ next) w.found x (subst (λ l. Among l x) w.all_is
+      (w.complete y x i (occurring_stands g flat y x (calls y i) o))));
+})
+  where
+    split : (x : Closed) → Among (walked ++ next) x ⊎ Among w.found x → (Among walked x ⊎ Among next x) ⊎ Among w.found x
+    split x (inl i) = inl (among_parts walked next x i)
+    split x (inr i) = inr i
+
+-- what stands behind the known calls is what was found
+later_found : (g : EnabledGrammar) (ys known all later : List Closed) → (w : FindsCalls g ys known all)
+    → later ≡ drop (length known) all → later ≡ w.found
+later_found g ys known all later w e = e ∙ ap (drop (length known)) w.all_is ∙ drop_at known w.found (length known) refl
+
+-- it stands in one of those that were walked over
+pub later_stands : (g : EnabledGrammar) (ys known all later : List Closed) → FindsCalls g ys known all
+    → later ≡ drop (length known) all → (x : Closed) → Among later x → (y : Closed) × Among ys y × CallStandsIn g y x
+later_stands g ys known all later w e x i =
+    w.stands x (subst (λ l. Among l x) (later_found g ys known all later w e) i)
+
+-- the next call of the program stands in one of those
+pub next_stands : (g : EnabledGrammar) (next : List ClosedSymbol) (c : ClosedSymbol) (rest : List ClosedSymbol)
+    (ys : List Closed) → next ≡ c ∷ rest
+    → ((x : Closed) → Among (map closed_view next) x → (y : Closed) × Among ys y × CallStandsIn g y x)
+    → (y : Closed) × Among ys y × CallStandsIn g y (closed_view c)
+next_stands g next c rest ys e stand = stand (closed_view c) (subst (λ l. Among (map closed_view l) (closed_view c)) (sym e) (inl refl))
+
+-- the calls found by a round stand behind the others
+pub round_kept : (g : EnabledGrammar) → HasNoLevels g → (depth : ℕ) (walked next all later : List Closed)
+    → AreCallsToDepth g depth walked next → FindsCalls g next (walked ++ next) all → later ≡ drop (length (walked ++ next)) all
+    → (x : List Closed) × (all ≡ x ++ later) × AreCallsToDepth g (depth + 1) x later
+round_kept g flat depth walked next all later a w e =
+    let same : later ≡ w.found = later_found g next (walked ++ next) all later w e in
+    let deeper : suc depth ≡ depth + 1 = omega arith in (
+      walked ++ next,
+      w.all_is ∙ ap (λ l. (walked ++ next) ++ l) (sym same),
+      subst (λ k. AreCallsToDepth g k (walked ++ next) later) deeper
+          (subst (AreCallsToDepth g (suc depth) (walked ++ next)) (sym same)
+          (found_round g flat depth walked next all a (next_are_calls g depth walked next a) w)),
+    )
+
 -- roots
 
 -- the call of a rule without parameters
@@ -240,14 +247,9 @@ plain_call_is (r ∷ rs) y i = go (among_parts (plain_call_of r r.parameters) (p
     go (inr j) later =
         let w = later j in record { rule = w.rule; among = inr w.among; no_macro = w.no_macro; call_is = w.call_is }
 
--- a rule without parameters is one call, and one with parameters is none
-pub none_mapped : {A B : Type 0} (f : A → B) (xs : List A) → length xs < 1 → map f xs ≡ []
-none_mapped f [] lt = refl
-none_mapped f (x ∷ xs) lt = let wrong : ⊥ = omega (arith, lt) in absurd wrong
-
-pub no_plain_call : {A : Type 0} (r : Rule) (f : A → Text) (xs : List A) → 1 ≤ length xs → plain_call_of r (map f xs) ≡ []
-no_plain_call r f [] le = let wrong : ⊥ = omega (arith, le) in absurd wrong
-no_plain_call r f (x ∷ xs) le = refl
+-- it is a call
+pub plain_are_calls : (rs : List Rule) → AreCalls (plain_calls rs)
+plain_are_calls rs y i k = let p = plain_call_is rs y i in subst IsNoCall p.call_is k
 
 plain_there : (r : Rule) (ps : List Text) → ps ≡ [] → Among (plain_call_of r ps) (Closed.call r.name Closeds.none None)
 plain_there r [] e = inl refl
@@ -276,6 +278,9 @@ module _ (g : EnabledGrammar) (features : List Text) (rs : List Rule)
       (keeps (λ q. is_active features q.attributes) rs p.rule p.among (enabled p.rule p.among))) in
       inr (r, None, single r there, p.no_macro, flat r there, ap Nonterminal.closed p.call_is)
 
+  pub plain_are_made : (ys : List Closed) → ys ≡ plain_calls rs → (y : Closed) → Among ys y → IsMadeAt g 0 y
+  plain_are_made ys e y i = plain_is_root y (plain_call_is rs y (subst (λ l. Among l y) e i))
+
   pub root_is_plain : (y : Closed) → IsRoot g (Nonterminal.closed y) → Among (plain_calls rs) y
   root_is_plain y (inl (n, side, e, m)) = cc
   root_is_plain y (inr (q, level, i, ps, h, e)) =
@@ -300,28 +305,32 @@ module _ (g : EnabledGrammar) (features : List Text) (rs : List Rule)
     where
       chains : (x : Closed) → Among next x → HasCallChain g 1 x
       chains x i =
-          let o = w.occurs x (subst (λ l. Among l x) w.all_is i) in
-          (o.0, plain_is_root o.0 (plain_call_is rs o.0 o.1), o.2)
+          let o = w.stands x (subst (λ l. Among l x) w.all_is i) in
+          (o.0, plain_is_root o.0 (plain_call_is rs o.0 o.1), standing_occurs g flat o.0 x o.2)
 
       complete : (y x : Closed) → IsRoot g (Nonterminal.closed y) → CallOccursIn g y x → Among next x
-      complete y x r o = w.complete y x (root_is_plain y r) o
+      complete y x r o =
+          let i = root_is_plain y r in
+          w.complete y x i (occurring_stands g flat y x (plain_are_calls rs y i) o)
 
-  -- what is told of a rule without parameters
-  pub told_of_rules : (deep : Text → Bool) (f : NormFault) → TellsOfOneCall g deep (plain_calls rs) f → TellsOfMadeCall g deep f
-  told_of_rules deep faults.Memory t = tt
-  told_of_rules deep (faults.Norm e) (n, args, i, t) =
-      (n, args, inl (plain_is_root (Closed.call n args None) (plain_call_is rs (Closed.call n args None) i)), t)
-  told_of_rules deep faults.ConditionLimit (n, args, i, t) =
-      (n, args, inl (plain_is_root (Closed.call n args None) (plain_call_is rs (Closed.call n args None) i)), t)
+-- what is told of a rule without parameters, or of a call that is made
+pub told_of_made : (g : EnabledGrammar) (depth : ℕ) (ys : List Closed) → ((y : Closed) → Among ys y → IsMadeAt g depth y)
+    → (deep : Text → Bool) (f : NormFault) → TellsOfOneCall g deep ys f → TellsOfMadeCall g deep f
+told_of_made g depth ys made deep f t = go f t
+  where
+    Made : Closed → Type 0
+    Made y = IsRoot g (Nonterminal.closed y) ⊎ ((k : ℕ) × HasCallChain g k y)
 
--- what is told of a call that is next
-pub told_of_round : (g : EnabledGrammar) (depth : ℕ) (walked next : List Closed) → AreCallsToDepth g depth walked next
-    → (deep : Text → Bool) (f : NormFault) → TellsOfOneCall g deep next f → TellsOfMadeCall g deep f
-told_of_round g depth walked next a deep faults.Memory t = tt
-told_of_round g depth walked next a deep (faults.Norm e) (n, args, i, t) =
-    (n, args, inr (suc depth, a.next_chains (Closed.call n args None) i), t)
-told_of_round g depth walked next a deep faults.ConditionLimit (n, args, i, t) =
-    (n, args, inr (suc depth, a.next_chains (Closed.call n args None) i), t)
+    either : (k : ℕ) (y : Closed) → IsMadeAt g k y → Made y
+    either zero y m = inl m
+    either (suc k) y m = inr (suc k, m)
+
+    go : (e : NormFault) → TellsOfOneCall g deep ys e → TellsOfMadeCall g deep e
+    go faults.Memory u = tt
+    go (faults.Norm e) (n, args, i, u) =
+        (n, args, either depth (Closed.call n args None) (made (Closed.call n args None) i), u)
+    go faults.ConditionLimit (n, args, i, u) =
+        (n, args, either depth (Closed.call n args None) (made (Closed.call n args None) i), u)
 
 -- calls that were walked are calls
 pub walked_are_calls : (g : EnabledGrammar) (depth : ℕ) (walked next : List Closed) → AreCallsToDepth g depth walked next
@@ -359,3 +368,33 @@ pub told_wider : (g : EnabledGrammar) (deep : Text → Bool) (ys zs : List Close
 told_wider g deep ys zs wide faults.Memory t = tt
 told_wider g deep ys zs wide (faults.Norm e) (n, args, i, t) = (n, args, wide (Closed.call n args None) i, t)
 told_wider g deep ys zs wide faults.ConditionLimit (n, args, i, t) = (n, args, wide (Closed.call n args None) i, t)
+
+-- a call that is told as too deep
+
+pub deep_index : (g : EnabledGrammar) (ys : List Closed) (x : Closed) (r : Result FoundCalls NormFault) → IfOk r (IsToldAt g ys x)
+    → IfOk r HasCallIndex
+deep_index g ys x (Ok (found.All calls)) h = absurd h
+deep_index g ys x (Ok (found.TooDeep z span)) h = tt
+deep_index g ys x (Err f) h = h
+
+pub deep_found : (g : EnabledGrammar) (features : List Text) (w : Grammar) (limit : ℕ) (ys : List Closed) (x : Closed)
+    (r : Result FoundCalls NormFault) → IfOk r (IsToldAt g ys x) → (CanSearch g features w → IsTooDeep g limit x)
+    → (CanSearch g features w → (y : Closed) → Among ys y → IsMadeAt g limit y)
+    → IfOk r (λ told. CanSearch g features w → HasFoundCalls g limit told)
+deep_found g features w limit ys x (Ok (found.All calls)) h deep made = absurd h
+deep_found g features w limit ys x (Ok (found.TooDeep z span)) (same, at) deep made = λ can.
+    subst (λ v. IsTooDeep g limit v × IsPlaceBelow g limit v (span_view span)) (sym same)
+    (deep can, (at.0, made can at.0 at.1, at.2 can.flat))
+deep_found g features w limit ys x (Err f) h deep made = h
+
+pub deep_told : {T : Type 0} (g : EnabledGrammar) (features : List Text) (w : Grammar) (limit : ℕ) (ys : List Closed)
+    (deep : Text → Bool) (r : Result T NormFault) → IfErr r (TellsOfOneCall g deep ys)
+    → (CanSearch g features w → (y : Closed) → Among ys y → IsMadeAt g limit y)
+    → IfErr r (λ f. CanSearch g features w → TellsOfMadeCall g deep f)
+deep_told g features w limit ys deep (Ok t) h made = h
+deep_told g features w limit ys deep (Err f) h made = λ can. told_of_made g limit ys (made can) deep f h
+
+pub deep_any : {T : Type 0} (g : EnabledGrammar) (ys : List Closed) (deep : Text → Bool) (r : Result T NormFault)
+    → IfErr r (TellsOfOneCall g deep ys) → IfErr r (TellsOfAnyCall g deep)
+deep_any g ys deep (Ok t) h = h
+deep_any g ys deep (Err f) h = told_of_any g deep ys f h

@@ -1,5 +1,4 @@
--- The symbols on the right sides of a call of a rule without levels have just the calls that occur in it and the keys that stand
--- there; for the search.
+-- The symbols on the right sides of a call of a rule without levels have just the keys that stand there; for the search.
 use Rattle.std.proofs.Common.{◌≡◌, ◌≢◌, List, [], ◌∷◌, refl, ap, cond, sym, ◌∙◌, subst, inl, inr, true}
 use Rattle.std.proofs.Common.{◌⊎◌, map, length}
 use Rattle.std.specs.Prelude.{Bool, false, Option, Some, None, is_some, zip, Result, Ok, Err, IfOk, IfErr}
@@ -16,7 +15,6 @@ use Rattle.lalrpop_grammar_language.specs.Admitting.{argument_list, bind, rank_l
 use Rattle.lalrpop_grammar_language.specs.Expansion.{GrammarSymbol, Nonterminal, RightSide, Produces}
 use Rattle.lalrpop_grammar_language.specs.Expansion.{grammar_symbol, origin_with}
 use Rattle.lalrpop_grammar_language.proofs.PlaceLemmas.{among_map}
-use Rattle.lalrpop_norm_expansion.specs.Depth.{CallOccursIn, calls_in_all, calls_in_grammar_symbol}
 use Rattle.lalrpop_norm_expansion.specs.Premises.{HasNoLevels}
 use Rattle.lalrpop_norm_expansion.proofs.AmongLemmas.{map_among}
 use Rattle.lalrpop_norm_expansion.proofs.ExpansionListLemmas.{rule_there}
@@ -27,9 +25,11 @@ use Rattle.lalrpop_grammar_closed.specs.declared.closed_symbol.ClosedSymbol.{Clo
 use Rattle.lalrpop_grammar_closed.proofs.ArgumentLemmas.{closed_list-closeds}
 use Rattle.lalrpop_grammar_repr.specs.declared.session.NormFault.{NormFault}
 use Rattle.lalrpop_grammar_repr.specs.declared.session.NormFault.TheVariants as faults
-use Rattle.lalrpop_norm_keys.specs.Instances.{AddsSides, AreSymbolsOf, TellsOfCall, TellsOfSome}
+use Rattle.lalrpop_norm_keys.specs.Instances.{AddsSides, HasKeysOf, TellsOfCall, TellsOfSome}
+use Rattle.lalrpop_norm_keys.specs.StandingCalls.{HasCallsOf}
 use Rattle.lalrpop_norm_keys.proofs.SideLemmas.{IsOfSide, added_of_sides, all_of_sides}
-use Rattle.lalrpop_norm_keys.proofs.SymbolLemmas.{among_call, among_key, call_among, calls_of_symbol, key_among, same_keys}
+use Rattle.lalrpop_norm_keys.proofs.StandingCallLemmas.{calls_of_sides}
+use Rattle.lalrpop_norm_keys.proofs.SymbolLemmas.{among_key, key_among, same_keys}
 
 module _ (g : EnabledGrammar) (n : Text) (args : Closeds) where
   abbrev the_call : Closed
@@ -37,11 +37,8 @@ module _ (g : EnabledGrammar) (n : Text) (args : Closeds) where
 
   -- a call in which nothing can be chosen has nothing on its right sides
   module _ (never : (o : Origin) (side : RightSide) → Produces g (Nonterminal.closed the_call) o side → ⊥) where
-    pub symbols_of_none : AreSymbolsOf g the_call []
-    symbols_of_none = record {
-      calls = λ x. (λ i. absurd i, λ o. absurd (never o.origin o.side o.produced));
-      keys = λ z. (λ i. absurd i, λ s. absurd (never s.origin s.side s.produced));
-    }
+    pub keys_of_nothing : HasKeysOf g the_call []
+    keys_of_nothing z = (λ i. absurd i, λ s. absurd (never s.origin s.side s.produced))
 
   -- nothing is produced where no rule has the name alone
   pub nothing_without_rule : ((r : EnabledRule) → IsRule g n r → ⊥) → (o : Origin) (side : RightSide)
@@ -123,24 +120,6 @@ module _ (g : EnabledGrammar) (n : Text) (args : Closeds) where
             map_among grammar_symbol (right_side g r (bind r args) p) x k,
           )
 
-      call_there : (x : Closed) → Among (calls_in_all (closeds xs)) x → CallOccursIn g the_call x
-      call_there x i =
-          let w = among_call xs x i in
-          let p = gathered_symbol w.0 w.1 in record {
-            origin = p.0;
-            side = p.1;
-            produced = p.2;
-            symbol = grammar_symbol w.0;
-            in_side = p.3;
-            call_is = subst (λ l. Among l x) (sym (calls_of_symbol w.0)) w.2;
-          }
-
-      there_call : (x : Closed) → CallOccursIn g the_call x → Among (calls_in_all (closeds xs)) x
-      there_call x o =
-          let w = symbol_gathered o.origin o.side o.produced o.symbol o.in_side in
-          call_among xs w.0 x w.1
-          (subst (λ l. Among l x) (ap calls_in_grammar_symbol (sym w.2) ∙ calls_of_symbol w.0) o.call_is)
-
       key_there : (z : Closed) → Among (keys_in_all (closeds xs)) z → KeyStandsIn g the_call z
       key_there z i =
           let w = among_key xs z i in
@@ -159,11 +138,8 @@ module _ (g : EnabledGrammar) (n : Text) (args : Closeds) where
           key_among xs w.0 z w.1 (subst (λ l. Among l z) (sym (same_keys w.0 s.symbol w.2)) s.stands)
 
       -- else they are those of the right sides of the alternatives whose conditions hold
-      pub symbols_of_sides : AreSymbolsOf g the_call xs
-      symbols_of_sides = record {
-        calls = λ x. (call_there x, there_call x);
-        keys = λ z. (key_there z, there_key z);
-      }
+      pub keys_of_sides : HasKeysOf g the_call xs
+      keys_of_sides z = (key_there z, there_key z)
 
 -- the arguments that the program has are those that are bound
 pub binding_same : (r : EnabledRule) (ps : List NonterminalString) (as_ : List ClosedSymbol) → r.parameters ≡ map (λ p. p.0) ps
@@ -199,19 +175,27 @@ tells_of_call g deep n args r is (faults.Norm e) (p, i, t) =
 tells_of_call g deep n args r is faults.ConditionLimit (p, i, t) =
     (p.0, bind r args, record { rule = r; is_rule = is; among = written_choice r p i; binding_is = refl }, t)
 
--- the symbols that are answered where no rule has levels, and the faults
-pub symbols_ok : (g : EnabledGrammar) (n : Text) (args : Closeds) (r : EnabledRule) → IsRule g n r
-    → length (closed_list args) ≡ length r.parameters → (b : Binding) → b ≡ bind r args
-    → (res : Result (List ClosedSymbol) NormFault)
-    → IfOk res (λ xs. AddsSides g r b (ranked_choices r) [] (map closed_view xs))
-    → IfOk res (λ xs. HasNoLevels g → AreSymbolsOf g (Closed.call n args None) (map closed_view xs))
-symbols_ok g n args r is full b same (Ok xs) h = λ flat.
-    symbols_of_sides g n args r is (flat r (rule_there g n r is).0) full (map closed_view xs)
-    (subst (λ d. AddsSides g r d (ranked_choices r) [] (map closed_view xs)) same h)
-symbols_ok g n args r is full b same (Err e) h = h
+-- the symbols that are answered have the calls, and the keys where no rule has levels; and the faults
+module _ (g : EnabledGrammar) (n : Text) (args : Closeds) (r : EnabledRule) (is : IsRule g n r)
+    (full : length (closed_list args) ≡ length r.parameters) (b : Binding) (same : b ≡ bind r args) where
+  pub calls_ok : (res : Result (List ClosedSymbol) NormFault)
+      → IfOk res (λ xs. AddsSides g r b (ranked_choices r) [] (map closed_view xs))
+      → IfOk res (λ xs. HasCallsOf g (Closed.call n args None) (map closed_view xs))
+  calls_ok (Ok xs) h =
+      calls_of_sides g n args r is full (map closed_view xs)
+      (subst (λ d. AddsSides g r d (ranked_choices r) [] (map closed_view xs)) same h)
+  calls_ok (Err e) h = h
 
-pub symbols_err : (g : EnabledGrammar) (deep : Text → Bool) (n : Text) (args : Closeds) (r : EnabledRule) → IsRule g n r
-    → (b : Binding) → b ≡ bind r args → (res : Result (List ClosedSymbol) NormFault)
+  pub keys_ok : (res : Result (List ClosedSymbol) NormFault)
+      → IfOk res (λ xs. AddsSides g r b (ranked_choices r) [] (map closed_view xs))
+      → IfOk res (λ xs. HasNoLevels g → HasKeysOf g (Closed.call n args None) (map closed_view xs))
+  keys_ok (Ok xs) h = λ flat.
+      keys_of_sides g n args r is (flat r (rule_there g n r is).0) full (map closed_view xs)
+      (subst (λ d. AddsSides g r d (ranked_choices r) [] (map closed_view xs)) same h)
+  keys_ok (Err e) h = h
+
+pub symbols_err : {T : Type 0} (g : EnabledGrammar) (deep : Text → Bool) (n : Text) (args : Closeds) (r : EnabledRule)
+    → IsRule g n r → (b : Binding) → b ≡ bind r args → (res : Result T NormFault)
     → IfErr res (TellsOfSome g.finds deep b (ranked_choices r)) → IfErr res (TellsOfCall g deep n args)
 symbols_err g deep n args r is b same (Ok xs) h = h
 symbols_err g deep n args r is b same (Err e) h =

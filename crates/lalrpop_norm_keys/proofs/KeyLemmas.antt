@@ -15,13 +15,14 @@ use Rattle.lalrpop_norm_expansion.proofs.ExpansionListLemmas.{rule_there}
 use Rattle.lalrpop_norm_pass_laws.specs.KeyTables.{IsKeyTable, IsMetKey, IsNoCall, IsPlainKey, KeyStandsIn}
 use Rattle.lalrpop_norm_pass_laws.specs.KeyTables.{keys_in_all}
 use Rattle.lalrpop_grammar_closed.specs.Views.{closeds}
-use Rattle.lalrpop_norm_keys.specs.Instances.{AreSymbolsOf}
+use Rattle.lalrpop_norm_keys.specs.Instances.{HasKeysOf}
 use Rattle.lalrpop_norm_key_table.specs.Tables.{AddsKey, AddsKeys}
 use Rattle.lalrpop_norm_key_table.proofs.TableLemmas.{Extends, adds_extend}
 use Rattle.lalrpop_norm_keys.specs.FoundCalls.{AreCalls, plain_calls}
 use Rattle.lalrpop_norm_keys.specs.FoundKeys.{AddsStanding, FindsKeys}
-use Rattle.lalrpop_norm_keys.proofs.FoundLemmas.{chain_is_call, leveled_is_barren, plain_call_is, plain_call_there}
+use Rattle.lalrpop_norm_keys.proofs.FoundLemmas.{chain_is_call, plain_call_is, plain_call_there}
 use Rattle.lalrpop_norm_keys.proofs.FoundLemmas.{plain_is_root, root_is_plain}
+use Rattle.lalrpop_norm_keys.proofs.StandingCallLemmas.{leveled_is_barren}
 use Rattle.lalrpop_norm_keys.proofs.RightCallLemmas.{HasRightCalls, chain_right, kinds_of, root_right}
 
 -- keys that are added are those that stand in a call, where they are just these
@@ -40,9 +41,9 @@ standing_of_adds g y known xs all a are =
 
 -- so are the keys in the symbols on its right sides
 pub standing_of_symbols : (g : EnabledGrammar) (y : Closed) (known all xs us : List Closed) → xs ≡ keys_in_all (closeds us)
-    → AreSymbolsOf g y us → AddsKeys known xs all → AddsStanding g y known all
+    → HasKeysOf g y us → AddsKeys known xs all → AddsStanding g y known all
 standing_of_symbols g y known all xs us e are a =
-    standing_of_adds g y known (keys_in_all (closeds us)) all (subst (λ l. AddsKeys known l all) e a) are.keys
+    standing_of_adds g y known (keys_in_all (closeds us)) all (subst (λ l. AddsKeys known l all) e a) are
 
 -- a call is added, and then what stands in it
 pub call_and_standing : (g : EnabledGrammar) (y : Closed) (known mid all : List Closed) → AddsKey known y mid

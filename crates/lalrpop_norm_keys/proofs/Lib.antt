@@ -1,8 +1,13 @@
 pub mod SymbolLemmas
 pub mod SideLemmas
 pub mod InstanceLemmas
+pub mod StandingCallLemmas
 pub mod AskedLemmas
 pub mod FoundLemmas
+pub mod SymbolViewLemmas
+pub mod CallPlaceLemmas
+pub mod CallerLemmas
+pub mod ExamplesOfPlaces
 pub mod OriginLemmas
 pub mod PlainGrammarLemmas
 pub mod RightCallLemmas

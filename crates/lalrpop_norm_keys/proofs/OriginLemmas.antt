@@ -78,7 +78,8 @@ loosest_plain r = ap greatest (same_levels r)
 pub tighter_plain : (r : EnabledRule) (j : ℕ) → tighter (plain_rule r) j ≡ tighter r j
 tighter_plain r j = ap (λ (ns : List ℕ). greatest (filter (λ (n : ℕ). nat_lt n j) ns)) (same_levels r)
 
-allowed_plain : (r : EnabledRule) (rank : Option Rank) (n i : ℕ) → allowed_level (plain_rule r) rank n i ≡ allowed_level r rank n i
+pub allowed_plain : (r : EnabledRule) (rank : Option Rank) (n i : ℕ)
+    → allowed_level (plain_rule r) rank n i ≡ allowed_level r rank n i
 allowed_plain r None n i = loosest_plain r
 allowed_plain r (Some k) n i =
     ap (λ (t : Option ℕ). allowed_level_above (plain_rule r) k (reaches k.side n i) t) (tighter_plain r k.level)
@@ -171,7 +172,7 @@ module _ (g : EnabledGrammar) (b : Binding) (o : Text) (one two : ℕ → Option
   term_same Terminal.error = refl
 
   mutual
-    close_same : (k : ℕ) (x : WrittenSymbol) → close here k x ≡ close there k x
+    pub close_same : (k : ℕ) (x : WrittenSymbol) → close here k x ≡ close there k x
     close_same k (Sym.expr p xs) = ap Closed.group (close_all_same k xs)
     close_same k (Sym.ambiguous_id p n) = ap (name_or (parameter_value b n)) (name_same k n)
     close_same k (Sym.nonterminal p n) = name_same k n

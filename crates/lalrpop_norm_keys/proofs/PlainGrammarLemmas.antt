@@ -25,7 +25,7 @@ use Rattle.lalrpop_norm_keys.proofs.OriginLemmas.{plain_choice, plain_rule, plai
 use Rattle.lalrpop_norm_keys.proofs.OriginLemmas.{rule_plain, plain_was, side_plain, tighter_plain, same_levels}
 
 -- conditions ask of the grammar how patterns are found, and nothing else
-holds_with : (g h : EnabledGrammar) → h.finds ≡ g.finds → (b : Binding) (o : Option Condition) → Holds g b o → Holds h b o
+pub holds_with : (g h : EnabledGrammar) → h.finds ≡ g.finds → (b : Binding) (o : Option Condition) → Holds g b o → Holds h b o
 holds_with g h e b None m = tt
 holds_with g h e b (Some c) m = of_value (parameter_value b c.parameter) m
   where

@@ -1,28 +1,32 @@
 -- Calls that are found in rules and in calls, and put behind those that are known.
-use Rattle.std.specs.Prelude.{ℕ, ◌≡◌, ◌⊎◌, Bool, List, [], ◌∷◌, ◌++◌, None}
+use Rattle.std.specs.Prelude.{ℕ, ◌≡◌, ◌⊎◌, Bool, List, [], ◌∷◌, ◌++◌, None, Some}
 use Rattle.lalrpop_grammar_symbols.specs.Symbols.{Text, Closed, Closeds}
+use Rattle.lalrpop_grammar_symbols.specs.Views.{span_view}
 use Rattle.lalrpop_grammar.specs.WrittenGrammar.{Rule}
 use Rattle.lalrpop_grammar_language.specs.Among.{Among}
 use Rattle.lalrpop_grammar_language.specs.Enabled.{EnabledGrammar}
 use Rattle.lalrpop_grammar_language.specs.Expansion.{Nonterminal, IsRoot}
-use Rattle.lalrpop_norm_expansion.specs.Depth.{CallOccursIn, HasCallChain, IsTooDeep}
+use Rattle.lalrpop_norm_expansion.specs.Depth.{HasCallChain, IsTooDeep}
 use Rattle.lalrpop_norm_expansion.specs.Rounds.{AreCallsToDepth}
 use Rattle.lalrpop_norm_pass_laws.specs.KeyTables.{IsNoCall}
 use Rattle.lalrpop_grammar_repr.specs.declared.session.NormFault.{NormFault}
 use Rattle.lalrpop_grammar_repr.specs.declared.session.NormFault.TheVariants as faults
 use Rattle.lalrpop_grammar_closed.specs.Views.{closed_view}
 use Rattle.lalrpop_norm_key_table.specs.Tables.{IsKeyIndex, table_keys}
+use Rattle.lalrpop_norm_place_law.specs.CallPlaces.{IsPlaceBelow}
 use Rattle.lalrpop_norm_keys.specs.Instances.{TellsOfCall}
+use Rattle.lalrpop_norm_keys.specs.PlaceSearch.{IsFoundInCalls}
+use Rattle.lalrpop_norm_keys.specs.StandingCalls.{CallStandsIn}
 use Rattle.lalrpop_norm_keys.specs.declared.rounds.FoundCalls.{FoundCalls}
 use Rattle.lalrpop_norm_keys.specs.declared.rounds.FoundCalls.TheVariants as found
 
--- Behind the known calls stand those that occur in these symbols and weren't known, and no others.
+-- Behind the known calls stand those that stand in these symbols and weren't known, and no others.
 pub record FindsCalls (g : EnabledGrammar) (ys known all : List Closed) : Type 0 where
   pub found : List Closed
   pub all_is : all ≡ known ++ found
-  pub occurs : (x : Closed) → Among found x → (y : Closed) × Among ys y × CallOccursIn g y x
+  pub stands : (x : Closed) → Among found x → (y : Closed) × Among ys y × CallStandsIn g y x
   pub fresh : (x : Closed) → Among found x → Among known x → ⊥
-  pub complete : (y x : Closed) → Among ys y → CallOccursIn g y x → Among all x
+  pub complete : (y x : Closed) → Among ys y → CallStandsIn g y x → Among all x
 
 -- the rules without parameters, as calls
 abbrev pub plain_call_of : Rule → List Text → List Closed
@@ -46,12 +50,18 @@ TellsOfOneCall g deep ys fault =
 -- the calls that were found stand in a table, each at its text
 abbrev pub HasCallIndex : FoundCalls → Type 0
 HasCallIndex (found.All calls) = IsKeyIndex calls
-HasCallIndex (found.TooDeep x) = Unit {0}
+HasCallIndex (found.TooDeep x span) = Unit {0}
 
--- the calls of the grammar, each once, or one that is too deep
+-- the calls of the grammar, each once, or one that is too deep, with its place in one of the deepest that aren't
 abbrev pub HasFoundCalls : EnabledGrammar → ℕ → FoundCalls → Type 0
 HasFoundCalls g limit (found.All calls) = IsKeyIndex calls × AreCallsToDepth g limit (table_keys calls) []
-HasFoundCalls g limit (found.TooDeep x) = IsTooDeep g limit (closed_view x)
+HasFoundCalls g limit (found.TooDeep x span) =
+    IsTooDeep g limit (closed_view x) × IsPlaceBelow g limit (closed_view x) (span_view span)
+
+-- the call with its place in one of these calls
+abbrev pub IsToldAt : EnabledGrammar → List Closed → Closed → FoundCalls → Type 0
+IsToldAt g ys x (found.All calls) = ⊥
+IsToldAt g ys x (found.TooDeep z span) = (closed_view z ≡ x) × IsFoundInCalls g ys x (Some span)
 
 -- a condition of some rule can't be asked under some arguments; or memory ran out
 abbrev pub TellsOfAnyCall : EnabledGrammar → (Text → Bool) → NormFault → Type 0

@@ -7,7 +7,6 @@ use Rattle.lalrpop_grammar_language.specs.Levels.{Rank}
 use Rattle.lalrpop_grammar_language.specs.Closing.{Binding, right_side}
 use Rattle.lalrpop_grammar_language.specs.Conditions.{Holds}
 use Rattle.lalrpop_grammar_language.specs.Admitting.{bind}
-use Rattle.lalrpop_norm_expansion.specs.Depth.{calls_in_all, CallOccursIn}
 use Rattle.lalrpop_norm_pass_laws.specs.KeyTables.{keys_in_all, KeyStandsIn}
 use Rattle.lalrpop_grammar_closed.specs.Views.{closeds}
 use Rattle.lalrpop_grammar_repr.specs.declared.session.NormFault.{NormFault}
@@ -41,10 +40,9 @@ abbrev pub TellsOfSome : (Text → Text → Option Bool) → (Text → Bool) →
 TellsOfSome finds deep b ps faults.Memory = Unit {0}
 TellsOfSome finds deep b ps fault = (p : Choice × Option Rank) × Among ps p × TellsOfAlternative finds deep b p.0.condition fault
 
--- The symbols have just the calls that occur in y and just the keys that stand there.
-pub record AreSymbolsOf (g : EnabledGrammar) (y : Closed) (xs : List Closed) : Type 0 where
-  pub calls : (x : Closed) → Among (calls_in_all (closeds xs)) x ↔ CallOccursIn g y x
-  pub keys : (z : Closed) → Among (keys_in_all (closeds xs)) z ↔ KeyStandsIn g y z
+-- the symbols have just the keys that stand in y
+abbrev pub HasKeysOf : EnabledGrammar → Closed → List Closed → Type 0
+HasKeysOf g y xs = (z : Closed) → Among (keys_in_all (closeds xs)) z ↔ KeyStandsIn g y z
 
 -- an alternative of the called rule with its condition under the arguments
 pub record IsAskedIn (g : EnabledGrammar) (n : Text) (args : Closeds) (c : Choice) (b : Binding) : Type 0 where

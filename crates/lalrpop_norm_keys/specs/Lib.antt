@@ -1,5 +1,7 @@
 pub mod MacroFaults
 pub mod Instances
+pub mod StandingCalls
+pub mod PlaceSearch
 pub mod AskedConditions
 pub mod FoundCalls
 pub mod FoundKeys

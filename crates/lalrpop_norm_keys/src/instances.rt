@@ -1,6 +1,6 @@
 //! The symbols on the right sides of a call.
 
-ghost use Rattle.std.specs.Prelude.{◌≡◌, ◌++◌, ◌∷◌, [], None, IfErr, IfOk, OnOk, length, map, option_map};
+ghost use Rattle.std.specs.Prelude.{◌≡◌, ◌++◌, ◌∷◌, [], None, IfErr, IfOk, OnOk, map, option_map};
 ghost use Rattle.lalrpop_grammar_symbols.specs.Symbols.{Closed};
 ghost use Rattle.lalrpop_grammar.specs.WrittenGrammar.{Origin};
 ghost use Rattle.lalrpop_grammar.specs.Views.{alternative_view, condition_view};
@@ -13,7 +13,8 @@ ghost use Rattle.lalrpop_grammar_closed.specs.Views.{binding_of, closed_view, cl
 ghost use Rattle.lalrpop_norm_expansion.specs.Premises.{HasNoLevels};
 ghost use Rattle.lalrpop_norm_keys.specs.AskedConditions.{AreAskable, AsksRightly};
 ghost use Rattle.lalrpop_norm_keys.specs.MacroFaults.{IsAskable, TellsOfAlternative};
-ghost use Rattle.lalrpop_norm_keys.specs.Instances.{AddsSide, AddsSides, AreSymbolsOf, AreTight, TellsOfCall, TellsOfSome, kept_from};
+ghost use Rattle.lalrpop_norm_keys.specs.Instances.{AddsSide, AddsSides, AreTight, HasKeysOf, TellsOfCall, TellsOfSome, kept_from};
+ghost use Rattle.lalrpop_norm_keys.specs.StandingCalls.{HasCallsOf};
 
 use crate::conditions::asked;
 use lalrpop_grammar_closed::{Binding, ClosedSymbol, Finder, right_side};
@@ -127,7 +128,7 @@ fn bound_symbols<F: Finder>(
 }
 
 /// The symbols on the right sides of the call of a rule: of the alternatives whose conditions hold for the arguments, in order.
-/// Where no rule has levels, they are just those.
+/// Their calls are just those that stand in the call; where no rule has levels, so are their keys.
 ///
 /// # Errors
 ///
@@ -141,8 +142,10 @@ pub(crate) fn symbols_of<F: Finder>(
     args: &[ClosedSymbol],
 ) -> Result<List<ClosedSymbol>, NormFault>
     requires table { IsTable rules.now }
-    ensures symbols { IfOk result (λ xs. HasNoLevels (rules_view rules.now)
-        → AreSymbolsOf (rules_with (F.finds finder.now) rules.now)
+    ensures calls { IfOk result (λ xs. HasCallsOf (rules_with (F.finds finder.now) rules.now)
+        (Closed.call name.now (closeds (map closed_view args.now)) None) (map closed_view xs)) }
+    ensures keys { IfOk result (λ xs. HasNoLevels (rules_view rules.now)
+        → HasKeysOf (rules_with (F.finds finder.now) rules.now)
         (Closed.call name.now (closeds (map closed_view args.now)) None) (map closed_view xs)) }
     ensures asked { OnOk result (AsksRightly (rules_with (F.finds finder.now) rules.now) (F.too_deep finder.now)
         name.now (closeds (map closed_view args.now))) }

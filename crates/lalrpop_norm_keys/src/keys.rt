@@ -2,9 +2,8 @@
 //! that stand in these.
 
 ghost use Rattle.std.specs.Prelude.{◌≡◌, [], ◌∷◌, IfErr, IfOk, OnOk, None, map};
-ghost use Rattle.lalrpop_grammar_symbols.specs.Symbols.{Closed, Closeds};
-ghost use Rattle.lalrpop_grammar.specs.Views.{grammar_view, nonterminal_view};
-ghost use Rattle.lalrpop_grammar.specs.WrittenGrammar.{rules_of};
+ghost use Rattle.lalrpop_grammar_symbols.specs.Symbols.{Closed};
+ghost use Rattle.lalrpop_grammar.specs.Views.{grammar_view};
 ghost use Rattle.lalrpop_grammar_rules.specs.RuleTable.{IsTable, rules_view, rules_with};
 ghost use Rattle.lalrpop_grammar_closed.specs.Views.{closed_view, closeds};
 ghost use Rattle.lalrpop_norm_expansion.specs.Premises.{HasNoLevels};
@@ -12,20 +11,20 @@ ghost use Rattle.lalrpop_norm_pass_laws.specs.KeyTables.{IsKeyTable};
 ghost use Rattle.lalrpop_norm_key_table.specs.Tables.{IsKeyIndex, table_keys};
 ghost use Rattle.lalrpop_norm_keys.specs.AskedConditions.{AskRightly, AsksRightly, HasAskedConditions};
 ghost use Rattle.lalrpop_norm_keys.specs.FoundCalls.{AreCalls, TellsOfAnyCall, TellsOfMadeCall, TellsOfOneCall};
-ghost use Rattle.lalrpop_norm_keys.specs.FoundCalls.{plain_call_of, plain_calls};
 ghost use Rattle.lalrpop_norm_keys.specs.FoundKeys.{AddsStanding, FindsKeys};
 ghost use Rattle.lalrpop_norm_keys.specs.Instances.{TellsOfCall};
 ghost use Rattle.lalrpop_norm_keys.specs.SearchPremises.{AreAllCalls, CanSearch};
 
 use crate::called::unleveled_call;
 use crate::instances::symbols_of;
-use lalrpop_grammar::{Grammar, NonterminalData};
+use crate::plain::plain_rules;
+use lalrpop_grammar::Grammar;
 use lalrpop_grammar_closed::{ClosedSymbol, Finder};
 use lalrpop_grammar_repr::NormFault;
 use lalrpop_grammar_rules::Rules;
-use lalrpop_grammar_symbols::{Atom, List};
+use lalrpop_grammar_symbols::Atom;
 use lalrpop_norm_key_table::{KeyTable, keys_in_symbols};
-use std::alloc::{AllocError, Global};
+use std::alloc::Global;
 
 /// Adds the keys that stand in the call of a rule.
 fn add_standing<F: Finder>(
@@ -77,67 +76,6 @@ fn add_keys_of<F: Finder>(
         return Ok(());
     };
     add_standing(alloc, finder, rules, called.name, called.args, keys)
-}
-
-/// The call of a rule without arguments.
-fn plain_call(alloc: Global, name: &Atom) -> Result<ClosedSymbol, AllocError>
-    ensures { IfOk result (λ call. closed_view call ≡ Closed.call name.now Closeds.none None) }
-{
-    Ok(ClosedSymbol::Call(name.try_clone()?, List::new(alloc), None))
-}
-
-/// Adds the rule and the keys that stand in it, where it is no macro.
-fn add_keys_of_rule<F: Finder>(
-    alloc: Global,
-    finder: &F,
-    rules: &Rules<'_>,
-    rule: &NonterminalData,
-    keys: &mut KeyTable,
-) -> Result<(), NormFault>
-    requires table { IsTable rules.now }
-    requires index { IsKeyIndex keys.old }
-    ensures index { OnOk result (IsKeyIndex keys.new) }
-    ensures found { OnOk result (HasNoLevels (rules_view rules.now)
-        → FindsKeys (rules_with (F.finds finder.now) rules.now)
-        (plain_call_of (nonterminal_view rule.now) (nonterminal_view rule.now).parameters)
-        (table_keys keys.old) (table_keys keys.new)) }
-    ensures asked { OnOk result (AskRightly (rules_with (F.finds finder.now) rules.now) (F.too_deep finder.now)
-        (plain_call_of (nonterminal_view rule.now) (nonterminal_view rule.now).parameters)) }
-    ensures fault { IfErr result (TellsOfOneCall (rules_with (F.finds finder.now) rules.now) (F.too_deep finder.now)
-        (plain_call_of (nonterminal_view rule.now) (nonterminal_view rule.now).parameters)) }
-{
-    match rule.args.as_slice() {
-        [] => {
-            let call = plain_call(alloc, &rule.name.0)?;
-            add_keys_of(alloc, finder, rules, &call, keys)
-        }
-        [_, ..] => Ok(()),
-    }
-}
-
-/// Adds the rules that are no macros, and the keys that stand in them.
-fn add_keys_of_rules<F: Finder>(
-    alloc: Global,
-    finder: &F,
-    rules: &Rules<'_>,
-    grammar: &Grammar,
-    keys: &mut KeyTable,
-) -> Result<(), NormFault>
-    requires table { IsTable rules.now }
-    requires index { IsKeyIndex keys.old }
-    ensures index { OnOk result (IsKeyIndex keys.new) }
-    ensures found { OnOk result (HasNoLevels (rules_view rules.now)
-        → FindsKeys (rules_with (F.finds finder.now) rules.now)
-        (plain_calls (rules_of (grammar_view grammar.now).items)) (table_keys keys.old) (table_keys keys.new)) }
-    ensures asked { OnOk result (AskRightly (rules_with (F.finds finder.now) rules.now) (F.too_deep finder.now)
-        (plain_calls (rules_of (grammar_view grammar.now).items))) }
-    ensures fault { IfErr result (TellsOfOneCall (rules_with (F.finds finder.now) rules.now) (F.too_deep finder.now)
-        (plain_calls (rules_of (grammar_view grammar.now).items))) }
-{
-    for rule in grammar.rules() {
-        add_keys_of_rule(alloc, finder, rules, rule, keys)?;
-    }
-    Ok(())
 }
 
 /// Adds the calls, and the keys that stand in them.
@@ -196,7 +134,8 @@ pub fn find_keys<F: Finder>(
     ensures condition { IfErr result (TellsOfAnyCall (rules_with (F.finds finder.now) rules.now) (F.too_deep finder.now)) }
 {
     let mut keys = KeyTable::new(alloc);
-    add_keys_of_rules(alloc, finder, rules, grammar, &mut keys)?;
+    let plain = plain_rules(alloc, grammar)?;
+    add_keys_of_calls(alloc, finder, rules, plain.as_slice(), &mut keys)?;
     add_keys_of_calls(alloc, finder, rules, calls.keys(), &mut keys)?;
     Ok(keys)
 }

@@ -4,10 +4,13 @@
 
 mod arity;
 mod called;
+mod callers;
 mod conditions;
 mod instances;
 mod keys;
 mod laws;
+mod places;
+mod plain;
 mod rounds;
 
 pub use arity::check_arity;

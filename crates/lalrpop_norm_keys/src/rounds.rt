@@ -2,24 +2,26 @@
 
 ghost use Rattle.std.specs.Prelude.{◌≡◌, [], ◌∷◌, IfErr, IfOk, OnOk, None, drop, map};
 ghost use Rattle.lalrpop_grammar_symbols.specs.Symbols.{Closed};
-ghost use Rattle.lalrpop_grammar.specs.Views.{grammar_view, nonterminal_view};
-ghost use Rattle.lalrpop_grammar.specs.WrittenGrammar.{rules_of};
-ghost use Rattle.lalrpop_grammar_rules.specs.RuleTable.{IsTable, rules_view, rules_with};
+ghost use Rattle.lalrpop_grammar.specs.Views.{grammar_view};
+ghost use Rattle.lalrpop_grammar_language.specs.Among.{Among};
+ghost use Rattle.lalrpop_grammar_rules.specs.RuleTable.{IsTable, rules_with};
 ghost use Rattle.lalrpop_grammar_closed.specs.Views.{closed_view, closeds};
-ghost use Rattle.lalrpop_norm_expansion.specs.Premises.{HasNoLevels};
 ghost use Rattle.lalrpop_norm_key_table.specs.Tables.{IsKeyIndex, table_keys};
-ghost use Rattle.lalrpop_norm_keys.specs.FoundCalls.{AreCalls, FindsCalls, HasCallIndex, HasFoundCalls, TellsOfAnyCall};
-ghost use Rattle.lalrpop_norm_keys.specs.FoundCalls.{TellsOfMadeCall, TellsOfOneCall, plain_call_of, plain_calls};
+ghost use Rattle.lalrpop_norm_keys.specs.FoundCalls.{FindsCalls, HasCallIndex, HasFoundCalls, IsToldAt, TellsOfAnyCall};
+ghost use Rattle.lalrpop_norm_keys.specs.FoundCalls.{TellsOfMadeCall, TellsOfOneCall};
 ghost use Rattle.lalrpop_norm_keys.specs.Instances.{TellsOfCall};
 ghost use Rattle.lalrpop_norm_keys.specs.SearchPremises.{CanSearch};
+ghost use Rattle.lalrpop_norm_keys.specs.StandingCalls.{CallStandsIn};
 
 use crate::called::unleveled_call;
+use crate::callers::place_of_call;
 use crate::instances::symbols_of;
-use lalrpop_grammar::{Grammar, NonterminalData};
+use crate::plain::plain_rules;
+use lalrpop_grammar::Grammar;
 use lalrpop_grammar_closed::{ClosedSymbol, Finder};
 use lalrpop_grammar_repr::NormFault;
 use lalrpop_grammar_rules::Rules;
-use lalrpop_grammar_symbols::{Atom, List};
+use lalrpop_grammar_symbols::{Atom, List, Span};
 use lalrpop_norm_key_table::{KeyTable, calls_in_symbols};
 use std::alloc::{AllocError, Global};
 
@@ -28,11 +30,11 @@ use std::alloc::{AllocError, Global};
 pub enum FoundCalls {
     /// All calls, none of them deeper than the limit.
     All(KeyTable),
-    /// A call that is deeper than the limit.
-    TooDeep(ClosedSymbol),
+    /// A call that is deeper than the limit, and where it is written: the innermost symbol of an alternative that has it.
+    TooDeep(ClosedSymbol, Span),
 }
 
-/// Puts the calls that occur in the call of a rule behind the known ones.
+/// Puts the calls that stand in the call of a rule behind the known ones.
 fn add_calls_of<F: Finder>(
     alloc: Global,
     finder: &F,
@@ -44,8 +46,7 @@ fn add_calls_of<F: Finder>(
     requires table { IsTable rules.now }
     requires index { IsKeyIndex calls.old }
     ensures index { OnOk result (IsKeyIndex calls.new) }
-    ensures found { OnOk result (HasNoLevels (rules_view rules.now)
-        → FindsCalls (rules_with (F.finds finder.now) rules.now)
+    ensures found { OnOk result (FindsCalls (rules_with (F.finds finder.now) rules.now)
         (Closed.call name.now (closeds (map closed_view args.now)) None ∷ []) (table_keys calls.old) (table_keys calls.new)) }
     ensures fault { IfErr result (TellsOfCall (rules_with (F.finds finder.now) rules.now) (F.too_deep finder.now)
         name.now (closeds (map closed_view args.now))) }
@@ -56,54 +57,7 @@ fn add_calls_of<F: Finder>(
     Ok(())
 }
 
-/// Puts the calls that occur in the rule behind the known ones, where it is no macro.
-fn add_calls_of_rule<F: Finder>(
-    alloc: Global,
-    finder: &F,
-    rules: &Rules<'_>,
-    rule: &NonterminalData,
-    calls: &mut KeyTable,
-) -> Result<(), NormFault>
-    requires table { IsTable rules.now }
-    requires index { IsKeyIndex calls.old }
-    ensures index { OnOk result (IsKeyIndex calls.new) }
-    ensures found { OnOk result (HasNoLevels (rules_view rules.now)
-        → FindsCalls (rules_with (F.finds finder.now) rules.now)
-        (plain_call_of (nonterminal_view rule.now) (nonterminal_view rule.now).parameters)
-        (table_keys calls.old) (table_keys calls.new)) }
-    ensures fault { IfErr result (TellsOfOneCall (rules_with (F.finds finder.now) rules.now) (F.too_deep finder.now)
-        (plain_call_of (nonterminal_view rule.now) (nonterminal_view rule.now).parameters)) }
-{
-    match rule.args.as_slice() {
-        [] => add_calls_of(alloc, finder, rules, &rule.name.0, &[], calls),
-        [_, ..] => Ok(()),
-    }
-}
-
-/// Puts the calls that occur in the rules that are no macros behind the known ones.
-fn add_calls_of_rules<F: Finder>(
-    alloc: Global,
-    finder: &F,
-    rules: &Rules<'_>,
-    grammar: &Grammar,
-    calls: &mut KeyTable,
-) -> Result<(), NormFault>
-    requires table { IsTable rules.now }
-    requires index { IsKeyIndex calls.old }
-    ensures index { OnOk result (IsKeyIndex calls.new) }
-    ensures found { OnOk result (HasNoLevels (rules_view rules.now)
-        → FindsCalls (rules_with (F.finds finder.now) rules.now)
-        (plain_calls (rules_of (grammar_view grammar.now).items)) (table_keys calls.old) (table_keys calls.new)) }
-    ensures fault { IfErr result (TellsOfOneCall (rules_with (F.finds finder.now) rules.now) (F.too_deep finder.now)
-        (plain_calls (rules_of (grammar_view grammar.now).items))) }
-{
-    for rule in grammar.rules() {
-        add_calls_of_rule(alloc, finder, rules, rule, calls)?;
-    }
-    Ok(())
-}
-
-/// Puts the calls that occur in the call behind the known ones. In one at a level nothing occurs.
+/// Puts the calls that stand in the call behind the known ones. In one at a level nothing stands.
 fn add_calls_of_call<F: Finder>(
     alloc: Global,
     finder: &F,
@@ -114,8 +68,7 @@ fn add_calls_of_call<F: Finder>(
     requires table { IsTable rules.now }
     requires index { IsKeyIndex calls.old }
     ensures index { OnOk result (IsKeyIndex calls.new) }
-    ensures found { OnOk result (HasNoLevels (rules_view rules.now) → AreCalls (closed_view call.now ∷ [])
-        → FindsCalls (rules_with (F.finds finder.now) rules.now)
+    ensures found { OnOk result (FindsCalls (rules_with (F.finds finder.now) rules.now)
         (closed_view call.now ∷ []) (table_keys calls.old) (table_keys calls.new)) }
     ensures fault { IfErr result (TellsOfOneCall (rules_with (F.finds finder.now) rules.now) (F.too_deep finder.now)
         (closed_view call.now ∷ [])) }
@@ -126,24 +79,23 @@ fn add_calls_of_call<F: Finder>(
     add_calls_of(alloc, finder, rules, called.name, called.args, calls)
 }
 
-/// One round: puts the calls that occur in the next ones behind the known ones.
+/// One round: puts the calls that stand in these behind the known ones.
 fn add_round<F: Finder>(
     alloc: Global,
     finder: &F,
     rules: &Rules<'_>,
-    next: &[ClosedSymbol],
+    callers: &[ClosedSymbol],
     calls: &mut KeyTable,
 ) -> Result<(), NormFault>
     requires table { IsTable rules.now }
     requires index { IsKeyIndex calls.old }
     ensures index { OnOk result (IsKeyIndex calls.new) }
-    ensures found { OnOk result (HasNoLevels (rules_view rules.now) → AreCalls (map closed_view next.now)
-        → FindsCalls (rules_with (F.finds finder.now) rules.now)
-        (map closed_view next.now) (table_keys calls.old) (table_keys calls.new)) }
+    ensures found { OnOk result (FindsCalls (rules_with (F.finds finder.now) rules.now)
+        (map closed_view callers.now) (table_keys calls.old) (table_keys calls.new)) }
     ensures fault { IfErr result (TellsOfOneCall (rules_with (F.finds finder.now) rules.now) (F.too_deep finder.now)
-        (map closed_view next.now)) }
+        (map closed_view callers.now)) }
 {
-    for call in next {
+    for call in callers {
         add_calls_of_call(alloc, finder, rules, call, calls)?;
     }
     Ok(())
@@ -174,9 +126,31 @@ fn copies_from(
     copies(alloc, &symbols[from..])
 }
 
-/// The calls that the grammar makes, by least depth: round by round those that occur in what was found before. They are all,
-/// unless one is deeper than the limit. That rests on rules without levels, of which no two share a name and the features disable
-/// none.
+/// The call, as one that is too deep, with its place in the first of the others in which it stands.
+fn tell_deep_call<F: Finder>(
+    alloc: Global,
+    finder: &F,
+    rules: &Rules<'_>,
+    callers: &[ClosedSymbol],
+    call: &ClosedSymbol,
+) -> Result<FoundCalls, NormFault>
+    requires table { IsTable rules.now }
+    requires stands { (y : Closed) × Among (map closed_view callers.now) y
+        × CallStandsIn (rules_with (F.finds finder.now) rules.now) y (closed_view call.now) }
+    ensures found { IfOk result (IsToldAt (rules_with (F.finds finder.now) rules.now) (map closed_view callers.now)
+        (closed_view call.now)) }
+    ensures fault { IfErr result (TellsOfOneCall (rules_with (F.finds finder.now) rules.now) (F.too_deep finder.now)
+        (map closed_view callers.now)) }
+{
+    match place_of_call(alloc, finder, rules, callers, call)? {
+        Some(span) => Ok(FoundCalls::TooDeep(call.try_clone(alloc)?, span)),
+        None => unreachable!(),
+    }
+}
+
+/// The calls that the grammar makes, by least depth: round by round those that stand in what was found before. They are all, unless
+/// one is deeper than the limit, which is told with its place. That rests on rules without levels, of which no two share a name
+/// and the features disable none.
 ///
 /// # Errors
 ///
@@ -201,17 +175,19 @@ pub fn find_calls<F: Finder>(
     ensures condition { IfErr result (TellsOfAnyCall (rules_with (F.finds finder.now) rules.now) (F.too_deep finder.now)) }
 {
     let mut calls = KeyTable::new(alloc);
-    add_calls_of_rules(alloc, finder, rules, grammar, &mut calls)?;
+    let mut callers = plain_rules(alloc, grammar)?;
+    add_round(alloc, finder, rules, callers.as_slice(), &mut calls)?;
     let mut next = copies_from(alloc, calls.keys(), 0)?;
     let mut round = 0;
     while round < limit {
         let known = calls.keys().len();
         add_round(alloc, finder, rules, next.as_slice(), &mut calls)?;
+        callers = next;
         next = copies_from(alloc, calls.keys(), known)?;
         round += 1;
     }
     match next.as_slice().split_first() {
         None => Ok(FoundCalls::All(calls)),
-        Some((call, _)) => Ok(FoundCalls::TooDeep(call.try_clone(alloc)?)),
+        Some((call, _)) => tell_deep_call(alloc, finder, rules, callers.as_slice(), call),
     }
 }

@@ -6,8 +6,8 @@ returns-clause-arity c = λ finds deep features limit w leveled error right chai
     arity_stands finds deep features limit w leveled chain error right told
 
 pub returns-clause-depth : goal.returns-clause-depth
-returns-clause-depth c = λ finds deep features limit w leveled y p right chain h.
-    depth_stands finds deep features limit w leveled chain y p right h
+returns-clause-depth c = λ finds deep features limit w leveled y p right chain h at.
+    depth_stands finds deep features limit w leveled chain y p right h at
 
 pub returns-clause-condition : goal.returns-clause-condition
 returns-clause-condition c = λ finds deep features limit w leveled error right chain told.

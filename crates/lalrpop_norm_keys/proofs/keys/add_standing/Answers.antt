@@ -13,5 +13,5 @@ returns-clause-found g c = λ flat.
     (Closed.call c.args.name.now (closeds (map closed_view c.args.args.now)) None) (table_keys c.args.keys.now)
     (table_keys c.add_all.new.self) (map closed_view c.in_ok-found.found) (map closed_view c.in_ok-symbols.symbols)
     (c.in_ok-found.ensures ∙ ap (λ l. keys_in_all (closeds (map closed_view l))) c.as_slice.ensures)
-    (c.in_ok-symbols.ensures.symbols flat)
+    (c.in_ok-symbols.ensures.keys flat)
     (rw c.as_slice-2.ensures at c.in_ok-add_all.ensures.added)

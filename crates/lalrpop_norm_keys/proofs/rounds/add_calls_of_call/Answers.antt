@@ -6,9 +6,9 @@ use Rattle.lalrpop_norm_keys.proofs.FoundLemmas.{found_of_leveled, told_of_call}
 use Rattle.lalrpop_norm_keys.proofs.rounds.add_calls_of_call.Goals as goal
 
 pub returns-in_default-clause-found : goal.returns-in_default-clause-found
-returns-in_default-clause-found g c = λ flat are.
-    found_of_leveled (rules_with (g.F.Finder.finds c.args.finder.now) c.args.rules.now) flat (closed_view c.args.call.now)
-    are c.in_default.ensures.none (table_keys c.args.calls.now)
+returns-in_default-clause-found g c =
+    found_of_leveled (rules_with (g.F.Finder.finds c.args.finder.now) c.args.rules.now) (closed_view c.args.call.now)
+    c.in_default.ensures.none (table_keys c.args.calls.now)
 
 pub returns-clause-fault : goal.returns-clause-fault
 returns-clause-fault g c =

@@ -1,15 +1,13 @@
 use Rattle.std.proofs.Common.{map, take}
 use Rattle.lalrpop_grammar_rules.specs.RuleTable.{rules_with}
 use Rattle.lalrpop_grammar_closed.specs.Views.{closed_view}
-use Rattle.lalrpop_norm_expansion.specs.Premises.{HasNoLevels}
 use Rattle.lalrpop_norm_key_table.specs.Tables.{IsKeyIndex, table_keys}
-use Rattle.lalrpop_norm_keys.specs.FoundCalls.{AreCalls, FindsCalls}
+use Rattle.lalrpop_norm_keys.specs.FoundCalls.{FindsCalls}
 use Rattle.lalrpop_norm_keys.proofs.rounds.add_round.Given as goal
 
 abbrev pub invariant-loop-call : goal.invariant-loop-call
 invariant-loop-call g l = record {
   index : IsKeyIndex l.calls;
-  found : HasNoLevels (rules_with (g.F.Finder.finds l.finder) l.rules) → AreCalls (map closed_view l.next)
-      → FindsCalls (rules_with (g.F.Finder.finds l.finder) l.rules) (map closed_view (take l.call-index l.next))
+  found : FindsCalls (rules_with (g.F.Finder.finds l.finder) l.rules) (map closed_view (take l.call-index l.callers))
       (table_keys l.initial.calls) (table_keys l.calls);
 }

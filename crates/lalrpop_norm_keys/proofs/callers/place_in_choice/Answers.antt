@@ -1,0 +1,30 @@
+use Rattle.std.proofs.Common.{[], ◌∷◌, refl, inl, subst}
+use Rattle.lalrpop_grammar_language.specs.Levels.{levels}
+use Rattle.lalrpop_grammar_rules.specs.Details.{choice_view, choices_view, enabled_rule_view}
+use Rattle.lalrpop_grammar_rules.specs.RuleTable.{rules_with}
+use Rattle.lalrpop_grammar_closed.specs.Views.{binding_of, closed_view}
+use Rattle.lalrpop_norm_keys.specs.Instances.{AreTight}
+use Rattle.lalrpop_norm_keys.proofs.SideLemmas.{tells_one_err}
+use Rattle.lalrpop_norm_keys.proofs.CallerLemmas.{kept_found}
+use Rattle.lalrpop_norm_keys.proofs.callers.place_in_choice.Goals as goal
+
+pub place_in_side-requires-clause-tighter : goal.place_in_side-requires-clause-tighter
+place_in_side-requires-clause-tighter g c =
+    let ls = levels (enabled_rule_view c.args.rules.now.features.now c.args.rule.now) in
+    let n = (c.args.rule.now.written.now).name.0 in
+    let here = subst (λ o. AreTight ls (choices_view n 0 (o ∷ []))) c.in-Some.is c.requires.tight in
+    here (choice_view n 0 c.in-Some.choice) (inl refl)
+
+pub returns-in-Some-clause-fault : goal.returns-in-Some-clause-fault
+returns-in-Some-clause-fault g c =
+    tells_one_err (g.F.Finder.finds c.args.finder.now) (g.F.Finder.too_deep c.args.finder.now)
+    (binding_of (c.args.rule.now.written.now).args c.args.args.now) (c.args.rule.now.written.now).name.0 c.in-Some.choice c.args.choice.now
+    c.in-Some.is c.place_in_side.result c.place_in_side.ensures.fault
+
+pub returns-in-Some-clause-place : goal.returns-in-Some-clause-place
+returns-in-Some-clause-place g c =
+    kept_found (rules_with (g.F.Finder.finds c.args.finder.now) c.args.rules.now)
+    (enabled_rule_view c.args.rules.now.features.now c.args.rule.now)
+    (binding_of c.args.rule.now.written.now.args c.args.args.now) (closed_view c.args.call.now)
+    (c.args.rule.now.written.now).name.0 c.in-Some.choice c.args.choice.now c.in-Some.is c.place_in_side.result
+    c.place_in_side.ensures.place
