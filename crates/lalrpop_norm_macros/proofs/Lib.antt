@@ -1,0 +1,7 @@
+pub mod PlaceLemmas
+pub mod TableLemmas
+pub mod ConditionLemmas
+pub mod FaultLemmas
+pub mod ResultLemmas
+pub mod FindingLemmas
+pub mod ExamplesOfMacroFaults

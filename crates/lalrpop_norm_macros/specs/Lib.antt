@@ -1,0 +1,2 @@
+pub mod MacroPass
+pub mod MacroKeys
