@@ -1,9 +1,8 @@
 pub mod CutLemmas
 pub mod FillLemmas
 pub mod ListedLemmas
-pub mod MakeLemmas
 pub mod NotingLemmas
 pub mod PieceLemmas
-pub mod ReadingLemmas
 pub mod ScanLemmas
+pub mod SkipLemmas
 pub mod TextLemmas

@@ -1,7 +1,6 @@
 pub mod Entries
 pub mod Faults
 pub mod Literals
-pub mod Making
 pub mod Noting
 pub mod Patterns
 pub mod Pieces

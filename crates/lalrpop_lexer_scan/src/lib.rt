@@ -1,18 +1,16 @@
-//! The tokens of a text under the literals of a grammar.
+//! The tokens of a text by the entries of a tokenizer, and the literals of a grammar, of which entries are made.
 #![tactic(auto)]
 
 mod blank;
 mod fault;
 mod laws;
 mod literals;
-mod make;
 mod noting;
 mod piece;
-mod reading;
 mod scan;
 mod scanner;
 
-pub use fault::{ScanError, TokensFault};
+pub use fault::ScanError;
 pub use laws::{cuts_are_unique, tokens_fill_their_text};
 pub use literals::{UsedLiteral, entries_of};
 pub use scanner::Scanner;

@@ -1,57 +1,46 @@
 -- The patterns, precedences and ties of entries as the program finds them; for the making of their automaton.
-use Rattle.std.proofs.Common.{◌≡◌, ◌∙◌, ℕ, ◌<◌, ap, sym, subst, refl, List, [], ◌∷◌, map, length, get_or, cond}
-use Rattle.std.proofs.Common.{arith, option_map}
+use Rattle.std.proofs.Common.{◌≡◌, ◌∙◌, ℕ, zero, suc, ◌<◌, ap, ap₂, sym, subst, refl, List, [], ◌∷◌, map, length, get_or, cond}
+use Rattle.std.proofs.Common.{arith, option_map, Result, Ok, Err}
 use Rattle.std.specs.Prelude.{Option, Some, None, is_some, not, find, unwrap_or}
+use Rattle.std.specs.Str.{chars}
 use Rattle.std.proofs.lemmas.List.{length-map}
 use Rattle.std.proofs.lemmas.Option.{slice_get_read, slice_get-map}
+use Rattle.lalrpop_grammar_symbols.specs.Symbols.{Terminal}
 use Rattle.lalrpop_grammar_symbols.specs.Views.{literal_view}
 use Rattle.lalrpop_grammar_symbols.specs.declared.terminal.TerminalLiteral.{TerminalLiteral}
 use Rattle.lalrpop_grammar.specs.WrittenGrammar.{InternEntry}
 use Rattle.lalrpop_grammar.specs.Views.{intern_entry_view}
 use Rattle.lalrpop_grammar.specs.declared.intern_token.MatchEntry.{MatchEntry}
+use Rattle.lalrpop_lexer_pattern.specs.declared.refusal.Refusal.{Refusal}
 use Rattle.lalrpop_lexer_pattern.specs.declared.tree.Hir.{Hir}
 use Rattle.lalrpop_lexer_pattern.specs.Matches.{Pattern}
 use Rattle.lalrpop_lexer_pattern.specs.Meaning.{meaning}
+use Rattle.lalrpop_lexer_pattern.specs.Refused.{refusal}
 use Rattle.lalrpop_lexer_pattern.specs.Wins.{HasNoTie, IsFirstTie}
 use Rattle.lalrpop_lexer.specs.declared.outcome.Precedence.{Precedence}
+use Rattle.lalrpop_lexer_regex.specs.Regex.{whole_pattern}
 use Rattle.lalrpop_lexer.specs.declared.error.DfaConstructionError.{DfaConstructionError}
+use Rattle.lalrpop_lexer.specs.declared.error.DfaConstructionError.TheVariants as error
 use Rattle.lalrpop_lexer.specs.Build as build
 use Rattle.lalrpop_lexer.specs.Outcome.{numbers}
 use Rattle.lalrpop_lexer.specs.Simulation.{Decides, StateView}
-use Rattle.lalrpop_lexer_scan.specs.Entries.{ScanEntry, patterns}
-use Rattle.lalrpop_lexer_scan.specs.Literals.{LiteralUse}
-use Rattle.lalrpop_lexer_scan.specs.Making.{use_at}
-use Rattle.lalrpop_lexer_scan.specs.Patterns.{pattern_of, literal_entries, ArePatternsOf}
-use Rattle.lalrpop_lexer_scan.proofs.MakeLemmas.{never_told, IsRefusal}
-use Rattle.lalrpop_lexer_scan.proofs.ReadingLemmas.{AreRead-patterns}
+use Rattle.lalrpop_lexer_scan.specs.Entries.{ScanEntry}
+use Rattle.lalrpop_lexer_scan.specs.Patterns.{if_supported, pattern_of}
 use Rattle.lalrpop_norm_entries.specs.declared.automaton.EntryFault.{EntryFault}
 use Rattle.lalrpop_norm_entries.specs.declared.automaton.EntryFault.TheVariants as faults
 use Rattle.lalrpop_norm_entries.specs.EntryFaults.{IsEntryFault, TellsEntryTie}
 use Rattle.lalrpop_norm_entries.specs.Patterns.{entry_literal_at, entry_pattern, entry_patterns, entry_precedences, first_refused}
 use Rattle.lalrpop_norm_entries.specs.Patterns.{is_refused, scan_entry, AreEntryPatterns}
 
--- an entry's literal as one of a grammar, at whatever place
-abbrev entry_use : InternEntry → LiteralUse
-entry_use e = use_at e.literal (0, 0)
-
-as_literals : (es : List InternEntry) (ps : List Pattern) → AreEntryPatterns es ps
-    → ArePatternsOf (map entry_use es) ps
-as_literals es ps h = fused es ∙ h
-  where
-    fused : (es : List InternEntry)
-        → map (λ (u : LiteralUse). pattern_of u.literal) (map entry_use es) ≡ map entry_pattern es
-    fused [] = refl
-    fused (e ∷ es) = ap (λ l. entry_pattern e ∷ l) (fused es)
-
 -- patterns that were read are those of the entries
 pub patterns_read : (es : List InternEntry) (ps : List Pattern) → AreEntryPatterns es ps → ps ≡ entry_patterns es
-patterns_read es ps h =
-    sym (same es ∙ AreRead-patterns (map entry_use es) ps (as_literals es ps h))
-  where
-    same : (es : List InternEntry)
-        → entry_patterns es ≡ patterns (literal_entries (map entry_use es))
-    same [] = refl
-    same (e ∷ es) = ap (λ l. unwrap_or (entry_pattern e) Pattern.empty ∷ l) (same es)
+patterns_read [] [] h = refl
+patterns_read [] (p ∷ ps) h = cc
+patterns_read (e ∷ es) [] h = cc
+patterns_read (e ∷ es) (p ∷ ps) h =
+    let first : entry_pattern e ≡ Some p = cc in
+    let others : AreEntryPatterns es ps = cc in
+    ap₂ ◌∷◌ (sym (ap (λ (o : Option Pattern). unwrap_or o Pattern.empty) first)) (patterns_read es ps others)
 
 -- and no entry is refused
 pub none_refused : (es : List InternEntry) (ps : List Pattern) → AreEntryPatterns es ps → first_refused es ≡ None
@@ -140,6 +129,42 @@ named_at es i e l inside is same =
     ∙ ap (λ (x : TerminalLiteral). Some (literal_view x)) (sym same)
 
 -- for what was read an automaton is made
+kept : (q p : Pattern) (o : Option Refusal) → refusal q ≡ o → cond (is_some o) None (Some q) ≡ Some p → refusal p ≡ None
+kept q p None e h = let same : p ≡ q = cc in ap refusal same ∙ e
+kept q p (Some r) e h = cc
+
+accepted_clean : {E : Type 0} (r : Result Pattern E) (p : Pattern) → if_supported r ≡ Some p → refusal p ≡ None
+accepted_clean (Ok q) p h = kept q p (refusal q) refl h
+accepted_clean (Err e) p h = cc
+
+pattern_clean : (t : Terminal) (p : Pattern) → pattern_of t ≡ Some p → refusal p ≡ None
+pattern_clean (Terminal.quoted t) p h = let same : p ≡ Pattern.literal (chars t) = cc in ap refusal same
+pattern_clean (Terminal.regex t) p h = accepted_clean (whole_pattern (chars t)) p h
+pattern_clean (Terminal.bare n) p h = cc
+pattern_clean Terminal.error p h = cc
+
+all_clean : (es : List InternEntry) (ps : List Pattern) (i : ℕ) → AreEntryPatterns es ps → refusal (get_or ps i Pattern.empty) ≡ None
+all_clean es [] i h = refl
+all_clean [] (p ∷ ps) i h = cc
+all_clean (e ∷ es) (p ∷ ps) zero h = let first : entry_pattern e ≡ Some p = cc in pattern_clean e.literal p first
+all_clean (e ∷ es) (p ∷ ps) (suc i) h = let others : AreEntryPatterns es ps = cc in all_clean es ps i others
+
+never_unsupported : (es : List InternEntry) (ps : List Pattern) (i : ℕ) (why : Refusal) → AreEntryPatterns es ps
+    → build.IsFirstUnsupported ps i why → ⊥
+never_unsupported es ps i why h refused =
+    let none : refusal (get_or ps i Pattern.empty) ≡ None = all_clean es ps i h in
+    let some : refusal (get_or ps i Pattern.empty) ≡ Some why = refused.refused in
+    cc
+
+-- the error is that a pattern was refused
+abbrev pub IsRefusal : DfaConstructionError → Type 0
+IsRefusal (error.NfaConstructionError index why) = Unit {0}
+IsRefusal (error.Ambiguity match0 match1) = ⊥
+IsRefusal error.Memory = ⊥
+
+-- where all patterns were read, no error says that one of them is refused
 pub never_refused : (es : List InternEntry) (ps : List Pattern) (qs : List ℕ) (e : DfaConstructionError) → AreEntryPatterns es ps
     → build.IsDfaFault ps qs e → IsRefusal e → ⊥
-never_refused es ps qs e h = never_told (map entry_use es) ps qs e (as_literals es ps h)
+never_refused es ps qs (error.NfaConstructionError index why) h told is = never_unsupported es ps index.0 told.0 h told.2
+never_refused es ps qs (error.Ambiguity match0 match1) h told is = absurd is
+never_refused es ps qs error.Memory h told is = absurd is

@@ -14,8 +14,7 @@ use Rattle.lalrpop_lexer_regex.specs.Atoms.{one_character, plain_atom_at}
 use Rattle.lalrpop_lexer_regex.specs.Patterns.{atom_with, branches_from, factor_with, inner_at, pattern_group_with, pattern_with}
 use Rattle.lalrpop_lexer_regex.specs.Patterns.{repeats_from}
 use Rattle.lalrpop_lexer_regex.specs.Regex.{whole_pattern}
-use Rattle.lalrpop_lexer_scan.specs.Literals.{first_span, uses_in_grammar}
-use Rattle.lalrpop_lexer_scan.specs.Making.{use_at}
+use Rattle.lalrpop_lexer_scan.specs.Literals.{first_span, uses_in_grammar, use_at}
 use Rattle.lalrpop_norm_entries.specs.Blocks.{block_groups, first_lacking}
 use Rattle.lalrpop_norm_entries.specs.Checked.{IsTokenChecked}
 use Rattle.lalrpop_norm_entries.specs.Entries.{AreFullEntries, AreUsed}

@@ -9,8 +9,7 @@ use Rattle.std.proofs.lemmas.Cmp.{nat_list_cmp_total, tied_itself}
 use Rattle.std.proofs.lemmas.Slice.Eq.{bytes_eq-Decides}
 use Rattle.lalrpop_grammar_symbols.specs.Symbols.{Text, TextSpan, Terminal}
 use Rattle.lalrpop_grammar.specs.WrittenGrammar.{InternEntry, Grammar}
-use Rattle.lalrpop_lexer_scan.specs.Literals.{LiteralUse, same_terminal, first_span, IsBefore, IsAscending}
-use Rattle.lalrpop_lexer_scan.specs.Making.{use_at}
+use Rattle.lalrpop_lexer_scan.specs.Literals.{LiteralUse, same_terminal, first_span, IsBefore, IsAscending, use_at}
 use Rattle.lalrpop_norm_entries.specs.Blocks.{block_groups}
 use Rattle.lalrpop_norm_entries.specs.Entries.{AreUsed, AreEntries, tokenizer_entries}
 

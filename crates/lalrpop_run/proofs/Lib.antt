@@ -1,2 +1,2 @@
-pub mod PlainLemmas
+pub mod ReadLemmas
 pub mod TokenLineLemmas

@@ -1,6 +1,5 @@
 pub mod Inputs
 pub mod Judge
-pub mod Plain
 pub mod Questions
 pub mod Replies
 pub mod ReplyTexts

@@ -4,12 +4,15 @@ use Rattle.serde_json.specs.Data.{Data}
 use Rattle.lalrpop_grammar.specs.declared.grammar.Grammar.{Grammar}
 use Rattle.lalrpop_grammar_streams.specs.Streams.{ReadsAll}
 use Rattle.lalrpop_grammar_symbols.specs.Symbols.{Text}
+use Rattle.lalrpop_grammar.specs.Views.{grammar_view}
+use Rattle.lalrpop_json_grammar.specs.Grammars.{grammar_at}
 use Rattle.lalrpop_json_values.specs.declared.fault.Fault.{Fault}
+use Rattle.lalrpop_norm_expansion.specs.Premises.{IsReadGrammar}
 use Rattle.lalrpop_run_options.specs.declared.task.Task.{Task}
 use Rattle.lalrpop_run_options.specs.declared.task.Task.TheVariants as tasks
 use Rattle.lalrpop_run.specs.Inputs.{IsJsonOf, IsNoJson}
 use Rattle.lalrpop_run.specs.Judge.{IsJudgeReply}
-use Rattle.lalrpop_run.specs.Questions.{Question, grammar_for, reads_text}
+use Rattle.lalrpop_run.specs.Questions.{Question, reads_text}
 use Rattle.lalrpop_run.specs.Tokens.{IsTokensReply}
 use Rattle.lalrpop_run.specs.declared.reply.Reply.{Reply}
 use Rattle.lalrpop_run.specs.declared.reply.Reply.TheVariants as replies
@@ -22,9 +25,15 @@ IsTaskReply tasks.Tokens q g text reply = IsTokensReply q g text reply
 abbrev pub IsReplyTo : Question → Grammar → Text → Reply → Type 0
 IsReplyTo q g text reply = IsTaskReply q.task q g text reply
 
--- what the grammar's bytes give to the question
-abbrev pub GivesGrammar : Question → List ℕ → Result Grammar Fault → Type 0
-GivesGrammar q bytes given = (d : Data) × (IsJsonOf bytes d × (grammar_for q.task d ≡ given))
+-- the grammars for which a task's reply is promised: for `tokens` those that look as one that was read, with any prefix of two or
+-- more underscores
+abbrev pub IsGrammarFor : Task → Grammar → Type 0
+IsGrammarFor tasks.Judge g = Unit {0}
+IsGrammarFor tasks.Tokens g = IsReadGrammar (grammar_view g)
+
+-- what the grammar's bytes give
+abbrev pub GivesGrammar : List ℕ → Result Grammar Fault → Type 0
+GivesGrammar bytes given = (d : Data) × (IsJsonOf bytes d × (grammar_at d ≡ given))
 
 -- the text, where it is read: all that its reader has left
 abbrev pub IsTextIn : Bool → Option (List ℕ) → List ℕ → Type 0
@@ -34,9 +43,9 @@ IsTextIn false known text = text ≡ []
 -- To the grammar's bytes and what the text's reader has left. The text is read once there is a grammar, where it is needed.
 pub data IsRunReply (q : Question) (bytes : List ℕ) (known : Option (List ℕ)) (reply : Reply) : Type 0 where
   no_json : IsNoJson bytes → reply ≡ replies.NotJson → IsRunReply q bytes known reply
-  no_grammar : (fault : Fault) → GivesGrammar q bytes (Err fault) → reply ≡ replies.GrammarFault fault
+  no_grammar : (fault : Fault) → GivesGrammar bytes (Err fault) → reply ≡ replies.GrammarFault fault
       → IsRunReply q bytes known reply
-  no_text : (g : Grammar) (text : List ℕ) → GivesGrammar q bytes (Ok g) → reads_text q ≡ true → ReadsAll known text
+  no_text : (g : Grammar) (text : List ℕ) → GivesGrammar bytes (Ok g) → reads_text q ≡ true → ReadsAll known text
       → (IsUtf8 text → ⊥) → reply ≡ replies.NotUtf8 → IsRunReply q bytes known reply
-  replied : (g : Grammar) (text : List ℕ) → GivesGrammar q bytes (Ok g) → IsTextIn (reads_text q) known text
+  replied : (g : Grammar) (text : List ℕ) → GivesGrammar bytes (Ok g) → IsTextIn (reads_text q) known text
       → IsReplyTo q g text reply → IsRunReply q bytes known reply

@@ -6,7 +6,9 @@ use Rattle.lalrpop_json_values.specs.JsonText.{json_text}
 use Rattle.lalrpop_grammar.specs.declared.token.ScanToken.{ScanToken}
 use Rattle.lalrpop_grammar.specs.Trees.{Token}
 use Rattle.lalrpop_grammar.specs.Views.{token_view}
-use Rattle.lalrpop_lexer_scan.specs.Faults as literals
+use Rattle.lalrpop_run_refusals.specs.Refusals.{refusal_text}
+use Rattle.lalrpop_run_refusals.specs.declared.refusing.GenerateError.{GenerateError}
+use Rattle.lalrpop_run_refusals.specs.declared.refusing.GenerateError.TheVariants as errors
 use Rattle.lalrpop_run.specs.declared.reply.Reply.{Reply}
 use Rattle.lalrpop_run.specs.declared.reply.Reply.TheVariants as replies
 
@@ -31,11 +33,18 @@ reply_text (replies.GrammarFault fault) = line (codes "grammar value: " ++ fault
 reply_text (replies.TreeFault fault) = line (codes "tree value: " ++ fault_text fault)
 reply_text replies.ConditionLimit = line (codes "condition limit")
 reply_text replies.NotUtf8 = line (codes "text isn't UTF-8")
-reply_text (replies.Literals fault) = line (literals.tokens_fault_text fault)
-reply_text (replies.UnknownStart name) = line (codes "unknown start: " ++ name)
-reply_text (replies.PrivateStart name) = line (codes "private start: " ++ name)
+reply_text (replies.Refused error) = line (refusal_text error)
 reply_text (replies.Tokens tokens) = tokens_text tokens.items
 reply_text (replies.NoToken at) = line (codes "no token at byte " ++ decimal at)
+
+abbrev pub refusal_status : GenerateError → ℕ
+refusal_status errors.Extern = 3
+refusal_status errors.Recovery = 3
+refusal_status (errors.Norm fault) = 3
+refusal_status (errors.UnknownStart name) = 3
+refusal_status (errors.PrivateStart name) = 3
+refusal_status errors.ConditionLimit = 3
+refusal_status errors.Memory = 5
 
 abbrev pub reply_status : Reply → ℕ
 reply_status (replies.Judged true) = 0
@@ -46,9 +55,7 @@ reply_status (replies.GrammarFault fault) = 4
 reply_status (replies.TreeFault fault) = 4
 reply_status replies.ConditionLimit = 3
 reply_status replies.NotUtf8 = 4
-reply_status (replies.Literals fault) = 3
-reply_status (replies.UnknownStart name) = 3
-reply_status (replies.PrivateStart name) = 3
+reply_status (replies.Refused error) = refusal_status error
 reply_status (replies.Tokens tokens) = 0
 reply_status (replies.NoToken at) = 1
 

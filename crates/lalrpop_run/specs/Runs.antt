@@ -44,8 +44,8 @@ pub record RunWriter : Type 0 where
   pub has_failed : Bool
 
 -- the grammar's reader had bytes that give a grammar: only then the text is read
-abbrev pub HasGrammar : Question → Option (List ℕ) → Type 0
-HasGrammar q known = (bytes : List ℕ) × (ReadsAll known bytes × ((g : Grammar) × GivesGrammar q bytes (Ok g)))
+abbrev pub HasGrammar : Option (List ℕ) → Type 0
+HasGrammar known = (bytes : List ℕ) × (ReadsAll known bytes × ((g : Grammar) × GivesGrammar bytes (Ok g)))
 
 -- The right answer to what the readers give: a reply; or that memory was wanting; or that a reader has failed that was read.
 pub data IsRightAnswer (q : Question) (grammar text : RunReader) (output : Output) : Type 0 where
@@ -54,7 +54,7 @@ pub data IsRightAnswer (q : Question) (grammar text : RunReader) (output : Outpu
       → IsRunReply q bytes text.known reply → output ≡ reply_output reply → IsRightAnswer q grammar text output
   wants_memory : output ≡ out_of_memory → IsRightAnswer q grammar text output
   no_grammar : reads_grammar q ≡ true → HasFailed grammar → output ≡ read_fault → IsRightAnswer q grammar text output
-  no_text : reads_text q ≡ true → HasGrammar q grammar.known → HasFailed text → output ≡ read_fault
+  no_text : reads_text q ≡ true → HasGrammar grammar.known → HasFailed text → output ≡ read_fault
       → IsRightAnswer q grammar text output
 
 -- All of it is written and the status is its own; or a front of it, the writer has failed, and the status is 6.

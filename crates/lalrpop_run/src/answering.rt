@@ -2,7 +2,7 @@
 
 ghost use Rattle.std.specs.Prelude.{◌≡◌, IfOk};
 ghost use Rattle.lalrpop_run.specs.Questions.{question_of, question_view};
-ghost use Rattle.lalrpop_run.specs.Replies.{IsReplyTo};
+ghost use Rattle.lalrpop_run.specs.Replies.{IsGrammarFor, IsReplyTo};
 ghost use Rattle.lalrpop_run.specs.Runs.{answer_view, reply_output};
 
 use crate::judging::judge_reply;
@@ -14,7 +14,8 @@ use lalrpop_grammar::Grammar;
 use lalrpop_run_options::{Options, Task};
 use std::alloc::{AllocError, Global};
 
-/// The answer once the grammar and the text are read. `judge` has no use for the text.
+/// The answer once the grammar and the text are read. `judge` has no use for the text. What `tokens` answers is promised for a
+/// grammar that looks as one that was read, with any prefix of two or more underscores.
 pub fn answer(
     alloc: Global,
     options: &Options,
@@ -22,10 +23,11 @@ pub fn answer(
     text: &str,
 ) -> Result<Answer, AllocError>
     ensures { IfOk result (λ answer. (reply : Reply)
-        × (IsReplyTo (question_of options.now) grammar text.now reply × (answer_view answer ≡ reply_output reply))) }
+        × ((IsGrammarFor options.now.task grammar → IsReplyTo (question_of options.now) grammar text.now reply)
+        × (answer_view answer ≡ reply_output reply))) }
 {
     let question = question_of(alloc, options)?;
-    let reply = reply_to(alloc, &question, &grammar, text)?;
+    let reply = reply_to(alloc, &question, grammar, text)?;
     let said = put(alloc, reply)?;
     Ok(said)
 }
@@ -34,14 +36,15 @@ pub fn answer(
 fn reply_to<'t>(
     alloc: Global,
     question: &Question<'_>,
-    grammar: &Grammar,
+    grammar: Grammar,
     text: &'t str,
 ) -> Result<Reply<'t>, AllocError>
-    ensures { IfOk result (IsReplyTo (question_view question.now) grammar.now text.now) }
+    ensures { IfOk result (λ reply. IsGrammarFor question.now.task grammar
+        → IsReplyTo (question_view question.now) grammar text.now reply) }
 {
     match question.task {
         Task::Judge => {
-            let reply = judge_reply(alloc, question, grammar)?;
+            let reply = judge_reply(alloc, question, &grammar)?;
             Ok(reply)
         }
         Task::Tokens => {

@@ -1,19 +1,14 @@
 //! What bytes are read as: a grammar, a tree, or why neither.
 
-ghost use Rattle.std.specs.Prelude.{IfOk, Result};
+ghost use Rattle.std.specs.Prelude.{IfOk};
+ghost use Rattle.lalrpop_json_grammar.specs.Grammars.{grammar_at};
 ghost use Rattle.lalrpop_json_grammar.specs.ReadTrees.{tree_at};
-ghost use Rattle.lalrpop_json_values.specs.Gives.{Gives};
 ghost use Rattle.lalrpop_run.specs.Inputs.{IsInput, IsInputFor};
-ghost use Rattle.lalrpop_run.specs.Plain.{plain, plain_at};
-ghost use Rattle.lalrpop_run.specs.Questions.{grammar_for};
 ghost use Rattle.serde_json.specs.View.{view};
 
 use crate::json_value::{value_of, value_of_text};
 use lalrpop_grammar::{Grammar, WrittenTree};
 use lalrpop_json_grammar::{Fault, ReadError, read_grammar, read_tree};
-use lalrpop_plain::check_plain;
-use lalrpop_refused::first_fault;
-use lalrpop_run_options::Task;
 use serde_json::Value;
 use std::alloc::{AllocError, Global};
 
@@ -52,61 +47,26 @@ fn tree_of_value(alloc: Global, value: &Value) -> Result<Input<WrittenTree>, All
     }
 }
 
-/// The grammar that bytes give to the task.
-pub(crate) fn grammar_input(
-    alloc: Global,
-    task: Task,
-    bytes: &[u8],
-) -> Result<Input<Grammar>, AllocError>
-    ensures { IfOk result (IsInput (grammar_for task) bytes.now) }
+/// The grammar that bytes give.
+pub(crate) fn grammar_input(alloc: Global, bytes: &[u8]) -> Result<Input<Grammar>, AllocError>
+    ensures { IfOk result (IsInput grammar_at bytes.now) }
 {
     match value_of(alloc, bytes)? {
         Some(value) => {
-            let input = grammar_of_value(alloc, task, &value)?;
+            let input = grammar_of_value(alloc, &value)?;
             Ok(input)
         }
         None => Ok(Input::NotJson),
     }
 }
 
-/// The grammar that a value gives to the task.
-fn grammar_of_value(alloc: Global, task: Task, value: &Value) -> Result<Input<Grammar>, AllocError>
-    ensures { IfOk result (IsInputFor (grammar_for task (view value.now))) }
+/// The grammar that a value gives.
+fn grammar_of_value(alloc: Global, value: &Value) -> Result<Input<Grammar>, AllocError>
+    ensures { IfOk result (IsInputFor (grammar_at (view value.now))) }
 {
-    match read_for(alloc, task, value) {
+    match read_grammar(alloc, value) {
         Ok(grammar) => Ok(Input::Value(grammar)),
         Err(ReadError::Shape { path, kind }) => Ok(Input::Fault(Fault { path, kind })),
         Err(ReadError::Memory) => Err(AllocError),
     }
-}
-
-/// The grammar that the value spells, where the task takes it.
-fn read_for(alloc: Global, task: Task, value: &Value) -> Result<Grammar, ReadError>
-    ensures { Gives result (grammar_for task (view value.now)) }
-{
-    match task {
-        Task::Judge => read_grammar(alloc, value),
-        Task::Tokens => read_plain(alloc, value),
-    }
-}
-
-/// The plain grammar that the value spells.
-fn read_plain(alloc: Global, value: &Value) -> Result<Grammar, ReadError>
-    ensures { Gives result (plain_at (view value.now)) }
-{
-    match read_grammar(alloc, value) {
-        Ok(grammar) => only_plain(alloc, grammar),
-        Err(ReadError::Shape { path, kind }) => {
-            Err(first_fault(alloc, value, Fault { path, kind }))
-        }
-        Err(ReadError::Memory) => Err(ReadError::Memory),
-    }
-}
-
-/// The grammar, where it is plain.
-fn only_plain(alloc: Global, grammar: Grammar) -> Result<Grammar, ReadError>
-    ensures { Gives result (plain grammar) }
-{
-    check_plain(alloc, &grammar)?;
-    Ok(grammar)
 }

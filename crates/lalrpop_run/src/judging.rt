@@ -61,7 +61,7 @@ fn verdict(
     match judge_tree(
         alloc,
         grammar,
-        question.features.as_slice(),
+        question.session.features.as_slice(),
         &question.start,
         tree,
     ) {

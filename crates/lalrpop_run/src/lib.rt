@@ -18,8 +18,8 @@ pub use lalrpop_json_grammar::{
     Fault, FaultKind, Key, ReadError, Step, TreeText, print_tree, read_grammar, read_tree,
 };
 pub use lalrpop_json_writer::{WriteError, write_grammar};
-pub use lalrpop_lexer_scan::TokensFault;
 pub use lalrpop_run_options::{Options, OptionsError, Task, options};
+pub use lalrpop_run_refusals::GenerateError;
 pub use reply::{Answer, Reply};
 pub use running::run;
 pub use words::run_words;

@@ -1,10 +1,11 @@
 //! Replies as answers: texts with the status that the program ends with.
 
 ghost use Rattle.std.specs.Prelude.{◌≡◌, IfOk};
-ghost use Rattle.lalrpop_run.specs.ReplyTexts.{reply_status};
+ghost use Rattle.lalrpop_run.specs.ReplyTexts.{refusal_status as status_of_refusal, reply_status};
 ghost use Rattle.lalrpop_run.specs.Runs.{answer_view, reply_output};
 
 use crate::reply::{Answer, Reply};
+use lalrpop_run_refusals::GenerateError;
 use std::alloc::{AllocError, Global};
 
 /// The answer that says it.
@@ -32,9 +33,21 @@ fn status(reply: &Reply<'_>) -> u8
     match reply {
         Reply::Judged(true) | Reply::Tokens(_) => 0,
         Reply::Judged(false) | Reply::NoToken(_) => 1,
-        Reply::ConditionLimit | Reply::Literals(_) => 3,
-        Reply::UnknownStart(_) | Reply::PrivateStart(_) => 3,
+        Reply::ConditionLimit => 3,
+        Reply::Refused(error) => refusal_status(error),
         Reply::WantsTree | Reply::NotJson | Reply::NotUtf8 => 4,
         Reply::GrammarFault(_) | Reply::TreeFault(_) => 4,
+    }
+}
+
+/// The exit status of a refusal.
+fn refusal_status(error: &GenerateError) -> u8
+    ensures { result ≡ status_of_refusal error.now }
+{
+    match error {
+        GenerateError::Extern | GenerateError::Recovery | GenerateError::Norm(_) => 3,
+        GenerateError::UnknownStart(_) | GenerateError::PrivateStart(_) => 3,
+        GenerateError::ConditionLimit => 3,
+        GenerateError::Memory => 5,
     }
 }

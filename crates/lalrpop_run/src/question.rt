@@ -4,15 +4,17 @@ ghost use Rattle.std.specs.Prelude.{◌≡◌, IfOk, map, string_bytes};
 ghost use Rattle.lalrpop_run.specs.Questions.{question_of, question_view, reads_grammar};
 
 use lalrpop_grammar::Atom;
+use lalrpop_grammar_repr::Session;
 use lalrpop_run_options::{Options, Task};
 use std::alloc::{AllocError, Global};
 
-/// What the words ask: the task, the rule to start from, the features, and the tree's JSON, where one was given.
+/// What the words ask: the task, the rule to start from, the features with the limit of macros, and the tree's JSON, where one was
+/// given.
 #[derive(Drop)]
 pub(crate) struct Question<'a> {
     pub(crate) task: Task,
     pub(crate) start: Atom,
-    pub(crate) features: Vec<Atom>,
+    pub(crate) session: Session,
     pub(crate) tree: Option<&'a str>,
 }
 
@@ -28,7 +30,10 @@ pub(crate) fn question_of<'a>(
     Ok(Question {
         task: options.task,
         start,
-        features,
+        session: Session {
+            features,
+            macro_recursion_limit: options.macro_limit,
+        },
         tree: options.tree.as_deref(),
     })
 }

@@ -1,8 +1,8 @@
 //! What the program has to say.
 
-use lalrpop_grammar::{Atom, ScanToken};
+use lalrpop_grammar::ScanToken;
 use lalrpop_json_grammar::Fault;
-use lalrpop_lexer_scan::TokensFault;
+use lalrpop_run_refusals::GenerateError;
 
 /// What the program has to say, before it is put into words.
 #[derive(Debug, Drop)]
@@ -17,16 +17,12 @@ pub enum Reply<'t> {
     GrammarFault(Fault),
     /// The first fault of the tree's value.
     TreeFault(Fault),
-    /// The pattern of a condition isn't searched for.
+    /// `judge` doesn't search for the pattern of a condition.
     ConditionLimit,
     /// The text reader's bytes are no text.
     NotUtf8,
-    /// A literal that can't be matched, or two that tie.
-    Literals(TokensFault),
-    /// No rule of that name can be a start.
-    UnknownStart(Atom),
-    /// A rule of that name can be a start, but none is public.
-    PrivateStart(Atom),
+    /// Why the grammar is refused.
+    Refused(GenerateError),
     /// The tokens of the text.
     Tokens(Vec<ScanToken<'t>>),
     /// From this byte of the text on nothing is matched.

@@ -2,8 +2,9 @@
 
 ghost use Rattle.std.specs.Prelude.{◌≡◌, ℕ, List, Option, IfOk, IfErr, Ok, true, false};
 ghost use Rattle.lalrpop_grammar_streams.specs.Streams.{ReadsAll};
+ghost use Rattle.lalrpop_json_grammar.specs.Grammars.{grammar_at};
 ghost use Rattle.lalrpop_run.specs.Inputs.{IsInput};
-ghost use Rattle.lalrpop_run.specs.Questions.{grammar_for, question_of, reads_grammar, reads_text};
+ghost use Rattle.lalrpop_run.specs.Questions.{question_of, reads_grammar, reads_text};
 ghost use Rattle.lalrpop_run.specs.Replies.{GivesGrammar, IsRunReply};
 ghost use Rattle.lalrpop_run.specs.Runs.{answer_view, read_fault, reply_output, HasGrammar, IsRightAnswer, IsRightRun, IsWritten};
 
@@ -22,7 +23,7 @@ use std::str;
 /// the exit status.
 ///
 /// `grammar` is read to its end, but not where the words give `judge` no tree. `judge` never reads `text`; `tokens` reads
-/// it to its end, once the grammar's JSON has given a grammar that it takes, and not where it gives none. The answer's
+/// it to its end, once the grammar's JSON has given a grammar, whatever is wrong with that, and not where it gives none. The answer's
 /// text is made whole before the first write. Where memory was wanting the status is 5, where a reader or the writer has
 /// failed it is 6.
 pub fn run<R1: Source, R2: Source, W: Sink>(
@@ -49,7 +50,7 @@ pub fn run<R1: Source, R2: Source, W: Sink>(
         result }
     ensures grammar_unread { reads_grammar (question_of options.now) ≡ false → grammar.new ≡ grammar.old }
     ensures text_unread { reads_text (question_of options.now) ≡ false → text.new ≡ text.old }
-    ensures text_unwanted { (HasGrammar (question_of options.now) (R1.remaining grammar.old) → ⊥)
+    ensures text_unwanted { (HasGrammar (R1.remaining grammar.old) → ⊥)
         → text.new ≡ text.old }
     ensures grammar_uses { R1.ended grammar.old ≡ false → R1.misused grammar.new ≡ R1.misused grammar.old }
     ensures text_uses { R2.ended text.old ≡ false → R2.misused text.new ≡ R2.misused text.old }
@@ -98,7 +99,7 @@ fn right_answer<R1: Source, R2: Source>(
         read_fault) }
     ensures grammar_unread { reads_grammar (question_of options.now) ≡ false → grammar.new ≡ grammar.old }
     ensures text_unread { reads_text (question_of options.now) ≡ false → text.new ≡ text.old }
-    ensures text_unwanted { (HasGrammar (question_of options.now) (R1.remaining grammar.old) → ⊥)
+    ensures text_unwanted { (HasGrammar (R1.remaining grammar.old) → ⊥)
         → text.new ≡ text.old }
     ensures grammar_uses { R1.ended grammar.old ≡ false → R1.misused grammar.new ≡ R1.misused grammar.old }
     ensures text_uses { R2.ended text.old ≡ false → R2.misused text.new ≡ R2.misused text.old }
@@ -107,7 +108,7 @@ fn right_answer<R1: Source, R2: Source>(
         let answer = reply_answer(alloc, Reply::WantsTree)?;
         return Ok(answer);
     }
-    match read_grammar(alloc, options, grammar)? {
+    match read_grammar(alloc, grammar)? {
         Input::Value(grammar) => {
             let answer = answer_over(alloc, options, grammar, text)?;
             Ok(answer)
@@ -133,20 +134,16 @@ fn reply_answer(alloc: Global, reply: Reply<'_>) -> Result<Answer, SourceError>
 }
 
 /// What all that the grammar's reader has left is read as.
-fn read_grammar<R: Source>(
-    alloc: Global,
-    options: &Options,
-    grammar: &mut R,
-) -> Result<Input<Grammar>, SourceError>
+fn read_grammar<R: Source>(alloc: Global, grammar: &mut R) -> Result<Input<Grammar>, SourceError>
     ensures read { IfOk result (λ input. (bytes : List ℕ)
-        × (ReadsAll (R.remaining grammar.old) bytes × IsInput (grammar_for options.now.task) bytes input)) }
+        × (ReadsAll (R.remaining grammar.old) bytes × IsInput grammar_at bytes input)) }
     ensures fault { IfErr result (λ e. e ≡ SourceError.Failed → R.has_failed grammar.new ≡ true) }
     ensures before_the_end { IfErr result (λ e. e ≡ SourceError.Failed
         → R.ended grammar.old ≡ false → R.ended grammar.new ≡ false) }
     ensures uses { R.ended grammar.old ≡ false → R.misused grammar.new ≡ R.misused grammar.old }
 {
     let bytes = read_all(alloc, grammar)?;
-    let input = grammar_input(alloc, options.task, bytes.as_slice())?;
+    let input = grammar_input(alloc, bytes.as_slice())?;
     Ok(input)
 }
 
@@ -158,7 +155,7 @@ fn answer_over<R: Source>(
     text: &mut R,
 ) -> Result<Answer, SourceError>
     ensures answer { IfOk result (λ a. (reply : Reply) × (((bytes : List ℕ)
-        → GivesGrammar (question_of options.now) bytes (Ok grammar)
+        → GivesGrammar bytes (Ok grammar)
         → IsRunReply (question_of options.now) bytes (R.remaining text.old) reply)
         × (answer_view a ≡ reply_output reply))) }
     ensures needed { IfErr result (λ e. e ≡ SourceError.Failed → reads_text (question_of options.now) ≡ true) }
@@ -190,7 +187,7 @@ fn answer_over_bytes(
 ) -> Result<Answer, AllocError>
     ensures { IfOk result (λ a. (reply : Reply) × (((known : Option (List ℕ)) (json : List ℕ)
         → reads_text (question_of options.now) ≡ true → ReadsAll known bytes.now
-        → GivesGrammar (question_of options.now) json (Ok grammar)
+        → GivesGrammar json (Ok grammar)
         → IsRunReply (question_of options.now) json known reply)
         × (answer_view a ≡ reply_output reply))) }
 {

@@ -24,9 +24,7 @@ impl Display for Reply<'_> {
             Reply::TreeFault(fault) => writeln!(f, "tree value: {fault}"),
             Reply::ConditionLimit => f.write_str("condition limit\n"),
             Reply::NotUtf8 => f.write_str("text isn't UTF-8\n"),
-            Reply::Literals(fault) => writeln!(f, "{fault}"),
-            Reply::UnknownStart(name) => writeln!(f, "unknown start: {name}"),
-            Reply::PrivateStart(name) => writeln!(f, "private start: {name}"),
+            Reply::Refused(error) => writeln!(f, "{error}"),
             Reply::Tokens(tokens) => write_tokens(tokens.as_slice(), f),
             Reply::NoToken(at) => writeln!(f, "no token at byte {at}"),
         }

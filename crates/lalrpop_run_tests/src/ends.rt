@@ -1,6 +1,6 @@
 //! Readers and writers that fail or are interrupted, and the bounds on them.
 
-use crate::grammars::{LISTS, ONE_STEP, REFUSED, UNPLAIN};
+use crate::grammars::{LISTS, MISSHAPEN, ONE_STEP, REFUSED};
 use crate::streams::{Blanks, Pieces, Room};
 use lalrpop_grammar_streams::Watched;
 use lalrpop_run::{options, run};
@@ -121,11 +121,11 @@ fn a_failing_read_of_the_text_is_a_read_fault(rt: HostRuntime) -> Result<(), Fai
 }
 
 #[test]
-fn a_text_without_a_plain_grammar_is_not_read(rt: HostRuntime) -> Result<(), Fail> {
+fn a_text_without_a_grammar_is_not_read(rt: HostRuntime) -> Result<(), Fail> {
     for (grammar, text) in [
         ("[", "not JSON\n"),
         ("{}", "grammar value: missing key \"attributes\" at \"\"\n"),
-        (UNPLAIN, "grammar value: wrong shape at \"/attributes\"\n"),
+        (MISSHAPEN, "grammar value: wrong shape at \"/attributes\"\n"),
     ] {
         let readers = (grammar.as_bytes(), Pieces::failing(b"", 0));
         let out = Room::new(rt.alloc(), usize::MAX, 0);

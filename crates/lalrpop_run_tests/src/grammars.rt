@@ -13,6 +13,6 @@ pub(crate) const ONE_STEP: &str =
 pub(crate) const REFUSED: &str =
     r#"{"attributes":[],"items":[{"alternatives":[{"action":{"user":"()"},"attributes":[],"condition":null,"expr":[{"kind":"terminal","span":[0,0],"terminal":{"regex":"a$"}}],"span":[0,0]}],"args":[],"attributes":[],"kind":"rule","name":"S","span":[0,0],"type":{"tuple":[]},"visibility":"pub"}],"parameters":"","span":[0,0],"type_parameters":"","where_clauses":""}"#;
 
-/// `#![LALR]` and `pub S = "a"`, which isn't plain.
-pub(crate) const UNPLAIN: &str =
-    r#"{"attributes":[{"arg":null,"id":"LALR","span":[0,0]}],"items":[{"alternatives":[{"action":{"user":"()"},"attributes":[],"condition":null,"expr":[{"kind":"terminal","span":[0,0],"terminal":{"quoted":"a"}}],"span":[0,0]}],"args":[],"attributes":[],"kind":"rule","name":"S","span":[0,0],"type":{"tuple":[]},"visibility":"pub"}],"parameters":"","span":[0,0],"type_parameters":"","where_clauses":""}"#;
+/// No grammar: its attributes are no list.
+pub(crate) const MISSHAPEN: &str =
+    r#"{"attributes":null,"items":[],"parameters":"","span":[0,0],"type_parameters":"","where_clauses":""}"#;

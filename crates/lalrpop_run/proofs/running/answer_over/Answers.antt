@@ -3,6 +3,7 @@ use Rattle.lalrpop_grammar_streams.specs.Streams.{ReadsAll}
 use Rattle.lalrpop_run.specs.Questions.{task_reads_text}
 use Rattle.lalrpop_run.specs.Replies.{IsRunReply, IsTextIn}
 use Rattle.lalrpop_run_options.specs.declared.task.Task.{Task}
+use Rattle.lalrpop_run.proofs.ReadLemmas.{grammar_read}
 use Rattle.lalrpop_run.proofs.running.answer_over.Goals as goal
 
 pub returns-in_ok-answer-in-Judge-clause-answer : goal.returns-in_ok-answer-in-Judge-clause-answer
@@ -12,7 +13,8 @@ returns-in_ok-answer-in-Judge-clause-answer g c =
       a.0,
       (
         (λ json gives. IsRunReply.replied c.args.grammar [] gives
-            (subst (λ (t : Task). IsTextIn (task_reads_text t) known []) (sym c.in-Judge.is) refl) a.1.0),
+            (subst (λ (t : Task). IsTextIn (task_reads_text t) known []) (sym c.in-Judge.is) refl)
+            (a.1.0 (grammar_read c.args.options.now.task json c.args.grammar gives))),
         a.1.1,
       ),
     )

@@ -2,6 +2,7 @@ use Rattle.std.proofs.Common.{Bool, List, ℕ, refl, subst, sym}
 use Rattle.lalrpop_run.specs.Questions.{question_of}
 use Rattle.lalrpop_run.specs.Replies.{IsReplyTo, IsRunReply, IsTextIn}
 use Rattle.lalrpop_run.specs.declared.reply.Reply.TheVariants as replies
+use Rattle.lalrpop_run.proofs.ReadLemmas.{grammar_read}
 use Rattle.lalrpop_run.proofs.running.answer_over_bytes.Goals as goal
 
 pub returns-in_ok-answer-in-Ok : goal.returns-in_ok-answer-in-Ok
@@ -12,7 +13,8 @@ returns-in_ok-answer-in-Ok c =
       (
         (λ known json reads all gives. IsRunReply.replied c.args.grammar c.args.bytes.now gives
             (subst (λ (b : Bool). IsTextIn b known c.args.bytes.now) (sym reads) (all, c.in-Ok.ensures.cases.1))
-            (subst (λ (t : List ℕ). IsReplyTo q c.args.grammar t a.0) c.in-Ok.ensures.cases.0 a.1.0)),
+            (subst (λ (t : List ℕ). IsReplyTo q c.args.grammar t a.0) c.in-Ok.ensures.cases.0
+            (a.1.0 (grammar_read c.args.options.now.task json c.args.grammar gives)))),
         a.1.1,
       ),
     )

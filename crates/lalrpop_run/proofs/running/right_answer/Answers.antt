@@ -1,7 +1,8 @@
 use Rattle.std.proofs.Common.{◌≡◌, true, arith, refl, subst, sym}
 use Rattle.lalrpop_grammar.specs.declared.grammar.Grammar.{Grammar}
+use Rattle.lalrpop_json_grammar.specs.Grammars.{grammar_at}
 use Rattle.lalrpop_run.specs.Inputs.{IsInput}
-use Rattle.lalrpop_run.specs.Questions.{grammar_for, question_of, reads_grammar}
+use Rattle.lalrpop_run.specs.Questions.{question_of, reads_grammar}
 use Rattle.lalrpop_run.specs.Replies.{IsRunReply}
 use Rattle.lalrpop_run.specs.Runs.{IsRightAnswer}
 use Rattle.lalrpop_run.specs.declared.input.Input.{Input}
@@ -14,7 +15,7 @@ returns-in_ok-answer-in-Value-clause-answer g c =
     let read = c.in_ok-grammar.ensures.read in
     let a = c.in_ok-answer-in-Value.ensures.answer in
     IsRightAnswer.replied read.0 a.0 (sym reads) read.1.0
-    (a.1.0 read.0 (subst (λ (i : Input Grammar). IsInput (grammar_for c.args.options.now.task) read.0 i) c.in-Value.is read.1.1))
+    (a.1.0 read.0 (subst (λ (i : Input Grammar). IsInput grammar_at read.0 i) c.in-Value.is read.1.1))
     a.1.1
 
 pub returns-in_ok-answer-in-NotJson-clause-answer : goal.returns-in_ok-answer-in-NotJson-clause-answer
@@ -23,7 +24,7 @@ returns-in_ok-answer-in-NotJson-clause-answer g c =
     let read = c.in_ok-grammar.ensures.read in
     IsRightAnswer.replied read.0 replies.NotJson (sym reads) read.1.0
     (IsRunReply.no_json
-    (subst (λ (i : Input Grammar). IsInput (grammar_for c.args.options.now.task) read.0 i) c.in-NotJson.is read.1.1) refl)
+    (subst (λ (i : Input Grammar). IsInput grammar_at read.0 i) c.in-NotJson.is read.1.1) refl)
     c.in_ok-answer-in-NotJson.ensures.answer
 
 pub returns-in_ok-answer-in-Fault-clause-answer : goal.returns-in_ok-answer-in-Fault-clause-answer
@@ -32,5 +33,5 @@ returns-in_ok-answer-in-Fault-clause-answer g c =
     let read = c.in_ok-grammar.ensures.read in
     IsRightAnswer.replied read.0 (replies.GrammarFault c.in-Fault.fault) (sym reads) read.1.0
     (IsRunReply.no_grammar c.in-Fault.fault
-    (subst (λ (i : Input Grammar). IsInput (grammar_for c.args.options.now.task) read.0 i) c.in-Fault.is read.1.1) refl)
+    (subst (λ (i : Input Grammar). IsInput grammar_at read.0 i) c.in-Fault.is read.1.1) refl)
     c.in_ok-answer-in-Fault.ensures.answer

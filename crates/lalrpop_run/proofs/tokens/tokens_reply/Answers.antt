@@ -1,19 +1,19 @@
-use Rattle.std.proofs.Common.{ap, rules}
-use Rattle.lalrpop_grammar.specs.Views.{grammar_view}
-use Rattle.lalrpop_json_values.specs.Gives.{Fails}
-use Rattle.lalrpop_plain.specs.Plain.{in_grammar}
-use Rattle.lalrpop_run.specs.Plain.{plain, plain_by}
+use Rattle.std.proofs.Common.{◌≡◌, true, false, refl}
+use Rattle.lalrpop_run_tokens.specs.Tokenizers.{scan_entries}
 use Rattle.lalrpop_run.specs.Tokens.{IsTokensReply}
-use Rattle.lalrpop_run.proofs.PlainLemmas.{refused}
 use Rattle.lalrpop_run.proofs.tokens.tokens_reply.Goals as goal
 
 pub returns-in_ok-reply-in-Ok : goal.returns-in_ok-reply-in-Ok
-returns-in_ok-reply-in-Ok c = c.in_ok-reply-in-Ok.ensures (ap (plain_by c.args.grammar.now) c.in-Ok.ensures)
+returns-in_ok-reply-in-Ok c = λ read.
+    let made = c.in-Ok.ensures.made read in
+    IsTokensReply.scanned made.lowered made.generable made.normalized
+    (c.in_ok-reply-in-Ok.ensures (scan_entries made.lowered.entries) made.scans)
 
-pub returns-in-Err-Shape : goal.returns-in-Err-Shape
-returns-in-Err-Shape c =
-    let g = c.args.grammar.now in
-    let e = c.in-Err-Shape.field-0 in
-    let fact : Fails e (plain g) = refused g (in_grammar (grammar_view g)) e c.in-Err-Shape.ensures in
-    IsTokensReply.not_plain (record { path = c.in-Err-Shape.path; kind = c.in-Err-Shape.kind }) (rw c.in-Err-Shape.field-0-is at fact)
-    (search (rules, c.in-Err-Shape.field-0-is))
+pub returns-else-is_memory : goal.returns-else-is_memory
+returns-else-is_memory c = λ read.
+    IsTokensReply.refused c.in-Err.error
+    (λ e.
+    let yes : c.is_memory.result ≡ true = c.is_memory.ensures.1 e in
+    let no : c.is_memory.result ≡ false = c.if-is_memory.false in
+    cc)
+    (c.in-Err.ensures.refused read) refl

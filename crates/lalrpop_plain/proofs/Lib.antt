@@ -1,2 +1,0 @@
-pub mod PathLemmas
-pub mod SeenLemmas

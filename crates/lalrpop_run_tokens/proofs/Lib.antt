@@ -1,0 +1,3 @@
+pub mod CarriedLemmas
+pub mod EntryLemmas
+pub mod TokenizerLemmas

@@ -1,0 +1,4 @@
+pub mod Carried
+pub mod RecoverySearch
+pub mod Refused
+pub mod Tokenizers

@@ -1,0 +1,23 @@
+-- The scanner of a written grammar: it cuts texts by the entries of the normalized one.
+use Rattle.std.specs.Prelude.{ℕ, Bool, List, Option, map}
+use Rattle.lalrpop_grammar_symbols.specs.Symbols.{Text}
+use Rattle.lalrpop_grammar.specs.WrittenGrammar.{Grammar, InternEntry}
+use Rattle.lalrpop_lexer_scan.specs.Entries.{ScanEntry}
+use Rattle.lalrpop_lexer_scan.specs.Scanning.{IsScannerOf}
+use Rattle.lalrpop_lexer_scan.specs.declared.scanner.Scanner.{Scanner}
+use Rattle.lalrpop_norm_chain.specs.Lowered.{LoweredGrammar}
+use Rattle.lalrpop_norm_chain.specs.Normalized.{IsNormalized}
+use Rattle.lalrpop_norm_entries.specs.Patterns.{scan_entry}
+use Rattle.lalrpop_run_tokens.specs.Refused.{IsGenerable}
+
+-- the tokenizer's entries as texts are cut by them
+abbrev pub scan_entries : List InternEntry → List ScanEntry
+scan_entries = map scan_entry
+
+-- The grammar is not refused, and the scanner cuts by the entries of its normalized grammar.
+pub record IsTokenizer (finds : Text → Text → Option Bool) (deep : Text → Bool) (features : List Text) (limit : ℕ) (start : Text)
+    (w : Grammar) (scanner : Scanner) : Type 0 where
+  pub generable : IsGenerable finds deep features limit start w
+  pub lowered : LoweredGrammar
+  pub normalized : IsNormalized finds features w lowered
+  pub scans : IsScannerOf scanner (scan_entries lowered.entries)
