@@ -2,8 +2,7 @@
 
 use crate::automata::{dfa_answer, longest_front, matched_words, pieces};
 use crate::case::Call;
-use crate::grammars::{scan_answer, symbol_text, terminal_text, tree_text, written_grammar};
-use crate::passes::{first_fault, leveled_rules, token_fault};
+use crate::grammars::{symbol_text, terminal_text, tree_text, written_grammar};
 use crate::pattern::{regex_fault, regex_tree};
 use anyhow::Result;
 use serde_json::Value;
@@ -18,13 +17,9 @@ pub(crate) fn answer_of(alloc: Global, call: &Call) -> Result<Value> {
         Call::LongestFront { pattern, text } => longest_front(alloc, pattern, text),
         Call::BuildDfa { patterns, texts } => dfa_answer(alloc, patterns, texts),
         Call::RemoveOverlap(ranges) => Ok(pieces(alloc, ranges)?),
-        Call::Scan { grammar, text } => scan_answer(alloc, grammar, text),
         Call::SymbolText(symbol) => symbol_text(alloc, symbol),
         Call::TerminalText(terminal) => terminal_text(alloc, terminal),
         Call::WriteGrammar(grammar) => written_grammar(alloc, grammar),
         Call::PrintTree(tree) => tree_text(alloc, tree),
-        Call::FirstFault(written) => first_fault(alloc, written),
-        Call::TokenFault(written) => token_fault(alloc, written),
-        Call::LeveledRules(written) => leveled_rules(alloc, written),
     }
 }

@@ -44,12 +44,6 @@ pub(crate) enum Call {
     },
     /// The pieces of ranges that may overlap, each range by its first and its last number.
     RemoveOverlap(Vec<(u32, u32)>),
-    /// The tokens of a text under the literals of a grammar, each by its place, its terminal and its text; or the byte
-    /// without a token, or the fault of the grammar.
-    Scan {
-        grammar: Value,
-        text: String,
-    },
     /// The text of a symbol.
     SymbolText(Value),
     /// The text of a terminal, and how many bytes it says to have.
@@ -58,24 +52,4 @@ pub(crate) enum Call {
     WriteGrammar(Value),
     /// The text of a tree.
     PrintTree(Value),
-    /// The first fault that a pass of the normalizer tells of a grammar, up to the levels, with its span, `null` where none
-    /// does.
-    FirstFault(Written),
-    /// The same up to the token check, of a grammar without levels and macros.
-    TokenFault(Written),
-    /// The rules of a grammar in which each level has a rule of its own, each by its name, whether it is public, and the
-    /// texts of its symbols, alternative by alternative.
-    LeveledRules(Written),
-}
-
-/// A written grammar for the passes.
-#[derive(Drop, Deserialize)]
-#[serde(deny_unknown_fields)]
-pub(crate) struct Written {
-    /// The grammar.
-    pub(crate) grammar: Value,
-    /// The features that are on.
-    pub(crate) features: Vec<String>,
-    /// The prefix that no name may begin with, where it isn't the one that reading finds.
-    pub(crate) prefix: Option<String>,
 }

@@ -1,13 +1,12 @@
-//! Symbols, grammars and trees: their texts, what they are written as, and the tokens of a text.
+//! Symbols, grammars and trees: their texts, and what they are written as.
 
 use anyhow::{Result, bail};
-use lalrpop_grammar::{Grammar, ScanToken};
+use lalrpop_grammar::Grammar;
 use lalrpop_json_grammar::{print_tree, read_grammar, read_tree};
 use lalrpop_json_symbols::{symbol_of, terminal_of};
 use lalrpop_json_writer::write_grammar;
-use lalrpop_lexer_scan::{ScanError, Scanner};
 use serde_json::{Value, json};
-use std::alloc::{AllocError, Global};
+use std::alloc::Global;
 
 /// The text of the symbol.
 pub(crate) fn symbol_text(alloc: Global, symbol: &Value) -> Result<Value> {
@@ -52,28 +51,4 @@ pub(crate) fn written_grammar(alloc: Global, value: &Value) -> Result<Value> {
         return Ok(json!(in alloc; "itself")?);
     }
     Ok(written)
-}
-
-/// The tokens of the text under the grammar's literals, or the byte without a token, or the grammar's fault.
-pub(crate) fn scan_answer(alloc: Global, grammar: &Value, text: &str) -> Result<Value> {
-    let grammar = grammar_of(alloc, grammar)?;
-    let scanner = match Scanner::new(alloc, &grammar) {
-        Ok(scanner) => scanner,
-        Err(fault) => return Ok(Value::from(fault.message(alloc)?)),
-    };
-    match scanner.scan(alloc, text) {
-        Ok(tokens) => Ok(tokens_value(alloc, &tokens)?),
-        Err(ScanError::NoToken(at)) => Ok(json!(in alloc; {"no_token": at})?),
-        Err(ScanError::Memory) => Err(AllocError.into()),
-    }
-}
-
-/// The tokens, each by its place, its terminal and its text.
-fn tokens_value(alloc: Global, tokens: &[ScanToken<'_>]) -> Result<Value, AllocError> {
-    let mut values = Vec::new(alloc);
-    for token in tokens {
-        let terminal = token.terminal.canonical_form(alloc)?;
-        values.push(json!(in alloc; [token.span.0, token.span.1, terminal, token.text])?)?;
-    }
-    Ok(Value::Array(values))
 }

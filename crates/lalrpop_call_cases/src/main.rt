@@ -7,7 +7,6 @@ mod answer;
 mod automata;
 mod case;
 mod grammars;
-mod passes;
 mod pattern;
 
 use crate::answer::answer_of;

@@ -1,10 +1,10 @@
-//! What the passes of the normalizer say of grammars.
+//! What the passes of the normalizer say of grammars, up to some pass.
 
-use crate::case::Written;
-use crate::grammars::grammar_of;
+use crate::case::Case;
 use anyhow::{Result, bail};
 use lalrpop_grammar::{Atom, Grammar, NonterminalData, Symbol};
 use lalrpop_grammar_repr::{NormFault, NormResult, Session};
+use lalrpop_json_grammar::read_grammar;
 use lalrpop_norm_checks::prevalidate::validate;
 use lalrpop_norm_entries::{LiteralPlaces, token_check};
 use lalrpop_norm_levels::{expand_precedence, level_fault};
@@ -17,9 +17,9 @@ use std::alloc::{AllocError, Global};
 const MACRO_LIMIT: u16 = 200;
 
 /// The first fault that a pass tells, up to the levels, with its span, `null` where none does.
-pub(crate) fn first_fault(alloc: Global, written: &Written) -> Result<Value> {
-    let grammar = prefixed(alloc, written)?;
-    let session = session_of(alloc, &written.features)?;
+pub(crate) fn first_fault(alloc: Global, case: &Case) -> Result<Value> {
+    let grammar = prefixed(alloc, case)?;
+    let session = session_of(alloc, case)?;
     match checked(alloc, &session, grammar) {
         Ok(_) => Ok(Value::Null),
         Err(fault) => fault_value(alloc, fault),
@@ -27,9 +27,9 @@ pub(crate) fn first_fault(alloc: Global, written: &Written) -> Result<Value> {
 }
 
 /// The same up to the token check, of a grammar without levels and macros.
-pub(crate) fn token_fault(alloc: Global, written: &Written) -> Result<Value> {
-    let grammar = prefixed(alloc, written)?;
-    let session = session_of(alloc, &written.features)?;
+pub(crate) fn token_fault(alloc: Global, case: &Case) -> Result<Value> {
+    let grammar = prefixed(alloc, case)?;
+    let session = session_of(alloc, case)?;
     match tokenized(alloc, &session, grammar) {
         Ok(()) => Ok(Value::Null),
         Err(fault) => fault_value(alloc, fault),
@@ -38,9 +38,9 @@ pub(crate) fn token_fault(alloc: Global, written: &Written) -> Result<Value> {
 
 /// The rules of the grammar in which each level has a rule of its own, each by its name and the texts of its symbols,
 /// alternative by alternative; or the fault.
-pub(crate) fn leveled_rules(alloc: Global, written: &Written) -> Result<Value> {
-    let grammar = prefixed(alloc, written)?;
-    let session = session_of(alloc, &written.features)?;
+pub(crate) fn leveled_rules(alloc: Global, case: &Case) -> Result<Value> {
+    let grammar = prefixed(alloc, case)?;
+    let session = session_of(alloc, case)?;
     match leveled(alloc, &session, grammar) {
         Ok(grammar) => Ok(rules_value(alloc, &grammar)?),
         Err(fault) => fault_value(alloc, fault),
@@ -48,16 +48,18 @@ pub(crate) fn leveled_rules(alloc: Global, written: &Written) -> Result<Value> {
 }
 
 /// The grammar, with the prefix of the case where it has one.
-fn prefixed(alloc: Global, written: &Written) -> Result<Grammar> {
-    let mut grammar = grammar_of(alloc, &written.grammar)?;
-    if let Some(prefix) = &written.prefix {
+pub(crate) fn prefixed(alloc: Global, case: &Case) -> Result<Grammar> {
+    let Ok(mut grammar) = read_grammar(alloc, &case.grammar) else {
+        bail!("no grammar");
+    };
+    if let Some(prefix) = &case.prefix {
         grammar.prefix = Atom::new(alloc, prefix)?;
     }
     Ok(grammar)
 }
 
 /// The text of the fault behind its span.
-fn fault_value(alloc: Global, fault: NormFault) -> Result<Value> {
+pub(crate) fn fault_value(alloc: Global, fault: NormFault) -> Result<Value> {
     match fault {
         NormFault::Norm(error) => {
             let text = format!(in alloc; "{}..{}: {error}", error.span.0, error.span.1)?;
@@ -68,15 +70,15 @@ fn fault_value(alloc: Global, fault: NormFault) -> Result<Value> {
     }
 }
 
-/// The features that are on.
-fn session_of(alloc: Global, features: &[String]) -> Result<Session, AllocError> {
-    let mut named = Vec::new(alloc);
-    for feature in features {
-        named.push(Atom::new(alloc, feature)?)?;
+/// The features that are on, and how deep macros may stand in macros.
+pub(crate) fn session_of(alloc: Global, case: &Case) -> Result<Session, AllocError> {
+    let mut features = Vec::new(alloc);
+    for feature in &case.features {
+        features.push(Atom::new(alloc, feature)?)?;
     }
     Ok(Session {
-        features: named,
-        macro_recursion_limit: MACRO_LIMIT,
+        features,
+        macro_recursion_limit: case.macro_limit.unwrap_or(MACRO_LIMIT),
     })
 }
 
