@@ -10,11 +10,12 @@ use Rattle.lalrpop_lr1_theory.proofs.ListLemmas.{contains_get, contains_here, co
 use Rattle.lalrpop_lr1_items.specs.Views.{next_of_number}
 use Rattle.lalrpop_lr1_items.proofs.NoConflictLemmas.{at_mapped}
 use Rattle.lalrpop_sets.specs.Bits.{has}
-use Rattle.lalrpop_lr1_first.specs.ClosureTables.{AreItems, ClosesSeed, IsClosureTable, SeedsAll, TableMarks, edge_of_rule, name_behind}
+use Rattle.lalrpop_lr1_first.specs.ClosureTables.{AreItems, ClosesSeed, HoldTokens, IsClosureTable, SeedsAll, TableMarks, edge_of_rule, name_behind}
 use Rattle.lalrpop_lr1_first.specs.ClosureTables.{rule_edge_to, started_items, started_with}
 use Rattle.lalrpop_lr1_first.specs.FirstNumbers.{name_count, table_end, table_rules}
 use Rattle.lalrpop_lr1_first.specs.FlowEdges.{RestsAreWithin, edge_seen, edges_seen}
-use Rattle.lalrpop_lr1_first.specs.Flows.{EdgesAreWithin, FlowEdge, Flows, IsEdgeWithin, all_marks, comes, slot_marks}
+use Rattle.lalrpop_lr1_first.specs.Flows.{EdgesAreWithin, FlowEdge, Flows, IsEdgeWithin, MarksAreWithin, all_marks, begins}
+use Rattle.lalrpop_lr1_first.specs.Flows.{brings, comes, passes, slot_marks, starts}
 use Rattle.lalrpop_lr1_first.specs.ItemTables.{AreEdgesOf, AreFirstsOf, FlowsToStart, HasMark, HasPlace, IsEdgeOf}
 use Rattle.lalrpop_lr1_first.specs.NumberedGrammars.{HasItemAt, IsSeenIn, table_names, table_productions}
 use Rattle.lalrpop_lr1_first.specs.Numbers.{RuleByNumbers, says, set_of_number}
@@ -348,3 +349,43 @@ module _ (closures : Closures) (is : IsClosureTable closures) where
       where
         past : (k : ℕ) → k ≤ end → (l : L) → (eqb (end + 2) k || has (marks l) k) ≡ true → has (marks l) k ≡ true
         past k small l h = ap (λ b. b || has (marks l) k) (sym (eqb_not (end + 2) k (λ e. omega arith))) ∙ h
+
+    -- each place that was brought is an item's
+    pub brought_items : AreItems closures.numbered brought
+    brought_items i c =
+        let r = part i c.0 c.1 in
+        let s = (is_item_table closures.numbered is.numbers).rule r.0 r.1 in
+        (s.0, 0, subst (λ j. Item j s.0 0) r.2 s.1.item)
+
+    module _ (tokens : HoldTokens marks end seed) (within : MarksAreWithin marks end after) where
+      -- what the seed brings to a slot is that something is there, or a token
+      seed_small : (s k : ℕ) → has (set_of_number (all_marks marks (end + 2) seeded) s) k ≡ true → (k ≡ end + 2) ⊎ (k ≤ end)
+      seed_small s k h =
+          let b = (seeds.brought s k).0 h in
+          ⊎_elim (λ e. inl e)
+          (λ c. inr (⊎_elim
+          (λ z. place_within (b.place + 1) (inside b.place s b.more b.rest) k
+          (and_both (not (eqb k end)) (has (set_of_number rests (b.place + 1)) k)
+          (and_both firsts (not (eqb k end) && has (set_of_number rests (b.place + 1)) k) z).1).1)
+          (λ z. tokens b.place k (
+            b.lookahead,
+            b.held,
+            (and_both (has (set_of_number rests (b.place + 1)) end)
+                (has (marks b.lookahead) k) z).1,
+          ))
+          (or_cases (firsts && (not (eqb k end) && has (set_of_number rests (b.place + 1)) k))
+          (has (set_of_number rests (b.place + 1)) end && has (marks b.lookahead) k) c))) b.mark
+
+      flow_small : {s k : ℕ} → F s k → (k ≡ end + 2) ⊎ (k ≤ end)
+      flow_small (begins s k h) = seed_small s k h
+      flow_small (brings r e at f) = inl refl
+      flow_small (starts r e k at f c h) = inr ((edges_within r e at).first k (and_both (not (eqb k end)) (has e.first k) h).1)
+      flow_small (passes r e k at f h g) = flow_small g
+
+      -- the lookaheads that were brought hold terminals and the end alone
+      pub brought_tokens : HoldTokens marks end brought
+      brought_tokens i k h =
+          let r = part i h.0 h.1 in
+          let small = within r.0.left h.0 r.3 k h.2 in
+          ⊎_elim (λ e. absurd (omega (arith, e, small))) (λ l. l)
+          (flow_small (has_slot r.0.left k h.0 r.3 (or_right (eqb (end + 2) k) (has (marks h.0) k) h.2)))

@@ -58,6 +58,10 @@ AreItems {L} table items = (i : ℕ) → HasPlace items i → (p : theory.Produc
 abbrev pub LookaheadsAreWithin : {L : Type 0} → (L → List ℕ) → ℕ → List (ℕ × L) → Type 0
 LookaheadsAreWithin marks end items = (i k : ℕ) → HasMark marks items i k → k ≤ end + 1
 
+-- the lookaheads hold terminals and the end alone
+abbrev pub HoldTokens : {L : Type 0} → (L → List ℕ) → ℕ → List (ℕ × L) → Type 0
+HoldTokens marks end items = (i k : ℕ) → HasMark marks items i k → k ≤ end
+
 -- the items with the dot in front of a rule, where its left side's slot has something
 abbrev pub started_with : {L : Type 0} → ℕ → Option L → List (ℕ × L)
 started_with start None = []

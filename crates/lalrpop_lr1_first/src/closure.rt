@@ -6,6 +6,7 @@ ghost use Rattle.lalrpop_sets.specs.Bits.{Ascends, has};
 ghost use Rattle.lalrpop_lr1_first.specs.ClosureTables.{
   AreItems,
   ClosesSeed,
+  HoldTokens,
   IsClosureTable,
   IsClosureTableOf,
   LookaheadsAreWithin,
@@ -81,6 +82,9 @@ impl<'g> Closures<'g> {
         requires items { AreItems self.now.numbered seed.now }
         requires marks { LookaheadsAreWithin L.marks (table_end self.now.numbered) seed.now }
         ensures ascending { IfOk result (λ brought. Ascends (map (λ item. item.0) brought.items)) }
+        ensures items { IfOk result (λ brought. AreItems self.now.numbered brought.items) }
+        ensures tokens { HoldTokens L.marks (table_end self.now.numbered) seed.now
+            → IfOk result (λ brought. HoldTokens L.marks (table_end self.now.numbered) brought.items) }
         ensures closes { IfOk result (λ brought. ClosesSeed L.marks L.firsts self.now.numbered seed.now brought.items) }
     {
         let mut slots = empty_slots(alloc, self.numbered.names.len())?;

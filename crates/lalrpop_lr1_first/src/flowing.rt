@@ -87,6 +87,7 @@ pub fn flow<L: ClosureLookahead>(
     requires edges { EdgesAreWithin (eof_number terminals.now) (length slots.old.items) (edges_seen firsts.now edges.now) }
     requires marks { MarksAreWithin L.marks (eof_number terminals.now) slots.old.items }
     ensures count { length slots.new.items ≡ length slots.old.items }
+    ensures marks { IfOk result (λ _. MarksAreWithin L.marks (eof_number terminals.now) slots.new.items) }
     ensures flows { let end = eof_number terminals.now in
         IfOk result (λ _. (s k : ℕ) → (has (set_of_number (all_marks L.marks (end + 2) slots.new.items) s) k ≡ true)
         ↔ Flows L.firsts end (edges_seen firsts.now edges.now) (all_marks L.marks (end + 2) slots.old.items) s k) }

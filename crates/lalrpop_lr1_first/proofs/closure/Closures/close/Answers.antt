@@ -6,7 +6,7 @@ use Rattle.lalrpop_lr1_first.specs.FirstNumbers.{table_end}
 use Rattle.lalrpop_lr1_first.specs.FlowEdges.{RestsAreWithin, edges_seen}
 use Rattle.lalrpop_lr1_first.specs.Flows.{EdgesAreWithin, Flows, all_marks}
 use Rattle.lalrpop_lr1_first.specs.Numbers.{set_of_number}
-use Rattle.lalrpop_lr1_first.proofs.ClosingLemmas.{closes, edge_rests, edges_within}
+use Rattle.lalrpop_lr1_first.proofs.ClosingLemmas.{brought_items, brought_tokens, closes, edge_rests, edges_within}
 use Rattle.lalrpop_lr1_first.proofs.SeedLemmas.{started_ascend}
 use Rattle.lalrpop_lr1_first.proofs.TableLemmas.{left_below}
 use Rattle.lalrpop_lr1_first.proofs.closure.Closures.close.Goals as goal
@@ -58,3 +58,42 @@ returns-clause-closes g c =
     c.in_ok-brought.brought.items
     (c.in_ok-brought.ensures ∙ ap (λ rs. started_items c.as_slice-4.result.now rs) c.as_slice-3.ensures.value
     ∙ ap (λ ss. started_items ss closures.numbered.rules.items) c.as_slice-4.ensures.value)
+
+pub returns-clause-items : goal.returns-clause-items
+returns-clause-items g c =
+    let marks = g.L.ClosureLookahead.marks in
+    let counts = g.L.ClosureLookahead.firsts in
+    let closures = c.args.self.now in
+    let end = table_end closures.numbered in
+    let seeded = c.seed_slots.new.slots.items in
+    let after = c.flow.new.slots.items in
+    let edges = ap (λ es. edges_seen c.as_slice.result.now es) c.as_slice-2.ensures.value
+    ∙ ap (λ fs. edges_seen fs closures.edges.items) c.as_slice.ensures.value in
+    let flows : (s k : ℕ) → (has (set_of_number (all_marks marks (end + 2) after) s) k ≡ true)
+    ↔ Flows counts end (edges_seen closures.firsts.items closures.edges.items) (all_marks marks (end + 2) seeded) s k =
+    subst (λ es. (s k : ℕ) → (has (set_of_number (all_marks marks (end + 2) after) s) k ≡ true)
+    ↔ Flows counts end es (all_marks marks (end + 2) seeded) s k) edges c.in_ok-flow.ensures.flows in
+    brought_items closures c.requires.closures marks counts c.args.seed.now c.requires.items seeded after c.in_ok-seed_slots.ensures flows
+    c.in_ok-brought.brought.items
+    (c.in_ok-brought.ensures ∙ ap (λ rs. started_items c.as_slice-4.result.now rs) c.as_slice-3.ensures.value
+    ∙ ap (λ ss. started_items ss closures.numbered.rules.items) c.as_slice-4.ensures.value)
+
+pub returns-clause-tokens : goal.returns-clause-tokens
+returns-clause-tokens g c = λ tokens.
+    let marks = g.L.ClosureLookahead.marks in
+    let counts = g.L.ClosureLookahead.firsts in
+    let closures = c.args.self.now in
+    let end = table_end closures.numbered in
+    let seeded = c.seed_slots.new.slots.items in
+    let after = c.flow.new.slots.items in
+    let edges = ap (λ es. edges_seen c.as_slice.result.now es) c.as_slice-2.ensures.value
+    ∙ ap (λ fs. edges_seen fs closures.edges.items) c.as_slice.ensures.value in
+    let flows : (s k : ℕ) → (has (set_of_number (all_marks marks (end + 2) after) s) k ≡ true)
+    ↔ Flows counts end (edges_seen closures.firsts.items closures.edges.items) (all_marks marks (end + 2) seeded) s k =
+    subst (λ es. (s k : ℕ) → (has (set_of_number (all_marks marks (end + 2) after) s) k ≡ true)
+    ↔ Flows counts end es (all_marks marks (end + 2) seeded) s k) edges c.in_ok-flow.ensures.flows in
+    brought_tokens closures c.requires.closures marks counts c.args.seed.now c.requires.items seeded after c.in_ok-seed_slots.ensures flows
+    c.in_ok-brought.brought.items
+    (c.in_ok-brought.ensures ∙ ap (λ rs. started_items c.as_slice-4.result.now rs) c.as_slice-3.ensures.value
+    ∙ ap (λ ss. started_items ss closures.numbered.rules.items) c.as_slice-4.ensures.value)
+    tokens c.in_ok-flow.ensures.marks

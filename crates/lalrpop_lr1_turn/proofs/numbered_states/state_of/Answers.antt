@@ -1,0 +1,27 @@
+use Rattle.std.proofs.Common.{◌∙◌, ap, subst, sym}
+use Rattle.lalrpop_lr1_first.specs.NumberedGrammars.{IsNumberTable}
+use Rattle.lalrpop_lr1_turn.specs.Kernels.{AreKernelItems, IsClosureOf}
+use Rattle.lalrpop_lr1_turn.specs.Shifts.{shifted_items}
+use Rattle.lalrpop_lr1_turn.proofs.TurnLemmas.{turn_of}
+use Rattle.lalrpop_lr1_turn.proofs.numbered_states.state_of.Goals as goal
+
+pub close_kernel-requires-clause-kernel : goal.close_kernel-requires-clause-kernel
+close_kernel-requires-clause-kernel g c =
+    subst (AreKernelItems g.L.ClosureLookahead.marks g.L.KernelLookahead.in_order c.args.closures.now.numbered) (sym c.as_slice.ensures)
+    c.requires.kernel
+
+pub group_items-requires : goal.group_items-requires
+group_items-requires g c = subst IsNumberTable (sym c.table.ensures) c.requires.closures.numbers
+
+pub returns-clause-turn : goal.returns-clause-turn
+returns-clause-turn g c =
+    let marks = g.L.ClosureLookahead.marks in
+    let firsts = g.L.ClosureLookahead.firsts in
+    let in_order = g.L.KernelLookahead.in_order in
+    let table = c.args.closures.now.numbered in
+    turn_of marks firsts in_order table c.args.kernel.now c.args.kernels.now.kernels c.add_edges.new.kernels.kernels
+    c.in_ok-groups.groups.items (record { items = c.in_ok-items.items; edges = c.in_ok-edges.edges })
+    (subst (λ xs. IsClosureOf marks firsts in_order table xs c.in_ok-items.items) c.as_slice.ensures c.in_ok-items.ensures)
+    (λ s. c.in_ok-groups.ensures.groups s ∙ ap (λ t. shifted_items t.places.items s c.as_slice-2.result.now) c.table.ensures
+    ∙ ap (λ xs. shifted_items table.places.items s xs) c.as_slice-2.ensures)
+    c.in_ok-edges.ensures.edges
