@@ -1,21 +1,19 @@
 -- The passes one after the other make a normalized grammar; for the law of chains.
 use Rattle.std.proofs.Common.{◌≡◌, ℕ, zero, suc, List, [], ◌∷◌, ◌++◌, refl, ap, ap₂, sym, ◌∙◌, subst}
 use Rattle.std.proofs.Common.{Bool, false, inl, inr}
-use Rattle.std.specs.Prelude.{Option, Some, None, IsSomeAnd, codes, map, flat_map, ◌↔◌}
+use Rattle.std.specs.Prelude.{◌⊎◌, Option, Some, None, IsSomeAnd, map, flat_map, slice_get, ◌↔◌}
 use Rattle.std.proofs.lemmas.List.{append-nil, append_assoc}
 use Rattle.lalrpop_grammar_symbols.specs.Symbols.{Text, Op, Closed, Closeds, closed_list}
-use Rattle.lalrpop_grammar.specs.WrittenGrammar.{InternEntry, Origin, Rule, WrittenEntry, WrittenItem, Grammar, rules_of}
+use Rattle.lalrpop_grammar.specs.WrittenGrammar.{Action, InternEntry, Origin, Rule, WrittenEntry, WrittenItem, Grammar, rules_of}
 use Rattle.lalrpop_grammar_language.specs.Among.{Among}
 use Rattle.lalrpop_grammar_language.specs.Enabled.{EnabledGrammar, EnabledRule, IsRule, bare_of, bares_of, enabled_grammar}
-use Rattle.lalrpop_grammar_language.specs.Enabled.{has_attr}
+use Rattle.lalrpop_grammar_language.specs.Enabled.{Choice}
 use Rattle.lalrpop_grammar_language.specs.Closing.{right_side}
 use Rattle.lalrpop_grammar_language.specs.Admitting.{bind}
 use Rattle.lalrpop_grammar_language.proofs.PlaceLemmas.{among_map}
 use Rattle.lalrpop_grammar_language.proofs.SoundnessLemmas.{part-whole}
-use Rattle.lalrpop_lexer_pattern.specs.Wins.{HasNoTie}
 use Rattle.lalrpop_norm_expansion.proofs.LevelLemmas.{no_loosest}
 use Rattle.lalrpop_norm_level_laws.proofs.LevelOrderLemmas.{one_rule}
-use Rattle.lalrpop_norm_entries.specs.Patterns.{first_refused, entry_patterns, entry_precedences}
 use Rattle.lalrpop_norm_chain.specs.UsedLiterals.{AreFullExpansionEntries}
 use Rattle.lalrpop_norm_chain.proofs.PlainNameLemmas.{names_plain, read_tells_resolved}
 use Rattle.lalrpop_norm_chain.proofs.ItemLemmas.{no_tokenizer}
@@ -30,7 +28,7 @@ use Rattle.lalrpop_norm_expansion.specs.Premises.{IsExpanded}
 use Rattle.lalrpop_norm_expansion.specs.Same.{rename_symbol, SameExpansion}
 use Rattle.lalrpop_norm_expansion.specs.Keys.{leveled_key_text, flat_key_text, IsNaming}
 use Rattle.lalrpop_norm_expansion.specs.Inlined.{IsInlined, SameInlined}
-use Rattle.lalrpop_norm_expansion.specs.Productions.{NamedProduction}
+use Rattle.lalrpop_norm_expansion.specs.Productions.{NamedProduction, StandsForLabel}
 use Rattle.lalrpop_norm_expansion.specs.Types.{IsGrounded, SameTypes}
 use Rattle.lalrpop_norm_expansion.proofs.PassLemmas.{productions_before}
 use Rattle.lalrpop_norm_expansion.proofs.ExpansionListLemmas.{rule_there}
@@ -46,15 +44,18 @@ use Rattle.lalrpop_norm_entries.specs.Entries.{with_entries}
 use Rattle.lalrpop_norm_types.specs.GroundViews.{type_repr_view}
 use Rattle.lalrpop_norm_types.specs.TypeFaults.{nonterminal_of, rule_symbol}
 use Rattle.lalrpop_norm_chain.specs.PremiseLaws.{resolved_part, entries_of_items}
+use Rattle.lalrpop_norm_chain.specs.Actions.{ChoiceDoes}
+use Rattle.lalrpop_norm_chain.specs.Lowered.{HasDefinition, IsRuleProduction, IsStartProduction}
 use Rattle.lalrpop_norm_chain.specs.Lowered.{LoweredGrammar, start_name}
 use Rattle.lalrpop_norm_chain.specs.Chains.{IsChain}
+use Rattle.lalrpop_norm_chain.proofs.ActionLemmas.{ChoicesActAsTold, acts_before, key_acts, leveled_part_acts}
 use Rattle.lalrpop_norm_chain.proofs.FrontLemmas.{levelable, same_leveled, same_expanded, prefix_leveled, block_is, inlined_expanded}
 use Rattle.lalrpop_norm_chain.proofs.FrontLemmas.{types_expanded}
-use Rattle.lalrpop_norm_chain.specs.Normalized.{HasExpansionTypes, IsNormalized}
+use Rattle.lalrpop_norm_chain.specs.Normalized.{HasExpansionTypes}
 
 -- the tokenizer behind the items
 
-rules_behind : (items : List WrittenItem) (es : List InternEntry) →
+pub rules_behind : (items : List WrittenItem) (es : List InternEntry) →
     rules_of (items ++ WrittenItem.intern_token es ∷ []) ≡ rules_of items
 rules_behind [] es = refl
 rules_behind (WrittenItem.nonterminal r ∷ items) es = ap (λ l. r ∷ l) (rules_behind items es)
@@ -140,7 +141,7 @@ no_start_inside g x o side n p i =
     part-whole z.0 n z.2
 
 -- a start is a root, so its rule has no parameters
-start_plain : (g : EnabledGrammar) (n : Text) (r : EnabledRule) → InExpansion g (Nonterminal.start n) → IsRule g n r →
+pub start_plain : (g : EnabledGrammar) (n : Text) (r : EnabledRule) → InExpansion g (Nonterminal.start n) → IsRule g n r →
     r.parameters ≡ []
 start_plain g n r (zero, inl b) is =
     let p : Produces g (Nonterminal.start b.0) Origin.start b.1 = b.3 in
@@ -203,10 +204,10 @@ module _ (finds : Text → Text → Option Bool) (features : List Text) (w : Gra
     prefix_lowered : v.prefix ≡ c.leveled.prefix
     prefix_lowered = c.lowered.prefix_is ∙ ap (λ (g : Grammar). g.prefix) c.tokens.whole ∙ c.front.macros.prefix
 
-    prefix_written : v.prefix ≡ w.prefix
+    pub prefix_written : v.prefix ≡ w.prefix
     prefix_written = prefix_lowered ∙ prefix_leveled finds features w c.leveled c.expanded c.front
 
-    attributes_are : c.checked.attributes ≡ w.attributes
+    pub attributes_are : c.checked.attributes ≡ w.attributes
     attributes_are =
         ap (λ (g : Grammar). g.attributes) c.tokens.whole ∙ c.front.macros.attributes
         ∙ ap (λ (g : Grammar). g.attributes) c.front.levels.value
@@ -216,7 +217,7 @@ module _ (finds : Text → Text → Option Bool) (features : List Text) (w : Gra
     abbrev name_of : Nonterminal → Text
     name_of x = c.lowered.name_of (to x)
 
-    key_name : (x : Closed) → Among c.front.macros.keys x → c.lowered.name_of (Nonterminal.closed (by_name key_of x)) ≡ key_of x
+    pub key_name : (x : Closed) → Among c.front.macros.keys x → c.lowered.name_of (Nonterminal.closed (by_name key_of x)) ≡ key_of x
     key_name x k =
         ap (λ (y : Closed). c.lowered.name_of (Nonterminal.closed y)) (key_called key_of x (c.front.macros.expansion.keys_only x k))
         ∙ c.lowered.rule_names (key_of x)
@@ -251,7 +252,7 @@ module _ (finds : Text → Text → Option Bool) (features : List Text) (w : Gra
         (prefix_leveled finds features w c.leveled c.expanded c.front)
         named_leveled))
 
-    named : IsNaming (leveled_key_text written) w.prefix written name_of
+    pub named : IsNaming (leveled_key_text written) w.prefix written name_of
     named =
         dropped_names finds features w w.prefix name_of c.front.read
         (resolved_names finds (without_disabled features w) w.prefix name_of named_resolved)
@@ -265,7 +266,7 @@ module _ (finds : Text → Text → Option Bool) (features : List Text) (w : Gra
       pub is_rule : IsRule checked name rule
       pub becomes : closed_to x ≡ Closed.call name Closeds.none None
 
-    has_rule : (x : Closed) → InExpansion written (Nonterminal.closed x) → HasRule x
+    pub has_rule : (x : Closed) → InExpansion written (Nonterminal.closed x) → HasRule x
     has_rule x i =
         let y = by_level_names level_of x in
         let k = in_keys leveled expanded_one key_of c.front.macros.keys c.front.macros.expansion y
@@ -278,20 +279,20 @@ module _ (finds : Text → Text → Option Bool) (features : List Text) (w : Gra
           becomes = key_called key_of y (c.front.macros.expansion.keys_only y k);
         }
 
-    name_is : (x : Closed) (u : HasRule x) → name_of (Nonterminal.closed x) ≡ u.name
+    pub name_is : (x : Closed) (u : HasRule x) → name_of (Nonterminal.closed x) ≡ u.name
     name_is x u =
         ap (λ (y : Closed). c.lowered.name_of (Nonterminal.closed y)) u.becomes ∙ c.lowered.rule_names u.name
 
     -- starts
 
-    start_from : (n : Text) → InExpansion checked (Nonterminal.start n) → InExpansion written (Nonterminal.start n)
+    pub start_from : (n : Text) → InExpansion checked (Nonterminal.start n) → InExpansion written (Nonterminal.start n)
     start_from n i = let u = same_checked.no_other (Nonterminal.start n) i in go u.0 u.1 u.2
       where
         go : (x : Nonterminal) → InExpansion written x → Nonterminal.start n ≡ to x → InExpansion written (Nonterminal.start n)
         go (Nonterminal.start m) j e = subst (InExpansion written) (sym e) j
         go (Nonterminal.closed x) j e = cc
 
-    alone : (n : Text) (p : NamedProduction) → InExpansion written (Nonterminal.start n) → Among v.productions p →
+    pub alone : (n : Text) (p : NamedProduction) → InExpansion written (Nonterminal.start n) → Among v.productions p →
         Among p.symbols (GrammarSymbol.nonterminal (start_name w.prefix n)) → ⊥
     alone n p i k j =
         let a = productions_before written checked to c.lowered.name_of v.productions v.origins same_checked c.lowered.productions in
@@ -312,6 +313,72 @@ module _ (finds : Text → Text → Option Bool) (features : List Text) (w : Gra
             no_start_inside written label.head label.choice side n m
             (subst (λ (y : Nonterminal). Among side (GrammarSymbol.nonterminal y)) same q)
 
+    -- actions
+
+    rule_expands : (r : EnabledRule) → Among checked.rules r
+        → InExpansion checked (Nonterminal.closed (Closed.call r.name Closeds.none None))
+    rule_expands r i =
+        (zero, inr (r, None, expanded_still.rules r i, expanded_still.no_macros r i, expanded_still.no_levels r i, refl))
+
+    -- no rule has the name of a start
+    no_start_named : (n : Text) (r : EnabledRule) → InExpansion written (Nonterminal.start n) → Among checked.rules r
+        → name_of (Nonterminal.start n) ≡ r.name → ⊥
+    no_start_named n r i j e =
+        let u = same_checked.no_other (Nonterminal.closed (Closed.call r.name Closeds.none None)) (rule_expands r j) in
+        let name_so : name_of u.0 ≡ r.name = ap c.lowered.name_of (sym u.2) ∙ c.lowered.rule_names r.name in
+        let same : u.0 ≡ Nonterminal.start n = named.apart u.0 (Nonterminal.start n) u.1 i (name_so ∙ sym e) in
+        let wrong : Nonterminal.closed (Closed.call r.name Closeds.none None) ≡ Nonterminal.start n = u.2 ∙ ap to same in
+        cc
+
+    leveled_does : ChoicesActAsTold written leveled
+    leveled_does = subst (λ (g : Grammar). ChoicesActAsTold written (grammar_between finds g)) (sym c.front.levels.value)
+        (leveled_part_acts finds features w level_of c.front.read)
+
+    -- the rule of a closed symbol does what the symbol's productions do
+    rule_does : (x : Closed) (r : EnabledRule) (d : Choice) → InExpansion written (Nonterminal.closed x) → Among checked.rules r
+        → Among r.choices d → name_of (Nonterminal.closed x) ≡ r.name → ChoiceDoes written (Nonterminal.closed x) d.origin d.action
+    rule_does x r d i j m e =
+        let y = by_level_names level_of x in
+        let k = in_keys leveled expanded_one key_of c.front.macros.keys c.front.macros.expansion y
+        ((same_leveled finds features w c.leveled c.expanded c.front).there (Nonterminal.closed x) i) in
+        let u = c.front.macros.expansion.rules y k in
+        let name_so : key_of y ≡ r.name = sym (key_name y k) ∙ e in
+        let there : IsRule checked r.name u.0 =
+        subst (λ (t : Text). IsRule checked t u.0) name_so
+        (subst (λ (g : EnabledGrammar). IsRule g (key_of y) u.0) (sym checked_is) u.1) in
+        let same : r ≡ u.0 = one_rule checked r.name r u.0 (expanded_still.rules r j) there in
+        acts_before written level_of x d.origin d.action
+        (key_acts written leveled key_of leveled_does y u.0.choices u.2.choices d
+        (subst (λ (q : EnabledRule). Among q.choices d) same m))
+
+    pub defined : (p : NamedProduction) (label : WrittenLabel) (side : RightSide) → Among v.productions p
+        → StandsForLabel written name_of v.origins p label side
+        → (a : Action) × ChoiceDoes written label.head label.choice a × HasDefinition v p a
+    defined p label side i s = go label.head label.choice s.in_expansion s.nonterminal_is s.origin_is (c.lowered.actions p i)
+      where
+        go : (x : Nonterminal) (o : Origin) → InExpansion written x → p.nonterminal ≡ name_of x
+            → slice_get v.origins p.action ≡ Some o → IsRuleProduction checked v p ⊎ IsStartProduction checked v p
+            → (a : Action) × ChoiceDoes written x o a × HasDefinition v p a
+        go (Nonterminal.start n) o e name_so told (inl r) =
+            absurd (no_start_named n r.rule e r.rule_there (sym name_so ∙ r.nonterminal_is))
+        go (Nonterminal.start n) o e name_so told (inr t) = (Action.default, refl, t.definition)
+        go (Nonterminal.closed x) o e name_so told (inl r) =
+            let both : Some r.choice.origin ≡ Some o = sym r.origin_is ∙ told in
+            let same : r.choice.origin ≡ o = cc in (
+              r.choice.action,
+              subst (λ (q : Origin). ChoiceDoes written (Nonterminal.closed x) q r.choice.action) same
+                  (rule_does x r.rule r.choice e r.rule_there r.choice_there (sym name_so ∙ r.nonterminal_is)),
+              r.definition,
+            )
+        go (Nonterminal.closed x) o e name_so told (inr t) =
+            let there = start_from t.name t.start_there in
+            let own : name_of (Nonterminal.closed x) ≡ name_of (Nonterminal.start t.name) =
+            sym name_so ∙ t.nonterminal_is ∙ ap (λ (q : Text). start_name q t.name) prefix_written
+            ∙ sym (named.starts t.name there) in
+            let wrong : Nonterminal.closed x ≡ Nonterminal.start t.name =
+            named.apart (Nonterminal.closed x) (Nonterminal.start t.name) e there own in
+            absurd (let no : ⊥ = cc in no)
+
     -- what is inlined
 
     inlined_checked : SameInlined written checked to
@@ -319,7 +386,7 @@ module _ (finds : Text → Text → Option Bool) (features : List Text) (w : Gra
         subst (λ (g : EnabledGrammar). SameInlined written g to) (sym checked_is)
         (inlined_expanded finds features w c.leveled c.expanded c.front)
 
-    inlined_alike : (x : Nonterminal) → InExpansion written x → Among v.inlined (name_of x) ↔ IsInlined written x
+    pub inlined_alike : (x : Nonterminal) → InExpansion written x → Among v.inlined (name_of x) ↔ IsInlined written x
     inlined_alike (Nonterminal.start n) i = (
       λ a. c.lowered.no_start_inlined n (same_checked.there (Nonterminal.start n) i)
           (subst (Among v.inlined) (c.lowered.start_names n) a),
@@ -345,14 +412,14 @@ module _ (finds : Text → Text → Option Bool) (features : List Text) (w : Gra
         subst (λ (g : EnabledGrammar). SameTypes written g closed_to) (sym checked_is)
         (types_expanded finds features w c.leveled c.expanded c.front)
 
-    written_rule_of : (n : Text) (r : EnabledRule) → IsRule checked n r →
+    pub written_rule_of : (n : Text) (r : EnabledRule) → IsRule checked n r →
         (q : Rule) × Among (rules_of c.checked.items) q × (q.name ≡ n)
     written_rule_of n r is =
         let there = rule_there checked n r is in
         let q = among_map rule_between (rules_of c.checked.items) r there.0 in
         (q.0, q.1, ap (λ (e : EnabledRule). e.name) q.2 ∙ there.1)
 
-    types_are : HasExpansionTypes written name_of v.types
+    pub types_are : HasExpansionTypes written name_of v.types
     types_are = record {
       typed = λ x i.
           let u = has_rule x i in
@@ -388,7 +455,7 @@ module _ (finds : Text → Text → Option Bool) (features : List Text) (w : Gra
 
     -- entries
 
-    entries_are : v.entries ≡ c.tokens.entries
+    pub entries_are : v.entries ≡ c.tokens.entries
     entries_are =
         c.lowered.entries ∙ ap (λ (g : Grammar). entries_of_items g.items) c.tokens.whole
         ∙ entries_behind c.expanded.items c.tokens.entries
@@ -396,39 +463,10 @@ module _ (finds : Text → Text → Option Bool) (features : List Text) (w : Gra
         (c.front.macros.entries ∙ ap (λ (g : Grammar). entries_of_items g.items) c.front.levels.value
         ∙ no_tokenizer features w level_of c.front.read)
 
-    entries_full : AreFullExpansionEntries written (block_groups w.items) v.entries
+    pub entries_full : AreFullExpansionEntries written (block_groups w.items) v.entries
     entries_full =
         subst (λ (es : List InternEntry). AreFullExpansionEntries written (block_groups w.items) es) (sym entries_are)
         (subst (λ (b : Option (List (List WrittenEntry))). AreFullExpansionEntries written b c.tokens.entries)
         (block_is finds features w c.leveled c.expanded c.front)
         (full_entries finds c.expanded c.front.macros.expanded written to (same_expanded finds features w c.leveled c.expanded c.front)
         c.tokens.entries c.tokens.are_checked.are_full))
-
-    pub normalized : IsNormalized finds features w v
-    normalized = record {
-      name_of = name_of;
-      naming = named;
-      prefix = prefix_written;
-      productions = productions_before written checked to c.lowered.name_of v.productions v.origins same_checked c.lowered.productions;
-      nonterminals = λ n. (
-        λ a. let y = (c.lowered.nonterminals n).0 a in
-            let x = same_checked.no_other y.0 y.1 in
-            (x.0, x.1, ap c.lowered.name_of (sym x.2) ∙ y.2),
-        λ a. (c.lowered.nonterminals n).1 (to a.0, same_checked.there a.0 a.1, a.2),
-      );
-      starts = λ n m. (
-        λ a. let u = (c.lowered.starts n m).0 a in
-            (start_from n u.0, u.1 ∙ ap (λ (p : Text). start_name p n) prefix_written),
-        λ a. (c.lowered.starts n m).1
-            (same_checked.there (Nonterminal.start n) a.0, a.1 ∙ ap (λ (p : Text). start_name p n) (sym prefix_written)),
-      );
-      starts_alone = alone;
-      inlined = inlined_alike;
-      terminals = c.lowered.terminals;
-      types = types_are;
-      lalr = c.lowered.lalr ∙ ap (has_attr (codes "LALR")) attributes_are;
-      entries = entries_full;
-      none_refused = ap first_refused entries_are ∙ c.tokens.are_checked.none_refused;
-      unambiguous = subst (λ (es : List InternEntry). HasNoTie (entry_patterns es) (entry_precedences es)) (sym entries_are)
-          c.tokens.are_checked.unambiguous;
-    }

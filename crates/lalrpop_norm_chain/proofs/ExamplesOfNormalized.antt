@@ -3,15 +3,15 @@ use Prim.Native.String.{String}
 use Rattle.std.specs.Fmt.{digits}
 use Rattle.std.proofs.Common.{◌≡◌, ◌≢◌, ℕ, List, [], ◌∷◌, ◌++◌, refl, sym, ◌∙◌, subst, inl, inr, arith}
 use Rattle.std.proofs.Common.{Bool, true, false, ap, ◌⊎◌, ◌↔◌}
-use Rattle.std.specs.Prelude.{Option, Some, None, IsSomeAnd, codes, length, flat_map}
+use Rattle.std.specs.Prelude.{Option, Some, None, IsSomeAnd, codes, length, flat_map, slice_get}
 use Rattle.std.proofs.lemmas.Bool.{true≢false}
 use Rattle.lalrpop_grammar_symbols.specs.Texts.{escape_byte}
-use Rattle.lalrpop_grammar_symbols.specs.Symbols.{Text, Closed, Closeds, Terminal}
+use Rattle.lalrpop_grammar_symbols.specs.Symbols.{Text, TextSpan, Closed, Closeds, Terminal}
 use Rattle.lalrpop_grammar.specs.WrittenGrammar.{Action, Origin, EntryMapping, InternEntry, Grammar, Ty, WrittenItem, ConditionTest}
 use Rattle.lalrpop_grammar_language.specs.Among.{Among}
 use Rattle.lalrpop_grammar_language.specs.Enabled.{Choice, EnabledGrammar, EnabledRule, IsRule, enabled_grammar}
 use Rattle.lalrpop_grammar_language.specs.Levels.{loosest}
-use Rattle.lalrpop_grammar_language.specs.Expansion.{GrammarSymbol, Nonterminal, InExpansion, RightSide}
+use Rattle.lalrpop_grammar_language.specs.Expansion.{GrammarSymbol, Nonterminal, InExpansion, RightSide, WrittenLabel}
 use Rattle.lalrpop_grammar_language.proofs.WrittenTreeLemmas.{here, lit, alt, rule_of, grammar, finds, of_macro, macro_of, on_K}
 use Rattle.lalrpop_norm_expansion.proofs.ExpansionListLemmas.{is_all, reached-in, all-of}
 use Rattle.lalrpop_norm_expansion.proofs.AmongLemmas.{flat_map_among}
@@ -20,7 +20,7 @@ use Rattle.lalrpop_grammar_types.specs.declared.type_repr.TypeRepr.TheFolds.{fol
 use Rattle.lalrpop_grammar_types.specs.declared.type_repr.TypeRepr.TheOpen as layer
 use Rattle.lalrpop_grammar_types.specs.declared.type_repr.TypeRepr.TheVariants as types
 use Rattle.lalrpop_norm_expansion.specs.Keys.{leveled_key_text, IsNaming}
-use Rattle.lalrpop_norm_expansion.specs.Productions.{NamedProduction, AreProductions}
+use Rattle.lalrpop_norm_expansion.specs.Productions.{NamedProduction, AreProductions, StandsForLabel}
 use Rattle.lalrpop_norm_expansion.specs.Inlined.{IsInlined}
 use Rattle.lalrpop_norm_expansion.specs.Types.{GroundType, IsGrounded}
 use Rattle.lalrpop_norm_expansion.proofs.NamingListLemmas.{name_by, naming-is}
@@ -33,10 +33,13 @@ use Rattle.lalrpop_norm_entries.specs.Entries.{tokenizer_entries}
 use Rattle.lalrpop_norm_entries.specs.Patterns.{entry_patterns, entry_precedences}
 use Rattle.lalrpop_norm_types.specs.GroundViews.{type_repr_view, ground_step, ground_nominal_step}
 use Rattle.lalrpop_norm_types.specs.TypeFaults.{nonterminal_of}
+use Rattle.lalrpop_norm_lower.specs.Definitions.{definition_of}
 use Rattle.lalrpop_norm_chain.specs.UsedLiterals.{IsUsedLiteral, AreUsedLiterals, AreFullExpansionEntries}
-use Rattle.lalrpop_norm_chain.specs.Lowered.{LoweredGrammar, IsTerminalOf}
+use Rattle.lalrpop_norm_chain.specs.Actions.{ChoiceDoes}
+use Rattle.lalrpop_norm_chain.specs.Spans.{HasOwnSpan, IsRuleSpan, IsWrittenSpan, StandsByChoice}
+use Rattle.lalrpop_norm_chain.specs.Lowered.{LoweredGrammar, HasDefinition, IsTerminalOf}
 use Rattle.lalrpop_norm_chain.specs.PremiseLaws.{HasFreePrefix, AreInOrder}
-use Rattle.lalrpop_norm_chain.specs.Normalized.{IsNormalized, HasExpansionTypes}
+use Rattle.lalrpop_norm_chain.specs.Normalized.{IsNormalized, HasExpansionTypes, HasWrittenActions, HasWrittenSpans}
 
 -- S: u8 = "a", where S is public
 abbrev one : Grammar
@@ -70,8 +73,13 @@ lowered = record {
   prefix = codes "__";
   productions = record { nonterminal = codes "__S"; symbols = GrammarSymbol.nonterminal (codes "S") ∷ []; action = 0 }
       ∷ record { nonterminal = codes "S"; symbols = GrammarSymbol.terminal a ∷ []; action = 1 } ∷ [];
+  spans = (record { nonterminal = codes "__S"; symbols = GrammarSymbol.nonterminal (codes "S") ∷ []; action = 0 }, here)
+      ∷ (record { nonterminal = codes "S"; symbols = GrammarSymbol.terminal a ∷ []; action = 1 }, here) ∷ [];
   origins = Origin.start ∷ Origin.alternative (codes "S") [] 0 ∷ [];
+  definitions = definition_of (types.Opaque (codes "u8")) Action.default
+      ∷ definition_of (types.Opaque (codes "u8")) (Action.user (codes "()")) ∷ [];
   nonterminals = codes "S" ∷ codes "__S" ∷ [];
+  places = (codes "S", here) ∷ (codes "__S", here) ∷ [];
   starts = (codes "S", codes "__S") ∷ [];
   inlined = [];
   terminals = a ∷ [];
@@ -268,6 +276,133 @@ expansion_types = record {
             ≡ at_name (nonterminal_of (name_of (Nonterminal.closed (Closed.call (codes "S") Closeds.none l)))) lowered.types)
             (ap first_loosest d) refl) e
 
+-- what its actions do
+
+abbrev written_code : Action
+written_code = Action.user (codes "()")
+
+abbrev first_of_name : Text → ℕ
+first_of_name (b ∷ t) = b
+first_of_name [] = 0
+
+apart_names : codes "__S" ≡ codes "S" → ⊥
+apart_names e = let byte : ◌≡◌ {A = ℕ} 95 83 = ap first_of_name e in omega (arith, byte)
+
+rule_acts : ChoiceDoes g (Nonterminal.closed s) (Origin.alternative (codes "S") [] 0) written_code
+rule_acts = record {
+  rule = _;
+  choice = _;
+  rule_there = inl refl;
+  name_is = refl;
+  choice_there = inl refl;
+  at = refl;
+  action_is = refl;
+}
+
+actions : HasWrittenActions g name_of lowered
+unfolding digits
+actions = record { defined = defined; no_other = refl }
+  where
+    Acts : Nonterminal → Origin → NamedProduction → Type 0
+    Acts x o p = (b : Action) × ChoiceDoes g x o b × HasDefinition lowered p b
+
+    of_start : (x : Nonterminal) (o : Origin) → InExpansion g x → codes "__S" ≡ name_of x →
+        Acts x o (record { nonterminal = codes "__S"; symbols = GrammarSymbol.nonterminal (codes "S") ∷ []; action = 0 })
+    of_start x o i e = go (no_other x i)
+      where
+        go : (Nonterminal.start (codes "S") ≡ x) ⊎ (Nonterminal.closed s ≡ x) →
+            Acts x o (record { nonterminal = codes "__S"; symbols = GrammarSymbol.nonterminal (codes "S") ∷ []; action = 0 })
+        go (inl f) = subst (λ (y : Nonterminal). Acts y o
+            (record { nonterminal = codes "__S"; symbols = GrammarSymbol.nonterminal (codes "S") ∷ []; action = 0 })) f
+            (Action.default, refl, refl)
+        go (inr f) = absurd (apart_names (e ∙ ap name_of (sym f)))
+
+    of_rule : (x : Nonterminal) (o : Origin) → InExpansion g x → codes "S" ≡ name_of x →
+        Some (Origin.alternative (codes "S") [] 0) ≡ Some o →
+        Acts x o (record { nonterminal = codes "S"; symbols = GrammarSymbol.terminal a ∷ []; action = 1 })
+    of_rule x o i e d = go (no_other x i)
+      where
+        go : (Nonterminal.start (codes "S") ≡ x) ⊎ (Nonterminal.closed s ≡ x) →
+            Acts x o (record { nonterminal = codes "S"; symbols = GrammarSymbol.terminal a ∷ []; action = 1 })
+        go (inl f) = absurd (apart_names (ap name_of f ∙ sym e))
+        go (inr f) =
+            let same : Origin.alternative (codes "S") [] 0 ≡ o = cc in
+            subst (λ (y : Nonterminal). Acts y o
+            (record { nonterminal = codes "S"; symbols = GrammarSymbol.terminal a ∷ []; action = 1 })) f
+            (subst (λ (q : Origin). Acts (Nonterminal.closed s) q
+            (record { nonterminal = codes "S"; symbols = GrammarSymbol.terminal a ∷ []; action = 1 })) same
+            (written_code, rule_acts, refl))
+
+    defined : (p : NamedProduction) (label : WrittenLabel) (side : RightSide) → Among lowered.productions p →
+        StandsForLabel g name_of lowered.origins p label side → Acts label.head label.choice p
+    defined p label side (inl e) t =
+        subst (λ (q : NamedProduction). q.nonterminal ≡ name_of label.head → Acts label.head label.choice q) e
+        (λ n. of_start label.head label.choice t.in_expansion n) t.nonterminal_is
+    defined p label side (inr (inl e)) t =
+        subst (λ (q : NamedProduction). q.nonterminal ≡ name_of label.head →
+        slice_get lowered.origins q.action ≡ Some label.choice → Acts label.head label.choice q) e
+        (λ n o. of_rule label.head label.choice t.in_expansion n o) t.nonterminal_is t.origin_is
+    defined p label side (inr (inr m)) t = absurd m
+
+-- where its productions stand
+
+alternative_stands : IsWrittenSpan [] one (codes "S") 0 here
+alternative_stands = record {
+  rule = _;
+  alternative = _;
+  rule_there = inl refl;
+  rule_enabled = refl;
+  name_is = refl;
+  at = inl refl;
+  enabled = refl;
+  span_is = refl;
+}
+
+rule_stands : IsRuleSpan [] one (codes "S") here
+rule_stands = record { rule = _; rule_there = inl refl; enabled = refl; name_is = refl; span_is = refl }
+
+here_alone : (n : Text) (own : TextSpan) → Among lowered.places (n, own) → here ≡ own
+here_alone n own (inl e) = ap (λ (x : Text × TextSpan). x.1) e
+here_alone n own (inr (inl e)) = ap (λ (x : Text × TextSpan). x.1) e
+here_alone n own (inr (inr m)) = absurd m
+
+spans : HasWrittenSpans [] one g name_of lowered
+spans = record { each = refl; stands = stands; each_place = refl; places = places }
+  where
+    told : (p : NamedProduction) → Among lowered.productions p → (o : Origin) → slice_get lowered.origins p.action ≡ Some o →
+        StandsByChoice [] one here o here
+    told p (inl e) o f =
+        let start : Some Origin.start ≡ Some o = ap (λ (q : NamedProduction). slice_get lowered.origins q.action) e ∙ f in
+        subst (λ (x : Origin). StandsByChoice [] one here x here) (let same : Origin.start ≡ o = cc in same) refl
+    told p (inr (inl e)) o f =
+        let at : Some (Origin.alternative (codes "S") [] 0) ≡ Some o =
+        ap (λ (q : NamedProduction). slice_get lowered.origins q.action) e ∙ f in
+        subst (λ (x : Origin). StandsByChoice [] one here x here) (let same : Origin.alternative (codes "S") [] 0 ≡ o = cc in same)
+        alternative_stands
+    told p (inr (inr m)) o f = absurd m
+
+    at_here : (p : NamedProduction) (k : TextSpan) → Among lowered.spans (p, k) → Among lowered.productions p × (here ≡ k)
+    at_here p k (inl e) =
+        (inl (ap (λ (x : NamedProduction × TextSpan). x.0) e), ap (λ (x : NamedProduction × TextSpan). x.1) e)
+    at_here p k (inr (inl e)) =
+        (inr (inl (ap (λ (x : NamedProduction × TextSpan). x.0) e)), ap (λ (x : NamedProduction × TextSpan). x.1) e)
+    at_here p k (inr (inr m)) = absurd m
+
+    stands : (p : NamedProduction) (label : WrittenLabel) (side : RightSide) (k own : TextSpan) → Among lowered.spans (p, k) →
+        StandsForLabel g name_of lowered.origins p label side → Among lowered.places (p.nonterminal, own) →
+        StandsByChoice [] one own label.choice k
+    stands p label side k own i t j =
+        let u = at_here p k i in
+        subst (λ (x : TextSpan). StandsByChoice [] one x label.choice k) (here_alone p.nonterminal own j)
+        (subst (λ (x : TextSpan). StandsByChoice [] one here label.choice x) u.1 (told p u.0 label.choice t.origin_is))
+
+    places : (x : Nonterminal) (own : TextSpan) → InExpansion g x → Among lowered.places (name_of x, own) → HasOwnSpan [] one x own
+    places x own i j = subst (HasOwnSpan [] one x) (here_alone (name_of x) own j) (go (no_other x i))
+      where
+        go : (Nonterminal.start (codes "S") ≡ x) ⊎ (Nonterminal.closed s ≡ x) → HasOwnSpan [] one x here
+        go (inl e) = subst (λ (y : Nonterminal). HasOwnSpan [] one y here) e rule_stands
+        go (inr e) = subst (λ (y : Nonterminal). HasOwnSpan [] one y here) e rule_stands
+
 -- the literals of the expansion, the tokenizer's entries
 
 abbrev symbols_of : EnabledGrammar → List Nonterminal → List (GrammarSymbol Nonterminal)
@@ -354,6 +489,8 @@ normalized = record {
   naming = naming;
   prefix = refl;
   productions = productions;
+  actions = actions;
+  spans = spans;
   nonterminals = names;
   starts = starts;
   starts_alone = starts_alone;
@@ -370,6 +507,10 @@ normalized = record {
 no_start_refused : (v : LoweredGrammar) → v.starts ≡ [] → IsNormalized finds [] one v → ⊥
 no_start_refused v e h =
     subst (λ (l : List (Text × Text)). Among l (codes "S", codes "__S")) e ((h.starts (codes "S") (codes "__S")).1 (in_start, refl))
+
+-- nor with a definition too few
+few_definitions_refused : (v : LoweredGrammar) → length v.definitions ≡ 1 → length v.origins ≡ 2 → IsNormalized finds [] one v → ⊥
+few_definitions_refused v one_there two h = let same = h.actions.no_other in omega (arith, same, one_there, two)
 
 -- nor where the rule is inlined, whatever its name is
 inlined_refused : (v : LoweredGrammar) (h : IsNormalized finds [] one v) → Among v.inlined (h.name_of (Nonterminal.closed s)) → ⊥

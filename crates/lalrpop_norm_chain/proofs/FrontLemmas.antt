@@ -74,7 +74,7 @@ module _ (finds : Text → Text → Option Bool) (features : List Text) (w level
 
   -- the expansion
 
-  same_resolved : SameExpansion at_written at_resolved (λ x. x)
+  pub same_resolved : SameExpansion at_written at_resolved (λ x. x)
   same_resolved =
       SameExpansion-trans at_written at_left at_resolved (λ x. x) (λ x. x) (dropping_expansion finds features w c.read)
       (resolving_expansion finds (without_disabled features w))

@@ -8,6 +8,13 @@ pub mod KeyPrefixLemmas
 pub mod OrderLemmas
 pub mod ItemLemmas
 pub mod UsedLiteralLemmas
+pub mod ToldLemmas
+pub mod SpanLemmas
+pub mod ActionLemmas
+pub mod OneActionLemmas
 pub mod FrontLemmas
 pub mod ChainLemmas
+pub mod NormalizedLemmas
+pub mod ExamplesOfActions
+pub mod ExamplesOfSpans
 pub mod ExamplesOfNormalized

@@ -1,8 +1,8 @@
 -- The passes one after the other, with what each promises of the grammar that it got; for the chain of all passes.
-use Rattle.std.specs.Prelude.{◌≡◌, Bool, List, Option, None}
+use Rattle.std.specs.Prelude.{◌≡◌, ◌⊎◌, Bool, List, Option, None}
 use Rattle.lalrpop_grammar_symbols.specs.Symbols.{Text, Closed, Closeds}
 use Rattle.lalrpop_grammar_symbols.specs.declared.names.NonterminalString.{NonterminalString}
-use Rattle.lalrpop_grammar.specs.WrittenGrammar.{Rule, Grammar, rules_of}
+use Rattle.lalrpop_grammar.specs.WrittenGrammar.{Alternative, Rule, Grammar, rules_of}
 use Rattle.lalrpop_grammar_language.specs.Among.{Among}
 use Rattle.lalrpop_grammar_language.specs.Expansion.{Nonterminal}
 use Rattle.lalrpop_grammar_types.specs.declared.type_repr.TypeRepr.{TypeRepr}
@@ -20,6 +20,7 @@ use Rattle.lalrpop_norm_entries.specs.Places.{FirstPlaces}
 use Rattle.lalrpop_norm_types.specs.TypeFaults.{HasRuleTypes}
 use Rattle.lalrpop_norm_chain.specs.PremiseLaws.{resolved_part, entries_of_items}
 use Rattle.lalrpop_norm_chain.specs.Lowered.{LoweredGrammar, IsLoweredFrom}
+use Rattle.lalrpop_norm_chain.specs.Spans.{IsAddedOrigin, IsMadeFrom}
 
 -- What the pass over macros makes of a leveled grammar: a rule for each key under a name of its own. All else stays.
 pub record IsMacroResult (finds : Text → Text → Option Bool) (g made : Grammar) : Type 0 where
@@ -36,6 +37,9 @@ pub record IsMacroResult (finds : Text → Text → Option Bool) (g made : Gramm
   pub rule_spans : (n : Text) (args : Closeds) (q : Rule) → Among keys (Closed.call n args None) → Among (rules_of made.items) q
       → q.name ≡ key_of (Closed.call n args None)
       → (r : Rule) × Among (rules_of g.items) r × (r.name ≡ n) × (q.span ≡ r.span)
+  -- and so does each of its alternatives; others stand where their rule does
+  pub alternative_spans : (q : Rule) (b : Alternative) → Among (rules_of made.items) q → Among q.alternatives b
+      → IsMadeFrom (rules_of g.items) q b ⊎ (b.span ≡ q.span) × IsAddedOrigin b.origin
   pub span : made.span ≡ g.span
   pub prefix : made.prefix ≡ g.prefix
   pub attributes : made.attributes ≡ g.attributes

@@ -1,17 +1,17 @@
 -- What a normalized grammar is, over the written grammar and the features; and that the passes one after the other make one.
-use Rattle.std.specs.Prelude.{◌≡◌, ◌↔◌, Bool, List, Option, None, IsSomeAnd, codes}
-use Rattle.lalrpop_grammar_symbols.specs.Symbols.{Text, Terminal, Closed, Closeds}
+use Rattle.std.specs.Prelude.{◌≡◌, ◌↔◌, Bool, List, Option, None, IsSomeAnd, codes, length, map}
+use Rattle.lalrpop_grammar_symbols.specs.Symbols.{Text, TextSpan, Terminal, Closed, Closeds}
 use Rattle.lalrpop_grammar_symbols.specs.declared.names.NonterminalString.{NonterminalString}
-use Rattle.lalrpop_grammar.specs.WrittenGrammar.{Grammar}
+use Rattle.lalrpop_grammar.specs.WrittenGrammar.{Action, Grammar}
 use Rattle.lalrpop_grammar_language.specs.Among.{Among}
 use Rattle.lalrpop_grammar_language.specs.Enabled.{EnabledGrammar, EnabledRule, IsRule, has_attr, enabled_grammar}
 use Rattle.lalrpop_grammar_language.specs.Levels.{loosest}
-use Rattle.lalrpop_grammar_language.specs.Expansion.{GrammarSymbol, Nonterminal, InExpansion}
+use Rattle.lalrpop_grammar_language.specs.Expansion.{GrammarSymbol, Nonterminal, InExpansion, RightSide, WrittenLabel}
 use Rattle.lalrpop_grammar_repr.specs.Maps.{at_name}
 use Rattle.lalrpop_grammar_types.specs.declared.type_repr.TypeRepr.{TypeRepr}
 use Rattle.lalrpop_lexer_pattern.specs.Wins.{HasNoTie}
 use Rattle.lalrpop_norm_expansion.specs.Keys.{leveled_key_text, IsNaming}
-use Rattle.lalrpop_norm_expansion.specs.Productions.{NamedProduction, AreProductions}
+use Rattle.lalrpop_norm_expansion.specs.Productions.{NamedProduction, AreProductions, StandsForLabel}
 use Rattle.lalrpop_norm_expansion.specs.Inlined.{IsInlined}
 use Rattle.lalrpop_norm_expansion.specs.Types.{GroundType, IsGrounded}
 use Rattle.lalrpop_norm_entries.specs.Blocks.{block_groups}
@@ -19,8 +19,10 @@ use Rattle.lalrpop_norm_entries.specs.Patterns.{first_refused, entry_patterns, e
 use Rattle.lalrpop_norm_types.specs.GroundViews.{type_repr_view}
 use Rattle.lalrpop_norm_types.specs.TypeFaults.{nonterminal_of}
 use Rattle.lalrpop_norm_chain.specs.UsedLiterals.{AreFullExpansionEntries}
-use Rattle.lalrpop_norm_chain.specs.Lowered.{LoweredGrammar, start_name, IsTerminalOf}
+use Rattle.lalrpop_norm_chain.specs.Actions.{ChoiceDoes}
+use Rattle.lalrpop_norm_chain.specs.Lowered.{LoweredGrammar, start_name, HasDefinition, IsTerminalOf}
 use Rattle.lalrpop_norm_chain.specs.Chains.{IsChain}
+use Rattle.lalrpop_norm_chain.specs.Spans.{HasOwnSpan, StandsByChoice}
 
 -- The table has the type of each nonterminal by its name: the one that it can have, and a start its rule's.
 pub record HasExpansionTypes (g : EnabledGrammar) (name_of : Nonterminal → Text) (table : List (NonterminalString × TypeRepr)) :
@@ -32,6 +34,24 @@ pub record HasExpansionTypes (g : EnabledGrammar) (name_of : Nonterminal → Tex
       → at_name (nonterminal_of (name_of (Nonterminal.start n))) table
       ≡ at_name (nonterminal_of (name_of (Nonterminal.closed (Closed.call n Closeds.none (loosest r))))) table
 
+-- Each production's action is defined: it gives the nonterminal's type, has user code exactly where the written choice has some,
+-- that code, and may fail exactly where that says so. There is no other definition.
+pub record HasWrittenActions (g : EnabledGrammar) (name_of : Nonterminal → Text) (v : LoweredGrammar) : Type 0 where
+  pub defined : (p : NamedProduction) (label : WrittenLabel) (side : RightSide) → Among v.productions p
+      → StandsForLabel g name_of v.origins p label side → (a : Action) × ChoiceDoes g label.head label.choice a × HasDefinition v p a
+  pub no_other : length v.definitions ≡ length v.origins
+
+-- Each production stands somewhere, that of a written alternative where the alternative does, another one where its nonterminal does.
+-- Each nonterminal stands somewhere, that of a rule where the rule does.
+pub record HasWrittenSpans (features : List Text) (w : Grammar) (g : EnabledGrammar) (name_of : Nonterminal → Text)
+    (v : LoweredGrammar) : Type 0 where
+  pub each : map (λ e. e.0) v.spans ≡ v.productions
+  pub stands : (p : NamedProduction) (label : WrittenLabel) (side : RightSide) (s own : TextSpan) → Among v.spans (p, s)
+      → StandsForLabel g name_of v.origins p label side → Among v.places (p.nonterminal, own)
+      → StandsByChoice features w own label.choice s
+  pub each_place : map (λ e. e.0) v.places ≡ v.nonterminals
+  pub places : (x : Nonterminal) (own : TextSpan) → InExpansion g x → Among v.places (name_of x, own) → HasOwnSpan features w x own
+
 -- The lowered grammar is the written one's, with what the features leave of it.
 pub record IsNormalized (finds : Text → Text → Option Bool) (features : List Text) (w : Grammar) (v : LoweredGrammar) : Type 0 where
   -- names of the expansion's nonterminals, which the fields below speak by
@@ -40,6 +60,8 @@ pub record IsNormalized (finds : Text → Text → Option Bool) (features : List
   pub prefix : v.prefix ≡ w.prefix
   -- one production, origin and action for each written choice
   pub productions : AreProductions (enabled_grammar finds features w) name_of v.productions v.origins
+  pub actions : HasWrittenActions (enabled_grammar finds features w) name_of v
+  pub spans : HasWrittenSpans features w (enabled_grammar finds features w) name_of v
   pub nonterminals : (n : Text) → Among v.nonterminals n
       ↔ ((x : Nonterminal) × InExpansion (enabled_grammar finds features w) x × (name_of x ≡ n))
   -- a start for each public rule that is no macro, and none on a right side

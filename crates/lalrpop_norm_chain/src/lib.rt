@@ -2,13 +2,14 @@
 //! gives, over the written grammar.
 //!
 //! The crate has no code but laws. The definitions stand in `specs/`: `PremiseLaws` (what passes leave), `UsedLiterals` (the
-//! literals and entries of an expansion), `Lowered` (what definitions see of a lowered grammar), `Chains` (the passes one after
-//! the other) and `Normalized` (what a normalized grammar is).
+//! literals and entries of an expansion), `Actions` (what its productions do), `Lowered` (what definitions see of a lowered grammar),
+//! `Chains` (the passes one after the other) and `Normalized` (what a normalized grammar is).
 #![tactic(auto)]
 
 ghost use Rattle.lalrpop_norm_chain.specs.PremiseLaws.{ReadNamesArePlain, ResolvedTellsOwnRules, NothingIsDisabled, NoRecoveryComesIn};
 ghost use Rattle.lalrpop_norm_chain.specs.PremiseLaws.{PrefixStaysFree, KeysLeavePrefix, RulesStayInOrder, KeysStandInOrder};
 ghost use Rattle.lalrpop_norm_chain.specs.PremiseLaws.{NoTokenizerIsMade};
+ghost use Rattle.lalrpop_norm_chain.specs.Actions.{ProductionsDoOneThing};
 ghost use Rattle.lalrpop_norm_chain.specs.Normalized.{ChainsNormalize};
 
 /// The law of premises, from the reading to the levels: of a grammar that was read, names are such that levels can be named, and
@@ -30,6 +31,11 @@ pub fn passes_leave_premises()
 pub fn keys_leave_premises()
     ensures prefix { KeysLeavePrefix }
     ensures order { KeysStandInOrder }
+{}
+
+/// The law of actions: what a production of a written grammar's expansion does, its label tells.
+pub fn productions_do_one_thing()
+    ensures { ProductionsDoOneThing }
 {}
 
 /// The law of the chain: where each pass gives what it promises, the lowered grammar is the normalized one of the written

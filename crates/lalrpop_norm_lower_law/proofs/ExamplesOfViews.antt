@@ -1,17 +1,20 @@
 -- Computed examples of what definitions see of maps and tokenizers of a lowered grammar, and near misses.
 use Prim.Native.String.{String}
-use Rattle.std.specs.Prelude.{codes, map}
+use Rattle.std.specs.Prelude.{codes, ◌++◌, map}
 use Rattle.std.proofs.Common.{◌≡◌, ◌∙◌, ℕ, arith, List, [], ◌∷◌, refl, ap, inl, inr, true, false, Bool, cond}
 use Rattle.lalrpop_grammar_symbols.specs.Symbols.{Terminal, Text}
+use Rattle.lalrpop_grammar_symbols.specs.Views.{span_view}
 use Rattle.lalrpop_grammar_symbols.specs.declared.names.NonterminalString.{NonterminalString}
 use Rattle.lalrpop_grammar.specs.WrittenGrammar.{EntryMapping, Grammar, InternEntry, WrittenItem}
 use Rattle.lalrpop_grammar_language.specs.Among.{Among}
 use Rattle.lalrpop_grammar_language.proofs.WrittenTreeLemmas.{grammar}
 use Rattle.lalrpop_grammar_repr.specs.declared.production.NonterminalData.{NonterminalData}
+use Rattle.lalrpop_grammar_repr.specs.declared.production.Production.{Production}
 use Rattle.lalrpop_norm_types.specs.TypeFaults.{nonterminal_of}
 use Rattle.lalrpop_norm_lower.specs.Lowered.{says_inline}
+use Rattle.lalrpop_norm_lower.specs.LoweredSymbols.{named_production}
 use Rattle.lalrpop_norm_lower_law.specs.LoweredViews.{HasNoTokenizer, HasOneTokenizer, first_entries, found_names}
-use Rattle.lalrpop_norm_lower_law.specs.LoweredViews.{found_pairs, names_marked_inline}
+use Rattle.lalrpop_norm_lower_law.specs.LoweredViews.{found_pairs, names_marked_inline, production_spans}
 
 abbrev named : String → NonterminalString
 named n = nonterminal_of (codes n)
@@ -54,6 +57,11 @@ module _ (d e : NonterminalData) (marked : says_inline d ≡ true) (unmarked : s
       ap (λ (b : Bool). names_of (cond b ((named "L", d) ∷ cond (says_inline e) ((named "S", e) ∷ []) [])
       (cond (says_inline e) ((named "S", e) ∷ []) []))) marked
       ∙ ap (λ (b : Bool). codes "L" ∷ names_of (cond b ((named "S", e) ∷ []) [])) unmarked
+
+-- a production beside where it stands
+module _ (d : NonterminalData) (p : Production) (only : d.productions ≡ p ∷ []) where
+  one_span : production_spans ((named "S", d) ∷ []) ≡ (named_production p, span_view p.span) ∷ []
+  one_span = ap (λ (ps : List Production). map (λ q. (named_production q, span_view q.span)) ps ++ []) only
 
 -- tokenizers
 

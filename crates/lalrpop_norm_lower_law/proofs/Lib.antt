@@ -1,4 +1,5 @@
 pub mod EntryLemmas
+pub mod MadeLemmas
 pub mod LoweredLemmas
 pub mod PremiseLemmas
 pub mod ExamplesOfViews

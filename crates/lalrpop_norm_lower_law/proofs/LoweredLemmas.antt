@@ -1,18 +1,20 @@
 -- What lowering promises of an expanded grammar is what the chain of passes asks of it; for the law of lowering in the chain.
-use Rattle.std.proofs.Common.{◌≡◌, zero, suc, List, [], ◌∷◌, refl, ap, sym, ◌∙◌, subst, true, inl, inr, ◌⊎◌}
-use Rattle.std.proofs.Common.{Bool}
-use Rattle.std.specs.Prelude.{Option, Some, None, IsSomeAnd, ◌↔◌, ◌++◌, filter, map}
+use Rattle.std.proofs.Common.{◌≡◌, zero, suc, List, refl, ap, sym, ◌∙◌, subst, true, inl, inr, ◌⊎◌}
+use Rattle.std.proofs.Common.{Bool, ℕ}
+use Rattle.std.specs.Prelude.{Option, Some, IsSomeAnd, ◌↔◌, ◌++◌, filter, flat_map, map, option_map, slice_get}
 use Rattle.std.proofs.lemmas.Bool.{and_parts}
-use Rattle.lalrpop_grammar_symbols.specs.Symbols.{Text, Terminal, WrittenSymbol, Sym}
-use Rattle.lalrpop_grammar_symbols.specs.Views.{terminal_view}
+use Rattle.std.proofs.lemmas.List.{length-map}
+use Rattle.std.proofs.lemmas.Option.{slice_get-map}
+use Rattle.lalrpop_grammar_symbols.specs.Symbols.{Text, TextSpan, Terminal}
+use Rattle.lalrpop_grammar_symbols.specs.Views.{span_view, terminal_view}
 use Rattle.lalrpop_grammar_symbols.specs.contracts.names.NonterminalStringOrd.TheImpl as names
 use Rattle.lalrpop_grammar_symbols.specs.declared.names.NonterminalString.{NonterminalString}
-use Rattle.lalrpop_grammar.specs.Views.{grammar_view, intern_entry_view}
-use Rattle.lalrpop_grammar.specs.WrittenGrammar.{Alternative, Grammar, InternEntry, Origin, Rule, rules_of}
+use Rattle.lalrpop_grammar.specs.Views.{grammar_view, intern_entry_view, origin_view}
+use Rattle.lalrpop_grammar.specs.WrittenGrammar.{Action, Alternative, Grammar, InternEntry, Origin, Rule, rules_of}
 use Rattle.lalrpop_grammar.specs.declared.grammar.Grammar as program
 use Rattle.lalrpop_grammar_language.specs.Among.{Among}
-use Rattle.lalrpop_grammar_language.specs.Enabled.{EnabledGrammar, EnabledRule}
-use Rattle.lalrpop_grammar_language.specs.Expansion.{GrammarSymbol, InExpansion, Nonterminal}
+use Rattle.lalrpop_grammar_language.specs.Enabled.{EnabledGrammar, EnabledRule, IsRule, choice_of}
+use Rattle.lalrpop_grammar_language.specs.Expansion.{GrammarSymbol, InExpansion, Nonterminal, RightSide, WrittenLabel}
 use Rattle.lalrpop_grammar_language.specs.Starts.{has_none}
 use Rattle.lalrpop_grammar_language.proofs.PlaceLemmas.{among_filter, among_map}
 use Rattle.lalrpop_grammar_repr.specs.Maps.{at_name}
@@ -20,72 +22,38 @@ use Rattle.lalrpop_grammar_repr.specs.declared.production.NonterminalData.{Nonte
 use Rattle.lalrpop_grammar_repr.specs.declared.production.Production.{Production}
 use Rattle.lalrpop_grammar_repr.specs.declared.types.Types.{Types}
 use Rattle.lalrpop_grammar_types.specs.declared.type_repr.TypeRepr.{TypeRepr}
-use Rattle.lalrpop_norm_expansion.specs.Between.{grammar_between, rule_between}
+use Rattle.lalrpop_norm_expansion.specs.Between.{grammar_between, rule_between, with_origins}
 use Rattle.lalrpop_norm_expansion.specs.Inlined.{IsInlined}
-use Rattle.lalrpop_norm_expansion.specs.Productions.{NamedProduction}
+use Rattle.lalrpop_norm_expansion.specs.Productions.{NamedProduction, StandsForLabel}
+use Rattle.lalrpop_norm_expansion.specs.Rows.{Row}
 use Rattle.lalrpop_norm_expansion.proofs.AmongLemmas.{among_flat_map, among_parts, among_right, flat_map_among, map_among}
 use Rattle.lalrpop_norm_expansion.proofs.LevelLemmas.{keeps}
 use Rattle.lalrpop_norm_level_laws.proofs.LevelOrderLemmas.{one_rule}
-use Rattle.lalrpop_norm_types.specs.TerminalTypes.{inner_terminals, terminals_of_alternatives, terminals_of_items, terminals_of_rules}
+use Rattle.lalrpop_norm_types.specs.TerminalTypes.{terminals_of_alternatives, terminals_of_items, terminals_of_rules}
 use Rattle.lalrpop_norm_types.specs.TerminalTypes.{terminals_of_symbols}
 use Rattle.lalrpop_norm_types.specs.TypeFaults.{nonterminal_of}
-use Rattle.lalrpop_norm_lower.specs.Lowered.{AreLoweredAlternatives, IsLowerable, IsLowered, IsLoweredAlternative, IsLoweredName}
-use Rattle.lalrpop_norm_lower.specs.Lowered.{KeepsTheRest, says_inline}
-use Rattle.lalrpop_norm_lower.specs.LoweredLists.{gets_start}
-use Rattle.lalrpop_norm_lower.specs.LoweredSymbols.{lowered_name, lowered_side, lowered_symbol, named_production}
+use Rattle.lalrpop_norm_lower.specs.Lowered.{IsLowerable, IsLowered, IsLoweredAlternative, IsLoweredName}
+use Rattle.lalrpop_norm_lower.specs.Lowered.{IsLoweredRule, IsLoweredStart, KeepsTheRest, says_inline, start_of}
+use Rattle.lalrpop_norm_lower.specs.Definitions.{definition_of}
+use Rattle.lalrpop_norm_lower.specs.LoweredLists.{gets_start, rules_with_starts}
+use Rattle.lalrpop_norm_lower.specs.LoweredSymbols.{lowered_name, named_production}
 use Rattle.lalrpop_norm_lower.specs.LoweredSymbols.{productions_at}
 use Rattle.lalrpop_norm_lower.specs.declared.lowering.Normalized.{Normalized}
-use Rattle.lalrpop_norm_lower.proofs.ExpansionRowLemmas.{public_starts}
+use Rattle.lalrpop_norm_lower.proofs.EarlierLemmas.{among_at}
+use Rattle.lalrpop_norm_lower.proofs.ExpansionRowLemmas.{alternative_row, are_expansion_rows, public_starts, rule_rows, start_row}
 use Rattle.lalrpop_norm_lower.proofs.OrderLemmas.{equal_names}
 use Rattle.lalrpop_norm_lower.proofs.PutLemmas.{found_among}
 use Rattle.lalrpop_norm_lower.proofs.RowLemmas.{produced_by_start, rule_nonterminal, rule_there, start_there}
-use Rattle.lalrpop_norm_chain.specs.Lowered.{IsLoweredFrom, IsTerminalOf, LoweredGrammar, start_name}
+use Rattle.lalrpop_norm_chain.specs.Lowered.{HasDefinition, IsAlternativeSpan, IsLoweredFrom, IsRuleProduction, IsStartProduction, IsStartSpan}
+use Rattle.lalrpop_norm_chain.specs.Lowered.{IsTerminalOf}
+use Rattle.lalrpop_norm_chain.specs.Lowered.{LoweredGrammar, start_name}
 use Rattle.lalrpop_norm_chain.specs.PremiseLaws.{entries_of_items}
 use Rattle.lalrpop_norm_chain.proofs.ChainLemmas.{no_start_inside}
-use Rattle.lalrpop_norm_lower_law.specs.LoweredViews.{HasOneTokenizer, found_entries, lowered_view}
+use Rattle.lalrpop_norm_lower_law.specs.LoweredViews.{HasOneTokenizer, found_entries, lowered_view, spans_at}
 use Rattle.lalrpop_norm_lower_law.proofs.EntryLemmas.{entry_found, entry_of_terminal, first_is, found_entry, found_name, lalr_is}
+use Rattle.lalrpop_norm_lower_law.proofs.MadeLemmas.{alternative_made, one_value, places_are_each, same_first, some_there}
+use Rattle.lalrpop_norm_lower_law.proofs.MadeLemmas.{spans_are_each, terminal_in_side, typed_definition}
 use Rattle.lalrpop_norm_lower_law.proofs.EntryLemmas.{mapping_from, name_found, terminal_of_entry}
-
-some_there : {A : Type 0} (P : A → Type 0) (o : Option A) → IsSomeAnd o P → (x : A) × (o ≡ Some x) × P x
-some_there P None h = absurd h
-some_there P (Some x) h = (x, refl, h)
-
-one_value : {A : Type 0} (x y : A) (o : Option A) → o ≡ Some x → o ≡ Some y → x ≡ y
-one_value x y o e f = let same : Some x ≡ Some y = sym e ∙ f in cc
-
--- a terminal of symbols stands on their right side
-
-terminal_in_symbol : (x : WrittenSymbol) (t : Terminal) → Among (inner_terminals x) t
-    → Among (lowered_symbol x) (GrammarSymbol.terminal t)
-terminal_in_symbol (Sym.terminal p u) t (inl e) = inl (ap (λ v. GrammarSymbol.terminal v) e)
-terminal_in_symbol (Sym.terminal p u) t (inr i) = absurd i
-terminal_in_symbol (Sym.choose p x) t i = terminal_in_symbol x t i
-terminal_in_symbol (Sym.name p m n x) t i = terminal_in_symbol x t i
-terminal_in_symbol (Sym.nonterminal p n) t i = absurd i
-terminal_in_symbol (Sym.ambiguous_id p n) t i = absurd i
-terminal_in_symbol (Sym.macro p n args) t i = absurd i
-terminal_in_symbol (Sym.expr p xs) t i = absurd i
-terminal_in_symbol (Sym.repeat p op x) t i = absurd i
-terminal_in_symbol (Sym.lookahead p) t i = absurd i
-terminal_in_symbol (Sym.lookbehind p) t i = absurd i
-terminal_in_symbol (Sym.error p) t i = absurd i
-
-terminal_in_side : (xs : List WrittenSymbol) (t : Terminal) → Among (terminals_of_symbols xs) t
-    → Among (lowered_side xs) (GrammarSymbol.terminal t)
-terminal_in_side xs t i =
-    let u = among_flat_map inner_terminals xs t i in
-    flat_map_among lowered_symbol xs u.0 (GrammarSymbol.terminal t) u.1 (terminal_in_symbol u.0 t u.2)
-
--- each alternative has its production
-alternative_made : (made : Normalized) (table : List (NonterminalString × TypeRepr)) (r : Rule) (as_ : List Alternative)
-    (ps : List Production) → AreLoweredAlternatives made table r as_ ps → (a : Alternative) → Among as_ a
-    → (p : Production) × Among ps p × IsLoweredAlternative made table r a p
-alternative_made made table r [] ps h a i = absurd i
-alternative_made made table r (b ∷ as_) [] h a i = absurd h
-alternative_made made table r (b ∷ as_) (p ∷ ps) h a (inl e) =
-    (p, inl refl, subst (λ (c : Alternative). IsLoweredAlternative made table r c p) e h.0)
-alternative_made made table r (b ∷ as_) (p ∷ ps) h a (inr i) =
-    let u = alternative_made made table r as_ ps h.1 a i in (u.0, inr u.1, u.2)
 
 start_is : (m k : Text) → Nonterminal.start m ≡ Nonterminal.start k → m ≡ k
 start_is m k e = cc
@@ -294,6 +262,274 @@ module _ (finds : Text → Text → Option Bool) (g : program.Grammar) (types : 
       (ap (λ (p : Text). at_name (nonterminal_of (p ++ s.0.name)) v.types) (sym prefix_is)
       ∙ m.types_are.starts s.0 s.1 s.2 ∙ sym (rule_type s.0 s.1))
 
+  -- actions
+
+  -- no two productions of one nonterminal have one origin
+  one_production : (p q : NamedProduction) → Among v.productions p → Among v.productions q → p.nonterminal ≡ q.nonterminal
+      → slice_get v.origins p.action ≡ slice_get v.origins q.action → q ≡ p
+  one_production p q i j e o =
+      let a = among_at v.productions p i in
+      let b = among_at v.productions q j in
+      let same : a.0 ≡ b.0 = m.productions.once a.0 b.0 p q a.1 b.1 e o in
+      one_value q p (slice_get v.productions b.0) b.1 (subst (λ (n : ℕ). slice_get v.productions n ≡ Some p) same a.1)
+
+  made_among : (n : NonterminalString) (d : NonterminalData) → at_name n nonterminals ≡ Some d → (q : Production)
+      → Among d.productions q → Among v.productions (named_production q)
+  made_among n d e q i =
+      flat_map_among productions_at nonterminals (n, d) (named_production q)
+      (found_among (names.ghosts).cmp equal_names nonterminals n d e) (map_among named_production d.productions q i)
+
+  origin_at : (q : Production) (o : Origin) → option_map origin_view (slice_get made.origins q.action.0) ≡ Some o
+      → slice_get v.origins q.action.0 ≡ Some o
+  origin_at q o e = slice_get-map origin_view made.origins q.action.0 ∙ e
+
+  rule_definition : (r : Rule) → Among rs r → (a : Alternative) (q : Production)
+      → IsLoweredAlternative made types.nonterminal_types r a q → HasDefinition v (named_production q) a.action
+  rule_definition r i a q s =
+      let same : at_name (nonterminal_of q.nonterminal.0) v.types ≡ at_name (nonterminal_of r.name) types.nonterminal_types =
+      ap (λ (n : NonterminalString). at_name (nonterminal_of n.0) v.types) s.nonterminal_is ∙ rule_type r i in
+      subst (λ (o : Option TypeRepr).
+      IsSomeAnd o (λ t. slice_get v.definitions q.action.0 ≡ Some (definition_of t a.action))) (sym same)
+      (typed_definition (at_name (nonterminal_of r.name) types.nonterminal_types) a.action
+      (slice_get v.definitions q.action.0) (l.typed r i) s.definition_is)
+
+  start_definition : (r : Rule) → Among rs r → gets_start r ≡ true → (d : NonterminalData)
+      → (s : IsLoweredStart made types.nonterminal_types w r d) → HasDefinition v (named_production s.production) Action.default
+  start_definition r i e d s =
+      let q = s.production in
+      let same : at_name (nonterminal_of q.nonterminal.0) v.types ≡ at_name (nonterminal_of r.name) types.nonterminal_types =
+      ap (λ (n : NonterminalString). at_name (nonterminal_of n.0) v.types) s.nonterminal_is ∙ m.types_are.starts r i e in
+      subst (λ (o : Option TypeRepr).
+      IsSomeAnd o (λ t. slice_get v.definitions q.action.0 ≡ Some (definition_of t Action.default))) (sym same)
+      (typed_definition (at_name (nonterminal_of r.name) types.nonterminal_types) Action.default
+      (slice_get v.definitions q.action.0) (l.typed r i) s.definition_is)
+
+  -- the production of a start: it is made for it, and there is no other
+  record IsMadeForStart (p : NamedProduction) (r : Rule) : Type 0 where
+    found : NonterminalData
+    there : at_name (start_of w r) nonterminals ≡ Some found
+    lowered : IsLoweredStart made types.nonterminal_types w r found
+    is_it : named_production lowered.production ≡ p
+
+  start_made : (p : NamedProduction) → Among v.productions p → (r : Rule) → Among rs r → gets_start r ≡ true
+      → p.nonterminal ≡ w.prefix ++ r.name → slice_get v.origins p.action ≡ Some Origin.start → IsMadeForStart p r
+  start_made p i r j e name_so told =
+      let d = some_there (IsLoweredStart made types.nonterminal_types w r) (at_name (start_of w r) nonterminals)
+      (m.nonterminals.starts r j e) in
+      let q = d.2.production in
+      let there : Among v.productions (named_production q) =
+      made_among (start_of w r) d.0 d.1 q (subst (λ (ps : List Production). Among ps q) (sym d.2.productions_are) (inl refl)) in
+      let named : q.nonterminal.0 ≡ w.prefix ++ r.name = ap (λ (n : NonterminalString). n.0) d.2.nonterminal_is in
+      record {
+        found = d.0;
+        there = d.1;
+        lowered = d.2;
+        is_it = one_production p (named_production q) i there (name_so ∙ sym named)
+            (told ∙ sym (origin_at q Origin.start d.2.origin_is));
+      }
+
+  of_start : (p : NamedProduction) → Among v.productions p → (r : Rule) → Among rs r → gets_start r ≡ true
+      → p.nonterminal ≡ w.prefix ++ r.name → slice_get v.origins p.action ≡ Some Origin.start → IsStartProduction h v p
+  of_start p i r j e name_so told =
+      let q = start_made p i r j e name_so told in
+      record {
+        name = r.name;
+        start_there = start_in r j e;
+        nonterminal_is = name_so ∙ ap (λ (x : Text). x ++ r.name) prefix_is;
+        definition = subst (λ (x : NamedProduction). HasDefinition v x Action.default) q.is_it
+            (start_definition r j e q.found q.lowered);
+      }
+
+  -- that of an alternative: it is made for it, and there is no other
+  record IsMadeFor (p : NamedProduction) (r : Rule) (a : Alternative) : Type 0 where
+    found : NonterminalData
+    there : at_name (nonterminal_of r.name) nonterminals ≡ Some found
+    production : Production
+    listed : Among found.productions production
+    lowered : IsLoweredAlternative made types.nonterminal_types r a production
+    is_it : named_production production ≡ p
+
+  made_for : (p : NamedProduction) → Among v.productions p → (r : Rule) → Among rs r → (a : Alternative) → Among r.alternatives a
+      → p.nonterminal ≡ r.name → slice_get v.origins p.action ≡ Some a.origin → IsMadeFor p r a
+  made_for p i r j a k name_so told =
+      let d = some_there (IsLoweredRule made types.nonterminal_types r) (at_name (nonterminal_of r.name) nonterminals)
+      (m.nonterminals.rules r j) in
+      let q = alternative_made made types.nonterminal_types r r.alternatives d.0.productions d.2.productions_are a k in
+      let there : Among v.productions (named_production q.0) = made_among (nonterminal_of r.name) d.0 d.1 q.0 q.1 in
+      let named : q.0.nonterminal.0 ≡ r.name = ap (λ (n : NonterminalString). n.0) q.2.nonterminal_is in
+      let origin : slice_get v.origins q.0.action.0 ≡ Some a.origin = origin_at q.0 a.origin q.2.origin_is in
+      record {
+        found = d.0;
+        there = d.1;
+        production = q.0;
+        listed = q.1;
+        lowered = q.2;
+        is_it = one_production p (named_production q.0) i there (name_so ∙ sym named) (told ∙ sym origin);
+      }
+
+  of_rule : (p : NamedProduction) → Among v.productions p → (r : Rule) → Among rs r → (a : Alternative) → Among r.alternatives a
+      → p.nonterminal ≡ r.name → slice_get v.origins p.action ≡ Some a.origin → IsRuleProduction h v p
+  of_rule p i r j a k name_so told =
+      let q = made_for p i r j a k name_so told in
+      record {
+        rule = rule_between r;
+        choice = choice_of (a.origin, a);
+        rule_there = between_among r j;
+        choice_there = map_among choice_of (with_origins r.alternatives) (a.origin, a)
+            (map_among (λ (b : Alternative). (b.origin, b)) r.alternatives a k);
+        nonterminal_is = name_so;
+        origin_is = told;
+        definition = subst (λ (x : NamedProduction). HasDefinition v x a.action) q.is_it
+            (rule_definition r j a q.production q.lowered);
+      }
+
+  -- there is no other production
+  acting : (p : NamedProduction) → Among v.productions p → IsRuleProduction h v p ⊎ IsStartProduction h v p
+  acting p i =
+      let s = m.productions.no_other p i in
+      go s.0 s.1 s.2
+      (among_parts (map start_row (rules_with_starts rs)) (flat_map rule_rows rs) (s.0, s.1)
+      ((are_expansion_rows finds w l.expanded l.ordered l.free_prefix).every s.0 s.1 s.2.in_expansion s.2.produced))
+    where
+      go : (label : WrittenLabel) (side : RightSide) → StandsForLabel h (lowered_name w.prefix) v.origins p label side
+          → Among (map start_row (rules_with_starts rs)) (label, side) ⊎ Among (flat_map rule_rows rs) (label, side)
+          → IsRuleProduction h v p ⊎ IsStartProduction h v p
+      go label side s (inl j) =
+          let r = among_map start_row (rules_with_starts rs) (label, side) j in
+          let f = among_filter gets_start rs r.0 r.1 in
+          inr (of_start p i r.0 f.0 f.1
+          (s.nonterminal_is ∙ ap (λ (row : Row). lowered_name w.prefix row.0.head) (sym r.2))
+          (s.origin_is ∙ ap (λ (row : Row). Some row.0.choice) (sym r.2)))
+      go label side s (inr j) =
+          let r = among_flat_map rule_rows rs (label, side) j in
+          let a = among_map (alternative_row r.0.name) r.0.alternatives (label, side) r.2 in
+          inl (of_rule p i r.0 r.1 a.0 a.1
+          (s.nonterminal_is ∙ ap (λ (row : Row). lowered_name w.prefix row.0.head) (sym a.2))
+          (s.origin_is ∙ ap (λ (row : Row). Some row.0.choice) (sym a.2)))
+
+  -- where productions stand
+
+  production_at : (i : ℕ) (p : NamedProduction) (s : TextSpan) → slice_get v.spans i ≡ Some (p, s)
+      → slice_get v.productions i ≡ Some p
+  production_at i p s e =
+      subst (λ (l : List NamedProduction). slice_get l i ≡ Some p) (spans_are_each nonterminals)
+      (slice_get-map (λ (x : NamedProduction × TextSpan). x.0) v.spans i ∙ same_first (slice_get v.spans i) p s e)
+
+  -- a production stands at one place
+  one_span : (p : NamedProduction) (s t : TextSpan) → Among v.spans (p, s) → Among v.spans (p, t) → s ≡ t
+  one_span p s t i j =
+      let a = among_at v.spans (p, s) i in
+      let b = among_at v.spans (p, t) j in
+      let same : a.0 ≡ b.0 =
+      m.productions.once a.0 b.0 p p (production_at a.0 p s a.1) (production_at b.0 p t b.1) refl refl in
+      ap (λ (x : NamedProduction × TextSpan). x.1)
+      (one_value (p, s) (p, t) (slice_get v.spans b.0)
+      (subst (λ (n : ℕ). slice_get v.spans n ≡ Some (p, s)) same a.1) b.1)
+
+  -- the production of some nonterminal stands where it is made
+  span_made : (n : NonterminalString) (d : NonterminalData) → at_name n nonterminals ≡ Some d → (q : Production)
+      → Among d.productions q → (p : NamedProduction) → named_production q ≡ p → (s : TextSpan) → Among v.spans (p, s)
+      → span_view q.span ≡ s
+  span_made n d e q i p same s j =
+      let there : Among v.spans (named_production q, span_view q.span) =
+      flat_map_among spans_at nonterminals (n, d) (named_production q, span_view q.span)
+      (found_among (names.ghosts).cmp equal_names nonterminals n d e)
+      (map_among (λ (x : Production). (named_production x, span_view x.span)) d.productions q i) in
+      one_span p (span_view q.span) s
+      (subst (λ (x : NamedProduction). Among v.spans (x, span_view q.span)) same there) j
+
+  span_there : (p : NamedProduction) (s : TextSpan) → Among v.spans (p, s) → Among v.productions p
+  span_there p s i =
+      subst (λ (l : List NamedProduction). Among l p) (spans_are_each nonterminals)
+      (map_among (λ (x : NamedProduction × TextSpan). x.0) v.spans (p, s) i)
+
+  stands : (p : NamedProduction) (s : TextSpan) → Among v.spans (p, s) → IsAlternativeSpan w v p s ⊎ IsStartSpan w h v p s
+  stands p s i =
+      let t = m.productions.no_other p (span_there p s i) in
+      go t.0 t.1 t.2
+      (among_parts (map start_row (rules_with_starts rs)) (flat_map rule_rows rs) (t.0, t.1)
+      ((are_expansion_rows finds w l.expanded l.ordered l.free_prefix).every t.0 t.1 t.2.in_expansion t.2.produced))
+    where
+      go : (label : WrittenLabel) (side : RightSide) → StandsForLabel h (lowered_name w.prefix) v.origins p label side
+          → Among (map start_row (rules_with_starts rs)) (label, side) ⊎ Among (flat_map rule_rows rs) (label, side)
+          → IsAlternativeSpan w v p s ⊎ IsStartSpan w h v p s
+      go label side t (inl j) =
+          let r = among_map start_row (rules_with_starts rs) (label, side) j in
+          let f = among_filter gets_start rs r.0 r.1 in
+          let name : p.nonterminal ≡ w.prefix ++ r.0.name =
+          t.nonterminal_is ∙ ap (λ (row : Row). lowered_name w.prefix row.0.head) (sym r.2) in
+          let origin : slice_get v.origins p.action ≡ Some Origin.start =
+          t.origin_is ∙ ap (λ (row : Row). Some row.0.choice) (sym r.2) in
+          let q = start_made p (span_there p s i) r.0 f.0 f.1 name origin in
+          inr (record {
+            rule = r.0;
+            rule_there = f.0;
+            start_there = start_in r.0 f.0 f.1;
+            nonterminal_is = name ∙ ap (λ (x : Text). x ++ r.0.name) prefix_is;
+            origin_is = origin;
+            span_is = sym q.lowered.production_span_is
+                ∙ span_made (start_of w r.0) q.found q.there q.lowered.production
+                (subst (λ (ps : List Production). Among ps q.lowered.production) (sym q.lowered.productions_are) (inl refl)) p q.is_it s i;
+          })
+      go label side t (inr j) =
+          let r = among_flat_map rule_rows rs (label, side) j in
+          let a = among_map (alternative_row r.0.name) r.0.alternatives (label, side) r.2 in
+          let name : p.nonterminal ≡ r.0.name =
+          t.nonterminal_is ∙ ap (λ (row : Row). lowered_name w.prefix row.0.head) (sym a.2) in
+          let origin : slice_get v.origins p.action ≡ Some a.0.origin =
+          t.origin_is ∙ ap (λ (row : Row). Some row.0.choice) (sym a.2) in
+          let q = made_for p (span_there p s i) r.0 r.1 a.0 a.1 name origin in
+          inl (record {
+            rule = r.0;
+            alternative = a.0;
+            rule_there = r.1;
+            alternative_there = a.1;
+            nonterminal_is = name;
+            origin_is = origin;
+            span_is = sym q.lowered.span_is
+                ∙ span_made (nonterminal_of r.0.name) q.found q.there q.production q.listed p q.is_it s i;
+          })
+
+  -- where nonterminals stand
+
+  -- what has a start is public
+  start_public : (r : Rule) → Among rs r → InExpansion h (Nonterminal.start r.name) → r.public ≡ true
+  start_public r i started =
+      let q = start_from r.name started in
+      let first = l.expanded.rules (rule_between q.0) (between_among q.0 q.1) in
+      let named : IsRule h r.name (rule_between q.0) = subst (λ (n : Text). IsRule h n (rule_between q.0)) q.3 first in
+      let same = one_rule h r.name (rule_between q.0) (rule_between r) named (l.expanded.rules (rule_between r) (between_among r i)) in
+      ap (λ (e : EnabledRule). e.public) (sym same) ∙ (and_parts q.0.public (has_none q.0.parameters) q.2).0
+
+  place_found : (n : Text) (s : TextSpan) → Among v.places (n, s)
+      → (d : NonterminalData) × (at_name (nonterminal_of n) nonterminals ≡ Some d) × (span_view d.span ≡ s)
+  place_found n s i =
+      let u = among_map (λ (e : NonterminalString × NonterminalData). (e.0.0, span_view e.1.span)) (found_entries nonterminals)
+      (n, s) i in (
+        u.0.1,
+        ap (λ (x : Text × TextSpan). at_name (nonterminal_of x.0) nonterminals) (sym u.2) ∙ entry_found nonterminals u.0 u.1,
+        ap (λ (x : Text × TextSpan). x.1) u.2,
+      )
+
+  rule_place : (r : Rule) (s : TextSpan) → Among rs r → Among v.places (r.name, s) → s ≡ r.span
+  rule_place r s i j =
+      let u = place_found r.name s j in
+      let d = some_there (IsLoweredRule made types.nonterminal_types r) (at_name (nonterminal_of r.name) nonterminals)
+      (m.nonterminals.rules r i) in
+      sym u.2 ∙ ap (λ (x : NonterminalData). span_view x.span)
+      (one_value u.0 d.0 (at_name (nonterminal_of r.name) nonterminals) u.1 d.1) ∙ d.2.span_is
+
+  start_place : (r : Rule) (s : TextSpan) → Among rs r → InExpansion h (Nonterminal.start r.name)
+      → Among v.places (start_name v.prefix r.name, s) → s ≡ r.span
+  start_place r s i started j =
+      let public : r.public ≡ true = start_public r i started in
+      let u = place_found (w.prefix ++ r.name) s
+      (subst (λ (p : Text). Among v.places (p ++ r.name, s)) (sym prefix_is) j) in
+      let d = some_there (IsLoweredStart made types.nonterminal_types w r) (at_name (start_of w r) nonterminals)
+      (m.nonterminals.starts r i (public_starts finds w l.expanded l.ordered l.free_prefix r i public)) in
+      sym u.2 ∙ ap (λ (x : NonterminalData). span_view x.span) (one_value u.0 d.0 (at_name (start_of w r) nonterminals) u.1 d.1)
+      ∙ d.2.span_is
+
   pub lowered_from : IsLoweredFrom w h types.nonterminal_types v
   lowered_from = record {
     name_of = lowered_name w.prefix;
@@ -301,6 +537,13 @@ module _ (finds : Text → Text → Option Bool) (g : program.Grammar) (types : 
     start_names = λ n. ap (λ (p : Text). p ++ n) prefix_is;
     prefix_is = k.prefix;
     productions = m.productions;
+    actions = acting;
+    no_other_definition = m.sides.as_many ∙ sym (length-map made.origins origin_view);
+    each_span = spans_are_each nonterminals;
+    spans = stands;
+    each_place = places_are_each (found_entries nonterminals);
+    rule_places = λ r s i j. rule_place r s i j;
+    start_places = λ r s i e j. start_place r s i e j;
     nonterminals = λ n. (λ i. name_in n i, λ a. in_name n a);
     starts = λ n t. (λ i. listed_start n t i, λ a. start_listed n t a.0 a.1);
     inlined = λ r i. rule_inlined r i;

@@ -20,7 +20,8 @@ use Rattle.lalrpop_norm_lower.specs.Lowered.{AreChoicesInOrder, IsLowerable, IsL
 use Rattle.lalrpop_norm_lower.specs.declared.lowering.Normalized.{Normalized}
 use Rattle.lalrpop_norm_chain.specs.Normalized.{IsNormalized}
 use Rattle.lalrpop_norm_chain.specs.PremiseLaws.{AreInOrder, HasFreePrefix, HasRulesInOrder, entries_of_items}
-use Rattle.lalrpop_norm_chain.proofs.ChainLemmas.{between_behind, normalized}
+use Rattle.lalrpop_norm_chain.proofs.ChainLemmas.{between_behind}
+use Rattle.lalrpop_norm_chain.proofs.NormalizedLemmas.{normalized}
 use Rattle.lalrpop_norm_chain.proofs.FrontLemmas.{prefix_leveled}
 use Rattle.lalrpop_norm_chain.proofs.KeyPrefixLemmas.{keys_free}
 use Rattle.lalrpop_norm_chain.proofs.OrderLemmas.{keys_ordered, leveled_ordered}

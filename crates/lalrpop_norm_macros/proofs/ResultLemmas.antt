@@ -1,8 +1,8 @@
 -- Rules that are written for the keys of a grammar that is ready are what the pass gives; for the pass.
 use Rattle.std.proofs.Common.{◌≡◌, ℕ, List, [], ◌∷◌, ◌++◌, refl, ap, sym, ◌∙◌, subst, map}
-use Rattle.std.specs.Prelude.{Bool, Option, None, Result, Ok, Err, IfOk, IfErr}
+use Rattle.std.specs.Prelude.{◌⊎◌, Bool, Option, None, Result, Ok, Err, IfOk, IfErr}
 use Rattle.lalrpop_grammar_symbols.specs.Symbols.{Text, TextSpan, Closed, Closeds}
-use Rattle.lalrpop_grammar.specs.WrittenGrammar.{Grammar, Rule, WrittenItem, rules_of}
+use Rattle.lalrpop_grammar.specs.WrittenGrammar.{Alternative, Grammar, Rule, WrittenItem, rules_of}
 use Rattle.lalrpop_grammar_language.specs.Among.{Among}
 use Rattle.lalrpop_grammar_language.specs.Enabled.{EnabledGrammar}
 use Rattle.lalrpop_grammar_repr.specs.declared.session.NormFault.{NormFault}
@@ -13,6 +13,7 @@ use Rattle.lalrpop_norm_pass_laws.specs.KeyTables.{IsKeyTable}
 use Rattle.lalrpop_norm_pass_laws.proofs.KeyTableLemmas.{table_expansion}
 use Rattle.lalrpop_norm_chain.specs.Chains.{IsMacroResult}
 use Rattle.lalrpop_norm_chain.specs.PremiseLaws.{entries_of_items}
+use Rattle.lalrpop_norm_chain.specs.Spans.{IsAddedOrigin, IsMadeFrom}
 use Rattle.lalrpop_norm_entries.specs.Blocks.{block_groups}
 use Rattle.lalrpop_norm_key_table.specs.Tables.{HasEachOnce}
 use Rattle.lalrpop_norm_keys.specs.Arity.{arity_faults}
@@ -29,6 +30,7 @@ use Rattle.lalrpop_norm_key_rules.proofs.FinishedGrammarLemmas.{rule_of_some}
 use Rattle.lalrpop_norm_key_rules.proofs.FinishedLemmas.{finished_name, rules_of_made}
 use Rattle.lalrpop_norm_macros.specs.MacroPass.{IsMacroFault, IsReadyForMacros}
 use Rattle.lalrpop_norm_macros.proofs.FaultLemmas.{told_condition}
+use Rattle.lalrpop_norm_macros.proofs.SpanLemmas.{finished_stands}
 
 -- what lies beside rules
 
@@ -112,6 +114,14 @@ module _ (finds : Text → Text → Option Bool) (w : Grammar) where
         let same : u.1 ≡ Closed.call n args None = names.apart u.1 (Closed.call n args None) u.2 k (sym name ∙ e) in
         span_of_called n args u.0 q (subst (λ x. Done u.0 x q) same u.3)
 
+    -- and so does each of its alternatives
+    stands_before : (q : Rule) (b : Alternative) → Among (rules_of expanded.items) q → Among q.alternatives b
+        → IsMadeFrom (rules_of w.items) q b ⊎ (b.span ≡ q.span) × IsAddedOrigin b.origin
+    stands_before q b i j =
+        let u = rule_of_some Done f (λ j x r m. (finished_name g (rules_of w.items) f keys x (places j) r m).0) 0 keys made done q
+        (subst (λ rs. Among rs q) (rules_of_made w.items made) i) in
+        finished_stands g (rules_of w.items) f keys u.1 (places u.0) q u.3 b j
+
     pub macro_result : IsMacroResult finds w expanded
     macro_result =
         let h = grammar_between finds expanded in
@@ -128,6 +138,7 @@ module _ (finds : Text → Text → Option Bool) (w : Grammar) where
           naming = expansion_named g h f keys w.prefix names expansion ready.prefix;
           named = λ x i. refl;
           rule_spans = span_of_rule;
+          alternative_spans = stands_before;
           span = refl;
           prefix = refl;
           attributes = refl;

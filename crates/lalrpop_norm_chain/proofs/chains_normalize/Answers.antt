@@ -1,4 +1,4 @@
-use Rattle.lalrpop_norm_chain.proofs.ChainLemmas.{normalized}
+use Rattle.lalrpop_norm_chain.proofs.NormalizedLemmas.{normalized}
 use Rattle.lalrpop_norm_chain.proofs.chains_normalize.Goals as goal
 
 pub returns : goal.returns
