@@ -13,20 +13,20 @@ use std::fmt::{self, Display, Formatter, Write};
 /// in the place of any.
 #[derive(Debug, PartialEq, Eq, Drop)]
 pub enum GenerateError {
-    /// G1: it has an `extern` block.
+    /// It has an `extern` block.
     Extern,
-    /// G2: an enabled alternative has `!`, the symbol of error recovery.
+    /// An enabled alternative has `!`, the symbol of error recovery.
     Recovery,
-    /// G3: something is wrong with it.
+    /// Something is wrong with it.
     Norm(NormError),
-    /// G4: no enabled rule of this name is one without parameters.
+    /// No enabled rule of this name is one without parameters.
     UnknownStart(Atom),
-    /// G5: some enabled rule of this name has no parameters, but none of these is public.
+    /// Some enabled rule of this name has no parameters, but none of these is public.
     PrivateStart(Atom),
-    /// G8: the search for a condition's pattern gave up for the pattern's size. It comes in the place of a later fault of the
+    /// The search for a condition's pattern gave up for the pattern's size. It comes in the place of a later fault of the
     /// normalizer.
     ConditionLimit,
-    /// G9: memory ran out.
+    /// Memory ran out.
     Memory,
 }
 
