@@ -1,12 +1,9 @@
 -- A kernel merged with what closes it is its closure: for the items of a state.
-use Rattle.std.proofs.Common.{◌≡◌, ◌↔◌, ◌⊎◌, ℕ, Bool, List, ◌++◌, Contains, inl, inr, ⊎_elim}
+use Rattle.std.proofs.Common.{ℕ, Bool, List, ◌++◌, inl, inr, ⊎_elim}
 use Rattle.std.proofs.lemmas.List.Elements.{Contains-append_cases, Contains-append_left, Contains-append_right}
-use Rattle.lalrpop_lr1_theory.specs.Productions as theory
-use Rattle.lalrpop_lr1_items.specs.Views.{next_of_number}
 use Rattle.lalrpop_lr1_first.specs.ClosureTables.{AreItems, ClosesSeed, HoldTokens}
 use Rattle.lalrpop_lr1_first.specs.FirstNumbers.{table_end}
-use Rattle.lalrpop_lr1_first.specs.ItemTables.{HasMark, HasPlace, ListsItem, ListsNext}
-use Rattle.lalrpop_lr1_first.specs.NumberedGrammars.{HasItemAt}
+use Rattle.lalrpop_lr1_first.specs.ItemTables.{HasMark, HasPlace}
 use Rattle.lalrpop_lr1_first.specs.declared.numbered.Numbered.{Numbered}
 use Rattle.lalrpop_lr1_turn.specs.Kernels.{AreKernelItems, IsClosureOf}
 use Rattle.lalrpop_lr1_turn.specs.Merges.{Merges}

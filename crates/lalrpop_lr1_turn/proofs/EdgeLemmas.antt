@@ -1,5 +1,6 @@
 -- One edge after another, and what is then true of all of a state: for its edges.
-use Rattle.std.proofs.Common.{◌≡◌, ◌∙◌, ◌⊎◌, ◌+◌, ◌<◌, ◌≤◌, ℕ, zero, suc, List, [], ◌∷◌, ◌++◌, length, Some, None, Contains, slice_get}
+use Rattle.std.proofs.Common.{◌≡◌, ◌∙◌, ◌⊎◌, ◌+◌, ◌<◌, ◌≤◌, ℕ, zero, suc, List, [], ◌∷◌}
+use Rattle.std.proofs.Common.{◌++◌, length, Some, Contains, slice_get}
 use Rattle.std.proofs.Common.{refl, sym, ap, subst, arith, inl, inr, ⊎_elim, append-nil, append_assoc}
 use Rattle.std.proofs.lemmas.Bool.{cases_lt}
 use Rattle.std.proofs.lemmas.List.{length-append}
@@ -7,8 +8,8 @@ use Rattle.std.proofs.lemmas.List.Elements.{Contains-append_cases, Contains-appe
 use Rattle.std.proofs.lemmas.Option.{slice_get_within}
 use Rattle.lalrpop_lr1_theory.proofs.ListLemmas.{contains_here, contains_split, get_front, get_split}
 use Rattle.lalrpop_lr1_theory.proofs.StepLemmas.{some_same}
-use Rattle.lalrpop_sets.specs.Bits.{Ascends, AscendsFrom}
-use Rattle.lalrpop_lr1_turn.specs.Edges.{AddsEdge, AddsKernel, AreDistinctKernels, EdgesLead, NoEdge, OneEdge}
+use Rattle.lalrpop_sets.specs.Bits.{AscendsFrom}
+use Rattle.lalrpop_lr1_turn.specs.Edges.{AddsEdge, AddsKernel, AreDistinctKernels, EdgesLead}
 use Rattle.lalrpop_lr1_turn.specs.Kernels.{places_of}
 use Rattle.lalrpop_lr1_turn.specs.declared.kernel.StateKernel.{StateKernel}
 use Rattle.lalrpop_lr1_turn.proofs.MergeLemmas.{no_element}
@@ -61,19 +62,22 @@ module _ {L : Type 0} where
   }
 
   -- where a kernel was added, or not, those before stand where they stood
-  kept_at : (group : StateKernel L) (target : ℕ) (mid new : List (StateKernel L)) → (new ≡ mid) ⊎ AddsKernel group target mid new → (m : ℕ) (k : StateKernel L) →
+  kept_at : (group : StateKernel L) (target : ℕ) (mid new : List (StateKernel L)) → (new ≡ mid)
+      ⊎ AddsKernel group target mid new → (m : ℕ) (k : StateKernel L) →
       slice_get mid m ≡ Some k → slice_get new m ≡ Some k
   kept_at group target mid new (inl e) m k h = subst (λ ks. slice_get ks m ≡ Some k) (sym e) h
   kept_at group target mid new (inr a) m k h =
       subst (λ ks. slice_get ks m ≡ Some k) (sym a.more) (get_front mid (group ∷ []) m k h)
 
-  grown : (group : StateKernel L) (target : ℕ) (old mid new : List (StateKernel L)) → (new ≡ mid) ⊎ AddsKernel group target mid new →
+  grown : (group : StateKernel L) (target : ℕ) (old mid new : List (StateKernel L)) → (new ≡ mid)
+      ⊎ AddsKernel group target mid new →
       (more : List (StateKernel L)) × (mid ≡ old ++ more) → (more : List (StateKernel L)) × (new ≡ old ++ more)
   grown group target old mid new (inl e) g = (g.0, e ∙ g.1)
   grown group target old mid new (inr a) g =
       (g.0 ++ group ∷ [], a.more ∙ ap (λ ks. ks ++ group ∷ []) g.1 ∙ append_assoc old g.0 (group ∷ []))
 
-  distinct_more : (group : StateKernel L) (target : ℕ) (mid new : List (StateKernel L)) → (new ≡ mid) ⊎ AddsKernel group target mid new →
+  distinct_more : (group : StateKernel L) (target : ℕ) (mid new : List (StateKernel L)) → (new ≡ mid)
+      ⊎ AddsKernel group target mid new →
       AreDistinctKernels mid → AreDistinctKernels new
   distinct_more group target mid new (inl e) d = subst AreDistinctKernels (sym e) d
   distinct_more group target mid new (inr a) d = subst AreDistinctKernels (sym a.more) (λ n m k at_n at_m.
@@ -85,20 +89,23 @@ module _ {L : Type 0} where
       (get_parts mid group n k at_n))
 
   -- the target of an edge is one of the kernels before, or the next
-  target_within : (group : StateKernel L) (target : ℕ) (mid new : List (StateKernel L)) → (new ≡ mid) ⊎ AddsKernel group target mid new →
+  target_within : (group : StateKernel L) (target : ℕ) (mid new : List (StateKernel L)) → (new ≡ mid)
+      ⊎ AddsKernel group target mid new →
       slice_get new target ≡ Some group → target ≤ length mid
   target_within group target mid new (inl e) at =
       let l = slice_get_within mid target group (subst (λ ks. slice_get ks target ≡ Some group) e at) in omega (arith, l)
   target_within group target mid new (inr a) at = omega (arith, a.last)
 
-  new_within : (group : StateKernel L) (target : ℕ) (mid new : List (StateKernel L)) → (new ≡ mid) ⊎ AddsKernel group target mid new → (j : ℕ) →
+  new_within : (group : StateKernel L) (target : ℕ) (mid new : List (StateKernel L)) → (new ≡ mid)
+      ⊎ AddsKernel group target mid new → (j : ℕ) →
       j < length new → (j < length mid) ⊎ (j ≡ target)
   new_within group target mid new (inl e) j h = inl (subst (λ ks. j < length ks) e h)
   new_within group target mid new (inr a) j h = ⊎_elim (λ l. inl l)
       (λ l. inr (let long : length new ≡ length mid + 1 = ap length a.more ∙ length-append mid (group ∷ []) in
       omega (arith, l, long, h, a.last))) (cases_lt j (length mid))
 
-  pub edges_more : (old groups mid new : List (StateKernel L)) (group : StateKernel L) (edges new_edges : List (ℕ × ℕ)) (t : ℕ) → t ≡ length groups →
+  pub edges_more : (old groups mid new : List (StateKernel L)) (group : StateKernel L) (edges new_edges : List (ℕ
+      × ℕ)) (t : ℕ) → t ≡ length groups →
       EdgesLead old groups mid edges → AddsEdge t group mid edges new new_edges →
       EdgesLead old (groups ++ group ∷ []) new new_edges
   edges_more old groups mid new group edges new_edges t count e (inl n) =

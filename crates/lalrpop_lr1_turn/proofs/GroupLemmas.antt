@@ -1,6 +1,7 @@
 -- Groups of shifted items, one item after another: for the grouping of a state's items by the symbols behind their dots.
-use Rattle.std.proofs.Common.{◌≡◌, ◌∙◌, ◌⊎◌, ◌+◌, ◌<◌, ℕ, zero, suc, Bool, List, [], ◌∷◌, ◌++◌, length, set, take, get_or, Option, Some, None}
-use Rattle.std.proofs.Common.{slice_get, refl, sym, ap, arith, inl, inr, ⊎_elim, append-nil}
+use Rattle.std.proofs.Common.{◌≡◌, ◌∙◌, ◌+◌, ◌<◌, ℕ, zero, suc, List, [], ◌∷◌}
+use Rattle.std.proofs.Common.{◌++◌, length, set, take, get_or, Option, Some, None}
+use Rattle.std.proofs.Common.{slice_get, refl, sym, ap, arith, ⊎_elim, append-nil}
 use Rattle.std.specs.List.{cons_option}
 use Rattle.std.specs.Prelude.{if◌then◌else◌}
 use Rattle.std.proofs.lemmas.List.Elements.{filter_map-append}

@@ -1,11 +1,12 @@
 -- Steps of putting two lists of items in order together: for merging.
-use Rattle.std.proofs.Common.{◌≡◌, ◌∙◌, ◌↔◌, ◌⊎◌, ℕ, zero, suc, ◌<◌, ◌≤◌, ◌||◌, Bool, true, false, List, [], ◌∷◌, ◌++◌}
+use Rattle.std.proofs.Common.{◌≡◌, ◌∙◌, ◌↔◌, ◌⊎◌, ℕ, suc, ◌<◌, ◌≤◌, ◌||◌, Bool, true}
+use Rattle.std.proofs.Common.{false, List, [], ◌∷◌, ◌++◌}
 use Rattle.std.proofs.Common.{Contains, refl, sym, ap, subst, arith, inl, inr, ⊎_elim, append-nil, append_assoc}
 use Rattle.std.proofs.lemmas.List.Elements.{Contains-append_cases, Contains-append_left, Contains-append_right}
 use Rattle.lalrpop_lr1_theory.proofs.ListLemmas.{contains_here, contains_split}
 use Rattle.lalrpop_sets.specs.Bits.{Ascends, AscendsFrom, has}
 use Rattle.lalrpop_lr1_turn.specs.Kernels.{HaveOrderedLookaheads, places_of}
-use Rattle.lalrpop_lr1_turn.specs.Merges.{AddsAlone, AddsJoined, AreBefore, JoinsFirst, Merges, NoneBefore, TakesBefore}
+use Rattle.lalrpop_lr1_turn.specs.Merges.{AddsJoined, AreBefore, Merges, NoneBefore, TakesBefore}
 
 pub no_element : {X : Type 0} (y : X) → Contains [] y → ⊥
 no_element y c = omega (arith, c.1)
@@ -35,8 +36,12 @@ module _ {L : Type 0} where
   has_left Q xs ys i h = (h.0, Contains-append_left xs ys (i, h.0) h.1, h.2)
 
   has_last : (Q : L → Type 0) (xs : List (ℕ × L)) (p : ℕ) (l : L) (i : ℕ) → p ≡ i → Q l → Has Q (xs ++ (p, l) ∷ []) i
-  has_last Q xs p l i e q =
-      (l, Contains-append_right xs ((p, l) ∷ []) (i, l) (subst (λ j. Contains {X = ℕ × L} ((p, l) ∷ []) (j, l)) e (contains_here (p, l) [])), q)
+  has_last Q xs p l i e q = (
+    l,
+    Contains-append_right xs ((p, l) ∷ []) (i, l) (subst (λ j. Contains {X = ℕ × L} ((p, l) ∷ []) (j, l)) e
+        (contains_here (p, l) [])),
+    q,
+  )
 
   has_parts : (Q : L → Type 0) (xs : List (ℕ × L)) (p : ℕ) (l : L) (i : ℕ) → Has Q (xs ++ (p, l) ∷ []) i →
       Has Q xs i ⊎ ((p ≡ i) × Q l)

@@ -1,7 +1,8 @@
 -- Where a kernel stands that is added to a queue of kernels whose `==` is identity: for edges.
-use Rattle.std.proofs.Common.{◌≡◌, ◌∙◌, ℕ, zero, suc, ◌+◌, Bool, true, false, ◌||◌, cond, not, List, [], ◌∷◌, ◌++◌, length, Some, slice_get}
-use Rattle.std.proofs.Common.{refl, sym, ap, subst, arith, inl, inr, ◌⊎◌}
-use Rattle.std.specs.List.{list_any, position_or_len}
+use Rattle.std.proofs.Common.{◌≡◌, ◌∙◌, ℕ, zero, suc, ◌+◌, Bool, true, false, ◌||◌, cond, not, List, []}
+use Rattle.std.proofs.Common.{◌∷◌, ◌++◌, length, Some, slice_get}
+use Rattle.std.proofs.Common.{refl, sym, ap, arith, inl, inr, ◌⊎◌}
+use Rattle.std.specs.List.{list_any}
 use Rattle.std.specs.Cmp.Lexicographic.{pointwise}
 use Rattle.std.specs.Prelude.{◌&&◌, ◌==◌, if◌then◌else◌}
 use Rattle.lalrpop_lr1_theory.proofs.StepLemmas.{some_same}
@@ -11,7 +12,8 @@ use Rattle.lalrpop_lr1_turn.specs.Edges.{AddsKernel}
 use Rattle.lalrpop_lr1_turn.specs.declared.kernel.StateKernel.{StateKernel}
 use Rattle.lalrpop_lr1_turn.proofs.EdgeLemmas.{get_last}
 
-module _ {K : Type 0} (eq : K → K → Bool) (exact : (a b : K) → eq a b ≡ true → a ≡ b) (same : (a : K) → eq a a ≡ true) (k : K) where
+module _ {K : Type 0} (eq : K → K → Bool) (exact : (a b : K) → eq a b ≡ true → a ≡ b) (same : (a : K) → eq a a
+    ≡ true) (k : K) where
   found : (ks : List K) → list_any (eq k) ks ≡ true → slice_get ks (number_in eq ks k) ≡ Some k
   found [] h = let z : ⊥ = cc in absurd z
   found (x ∷ ks) h = go (eq k x) refl h (found ks)
@@ -43,7 +45,8 @@ module _ {K : Type 0} (eq : K → K → Bool) (exact : (a b : K) → eq a b ≡ 
       go false e h = cc
   unseen (x ∷ ks) (suc j) h e = go (eq k x) h (unseen ks j)
     where
-      go : (b : Bool) → (b || list_any (eq k) ks) ≡ false → (list_any (eq k) ks ≡ false → slice_get ks j ≡ Some k → ⊥) → ⊥
+      go : (b : Bool) → (b || list_any (eq k) ks) ≡ false → (list_any (eq k) ks ≡ false → slice_get ks j
+          ≡ Some k → ⊥) → ⊥
       go true h rec = cc
       go false h rec = rec h e
 
@@ -55,7 +58,8 @@ abbrev pub kernel_eq : {L : Type 0} → (L → L → Bool) → StateKernel L →
 kernel_eq eq a b = pointwise (item_eq eq) a.items b.items
 
 module _ {L : Type 0} (eq : L → L → Bool) where
-  items_exact : ((a b : L) → eq a b ≡ true → a ≡ b) → (xs ys : List (ℕ × L)) → pointwise (item_eq eq) xs ys ≡ true → xs ≡ ys
+  items_exact : ((a b : L) → eq a b ≡ true → a ≡ b) → (xs ys : List (ℕ × L)) → pointwise (item_eq eq) xs ys
+      ≡ true → xs ≡ ys
   items_exact exact [] [] e = refl
   items_exact exact [] (y ∷ ys) e = let z : ⊥ = cc in absurd z
   items_exact exact (x ∷ xs) [] e = let z : ⊥ = cc in absurd z

@@ -1,14 +1,14 @@
 -- What shifted items are, and that they are a kernel: for the groups of a state's items.
-use Rattle.std.proofs.Common.{◌≡◌, ◌∙◌, ◌⊎◌, ◌+◌, ◌<◌, ◌≤◌, ℕ, zero, suc, Bool, true, false, List, [], ◌∷◌, length, map, drop}
-use Rattle.std.proofs.Common.{Contains, Option, Some, None, refl, sym, ap, subst, arith, inl, inr, ⊎_elim, nat_eq, eqb, slice_get}
+use Rattle.std.proofs.Common.{◌≡◌, ◌∙◌, ◌⊎◌, ◌+◌, ◌<◌, ℕ, zero, suc, Bool, true, false, List}
+use Rattle.std.proofs.Common.{[], ◌∷◌, length, drop}
+use Rattle.std.proofs.Common.{Contains, Option, Some, None, refl, sym, ap, subst, arith, inl, inr, ⊎_elim}
 use Rattle.std.specs.List.{cons_option}
-use Rattle.std.specs.Prelude.{if◌then◌else◌, filter_map}
+use Rattle.std.specs.Prelude.{if◌then◌else◌}
 use Rattle.lalrpop_lr1_theory.specs.Productions as theory
 use Rattle.lalrpop_lr1_theory.proofs.ListLemmas.{contains_here, contains_later, contains_split}
-use Rattle.lalrpop_lr1_items.specs.Views.{production_symbol_view, production_view}
-use Rattle.lalrpop_sets.specs.Bits.{Ascends, AscendsFrom, has}
+use Rattle.lalrpop_lr1_items.specs.Views.{production_symbol_view}
+use Rattle.lalrpop_sets.specs.Bits.{AscendsFrom}
 use Rattle.lalrpop_sets.specs.Tokens.{is_number}
-use Rattle.lalrpop_lr1_first.specs.ItemTables.{HasMark, HasPlace}
 use Rattle.lalrpop_lr1_first.specs.NumberedGrammars.{HasItemAt, IsNumberTable, table_names}
 use Rattle.lalrpop_lr1_first.specs.Numbers.{SpellsSymbols}
 use Rattle.lalrpop_lr1_first.specs.Tables.{rest_of, symbol_of_number, symbols_until}
@@ -17,7 +17,7 @@ use Rattle.lalrpop_lr1_first.specs.declared.place.Place.{Place}
 use Rattle.lalrpop_lr1_first.specs.declared.place.Place.TheVariants as places
 use Rattle.lalrpop_lr1_first.proofs.ListLemmas.{eqb_self, eqb_true}
 use Rattle.lalrpop_lr1_first.proofs.TableLemmas.{is_item_table, long_map}
-use Rattle.lalrpop_lr1_turn.specs.Kernels.{HaveOrderedLookaheads, AreKernelItems, places_of}
+use Rattle.lalrpop_lr1_turn.specs.Kernels.{AreKernelItems, places_of}
 use Rattle.lalrpop_lr1_turn.specs.Shifts.{shifted_items, shifted_over, symbol_behind}
 use Rattle.lalrpop_lr1_turn.proofs.MergeLemmas.{ascends_less, no_element}
 

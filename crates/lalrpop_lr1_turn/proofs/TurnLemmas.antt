@@ -1,10 +1,10 @@
 -- One turn after another, and what is then true of all states: for the construction of states.
-use Rattle.std.proofs.Common.{◌≡◌, ◌∙◌, ◌⊎◌, ◌+◌, ◌<◌, ◌≤◌, ℕ, zero, suc, Bool, List, [], ◌∷◌, ◌++◌, length, Some, None, Option, Contains}
+use Rattle.std.proofs.Common.{◌≡◌, ◌∙◌, ◌⊎◌, ◌<◌, ◌≤◌, ℕ, zero, suc, Bool, List, []}
+use Rattle.std.proofs.Common.{◌∷◌, ◌++◌, length, Some, None, Option, Contains}
 use Rattle.std.proofs.Common.{slice_get, refl, sym, ap, subst, arith, inl, inr, ⊎_elim}
 use Rattle.std.proofs.lemmas.Bool.{cases_lt}
-use Rattle.std.proofs.lemmas.List.{length-append}
 use Rattle.std.proofs.lemmas.Option.{slice_get_within}
-use Rattle.lalrpop_lr1_theory.proofs.ListLemmas.{get_front, get_split}
+use Rattle.lalrpop_lr1_theory.proofs.ListLemmas.{get_front}
 use Rattle.lalrpop_lr1_theory.proofs.StepLemmas.{some_same}
 use Rattle.lalrpop_lr1_first.specs.NumberedGrammars.{IsNumberTable}
 use Rattle.lalrpop_lr1_first.specs.declared.numbered.Numbered.{Numbered}
@@ -39,7 +39,8 @@ module _ {L : Type 0} (marks : L → List ℕ) (firsts : Bool) (in_order : L →
   -- a kernel closed, its items grouped, and the edges to the groups are one turn
   pub turn_of : (kernel : StateKernel L) (old new groups : List (StateKernel L)) (state : NumberedState L) →
       IsClosureOf marks firsts in_order table kernel.items state.items →
-      ((s : ℕ) → items_of_group groups s ≡ shifted_items table.places.items s state.items) → EdgesLead old groups new state.edges →
+      ((s : ℕ) → items_of_group groups s ≡ shifted_items table.places.items s state.items) →
+      EdgesLead old groups new state.edges →
       IsTurn marks firsts in_order table kernel old new state
   turn_of kernel old new groups state closure are e =
       let is_group : (s : ℕ) (group : StateKernel L) → slice_get groups s ≡ Some group →
@@ -107,7 +108,8 @@ module _ {L : Type 0} (marks : L → List ℕ) (firsts : Bool) (in_order : L →
       led_here : (s m : ℕ) → Contains state.edges (s, m) → HasEdgeByNumber after (length states) s m
       led_here s m c = record { state = state; at = get_last states state; edge = c }
 
-      led_parts : (n s m : ℕ) → HasEdgeByNumber after n s m → HasEdgeByNumber states n s m ⊎ ((n ≡ length states) × Contains state.edges (s, m))
+      led_parts : (n s m : ℕ) → HasEdgeByNumber after n s m → HasEdgeByNumber states n s m
+          ⊎ ((n ≡ length states) × Contains state.edges (s, m))
       led_parts n s m l = ⊎_elim
           (λ e. inl (record { state = l.state; at = e; edge = l.edge }))
           (λ e. inr (e.0, subst (λ (x : NumberedState L). Contains x.edges (s, m)) (sym e.1) l.edge))

@@ -1,4 +1,4 @@
-use Rattle.std.proofs.Common.{◌≡◌, ap, inr, refl, sym, subst, [], ⊎_elim, inl, slice_get, Some}
+use Rattle.std.proofs.Common.{ap, inr, sym, subst}
 use Rattle.std.proofs.lemmas.Bool.{false≢true}
 use Rattle.lalrpop_sets.specs.Queues.{Queue}
 use Rattle.lalrpop_lr1_turn.specs.declared.kernel.StateKernel.{StateKernel}
@@ -11,7 +11,8 @@ returns-clause-added g c =
     let group = c.args.group in
     let old = c.args.kernels.now.kernels in
     let new = c.add_state.new.self.kernels in
-    let s = stands_in (kernel_eq eq) (kernel_exact eq g.met.L.KernelLookahead.equal_are_one) (kernel_self eq g.met.L.Eq.laws.refl) group old new
+    let s = stands_in (kernel_eq eq) (kernel_exact eq g.met.L.KernelLookahead.equal_are_one) (kernel_self eq g.met.L.Eq.laws.refl)
+    group old new
     (ap (λ (q : Queue (StateKernel g.row.L.Denot)). q.kernels) c.in_ok-target.ensures.added) in
     let t = subst (λ k. StandsIn group k old new) (sym c.in_ok-target.ensures.index) s in
     inr (record {

@@ -1,4 +1,4 @@
-use Rattle.std.proofs.Common.{◌≡◌, ◌∙◌, ◌<◌, ap, arith, length, sym, Some, None}
+use Rattle.std.proofs.Common.{◌≡◌, ◌∙◌, ◌<◌, ap, arith, length, sym, Some}
 use Rattle.lalrpop_lr1_first.proofs.ListLemmas.{get_slice}
 use Rattle.lalrpop_lr1_first.proofs.TableLemmas.{symbols_below}
 use Rattle.lalrpop_lr1_turn.specs.Shifts.{symbol_behind}

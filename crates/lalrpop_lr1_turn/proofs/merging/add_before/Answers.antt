@@ -1,7 +1,5 @@
-use Rattle.std.proofs.Common.{◌∷◌, [], subst, sym, arith}
-use Rattle.std.proofs.lemmas.List.{nil_from_length}
-use Rattle.lalrpop_lr1_turn.specs.Merges.{NoneBefore}
-use Rattle.lalrpop_lr1_turn.proofs.MergeLemmas.{takes_end, takes_more, takes_none}
+use Rattle.std.proofs.Common.{arith}
+use Rattle.lalrpop_lr1_turn.proofs.MergeLemmas.{takes_more, takes_none}
 use Rattle.lalrpop_lr1_turn.proofs.merging.add_before.Goals as goal
 
 pub loop-item-init : goal.loop-item-init

@@ -1,0 +1,13 @@
+pub mod AnswerLemmas
+pub mod AutomatonLemmas
+pub mod BuiltLemmas
+pub mod DistinctLemmas
+pub mod EntryLemmas
+pub mod Lr1Lemmas
+pub mod MapEdgeLemmas
+pub mod NumberedAutomatonLemmas
+pub mod OrderLemmas
+pub mod ProductionLemmas
+pub mod PublicLemmas
+pub mod RuleNumberLemmas
+pub mod StartLemmas

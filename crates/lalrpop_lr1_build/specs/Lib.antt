@@ -1,0 +1,3 @@
+pub mod BuiltStates
+pub mod NumberedAutomata
+pub mod PublicStates

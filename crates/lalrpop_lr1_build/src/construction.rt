@@ -1,0 +1,125 @@
+//! The construction of states, for both lookaheads by one body.
+
+ghost use Rattle.std.specs.Prelude.{◌≡◌, ◌++◌, ◌≤◌, ℕ, true, IfErr, IfOk, MatchResult, OnOk, Contains, flat_map, map};
+ghost use Rattle.lalrpop_lr1_theory.specs.Answers.{IsLr1};
+ghost use Rattle.lalrpop_lr1_theory.specs.CheckedStates.{AreCheckedStates, IsStartAlone};
+ghost use Rattle.lalrpop_lr1_theory.specs.ValidItems.{NoneBarren};
+ghost use Rattle.lalrpop_lr1_items.specs.Views.{lr_state_view, token_lookahead};
+ghost use Rattle.lalrpop_sets.specs.Bits.{has};
+ghost use Rattle.lalrpop_sets.specs.Tokens.{eof_number};
+ghost use Rattle.lalrpop_lr1_first.specs.NumberedGrammars.{HasItsTerminals};
+ghost use Rattle.lalrpop_lr1_turn.specs.Nexts.{IsNextIn};
+ghost use Rattle.lalrpop_lr1_build.specs.BuiltStates.{
+  AreCanonicalWithout,
+  AreLr0Without,
+  HaveNoConflictBuilt,
+  IsCanonicalFault,
+  IsFaultBuilt,
+  IsLr0Fault,
+  TellsNoLr1,
+  theory_grammar,
+};
+
+use crate::public_states::states_at;
+use crate::start::start_kernel;
+use lalrpop_grammar_repr::{Grammar, TerminalSet};
+use lalrpop_grammar_symbols::NonterminalString;
+use lalrpop_lr1_first::Closures;
+use lalrpop_lr1_items::{
+    Conflict, Lookahead, Lr1Result, LrResult, State, TableConstructionError, TableFault,
+};
+use lalrpop_lr1_turn::{KernelLookahead, states_by_numbers};
+use lalrpop_sets::{Nil, TokenSet};
+use std::alloc::{AllocError, Global};
+
+/// Adds the conflicts.
+fn add_conflicts<'g, L: Lookahead>(
+    more: Vec<Conflict<'g, L>>,
+    conflicts: &mut Vec<Conflict<'g, L>>,
+) -> Result<(), AllocError>
+    ensures { OnOk result (conflicts.new.items ≡ conflicts.old.items ++ more.entry.items) }
+{
+    for conflict in more {
+        conflicts.push(conflict)?;
+    }
+    Ok(())
+}
+
+/// The conflicts of the states, state by state.
+fn conflicts_of<'g, L: Lookahead>(
+    alloc: Global,
+    terminals: &TerminalSet,
+    states: &[State<'g, L>],
+) -> Result<Vec<Conflict<'g, L>>, AllocError>
+    ensures { IfOk result (λ conflicts. conflicts.items ≡ flat_map (L.conflicts_in terminals.now) states.now) }
+{
+    let mut conflicts = Vec::new(alloc);
+    for state in states {
+        let more = L::conflicts(alloc, terminals, state)?;
+        add_conflicts(more, &mut conflicts)?;
+    }
+    Ok(conflicts)
+}
+
+/// The states of the grammar for a start, before which the lookahead stands; or these with their conflicts.
+fn build_states<'g, L: KernelLookahead>(
+    alloc: Global,
+    grammar: &'g Grammar,
+    start: &NonterminalString,
+    lookahead: &L,
+) -> LrResult<'g, L>
+    requires grammar { HasItsTerminals grammar.now }
+    requires ordered { L.in_order lookahead.now }
+    requires tokens { (k : ℕ) → has (L.marks lookahead.now) k ≡ true → k ≤ eof_number grammar.now.terminals }
+    ensures states { IfOk result (λ states. HaveNoConflictBuilt L.marks (L.look grammar.now.terminals) L.firsts
+        (IsNextIn grammar.now.terminals (L.marks lookahead.now)) grammar.now start.now
+        (L.conflicts_in grammar.now.terminals) states.items) }
+    ensures fault { IfErr result (λ fault. IsFaultBuilt L.marks (L.look grammar.now.terminals) L.firsts
+        (IsNextIn grammar.now.terminals (L.marks lookahead.now)) grammar.now start.now
+        (L.conflicts_in grammar.now.terminals) fault) }
+{
+    let closures = Closures::new(alloc, grammar)?;
+    let kernel = start_kernel(alloc, closures.table(), start, lookahead)?;
+    let numbered = states_by_numbers(alloc, &closures, kernel)?;
+    let states = states_at(alloc, closures.table(), numbered)?;
+    let conflicts = conflicts_of(alloc, &grammar.terminals, states.as_slice())?;
+    if conflicts.is_empty() {
+        Ok(states)
+    } else {
+        Err(TableFault::Conflicts(TableConstructionError { states, conflicts }))
+    }
+}
+
+/// The canonical LR(1) states of the grammar for a start, which the end follows; or these with all their conflicts. The terminals
+/// of the grammar are numbered by their places, and each terminal on a right side is one of them.
+pub fn build_lr1_states_canonical<'g>(
+    alloc: Global,
+    grammar: &'g Grammar,
+    start: NonterminalString,
+) -> Lr1Result<'g>
+    requires { HasItsTerminals grammar.now }
+    ensures states { IfOk result (λ states. AreCanonicalWithout grammar.now start states.items) }
+    ensures fault { IfErr result (λ fault. IsCanonicalFault grammar.now start fault) }
+    ensures lr1 { NoneBarren (Contains (theory_grammar grammar.now)) start.0 → MatchResult result
+        (λ _. IsLr1 (Contains (theory_grammar grammar.now)) start.0) (λ fault. TellsNoLr1 grammar.now start fault) }
+    ensures checked { NoneBarren (Contains (theory_grammar grammar.now)) start.0 → IsStartAlone (theory_grammar grammar.now) start.0
+        → IfOk result (λ states. AreCheckedStates (theory_grammar grammar.now) start.0
+        (map (lr_state_view (token_lookahead grammar.now.terminals)) states.items)) }
+{
+    let end = TokenSet::eof(alloc, &grammar.terminals)?;
+    build_states(alloc, grammar, &start, &end)
+}
+
+/// The LR(0) states of the grammar for a start; or these with all their conflicts. The terminals of the grammar are numbered by
+/// their places, and each terminal on a right side is one of them.
+pub fn build_lr0_states<'g>(
+    alloc: Global,
+    grammar: &'g Grammar,
+    start: NonterminalString,
+) -> LrResult<'g, Nil>
+    requires { HasItsTerminals grammar.now }
+    ensures states { IfOk result (λ states. AreLr0Without grammar.now start states.items) }
+    ensures fault { IfErr result (λ fault. IsLr0Fault grammar.now start fault) }
+{
+    build_states(alloc, grammar, &start, &Nil)
+}

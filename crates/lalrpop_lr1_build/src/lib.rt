@@ -1,0 +1,10 @@
+//! The construction of LR(1) states: canonical ones, and those without lookaheads, or their conflicts.
+#![tactic(auto)]
+
+mod construction;
+mod map_edges;
+mod public_states;
+mod rule_numbers;
+mod start;
+
+pub use construction::{build_lr0_states, build_lr1_states_canonical};

@@ -1,0 +1,127 @@
+//! States as their readers see them, from states by numbers.
+
+ghost use Rattle.std.specs.Prelude.{◌≡◌, ◌<◌, ℕ, IfOk, Contains, Some, slice_get};
+ghost use Rattle.std.specs.List.{AllZip};
+ghost use Rattle.lalrpop_lr1_theory.specs.Productions as theory;
+ghost use Rattle.lalrpop_lr1_first.specs.ClosureTables.{AreItems};
+ghost use Rattle.lalrpop_lr1_first.specs.FirstNumbers.{symbol_count};
+ghost use Rattle.lalrpop_lr1_first.specs.NumberedGrammars.{HasItemAt, IsNumberTable};
+ghost use Rattle.lalrpop_lr1_turn.specs.Kernels.{places_of};
+ghost use Rattle.lalrpop_lr1_build.specs.PublicStates.{
+  ArePublicStates,
+  IsPublicItem,
+  IsPublicState,
+  IsWellNumbered,
+  TellsRules,
+  finished_entries,
+};
+
+use crate::map_edges::{gotos_of, shifts_of};
+use crate::rule_numbers::rule_numbers;
+use lalrpop_grammar_repr::Production;
+use lalrpop_grammar_symbols::List;
+use lalrpop_lr1_first::Numbered;
+use lalrpop_lr1_items::{Item, Items, Lookahead, State, StateIndex};
+use lalrpop_lr1_turn::NumberedState;
+use std::alloc::{AllocError, Global};
+
+/// The item at a place.
+fn item_at<'g, L>(
+    table: &Numbered<'g>,
+    numbers: &[usize],
+    place: usize,
+    lookahead: L,
+) -> Item<'g, L>
+    requires table { IsNumberTable table.now }
+    requires numbers { TellsRules table.now.places.items numbers.now }
+    requires item { (p : theory.Production) × (d : ℕ) × HasItemAt table.now place p d }
+    ensures { IsPublicItem table.now (place, lookahead) result }
+{
+    let number = numbers[place];
+    Item {
+        production: table.productions()[number],
+        index: place - table.rules()[number].start,
+        lookahead,
+    }
+}
+
+/// The items at the places, in order.
+fn items_at<'g, L: Lookahead>(
+    alloc: Global,
+    table: &Numbered<'g>,
+    numbers: &[usize],
+    places: List<(usize, L)>,
+) -> Result<List<Item<'g, L>>, AllocError>
+    requires table { IsNumberTable table.now }
+    requires numbers { TellsRules table.now.places.items numbers.now }
+    requires items { AreItems table.now places }
+    ensures { IfOk result (λ items. AllZip (IsPublicItem table.now) places items) }
+{
+    let mut items = List::new(alloc);
+    for (place, lookahead) in places.into_vec() {
+        items.push(item_at(table, numbers, place, lookahead))?;
+    }
+    Ok(items)
+}
+
+/// The reductions by the finished items, in order.
+fn reductions_of<'g, L: Lookahead>(
+    alloc: Global,
+    items: &[Item<'g, L>],
+) -> Result<List<(L, &'g Production)>, AllocError>
+    ensures { IfOk result (λ reductions. reductions ≡ finished_entries items.now) }
+{
+    let mut reductions = List::new(alloc);
+    for item in items {
+        if item.can_reduce() {
+            reductions.push((item.lookahead.try_clone()?, item.production))?;
+        }
+    }
+    Ok(reductions)
+}
+
+/// The state with this number.
+fn state_at<'g, L: Lookahead>(
+    alloc: Global,
+    table: &Numbered<'g>,
+    numbers: &[usize],
+    number: usize,
+    state: NumberedState<L>,
+) -> Result<State<'g, L>, AllocError>
+    requires table { IsNumberTable table.now }
+    requires numbers { TellsRules table.now.places.items numbers.now }
+    requires state { IsWellNumbered table.now state }
+    ensures { IfOk result (λ public. IsPublicState table.now number state public) }
+{
+    let NumberedState { items, edges } = state;
+    let shifts = shifts_of(alloc, table, edges.as_slice())?;
+    let gotos = gotos_of(alloc, table, edges.as_slice())?;
+    let vec = items_at(alloc, table, numbers, items)?;
+    let reductions = reductions_of(alloc, vec.as_slice())?;
+    Ok(State {
+        index: StateIndex(number),
+        items: Items { vec },
+        shifts,
+        reductions,
+        gotos,
+    })
+}
+
+/// The states, each with its place as its number.
+pub(crate) fn states_at<'g, L: Lookahead>(
+    alloc: Global,
+    table: &Numbered<'g>,
+    states: Vec<NumberedState<L>>,
+) -> Result<Vec<State<'g, L>>, AllocError>
+    requires table { IsNumberTable table.now }
+    requires states { (n : ℕ) (state : _) → slice_get states.items n ≡ Some state → IsWellNumbered table.now state }
+    ensures { IfOk result (λ public. ArePublicStates table.now states.items public.items) }
+{
+    let numbers = rule_numbers(alloc, table.places())?;
+    let mut public = Vec::new(alloc);
+    for state in states {
+        let number = public.len();
+        public.push(state_at(alloc, table, numbers.as_slice(), number, state)?)?;
+    }
+    Ok(public)
+}
