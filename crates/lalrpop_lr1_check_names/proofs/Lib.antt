@@ -1,0 +1,3 @@
+pub mod ClauseLemmas
+pub mod NameLemmas
+pub mod RuleLemmas

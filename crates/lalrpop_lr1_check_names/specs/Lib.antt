@@ -1,0 +1,4 @@
+pub mod Clauses
+pub mod ClauseSteps
+pub mod RuleClauses
+pub mod NameMarks

@@ -1,0 +1,12 @@
+pub mod GainLemmas
+pub mod EqualLemmas
+pub mod ListedLemmas
+pub mod LookupLemmas
+pub mod SeenLemmas
+pub mod MoveLemmas
+pub mod KernelLemmas
+pub mod FollowLemmas
+pub mod EndLemmas
+pub mod ReductionLemmas
+pub mod ApartLemmas
+pub mod PassLemmas
