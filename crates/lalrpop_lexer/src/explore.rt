@@ -46,6 +46,7 @@ impl States {
                 })?;
             }
         }
+        out.shrink_to_fit();
         Ok(out)
     }
 }

@@ -1,6 +1,7 @@
 pub mod ListLemmas
 pub mod BoundaryLemmas
 pub mod AlphabetClassLemmas
+pub mod CoverLemmas
 pub mod EdgeListLemmas
 pub mod PlaceLemmas
 pub mod KindLemmas

@@ -1,5 +1,5 @@
 -- Ranges, and the ranges that a list of ranges falls into.
-use Rattle.std.specs.Prelude.{◌≡◌, ℕ, ◌+◌, ◌<◌, ◌≤◌, ◌⊎◌, List, All, Contains, AllPairs}
+use Rattle.std.specs.Prelude.{◌≡◌, ℕ, ◌+◌, ◌<◌, ◌≤◌, ◌⊎◌, List, All, Contains, AllPairs, length, slice_index, slice_index_or}
 use Rattle.lalrpop_lexer_nfa.specs.declared.test.Test.{Test}
 
 -- the range holds the number
@@ -34,3 +34,13 @@ pub record AreAlphabetClasses (ranges pieces : List Test) : Type 0 where
   pub ascending : AllPairs (λ p q. p.end < q.start) pieces
   pub all : (n : ℕ) → IsCovered ranges n → IsCovered pieces n
   pub only : (n : ℕ) → IsCovered pieces n → IsCovered ranges n
+
+-- the range at a place
+abbrev pub nth_test : List Test → ℕ → Test
+nth_test tests i = slice_index_or tests i (record { start = 0; end = 0 })
+
+-- for each range the greatest end among those up to it
+pub record AreFurthestEnds (tests : List Test) (ends : List ℕ) : Type 0 where
+  pub size : length ends ≡ length tests
+  pub above : (j k : ℕ) → j ≤ k → k < length tests → (nth_test tests j).end ≤ slice_index ends k
+  pub among : (k : ℕ) → k < length tests → (j : ℕ) × (j ≤ k) × ((nth_test tests j).end ≡ slice_index ends k)

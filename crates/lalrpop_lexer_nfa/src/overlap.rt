@@ -1,8 +1,8 @@
 //! Alphabet classes: the ranges into which all given ranges fall.
 
-ghost use Rattle.std.specs.Prelude.{◌≡◌, ℕ, ◌+◌, ◌^◌, ◌<◌, ◌≤◌, ◌↔◌, IfOk, IsTrue, All, Contains};
-ghost use Rattle.std.specs.List.Sorted.{IsNonDecreasing};
-ghost use Rattle.lalrpop_lexer_nfa.specs.Ranges.{TestHolds, IsBoundary, IsCovered, AreAlphabetClasses};
+ghost use Rattle.std.specs.Prelude.{◌≡◌, ℕ, ◌+◌, ◌^◌, ◌<◌, ◌≤◌, ◌↔◌, IfOk, IsTrue, All, Contains, length};
+ghost use Rattle.std.specs.List.Sorted.{IsNonDecreasing, IsNonDecreasingBy};
+ghost use Rattle.lalrpop_lexer_nfa.specs.Ranges.{IsBoundary, IsCovered, AreAlphabetClasses, AreFurthestEnds, nth_test};
 
 use crate::test::Test;
 use std::alloc::{AllocError, Global};
@@ -26,11 +26,61 @@ fn cuts(alloc: Global, ranges: &BTreeSet<Test>) -> Result<Vec<u64>, AllocError>
     Ok(cuts)
 }
 
-/// Whether one of the ranges holds the number.
-fn is_covered(ranges: &BTreeSet<Test>, number: u32) -> bool
-    ensures { IsTrue result ↔ IsCovered ranges.now.keys number }
+/// The ranges, ordered by where they begin.
+fn in_order(alloc: Global, ranges: &BTreeSet<Test>) -> Result<Vec<Test>, AllocError>
+    ensures all { IfOk result (λ v. (t : Test) → Contains ranges.now.keys t → Contains v.items t) }
+    ensures only { IfOk result (λ v. (t : Test) → Contains v.items t → Contains ranges.now.keys t) }
+    ensures ascending { IfOk result (λ v. IsNonDecreasingBy (λ t. t.start) v.items) }
 {
-    ranges.iter().any(|range| range.contains_u32(number))
+    let mut ordered = Vec::new(alloc);
+    for range in ranges.iter() {
+        ordered.push(*range)?;
+    }
+    ordered.sort_unstable_by_key(|range| range.start);
+    Ok(ordered)
+}
+
+/// For each of the ranges the greatest end among those up to it.
+fn furthest_ends(alloc: Global, ordered: &[Test]) -> Result<Vec<u32>, AllocError>
+    ensures { IfOk result (λ ends. AreFurthestEnds ordered.now ends.items) }
+{
+    let mut ends = Vec::new(alloc);
+    let mut furthest = 0;
+    for i in 0..ordered.len() {
+        furthest = ordered[i].end.max(furthest);
+        ends.push(furthest)?;
+    }
+    Ok(ends)
+}
+
+/// The place of the first range that begins above the number.
+fn first_beyond(ordered: &[Test], number: u32) -> usize
+    requires { IsNonDecreasingBy (λ t. t.start) ordered.now }
+    ensures within { result ≤ length ordered.now }
+    ensures below { (i : ℕ) → i < result → (nth_test ordered.now i).start ≤ number }
+    ensures above { (i : ℕ) → result ≤ i → i < length ordered.now → number < (nth_test ordered.now i).start }
+{
+    let mut low = 0;
+    let mut high = ordered.len();
+    while low < high {
+        let middle = low + (high - low) / 2;
+        if ordered[middle].start <= number {
+            low = middle + 1;
+        } else {
+            high = middle;
+        }
+    }
+    low
+}
+
+/// Whether one of the ranges holds the number: then one that begins no later ends no earlier.
+fn is_covered(ordered: &[Test], ends: &[u32], number: u32) -> bool
+    requires order { IsNonDecreasingBy (λ t. t.start) ordered.now }
+    requires ends { AreFurthestEnds ordered.now ends.now }
+    ensures { IsTrue result ↔ IsCovered ordered.now number }
+{
+    let beyond = first_beyond(ordered, number);
+    beyond > 0 && number <= ends[beyond - 1]
 }
 
 /// The greatest ranges that lie each inside or outside every given range, ascending. Together they hold what the
@@ -41,11 +91,13 @@ pub fn remove_overlap(alloc: Global, ranges: &BTreeSet<Test>) -> Result<Vec<Test
     ensures { IfOk result (λ pieces. AreAlphabetClasses ranges.now.keys pieces.items) }
 {
     let cuts = cuts(alloc, ranges)?;
+    let ordered = in_order(alloc, ranges)?;
+    let ends = furthest_ends(alloc, &ordered)?;
     let mut pieces = Vec::new(alloc);
     for i in 1..cuts.len() {
         let low = cuts[i - 1];
         let high = cuts[i];
-        if low < high && is_covered(ranges, low as u32) {
+        if low < high && is_covered(&ordered, &ends, low as u32) {
             pieces.push(Test {
                 start: low as u32,
                 end: (high - 1) as u32,

@@ -6,4 +6,3 @@ pub mod LabelLemmas
 pub mod ToldLemmas
 pub mod PassedLemmas
 pub mod ExamplesOfNormalizing
-pub mod ExamplesOfWrittenPlaces

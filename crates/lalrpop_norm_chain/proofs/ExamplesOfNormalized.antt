@@ -509,7 +509,8 @@ no_start_refused v e h =
     subst (λ (l : List (Text × Text)). Among l (codes "S", codes "__S")) e ((h.starts (codes "S") (codes "__S")).1 (in_start, refl))
 
 -- nor with a definition too few
-few_definitions_refused : (v : LoweredGrammar) → length v.definitions ≡ 1 → length v.origins ≡ 2 → IsNormalized finds [] one v → ⊥
+few_definitions_refused : (v : LoweredGrammar) → length v.definitions ≡ 1 → length v.origins ≡ 2 →
+    IsNormalized finds [] one v → ⊥
 few_definitions_refused v one_there two h = let same = h.actions.no_other in omega (arith, same, one_there, two)
 
 -- nor where the rule is inlined, whatever its name is

@@ -181,7 +181,8 @@ module _ (finds : Text → Text → Option Bool) (features : List Text) (w : Gra
         × InExpansion written (Nonterminal.closed (Closed.call n Closeds.none (loosest r)))
     start_rule n i = go i
       where
-        of_rule : (r : EnabledRule) → IsRule written n r → (side : RightSide) → Produces written (Nonterminal.start n) Origin.start side
+        of_rule : (r : EnabledRule) → IsRule written n r → (side : RightSide)
+            → Produces written (Nonterminal.start n) Origin.start side
             → side ≡ GrammarSymbol.nonterminal (Nonterminal.closed (Closed.call n Closeds.none (loosest r))) ∷ []
             → (r : EnabledRule) × (name_of (Nonterminal.closed (Closed.call n Closeds.none (loosest r))) ≡ n)
             × InExpansion written (Nonterminal.closed (Closed.call n Closeds.none (loosest r)))

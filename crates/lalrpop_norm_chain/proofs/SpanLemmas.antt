@@ -126,7 +126,8 @@ module _ (features : List Text) (w : Grammar) (read : IsReadGrammar w) where
           let told = k v.0.0 listed in
           (told.0, told.1, ap (λ (x : Alternative). x.origin) (sym v.2) ∙ told.2)
 
-      of_pass : (q : Rule) (j : ℕ) (o : Option ℕ) (b : Alternative) → Among (pass_downs f q o) b → IsLeveledOf (rule_of_key f q (Some j)) b
+      of_pass : (q : Rule) (j : ℕ) (o : Option ℕ) (b : Alternative) → Among (pass_downs f q o) b
+          → IsLeveledOf (rule_of_key f q (Some j)) b
       of_pass q j None b m = absurd m
       of_pass q j (Some to) b (inl e) =
           inr (ap (λ (x : Alternative). x.origin) (sym e), ap (λ (x : Alternative). x.span) (sym e))

@@ -1,6 +1,7 @@
 -- What definitions see of a lowered grammar with its tokenizer, and what lowering gives of an expanded grammar; for the chain of
 -- all passes.
-use Rattle.std.specs.Prelude.{◌≡◌, ◌⊎◌, ◌↔◌, true, Bool, List, ◌++◌, Some, None, IsSomeAnd, codes, length, map, slice_get}
+use Rattle.std.specs.Prelude.{◌≡◌, ◌⊎◌, ◌↔◌, true, Bool, List, ◌++◌, Some, None, IsSomeAnd}
+use Rattle.std.specs.Prelude.{codes, length, map, slice_get}
 use Rattle.lalrpop_grammar_symbols.specs.Symbols.{Text, TextSpan, Terminal, Closed, Closeds}
 use Rattle.lalrpop_grammar_symbols.specs.declared.names.NonterminalString.{NonterminalString}
 use Rattle.lalrpop_grammar.specs.WrittenGrammar.{Action, Alternative, EntryMapping, InternEntry, Origin, Grammar, Rule, rules_of}

@@ -44,7 +44,8 @@ use Rattle.lalrpop_norm_lower.proofs.ExpansionRowLemmas.{alternative_row, are_ex
 use Rattle.lalrpop_norm_lower.proofs.OrderLemmas.{equal_names}
 use Rattle.lalrpop_norm_lower.proofs.PutLemmas.{found_among}
 use Rattle.lalrpop_norm_lower.proofs.RowLemmas.{produced_by_start, rule_nonterminal, rule_there, start_there}
-use Rattle.lalrpop_norm_chain.specs.Lowered.{HasDefinition, IsAlternativeSpan, IsLoweredFrom, IsRuleProduction, IsStartProduction, IsStartSpan}
+use Rattle.lalrpop_norm_chain.specs.Lowered.{HasDefinition, IsAlternativeSpan, IsLoweredFrom, IsRuleProduction}
+use Rattle.lalrpop_norm_chain.specs.Lowered.{IsStartProduction, IsStartSpan}
 use Rattle.lalrpop_norm_chain.specs.Lowered.{IsTerminalOf}
 use Rattle.lalrpop_norm_chain.specs.Lowered.{LoweredGrammar, start_name}
 use Rattle.lalrpop_norm_chain.specs.PremiseLaws.{entries_of_items}

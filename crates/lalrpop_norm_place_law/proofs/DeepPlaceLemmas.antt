@@ -1,6 +1,6 @@
 -- A call that is too deep after the passes is one in the written grammar, with its place; for the law of such calls.
-use Rattle.std.proofs.Common.{◌≡◌, ℕ, suc, sym, subst, Bool, List}
-use Rattle.std.specs.Prelude.{Option, ◌≤◌}
+use Rattle.std.proofs.Common.{ℕ, suc, sym, subst, Bool, List}
+use Rattle.std.specs.Prelude.{Option}
 use Rattle.lalrpop_grammar_symbols.specs.Symbols.{Text, TextSpan, Closed}
 use Rattle.lalrpop_grammar.specs.WrittenGrammar.{Grammar}
 use Rattle.lalrpop_grammar_language.specs.Enabled.{enabled_grammar}

@@ -1,7 +1,7 @@
 -- The innermost symbol of an alternative goes back to that of another, where symbols do; for the laws of places.
-use Rattle.std.proofs.Common.{◌≡◌, ℕ, [], ◌∷◌, refl, ap, sym, ◌∙◌, subst, inl, inr, ◌⊎◌, true}
+use Rattle.std.proofs.Common.{◌≡◌, refl, ap, sym, ◌∙◌, subst, inl, inr, ◌⊎◌}
 use Rattle.std.specs.Prelude.{Option, map}
-use Rattle.lalrpop_grammar_symbols.specs.Symbols.{Text, TextSpan, Closed}
+use Rattle.lalrpop_grammar_symbols.specs.Symbols.{TextSpan, Closed}
 use Rattle.lalrpop_grammar_language.specs.Among.{Among}
 use Rattle.lalrpop_grammar_language.specs.Enabled.{EnabledGrammar, EnabledRule, Choice}
 use Rattle.lalrpop_grammar_language.specs.Levels.{Rank}
@@ -25,7 +25,8 @@ pub record GoesBack (s t : Scope) (to : Closed → Closed) (Related : CountedSym
       (u : CountedSymbol) × Among (symbols_within s.binding s.owner z.0 z.1) u × Related u q
   pub calls : (c : Closed) → calls_in (to c) ≡ map to (calls_in c)
 
-module _ (s t : Scope) (to : Closed → Closed) (Related : CountedSymbol → CountedSymbol → Type 0) (back : GoesBack s t to Related) where
+module _ (s t : Scope) (to : Closed → Closed) (Related : CountedSymbol → CountedSymbol → Type 0)
+    (back : GoesBack s t to Related) where
   same_calls : (u q : CountedSymbol) → Related u q → calls_at t q ≡ map to (calls_at s u)
   same_calls u q r = ap calls_in (back.closed u q r) ∙ back.calls (close s u.0 u.1)
 

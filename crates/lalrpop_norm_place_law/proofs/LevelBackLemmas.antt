@@ -1,7 +1,7 @@
 -- Places of calls go back over levels, and a pass to a tighter level stands at its rule; for the law of places at levels.
-use Rattle.std.proofs.Common.{◌≡◌, ℕ, zero, suc, List, [], ◌∷◌, refl, ap, sym, ◌∙◌, subst, cond, Bool, false, true, inl, inr, ◌⊎◌}
-use Rattle.std.proofs.Common.{length}
-use Rattle.std.specs.Prelude.{Option, Some, None, ◌≢◌, map}
+use Rattle.std.proofs.Common.{◌≡◌, ℕ, zero, suc, List, [], ◌∷◌, refl, ap, sym, ◌∙◌, subst, cond, Bool, false}
+use Rattle.std.proofs.Common.{true, inl, inr, ◌⊎◌, length}
+use Rattle.std.specs.Prelude.{Option, Some, None}
 use Rattle.lalrpop_grammar_symbols.specs.Symbols.{Text, TextSpan, WrittenSymbol, Closed, Closeds, closed_list, syms}
 use Rattle.lalrpop_grammar_symbols.specs.Subsymbols.{subsymbols_of}
 use Rattle.lalrpop_grammar.specs.WrittenGrammar.{Alternative, Rule, Grammar, rules_of}
@@ -13,7 +13,7 @@ use Rattle.lalrpop_grammar_language.specs.Conditions.{Holds}
 use Rattle.lalrpop_grammar_language.specs.Admitting.{bind}
 use Rattle.lalrpop_grammar_language.specs.Expansion.{Nonterminal, IsRoot, InExpansion}
 use Rattle.lalrpop_norm_expansion.specs.Between.{rule_between}
-use Rattle.lalrpop_norm_expansion.specs.Depth.{HasCallChain, calls_in}
+use Rattle.lalrpop_norm_expansion.specs.Depth.{calls_in}
 use Rattle.lalrpop_norm_expansion.proofs.AmongLemmas.{map_among}
 use Rattle.lalrpop_norm_expansion.proofs.LevelLemmas.{no_rank, no_loosest}
 use Rattle.lalrpop_norm_pass_laws.specs.LevelRules.{level_name, by_level_names, all_by_level_names, rename_listed_occurrences}
@@ -23,7 +23,7 @@ use Rattle.lalrpop_norm_level_laws.specs.LeveledGrammar.{ranked_alternatives, oc
 use Rattle.lalrpop_norm_level_laws.specs.LeveledGrammar.{own_call, pass_down_to, rule_at_level}
 use Rattle.lalrpop_norm_level_laws.specs.LevelLaws.{nonterminal_by_level, IsLevelable}
 use Rattle.lalrpop_norm_level_laws.proofs.LevelOrderLemmas.{one_rule}
-use Rattle.lalrpop_norm_level_laws.proofs.LeveledRuleLemmas.{rule_of_key, key_rule, level_of_leveled}
+use Rattle.lalrpop_norm_level_laws.proofs.LeveledRuleLemmas.{key_rule, level_of_leveled}
 use Rattle.lalrpop_norm_level_laws.proofs.LevelAttrLemmas.{flat_key, flat_at_level}
 use Rattle.lalrpop_norm_level_laws.proofs.RightLevelLemmas.{has_loosest, IsRankOf, rank_of, allowed_present}
 use Rattle.lalrpop_norm_level_laws.proofs.RenameLemmas.{RenameAlike, rename_listed_alike, listed_stay, counted_alike, NamesAreThere}
@@ -35,11 +35,11 @@ use Rattle.lalrpop_norm_level_laws.proofs.LevelClosingLemmas.{scope_before, scop
 use Rattle.lalrpop_norm_level_laws.proofs.LevelClosingLemmas.{unleveled_side, pass_side}
 use Rattle.lalrpop_norm_level_laws.proofs.LevelFitLemmas.{IsCallOf, flat_written, level_rule, side_there, StandsThere, fits_here}
 use Rattle.lalrpop_norm_level_laws.proofs.LevelExpansionLemmas.{call_of, root_back, well_in}
-use Rattle.lalrpop_norm_level_laws.proofs.WellLeveledLemmas.{IsWell, IsWellOrFaulty, all_well_sound}
+use Rattle.lalrpop_norm_level_laws.proofs.WellLeveledLemmas.{IsWellOrFaulty, all_well_sound}
 use Rattle.lalrpop_norm_back_laws.proofs.ChainLemmas.{same_chains}
 use Rattle.lalrpop_norm_place_law.specs.CallPlaces.{CountedSymbol, IsInnermost, IsMadeAt, IsPlaceBelow, IsPlaceInSide, IsPlaceOfCall}
 use Rattle.lalrpop_norm_place_law.specs.CallPlaces.{calls_at, counted_symbols, place_of_symbol, symbols_within}
-use Rattle.lalrpop_norm_place_law.specs.WrittenPlaces.{IsPassDownAt, IsWrittenIn, IsWrittenBelow}
+use Rattle.lalrpop_norm_place_law.specs.WrittenPlaces.{IsWrittenIn, IsWrittenBelow}
 use Rattle.lalrpop_norm_place_law.proofs.InnermostLemmas.{side_back}
 use Rattle.lalrpop_norm_place_law.proofs.LevelPlaceLemmas.{IsRenamed, listed_written, renamed_goes_back}
 
@@ -65,9 +65,9 @@ module _ (finds : Text → Text → Option Bool) (g : Grammar) (f : Text → ℕ
       (x : Closed) × (y ≡ by_level_names f x) × IsWrittenIn (before finds g) g (Closed.call r.name args level) x p
 
   -- a place in an alternative whose occurrences are renamed
-  choice_place : (r : Rule) (args : Closeds) (level : Option ℕ) → IsCallOf finds g r args level → (c : Choice) (rank : Option Rank) →
-      Among (rule_between r).choices c → IsRankOf (rule_between r) rank → (q : EnabledRule) → q.parameters ≡ r.parameters →
-      has_levels q ≡ false → (d : Choice) →
+  choice_place : (r : Rule) (args : Closeds) (level : Option ℕ) → IsCallOf finds g r args level → (c : Choice)
+      (rank : Option Rank) → Among (rule_between r).choices c → IsRankOf (rule_between r) rank → (q : EnabledRule) →
+      q.parameters ≡ r.parameters → has_levels q ≡ false → (d : Choice) →
       d.expr ≡ rename_listed_occurrences f (scope_before finds g r args c rank) 0 c.expr → (y : Closed) (p : TextSpan) →
       IsPlaceInSide (after finds g f) q (bind q (all_by_level_names f args)) (d, None) y p →
       (x : Closed) × (y ≡ by_level_names f x)
@@ -150,8 +150,8 @@ module _ (finds : Text → Text → Option Bool) (g : Grammar) (f : Text → ℕ
           (subst (λ c. Among (calls_in c) y) closed (subst (λ (z : CountedSymbol). Among (calls_at s z) y) (sym e) has)) refl
           (sym (own_call_place r.span (f r.name to) r.parameters) ∙ ap (λ (z : CountedSymbol). place_of_symbol z.1) e ∙ at)
 
-      of_top : (top : CountedSymbol) → ((0, own) ≡ top) ⊎ ⊥ → is_sound (close s top.0 top.1) ≡ true → IsInnermost s top y p →
-          WrittenFor r args (Some j) y p
+      of_top : (top : CountedSymbol) → ((0, own) ≡ top) ⊎ ⊥ → is_sound (close s top.0 top.1) ≡ true →
+          IsInnermost s top y p → WrittenFor r args (Some j) y p
       of_top top (inr i) sound n = absurd i
       of_top top (inl e) sound n = go n.stands
         where

@@ -1,6 +1,6 @@
 -- Symbols whose occurrences are renamed go back to those before; for the law of places at levels.
 use Rattle.std.proofs.Common.{◌≡◌, ℕ, ◌+◌, List, [], ◌∷◌, ◌++◌, refl, ap, sym, ◌∙◌, subst, inl, inr, ◌⊎◌}
-use Rattle.std.specs.Prelude.{Option, map}
+use Rattle.std.specs.Prelude.{map}
 use Rattle.lalrpop_grammar_symbols.specs.Symbols.{Text, TextSpan, Syms, Sym, WrittenSymbol, Closed, Closeds}
 use Rattle.lalrpop_grammar_language.specs.Among.{Among}
 use Rattle.lalrpop_grammar_language.specs.Closing.{Scope, close, occurrences}

@@ -6,3 +6,4 @@ pub mod ReplacedNameLemmas
 pub mod ResolvedPlaceLemmas
 pub mod DroppedPlaceLemmas
 pub mod DeepPlaceLemmas
+pub mod ExamplesOfWrittenPlaces

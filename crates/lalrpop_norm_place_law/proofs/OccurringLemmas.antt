@@ -1,7 +1,7 @@
 -- What has a place in a call occurs there; for the law of places and for depths.
-use Rattle.std.proofs.Common.{◌≡◌, ℕ, zero, suc, ◌+◌, List, [], ◌∷◌, ◌++◌, refl, ap, sym, ◌∙◌, subst, cond, inl, inr, ◌⊎◌, true}
-use Rattle.std.proofs.Common.{length}
-use Rattle.std.specs.Prelude.{Option, Some, ◌≢◌, map}
+use Rattle.std.proofs.Common.{◌≡◌, ℕ, zero, suc, ◌+◌, List, [], ◌∷◌, ◌++◌, refl, ap, sym, ◌∙◌, subst, cond}
+use Rattle.std.proofs.Common.{inl, inr, ◌⊎◌, true, length}
+use Rattle.std.specs.Prelude.{Some, ◌≢◌, map}
 use Rattle.lalrpop_grammar_symbols.specs.Symbols.{Text, TextSpan, Syms, Sym, WrittenSymbol, Terminal, Closed, Closeds, closed_list}
 use Rattle.lalrpop_grammar.specs.WrittenGrammar.{Grammar}
 use Rattle.lalrpop_grammar_language.specs.Among.{Among}
@@ -12,7 +12,7 @@ use Rattle.lalrpop_grammar_language.specs.Expansion.{GrammarSymbol, Nonterminal,
 use Rattle.lalrpop_grammar.specs.WrittenGrammar.{Origin}
 use Rattle.lalrpop_norm_expansion.specs.Depth.{CallOccursIn, HasCallChain, calls_in, calls_in_all, calls_in_grammar_symbol}
 use Rattle.lalrpop_norm_expansion.proofs.AmongLemmas.{among_left, among_right, among_parts, map_among}
-use Rattle.lalrpop_norm_place_law.specs.CallPlaces.{CountedSymbol, IsMadeAt, IsPlaceOfCall, calls_at, counted_symbols, symbols_of_row}
+use Rattle.lalrpop_norm_place_law.specs.CallPlaces.{CountedSymbol, IsPlaceOfCall, calls_at, counted_symbols, symbols_of_row}
 use Rattle.lalrpop_norm_place_law.specs.CallPlaces.{symbols_within}
 use Rattle.lalrpop_norm_place_law.specs.WrittenPlaces.{IsPassDownAt, IsWrittenIn, IsWrittenBelow}
 

@@ -1,8 +1,8 @@
 -- Places of calls go back where names are replaced by what closes as they do; for the laws of places in resolved grammars.
-use Rattle.std.proofs.Common.{◌≡◌, ℕ, zero, suc, ◌+◌, List, [], ◌∷◌, ◌++◌, refl, ap, sym, ◌∙◌, subst, Bool, inl, inr, ◌⊎◌}
-use Rattle.std.proofs.Common.{length}
-use Rattle.std.specs.Prelude.{Option, Some, None, ◌↔◌, ◌≢◌, map}
-use Rattle.lalrpop_grammar_symbols.specs.Symbols.{Text, TextSpan, Sym, Syms, syms, WrittenSymbol, Closed, Closeds, closed_list}
+use Rattle.std.proofs.Common.{◌≡◌, ℕ, zero, suc, ◌+◌, List, [], ◌∷◌, ◌++◌, refl, ap, sym, ◌∙◌}
+use Rattle.std.proofs.Common.{subst, Bool, inl, inr, length}
+use Rattle.std.specs.Prelude.{Option, Some, None, map}
+use Rattle.lalrpop_grammar_symbols.specs.Symbols.{Text, TextSpan, Sym, Syms, syms, WrittenSymbol, Closed, Closeds}
 use Rattle.lalrpop_grammar_symbols.specs.SymbolMaps.{map_symbol, map_symbols}
 use Rattle.lalrpop_grammar.specs.WrittenGrammar.{Rule, Grammar, rules_of}
 use Rattle.lalrpop_grammar_language.specs.Among.{Among}
@@ -12,7 +12,7 @@ use Rattle.lalrpop_grammar_language.specs.Closing.{Binding, Scope, close, occurr
 use Rattle.lalrpop_grammar_language.specs.Admitting.{Fits, bind, rank_level}
 use Rattle.lalrpop_grammar_language.specs.Expansion.{Nonterminal}
 use Rattle.lalrpop_grammar_language.proofs.PlaceLemmas.{among_map}
-use Rattle.lalrpop_norm_expansion.specs.Depth.{HasCallChain, calls_in}
+use Rattle.lalrpop_norm_expansion.specs.Depth.{calls_in}
 use Rattle.lalrpop_norm_expansion.proofs.AmongLemmas.{map_among}
 use Rattle.lalrpop_norm_name_laws.proofs.RuleChangeLemmas.{RuleChange, changed_pair, changed_rule, HasChangedRules, KeepsSides}
 use Rattle.lalrpop_norm_name_laws.proofs.RuleChangeLemmas.{fits_before, loosest_kept, ranked_kept, root_before, rule_before}

@@ -23,8 +23,8 @@ PlacedCallsAreMade =
 -- that of a rule's pass to a tighter level is the rule's.
 abbrev pub LevelsKeepPlaces : Type 0
 LevelsKeepPlaces =
-    (finds : Text → Text → Option Bool) (g : Grammar) (f : Text → ℕ → Text) → IsLevelable finds g f → (depth : ℕ) (y : Closed)
-    (p : TextSpan) → IsPlaceBelow (grammar_between finds (leveled_grammar f g)) depth y p
+    (finds : Text → Text → Option Bool) (g : Grammar) (f : Text → ℕ → Text) → IsLevelable finds g f → (depth : ℕ)
+    (y : Closed) (p : TextSpan) → IsPlaceBelow (grammar_between finds (leveled_grammar f g)) depth y p
     → (x : Closed) × (y ≡ by_level_names f x) × IsWrittenBelow (grammar_between finds g) g depth x p
 
 -- a place in the grammar whose names are resolved is one before

@@ -77,12 +77,15 @@ loop-i-preserved c =
 
 pub returns-clause-explored : goal.returns-clause-explored
 returns-clause-explored c =
-    explore_end _ c.args.pieces.now _ c.loop-i.i _ _ _ _ c.requires.pieces (are_moves (goal.at.returns-clause-explored c).In_ok-targets)
+    rw c.shrink_to_fit.ensures.items
+    (explore_end _ c.args.pieces.now _ c.loop-i.i _ _ _ _ c.requires.pieces (are_moves (goal.at.returns-clause-explored c).In_ok-targets)
     (omega (arith, c.loop-i-test.false))
-    (omega (arith, c.requires.state, c.args.self.now.sets.ok.0)) c.loop-i.invariant.some
+    (omega (arith, c.requires.state, c.args.self.now.sets.ok.0)) c.loop-i.invariant.some)
 
 pub returns-clause-apart : goal.returns-clause-apart
-returns-clause-apart c = explore_apart _ c.args.pieces.now _ c.loop-i.i _ _ _ _ c.requires.pieces (omega arith) c.loop-i.invariant.some
+returns-clause-apart c =
+    rw c.shrink_to_fit.ensures.items
+    (explore_apart _ c.args.pieces.now _ c.loop-i.i _ _ _ _ c.requires.pieces (omega arith) c.loop-i.invariant.some)
 
 pub moves-requires-clause-pieces : goal.moves-requires-clause-pieces
 moves-requires-clause-pieces c i j order l =
