@@ -24,7 +24,7 @@ marked_within [] i m = let w : ⊥ = cc in absurd w
 marked_within (b ∷ bs) zero m = omega arith
 marked_within (b ∷ bs) (suc i) m = omega (arith, marked_within bs i m)
 
-set_kept : (bs : List Bool) (i n : ℕ) → IsMarked bs n → IsMarked (set bs i true) n
+pub set_kept : (bs : List Bool) (i n : ℕ) → IsMarked bs n → IsMarked (set bs i true) n
 set_kept [] i n m = let w : ⊥ = cc in absurd w
 set_kept (b ∷ bs) zero zero m = refl
 set_kept (b ∷ bs) zero (suc n) m = m

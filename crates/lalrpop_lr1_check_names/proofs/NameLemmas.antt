@@ -108,7 +108,7 @@ module _ (table : Numbered) (is : IsNumberTable table) where
     pub left : at rule.left ≡ Some (theory.nonterminal p.left)
     pub right : SpellsSymbols at (side rule) p.right
 
-  production_of : (rule : NumberedRule) → Contains table.rules.items rule → (p : theory.Production) × G p × IsRuleThere rule p
+  pub production_of : (rule : NumberedRule) → Contains table.rules.items rule → (p : theory.Production) × G p × IsRuleThere rule p
   production_of rule c =
       let k = contains_get table.rules.items rule c in
       let r = (rules_are table is).sound k.0 (rule_of table.places.items rule)

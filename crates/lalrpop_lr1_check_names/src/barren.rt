@@ -15,7 +15,7 @@ use lalrpop_lr1_first::Numbered;
 use std::alloc::{AllocError, Global};
 
 /// As many marks that aren't set.
-fn no_marks(alloc: Global, count: usize) -> Result<Vec<bool>, AllocError>
+pub fn no_marks(alloc: Global, count: usize) -> Result<Vec<bool>, AllocError>
     ensures count { IfOk result (λ marks. length marks.items ≡ count) }
     ensures empty { IfOk result (λ marks. (n : ℕ) → has_mark marks.items n ≡ false) }
 {
@@ -38,7 +38,7 @@ fn productive_names(alloc: Global, table: &Numbered<'_>) -> Result<Vec<bool>, Al
 }
 
 /// Sets one mark.
-fn set_mark(marks: &mut Vec<bool>, number: usize)
+pub fn set_mark(marks: &mut Vec<bool>, number: usize)
     requires { number < length marks.old.items }
     ensures { marks.new.items ≡ set marks.old.items number true }
 {

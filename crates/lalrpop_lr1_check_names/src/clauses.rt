@@ -6,7 +6,7 @@ ghost use Rattle.lalrpop_lr1_check_names.specs.ClauseSteps.{SweepLeadsTo};
 
 /// A clause over numbers: where all that it needs is marked, what it gives is marked too.
 #[derive(Drop)]
-pub(crate) struct Clause {
+pub struct Clause {
     /// The numbers that it needs.
     pub(crate) needs: Vec<usize>,
     /// The number that it gives.
@@ -14,7 +14,7 @@ pub(crate) struct Clause {
 }
 
 /// Whether the number is marked.
-pub(crate) fn is_marked(marks: &[bool], number: usize) -> bool
+pub fn is_marked(marks: &[bool], number: usize) -> bool
     ensures { result ≡ has_mark marks.now number }
 {
     if number < marks.len() {
@@ -78,7 +78,7 @@ fn sweep(clauses: &[Clause], marks: &mut Vec<bool>) -> bool
 }
 
 /// Marks all that follows from what is marked.
-pub(crate) fn close(clauses: &[Clause], marks: &mut Vec<bool>)
+pub fn close(clauses: &[Clause], marks: &mut Vec<bool>)
     requires { ClausesAreWithin (length marks.old.items) clauses.now }
     ensures count { length marks.new.items ≡ length marks.old.items }
     ensures follows { (n : ℕ) → IsMarked marks.new.items n ↔ Follows (map clause_view clauses.now) marks.old.items n }

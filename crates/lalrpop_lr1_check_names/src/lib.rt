@@ -1,11 +1,14 @@
 //! Names that a start reaches, and names with trees: parts of the test of states.
 //!
 //! Both are least sets of names. In `specs/`, `Clauses` has such sets by numbers: what follows from marks by clauses. `RuleClauses`
-//! says which clauses a grammar's rules make, `NameMarks` what marks say of names.
+//! says which clauses a grammar's rules make, `NameMarks` what marks say of names. Other parts of the test that need a least set of
+//! names make their own `Clause`s and `close` their marks.
 #![tactic(auto)]
 
 mod barren;
 mod clauses;
 mod rule_names;
 
-pub use barren::none_is_barren;
+pub use barren::{no_marks, none_is_barren, set_mark};
+pub use clauses::{Clause, close, is_marked};
+pub use rule_names::reach_clause;

@@ -95,7 +95,7 @@ pub(crate) fn tree_clauses(alloc: Global, table: &Numbered<'_>) -> Result<Vec<Cl
 }
 
 /// The clause by which a name leads to another.
-fn reach_clause(alloc: Global, from: usize, to: usize) -> Result<Clause, AllocError>
+pub fn reach_clause(alloc: Global, from: usize, to: usize) -> Result<Clause, AllocError>
     ensures { IfOk result (λ clause. clause_view clause ≡ (from ∷ [], to)) }
 {
     let mut needs = Vec::new(alloc);

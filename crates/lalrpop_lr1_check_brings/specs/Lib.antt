@@ -1,0 +1,6 @@
+pub mod MarkGains
+pub mod BeginClauses
+pub mod EdgeTargets
+pub mod NamesBehind
+pub mod UnmovedItems
+pub mod BringTests

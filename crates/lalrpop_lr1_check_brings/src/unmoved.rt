@@ -1,0 +1,142 @@
+//! Whether the items with the dot in front are the productions of marked names.
+
+ghost use Rattle.std.specs.Prelude.{◌≡◌, ◌↔◌, ℕ, Contains, IfOk, IsTrue, Some, length, slice_get};
+ghost use Rattle.lalrpop_lr1_first.specs.NumberedGrammars.{IsNumberTable, table_productions};
+ghost use Rattle.lalrpop_lr1_check_names.specs.Clauses.{IsMarked};
+ghost use Rattle.lalrpop_lr1_check_parts.specs.ListTests.{HoldsAtEach};
+ghost use Rattle.lalrpop_lr1_check_brings.specs.MarkGains.{GainsMarks, IsMarkOfSome};
+ghost use Rattle.lalrpop_lr1_check_brings.specs.UnmovedItems.{AreUnmovedOf, IsKnownUnmoved, IsUnmovedAt};
+
+use crate::lookup::place_of_production;
+use lalrpop_grammar_repr::Production;
+use lalrpop_lr1_check_names::{is_marked, no_marks, set_mark};
+use lalrpop_lr1_first::{Numbered, NumberedRule};
+use lalrpop_lr1_items::Lr1Item;
+use std::alloc::{AllocError, Global};
+
+/// Whether the production is one of the table's.
+fn is_of_table(table: &Numbered<'_>, production: &Production) -> bool
+    requires { IsNumberTable table.now }
+    ensures { IsTrue result ↔ Contains (table_productions table.now) production.now }
+{
+    match place_of_production(table.productions(), production) {
+        None => false,
+        Some(_) => true,
+    }
+}
+
+/// Whether the item's production is one of the table's, where its dot is in front.
+fn is_known(table: &Numbered<'_>, item: &Lr1Item<'_>) -> bool
+    requires { IsNumberTable table.now }
+    ensures { IsTrue result ↔ IsKnownUnmoved table.now item.now }
+{
+    if item.index == 0 {
+        is_of_table(table, item.production)
+    } else {
+        true
+    }
+}
+
+/// Whether each of the items with the dot in front has a production of the table.
+fn are_known(table: &Numbered<'_>, items: &[Lr1Item<'_>]) -> bool
+    requires { IsNumberTable table.now }
+    ensures { IsTrue result ↔ HoldsAtEach (λ _ item. IsKnownUnmoved table.now item) items.now }
+{
+    for item in items {
+        if !is_known(table, item) {
+            return false;
+        }
+    }
+    true
+}
+
+/// Marks the production, where it is one of the table's.
+fn mark_production(table: &Numbered<'_>, production: &Production, marks: &mut Vec<bool>)
+    requires table { IsNumberTable table.now }
+    requires count { length marks.old.items ≡ length table.now.productions.items }
+    ensures { GainsMarks marks.old.items marks.new.items (λ r. slice_get (table_productions table.now) r ≡ Some production.now) }
+{
+    match place_of_production(table.productions(), production) {
+        None => {}
+        Some(place) => set_mark(marks, place),
+    }
+}
+
+/// Marks the item's production, where its dot is in front.
+fn mark_if_unmoved(table: &Numbered<'_>, item: &Lr1Item<'_>, marks: &mut Vec<bool>)
+    requires table { IsNumberTable table.now }
+    requires count { length marks.old.items ≡ length table.now.productions.items }
+    ensures { GainsMarks marks.old.items marks.new.items (IsUnmovedAt table.now item.now) }
+{
+    if item.index == 0 {
+        mark_production(table, item.production, marks);
+    }
+}
+
+/// Marks the productions of the items with the dot in front.
+fn mark_unmoved(table: &Numbered<'_>, items: &[Lr1Item<'_>], marks: &mut Vec<bool>)
+    requires table { IsNumberTable table.now }
+    requires count { length marks.old.items ≡ length table.now.productions.items }
+    ensures { GainsMarks marks.old.items marks.new.items (IsMarkOfSome (IsUnmovedAt table.now) items.now) }
+{
+    for item in items {
+        mark_if_unmoved(table, item, marks);
+    }
+}
+
+/// The productions of the items with the dot in front, by their numbers.
+fn unmoved_productions(
+    alloc: Global,
+    table: &Numbered<'_>,
+    items: &[Lr1Item<'_>],
+) -> Result<Vec<bool>, AllocError>
+    requires { IsNumberTable table.now }
+    ensures { IfOk result (λ marks. (r : ℕ) → IsMarked marks.items r ↔ IsMarkOfSome (IsUnmovedAt table.now) items.now r) }
+{
+    let mut marks = no_marks(alloc, table.productions().len())?;
+    mark_unmoved(table, items, &mut marks);
+    Ok(marks)
+}
+
+/// Whether the production with this number is marked just where the rule's name is.
+fn is_of_marked_name(
+    productions: &[bool],
+    number: usize,
+    names: &[bool],
+    rule: &NumberedRule,
+) -> bool
+    ensures { IsTrue result ↔ (IsMarked productions.now number ↔ IsMarked names.now rule.now.left) }
+{
+    is_marked(productions, number) == is_marked(names, rule.left)
+}
+
+/// Whether just the productions of marked names are marked.
+fn are_of_marked_names(productions: &[bool], names: &[bool], rules: &[NumberedRule]) -> bool
+    ensures { IsTrue result ↔ HoldsAtEach (λ r rule. IsMarked productions.now r ↔ IsMarked names.now rule.left) rules.now }
+{
+    for number in 0..rules.len() {
+        if !is_of_marked_name(productions, number, names, &rules[number]) {
+            return false;
+        }
+    }
+    true
+}
+
+/// Whether the items with the dot in front are the productions of just the marked names.
+pub(crate) fn are_items_of_names(
+    alloc: Global,
+    table: &Numbered<'_>,
+    names: &[bool],
+    items: &[Lr1Item<'_>],
+) -> Result<bool, AllocError>
+    requires { IsNumberTable table.now }
+    ensures { IfOk result (λ are. IsTrue are ↔ AreUnmovedOf table.now names.now items.now) }
+{
+    if are_known(table, items) {
+        let productions = unmoved_productions(alloc, table, items)?;
+        let are = are_of_marked_names(productions.as_slice(), names, table.rules());
+        Ok(are)
+    } else {
+        Ok(false)
+    }
+}

@@ -1,0 +1,4 @@
+pub mod CollapsedStates
+pub mod SameStates
+pub mod JoinedStates
+pub mod CollapseLaws
