@@ -6,10 +6,11 @@ use Rattle.std.proofs.Math.Seq.{get_or-append_seam}
 use Rattle.std.proofs.lemmas.Bool.{cases_lt, cases_eq, eqb-true}
 use Rattle.std.proofs.lemmas.List.{get_or_append_left, length_push, length-map, map-append}
 use Rattle.lalrpop_lexer_nfa.specs.declared.test.Test.{Test}
-use Rattle.lalrpop_lexer_nfa.specs.Paths.{Graph}
+use Rattle.lalrpop_lexer_nfa.specs.Paths.{Graph, HasTransition}
 use Rattle.lalrpop_lexer_nfa.specs.Sets.{IsEpsilonClosure, IsSubsetStep}
 use Rattle.lalrpop_lexer.specs.Numbering.{EdgeView, edge_at}
 use Rattle.lalrpop_lexer.specs.Targets.{items_lists, items_at, start_at, AreTargets}
+use Rattle.lalrpop_lexer.specs.Groups.{AreGroups}
 use Rattle.lalrpop_lexer.specs.Simulation.{AreApart}
 use Rattle.lalrpop_lexer.specs.States.{IsInterned}
 use Rattle.lalrpop_lexer.specs.Explore.{end_at, AreClassesOf, IsGrowing, Explores}
@@ -21,21 +22,39 @@ items_at-extends old more i l =
     ap (λ ls. get_or ls i []) (map-append (λ (v : Vec ℕ Global). v.items) old more)
     ∙ get_or_append_left (items_lists old) (items_lists more) [] i (omega (arith, length-map old (λ (v : Vec ℕ Global). v.items)))
 
+-- for each piece, where the edges from the set lead which read its start
+pub record ArePieceTargets (t : Graph) (set : List ℕ) (pieces : List Test) (targets : ℕ → List ℕ) : Type 0 where
+  pub only : (i x : ℕ) → i < length pieces → Contains (targets i) x → (q : ℕ) × Contains set q
+      × HasTransition t q (start_at pieces i) x
+  pub all : (i q x : ℕ) → i < length pieces → Contains set q → HasTransition t q (start_at pieces i) x → Contains (targets i) x
+
+-- a piece has the targets of its group
+pub targets_of_groups : (t : Graph) (set : List ℕ) (pieces : List Test) (numbers : List ℕ) (firsts : List Test)
+    (targets : List (Vec ℕ Global)) → AreGroups t pieces numbers firsts → AreTargets t set firsts targets
+    → ArePieceTargets t set pieces (λ i. items_at targets (get_or numbers i 0))
+targets_of_groups t set pieces numbers firsts targets groups moves = record {
+  only = λ i x l h.
+      let from = moves.only (get_or numbers i 0) x h in
+      (from.1.0, from.1.1, (groups.alike i from.1.0 x l).1 from.1.2);
+  all = λ i q x l among reads.
+      moves.all (get_or numbers i 0) q x (groups.inside i l) among ((groups.alike i q x l).0 reads);
+}
+
 -- a step by any number of a piece is one by its start
-pub step_of_piece : (t : Graph) (pieces : List Test) (targets : List (Vec ℕ Global)) (set new : List ℕ) (i c : ℕ)
-    → AreClassesOf t pieces → AreTargets t set pieces targets → i < length pieces →
-    start_at pieces i ≤ c → c ≤ end_at pieces i → IsEpsilonClosure t (items_at targets i) new → IsSubsetStep t set c new
+pub step_of_piece : (t : Graph) (pieces : List Test) (targets : ℕ → List ℕ) (set new : List ℕ) (i c : ℕ)
+    → AreClassesOf t pieces → ArePieceTargets t set pieces targets → i < length pieces →
+    start_at pieces i ≤ c → c ≤ end_at pieces i → IsEpsilonClosure t (targets i) new → IsSubsetStep t set c new
 step_of_piece t pieces targets set new i c p moves l low high closed = record {
   only = λ y h.
       let x = closed.only y h in
-      let m = moves.only i x.0 x.1 in
-      (m.1.0, x.0, m.1.1, p.same i m.1.0 (start_at pieces i) c x.0 l (omega arith) (p.filled i l) low high m.1.2, x.2);
+      let m = moves.only i x.0 l x.1 in
+      (m.0, x.0, m.1, p.same i m.0 (start_at pieces i) c x.0 l (omega arith) (p.filled i l) low high m.2, x.2);
   all = λ q x y among reads follows.
       closed.all x y (moves.all i q x l among (p.same i q c (start_at pieces i) x l low high (omega arith) (p.filled i l) reads)) follows;
 }
 
 -- the edges of the first pieces
-pub record ExploresSome (t : Graph) (pieces : List Test) (targets : List (Vec ℕ Global)) (done cur : ℕ)
+pub record ExploresSome (t : Graph) (pieces : List Test) (targets : ℕ → List ℕ) (done cur : ℕ)
     (old new : List (Vec ℕ Global)) (out : List EdgeView) : Type 0 where
   pub extends : (more : List (Vec ℕ Global)) × (new ≡ old ++ more)
   pub grows : (edges more : ℕ → List EdgeView) (parent place : ℕ → ℕ)
@@ -47,7 +66,7 @@ pub record ExploresSome (t : Graph) (pieces : List Test) (targets : List (Vec �
   pub below : (k : ℕ) → k < length out → (j : ℕ) × (j < done) × ((edge_at out k).0 ≡ start_at pieces j)
       × ((edge_at out k).1 ≡ end_at pieces j)
   pub apart : (j k : ℕ) → j < k → k < length out → (edge_at out j).1 < (edge_at out k).0
-  pub covers : (j x : ℕ) → j < done → Contains (items_at targets j) x → (k : ℕ) × (k < length out)
+  pub covers : (j x : ℕ) → j < done → Contains (targets j) x → (k : ℕ) × (k < length out)
       × ((edge_at out k).0 ≡ start_at pieces j) × ((edge_at out k).1 ≡ end_at pieces j)
 
 -- a list of edges with another in one place
@@ -65,10 +84,10 @@ put_other edges cur out s apart = go (eqb s cur) refl
     go true e = absurd (apart (eqb-true s cur e))
     go false e = refl
 
-module _ (t : Graph) (pieces : List Test) (targets : List (Vec ℕ Global)) (done cur : ℕ) (old mid new : List (Vec ℕ Global))
+module _ (t : Graph) (pieces : List Test) (targets : ℕ → List ℕ) (done cur : ℕ) (old mid new : List (Vec ℕ Global))
     (out : List EdgeView) (to : ℕ)
-    (p : AreClassesOf t pieces) (moves : AreTargets t (items_at old cur) pieces targets) (l : done < length pieces)
-    (before : ExploresSome t pieces targets done cur old mid out) (found : IsInterned t (items_at targets done) mid new to) where
+    (p : AreClassesOf t pieces) (moves : ArePieceTargets t (items_at old cur) pieces targets) (l : done < length pieces)
+    (before : ExploresSome t pieces targets done cur old mid out) (found : IsInterned t (targets done) mid new to) where
   abbrev pub e : EdgeView
   e = (start_at pieces done, end_at pieces done, to)
 
@@ -179,8 +198,8 @@ module _ (t : Graph) (pieces : List Test) (targets : List (Vec ℕ Global)) (don
       new_one n a b = rw (eq-eqb n n refl) refl
 
 -- one more alphabet class without targets: no transition
-pub explore_skip : (t : Graph) (pieces : List Test) (targets : List (Vec ℕ Global)) (done cur : ℕ) (old new : List (Vec ℕ Global))
-    (out : List EdgeView) → ((x : ℕ) → Contains (items_at targets done) x → ⊥) →
+pub explore_skip : (t : Graph) (pieces : List Test) (targets : ℕ → List ℕ) (done cur : ℕ) (old new : List (Vec ℕ Global))
+    (out : List EdgeView) → ((x : ℕ) → Contains (targets done) x → ⊥) →
     ExploresSome t pieces targets done cur old new out → ExploresSome t pieces targets (done + 1) cur old new out
 explore_skip t pieces targets done cur old new out none before = record {
   extends = before.extends;
@@ -192,7 +211,7 @@ explore_skip t pieces targets done cur old new out none before = record {
   covers = λ j x h among.
       ⊎_elim (λ (less : j < done). before.covers j x less among)
       (λ (more : done ≤ j). absurd
-      (none x (let P : ℕ → Type 0 = λ i. Contains (items_at targets i) x in
+      (none x (let P : ℕ → Type 0 = λ i. Contains (targets i) x in
       subst P (let at : j ≡ done = omega arith in at) among)))
       (cases_lt j done);
 }
@@ -202,7 +221,7 @@ pub funext : {A B : Type 0} (f g : A → B) → ((x : A) → f x ≡ g x) → f 
 funext f g h = λ i x. h x i
 
 -- before the first alphabet class, the state has no transitions, and no state is new
-pub explore_start : (t : Graph) (pieces : List Test) (targets : List (Vec ℕ Global)) (cur : ℕ) (old : List (Vec ℕ Global))
+pub explore_start : (t : Graph) (pieces : List Test) (targets : ℕ → List ℕ) (cur : ℕ) (old : List (Vec ℕ Global))
     → ExploresSome t pieces targets 0 cur old old []
 explore_start t pieces targets cur old = record {
   extends = ([], sym (append-nil old));
@@ -220,8 +239,8 @@ explore_start t pieces targets cur old = record {
 }
 
 -- after the last alphabet class, the state has all of its transitions
-pub explore_end : (t : Graph) (pieces : List Test) (targets : List (Vec ℕ Global)) (done cur : ℕ) (old new : List (Vec ℕ Global))
-    (out : List EdgeView) → AreClassesOf t pieces → AreTargets t (items_at old cur) pieces targets →
+pub explore_end : (t : Graph) (pieces : List Test) (targets : ℕ → List ℕ) (done cur : ℕ) (old new : List (Vec ℕ Global))
+    (out : List EdgeView) → AreClassesOf t pieces → ArePieceTargets t (items_at old cur) pieces targets →
     length pieces ≤ done → cur < length old → ExploresSome t pieces targets done cur old new out → Explores t cur old new out
 explore_end t pieces targets done cur old new out p moves over inside h = record {
   extends = h.extends;
@@ -237,7 +256,7 @@ explore_end t pieces targets done cur old new out p moves over inside h = record
 }
 
 -- the edges are as far apart as the pieces
-pub explore_apart : (t : Graph) (pieces : List Test) (targets : List (Vec ℕ Global)) (done cur : ℕ) (old new : List (Vec ℕ Global))
+pub explore_apart : (t : Graph) (pieces : List Test) (targets : ℕ → List ℕ) (done cur : ℕ) (old new : List (Vec ℕ Global))
     (out : List EdgeView) → AreClassesOf t pieces → done ≤ length pieces →
     ExploresSome t pieces targets done cur old new out → AreApart out
 explore_apart t pieces targets done cur old new out p inside h = record {

@@ -4,6 +4,8 @@ pub mod GrowLemmas
 pub mod SubsetLemmas
 pub mod TargetLemmas
 pub mod StatesLemmas
+pub mod SplitLemmas
+pub mod GroupLemmas
 pub mod ExploreLemmas
 pub mod AlphabetClassLemmas
 pub mod OutcomeLemmas
@@ -13,5 +15,6 @@ pub mod StepLemmas
 pub mod DecideLemmas
 pub mod StateViewLemmas
 pub mod FollowLemmas
+pub mod RowLemmas
 pub mod BuildLemmas
 pub mod KernelLemmas

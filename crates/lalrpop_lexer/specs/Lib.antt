@@ -4,9 +4,12 @@ pub mod Subsets
 pub mod Targets
 pub mod States
 pub mod Explore
+pub mod Splits
+pub mod Groups
 pub mod Outcome
 pub mod Automaton
 pub mod Build
+pub mod Rows
 pub mod StateViews
 pub mod Ties
 pub mod Answer

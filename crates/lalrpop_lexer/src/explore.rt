@@ -1,12 +1,14 @@
 //! The transitions of one state of the automaton under way.
 
-ghost use Rattle.std.specs.Prelude.{◌≡◌, ℕ, ◌<◌, length, All, IfOk, OnOk, vec_len};
+ghost use Rattle.std.specs.Prelude.{◌≡◌, ℕ, ◌<◌, List, Some, length, All, IfOk, OnOk, IfSome, vec_len};
 ghost use Rattle.lalrpop_lexer_nfa.specs.Paths.{nfa_view};
-ghost use Rattle.lalrpop_lexer.specs.States.{AreNumbered, AreInside};
+ghost use Rattle.lalrpop_lexer.specs.States.{AreNumbered, HasKernel, IsInterned, AreInside};
+ghost use Rattle.lalrpop_lexer.specs.Groups.{AreGroups};
 ghost use Rattle.lalrpop_lexer.specs.Simulation.{AreApart};
 ghost use Rattle.lalrpop_lexer.specs.Explore.{AreClassesOf, Explores, edges_view};
 
 use crate::edge::DfaEdge;
+use crate::groups::Groups;
 use crate::kind::DfaStateIndex;
 use crate::moves::moves;
 use crate::states::States;
@@ -14,18 +16,50 @@ use lalrpop_lexer_nfa::{Nfa, StateSet, Test};
 use std::alloc::{AllocError, Global};
 
 impl States {
+    /// The state that edges to the states `kernel` lead to, which may be known.
+    fn known_or_found(
+        &mut self,
+        alloc: Global,
+        nfa: &Nfa,
+        kernel: &[usize],
+        known: &mut Option<usize>,
+        scratch: &mut StateSet,
+    ) -> Result<usize, AllocError>
+        requires bound { vec_len scratch.old.places ≡ vec_len nfa.now.states }
+        requires inside { All (λ q. q < vec_len nfa.now.states) kernel.now }
+        requires sets { AreInside (vec_len nfa.now.states) self.old.sets.items }
+        requires numbered { AreNumbered (nfa_view nfa.now) self.old.sets.items self.old.numbers.entries }
+        requires known { IfSome known.old (λ n. HasKernel self.old.numbers.entries n kernel.now) }
+        ensures kernel { IfOk result (λ n. HasKernel self.new.numbers.entries n kernel.now) }
+        ensures known { IfOk result (λ n. known.new ≡ Some n) }
+        ensures kept { OnOk result ((m : ℕ) (k : List ℕ) → HasKernel self.old.numbers.entries m k → HasKernel self.new.numbers.entries m k) }
+        ensures found { IfOk result (λ n. IsInterned (nfa_view nfa.now) kernel.now self.old.sets.items self.new.sets.items n) }
+        ensures sets { OnOk result (AreInside (vec_len nfa.now.states) self.new.sets.items) }
+        ensures numbered { OnOk result (AreNumbered (nfa_view nfa.now) self.new.sets.items self.new.numbers.entries) }
+        ensures bound { vec_len scratch.new.places ≡ vec_len scratch.old.places }
+    {
+        if let Some(number) = *known {
+            return Ok(number);
+        }
+        let number = self.number_of(alloc, nfa, kernel, scratch)?;
+        *known = Some(number);
+        Ok(number)
+    }
+
     /// The edges of one of the states, for each of the pieces that some edge of its set reads. The states that they lead
-    /// to are made where there are none yet.
+    /// to are made where there are none yet; those of the pieces of one group are looked up once.
     pub(crate) fn explore(
         &mut self,
         alloc: Global,
         nfa: &Nfa,
         pieces: &[Test],
+        groups: &Groups,
         state: usize,
         scratch: &mut StateSet,
     ) -> Result<Vec<DfaEdge>, AllocError>
         requires state { state < vec_len self.old.sets }
         requires pieces { AreClassesOf (nfa_view nfa.now) pieces.now }
+        requires groups { AreGroups (nfa_view nfa.now) pieces.now groups.now.numbers.items groups.now.firsts.items }
         requires bound { vec_len scratch.old.places ≡ vec_len nfa.now.states }
         requires sets { AreInside (vec_len nfa.now.states) self.old.sets.items }
         requires numbered { AreNumbered (nfa_view nfa.now) self.old.sets.items self.old.numbers.entries }
@@ -35,11 +69,19 @@ impl States {
         ensures numbered { OnOk result (AreNumbered (nfa_view nfa.now) self.new.sets.items self.new.numbers.entries) }
         ensures bound { vec_len scratch.new.places ≡ vec_len scratch.old.places }
     {
-        let targets = moves(alloc, nfa, &self.sets[state], pieces)?;
+        let targets = moves(alloc, nfa, &self.sets[state], &groups.firsts)?;
+        let mut known = vec![in alloc; None; groups.firsts.len()]?;
         let mut out = Vec::new(alloc);
         for i in 0..pieces.len() {
-            if !targets[i].is_empty() {
-                let to = self.number_of(alloc, nfa, &targets[i], scratch)?;
+            let group = groups.numbers[i];
+            if !targets[group].is_empty() {
+                let to = self.known_or_found(
+                    alloc,
+                    nfa,
+                    &targets[group],
+                    &mut known[group],
+                    scratch,
+                )?;
                 out.push(DfaEdge {
                     test: pieces[i],
                     to: DfaStateIndex(to),

@@ -10,6 +10,7 @@ ghost use Rattle.lalrpop_lexer.specs.Answer.{IsAnswerFront};
 
 use crate::automaton::Dfa;
 use crate::kind::NfaIndex;
+use crate::row::target_in;
 use crate::state::State;
 
 impl State {
@@ -17,20 +18,10 @@ impl State {
     fn target(&self, character: u32) -> Option<usize>
         ensures { result ≡ target_of (edges_view self.now.edges.items) character }
     {
-        let mut low = 0;
-        let mut high = self.edges.len();
-        while low < high {
-            let middle = low + (high - low) / 2;
-            if self.edges[middle].test.end() < character {
-                low = middle + 1;
-            } else {
-                high = middle;
-            }
+        match self.row.get(character as usize) {
+            Some(target) => *target,
+            None => target_in(&self.edges, character),
         }
-        if low < self.edges.len() && self.edges[low].test.start() <= character {
-            return Some(self.edges[low].to.0);
-        }
-        None
     }
 }
 

@@ -2,6 +2,7 @@
 #![tactic(auto)]
 
 pub mod aliases;
+mod alike;
 mod automaton;
 mod build;
 mod decide;
@@ -9,14 +10,17 @@ pub mod dfa;
 mod edge;
 mod error;
 mod explore;
+mod groups;
 mod interpreter;
 mod kind;
 mod moves;
 pub mod nfa;
 mod outcome;
 mod outcome_of;
+mod partition;
 mod pieces;
 pub mod re;
+mod row;
 mod state;
 mod states;
 mod whole;

@@ -9,7 +9,7 @@ use lalrpop_lexer_nfa::{Edge, Nfa, NfaStateIndex, Test};
 use std::alloc::{AllocError, Global};
 
 /// The place of the first piece that begins at the number or above it.
-fn first_from(pieces: &[Test], number: u32) -> usize
+pub(crate) fn first_from(pieces: &[Test], number: u32) -> usize
     requires { StartsAscend pieces.now }
     ensures within { result ≤ length pieces.now }
     ensures below { (i : ℕ) → i < result → start_at pieces.now i < number }

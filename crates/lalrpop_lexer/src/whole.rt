@@ -6,7 +6,9 @@ ghost use Rattle.lalrpop_lexer.specs.Targets.{items_lists};
 ghost use Rattle.lalrpop_lexer.specs.StateViews.{edges_in};
 ghost use Rattle.lalrpop_lexer.specs.Automaton.{IsAutomaton};
 
+use crate::alike::groups_of;
 use crate::pieces::pieces_of;
+use crate::row::row_of;
 use crate::state::State;
 use crate::states::States;
 use lalrpop_lexer_nfa::{Nfa, START, StateSet};
@@ -28,6 +30,7 @@ pub(crate) fn all_states(alloc: Global, nfa: &Nfa) -> Result<Whole, AllocError>
     ensures count { IfOk result (λ whole. length whole.states.items ≡ length whole.sets.items) }
 {
     let pieces = pieces_of(alloc, nfa)?;
+    let groups = groups_of(alloc, nfa, &pieces)?;
     let mut scratch = StateSet::new(alloc, nfa.state_count())?;
     let mut known = States {
         sets: Vec::new(alloc),
@@ -36,10 +39,12 @@ pub(crate) fn all_states(alloc: Global, nfa: &Nfa) -> Result<Whole, AllocError>
     known.number_of(alloc, nfa, &[START.0], &mut scratch)?;
     let mut states = Vec::new(alloc);
     'states: while states.len() < known.sets.len() {
-        let edges = known.explore(alloc, nfa, &pieces, states.len(), &mut scratch)?;
+        let edges = known.explore(alloc, nfa, &pieces, &groups, states.len(), &mut scratch)?;
+        let row = row_of(alloc, &edges)?;
         states.push(State {
             accepts: None,
             edges,
+            row,
         })?;
     }
     Ok(Whole {

@@ -1,13 +1,18 @@
-use Rattle.std.proofs.Common.{ℕ, ◌≡◌, ◌<◌, [], ◌∙◌, arith, refl, ap, sym, List, Vec, Global, length, get_or, subst}
+use Rattle.std.proofs.Common.{ℕ, ◌≡◌, ◌<◌, [], ◌∙◌, arith, refl, ap, sym, List, Vec, Global, length, get_or}
+use Rattle.std.proofs.Common.{subst, Contains, None, rules}
+use Rattle.std.specs.Prelude.{replicate}
 use Rattle.std.proofs.lemmas.Bool.{eqb-true}
-use Rattle.std.proofs.lemmas.List.{get_or-map, map_push}
+use Rattle.std.proofs.lemmas.List.{get_or-map, map_push, get_or_default, length-set}
 use Rattle.std.proofs.lemmas.List.Elements.{Contains-get_or}
 use Rattle.lalrpop_lexer_nfa.specs.declared.test.Test.{Test}
 use Rattle.lalrpop_lexer_nfa.specs.Paths.{nfa_view}
 use Rattle.lalrpop_lexer_nfa.proofs.NfaLemmas.{reads_inside}
-use Rattle.lalrpop_lexer.specs.Targets.{items_at, AreTargets}
+use Rattle.lalrpop_lexer.specs.Targets.{items_at, StartsAscend, AreTargets}
 use Rattle.lalrpop_lexer.specs.Explore.{edge_view, edges_view}
-use Rattle.lalrpop_lexer.proofs.ExploreLemmas.{explore_start, explore_more, explore_skip, explore_end, explore_apart}
+use Rattle.lalrpop_lexer.specs.States.{HasKernel, IsInterned}
+use Rattle.lalrpop_lexer.proofs.GroupLemmas.{known_at, known_none, if_known, known_more}
+use Rattle.lalrpop_lexer.proofs.ExploreLemmas.{ArePieceTargets, targets_of_groups, explore_start, explore_more}
+use Rattle.lalrpop_lexer.proofs.ExploreLemmas.{explore_skip, explore_end, explore_apart}
 use Rattle.lalrpop_lexer.proofs.states.States.explore.Goals as goal
 use Rattle.lalrpop_lexer.proofs.states.States.explore.Goals.{In_ok-targets, then-not-is_empty+in_ok-to+in_ok-push, else-not-is_empty}
 
@@ -16,59 +21,135 @@ at_place : (vs : List (Vec ℕ Global)) (i : ℕ) (v : Vec ℕ Global) → i < l
     → v.items ≡ items_at vs i
 at_place vs i v l is = ap (λ (v : Vec ℕ Global). v.items) is ∙ sym (get_or-map (λ (v : Vec ℕ Global). v.items) vs i v [] l)
 
-are_moves : (c : In_ok-targets)
-    → AreTargets (nfa_view c.args.nfa.now) (items_at c.args.self.now.sets.items c.args.state) c.args.pieces.now
+-- where a group leads
+group_moves : (c : In_ok-targets)
+    → AreTargets (nfa_view c.args.nfa.now) (items_at c.args.self.now.sets.items c.args.state) c.args.groups.now.firsts.items
     c.in_ok-targets.targets.items
-are_moves c =
-    let P : List ℕ → Type 0 = λ s. AreTargets (nfa_view c.args.nfa.now) s c.args.pieces.now c.in_ok-targets.targets.items in
-    subst P (c.deref.ensures.value
+group_moves c =
+    let P : List ℕ → Type 0 = λ s. AreTargets (nfa_view c.args.nfa.now) s c.deref-2.result.now c.in_ok-targets.targets.items in
+    let Q : List Test → Type 0 =
+    λ firsts. AreTargets (nfa_view c.args.nfa.now) (items_at c.args.self.now.sets.items c.args.state) firsts
+    c.in_ok-targets.targets.items in
+    subst Q c.deref-2.ensures.value
+    (subst P (c.deref.ensures.value
     ∙ at_place c.args.self.now.sets.items c.args.state c.index.result.now (omega (arith, c.requires.state, c.args.self.now.sets.ok.0))
-    c.index.ensures) c.in_ok-targets.ensures
+    c.index.ensures) c.in_ok-targets.ensures)
+
+-- where a piece leads
+are_moves : (c : In_ok-targets)
+    → ArePieceTargets (nfa_view c.args.nfa.now) (items_at c.args.self.now.sets.items c.args.state) c.args.pieces.now
+    (λ i. items_at c.in_ok-targets.targets.items (get_or c.args.groups.now.numbers.items i 0))
+are_moves c =
+    targets_of_groups _ _ c.args.pieces.now c.args.groups.now.numbers.items c.args.groups.now.firsts.items _ c.requires.groups
+    (group_moves c)
+
+-- the group of a piece
+group_is : (numbers : List ℕ) (i g : ℕ) → i < length numbers → g ≡ get_or numbers i g → get_or numbers i 0 ≡ g
+group_is numbers i g l is = get_or_default numbers i 0 g l ∙ sym is
+
+pub moves-requires-clause-pieces : goal.moves-requires-clause-pieces
+moves-requires-clause-pieces c =
+    let P : List Test → Type 0 = StartsAscend in
+    subst P (sym c.deref-2.ensures.value) c.requires.groups.ascending
 
 pub loop-i-init : goal.loop-i-init
 loop-i-init c = record {
   some = rw c.new-out.ensures.items (explore_start _ _ _ _ _);
+  size = omega (arith, c.in_ok-known.ensures.len, c.in_ok-known.known.ok.0, c.len.ensures, c.args.groups.now.firsts.ok.0);
+  known = λ g n is.
+      let none : c.in_ok-known.known.items ≡ replicate c.len.result None =
+      c.in_ok-known.ensures.items_if_clones_equal (λ y h. search rules) in
+      let no = known_none c.in_ok-known.known.items c.len.result g none in
+      cc;
   sets = c.requires.sets;
   numbered = c.requires.numbered;
   bound = refl;
 }
 
-pub number_of-requires-clause-inside : goal.number_of-requires-clause-inside
-number_of-requires-clause-inside c k d l =
-    let moves = are_moves (goal.at.number_of-requires-clause-inside c).In_ok-targets in
-    let is = at_place c.in_ok-targets.targets.items c.loop-i.i c.index-then-not-is_empty.result.now (omega (arith, moves.size))
+pub known_or_found-requires-clause-inside : goal.known_or_found-requires-clause-inside
+known_or_found-requires-clause-inside c k d l =
+    let moves = group_moves (goal.at.known_or_found-requires-clause-inside c).In_ok-targets in
+    let groups = c.requires.groups in
+    let i = c.loop-i.i in
+    let number = group_is c.args.groups.now.numbers.items i c.index-group.result.now (omega (arith, groups.size, c.loop-i-test.true))
+    c.index-group.ensures in
+    let within : c.index-group.result.now < length c.in_ok-targets.targets.items =
+    omega (arith, groups.inside i c.loop-i-test.true, number, moves.size) in
+    let is = at_place c.in_ok-targets.targets.items c.index-group.result.now c.index-then-not-is_empty.result.now within
     c.index-then-not-is_empty.ensures in
     let x = get_or c.deref-then-not-is_empty.result.now k d in
-    let from = moves.only c.loop-i.i x
-    (rw (← is, ← c.deref-then-not-is_empty.ensures.value) (Contains-get_or c.deref-then-not-is_empty.result.now k d l)) in
+    let P : List ℕ → Type 0 = λ xs. Contains xs x in
+    let from = moves.only c.index-group.result.now x
+    (subst P (c.deref-then-not-is_empty.ensures.value ∙ is) (Contains-get_or c.deref-then-not-is_empty.result.now k d l)) in
     reads_inside c.args.nfa.now from.1.0 _ x from.1.2
+
+pub known_or_found-requires-clause-known : goal.known_or_found-requires-clause-known
+known_or_found-requires-clause-known c =
+    let groups = c.requires.groups in
+    let i = c.loop-i.i in
+    let group = c.index-group.result.now in
+    let known = c.loop-i.known.items in
+    let moves = group_moves (goal.at.known_or_found-requires-clause-known c).In_ok-targets in
+    let number = group_is c.args.groups.now.numbers.items i group (omega (arith, groups.size, c.loop-i-test.true)) c.index-group.ensures in
+    let inside : group < length c.args.groups.now.firsts.items = omega (arith, groups.inside i c.loop-i-test.true, number) in
+    let is = at_place c.in_ok-targets.targets.items group c.index-then-not-is_empty.result.now (omega (arith, inside, moves.size))
+    c.index-then-not-is_empty.ensures in
+    let read : known_at known group ≡ c.index_mut.result.now =
+    get_or_default known group None c.index_mut.result.now (omega (arith, inside, c.loop-i.invariant.size))
+    ∙ sym c.index_mut.ensures.value in
+    if_known known group _ _ read
+    (λ n found.
+    let P : List ℕ → Type 0 = HasKernel c.loop-i.self.numbers.entries n in
+    subst P (sym (c.deref-then-not-is_empty.ensures.value ∙ is)) (c.loop-i.invariant.known group n found))
 
 pub loop-i-preserved : goal.loop-i-preserved
 loop-i-preserved c =
     let moves = are_moves (goal.at.loop-i-preserved c).In_ok-targets in
-    let within : c.loop-i.i < length c.in_ok-targets.targets.items = omega (arith, moves.size, c.loop-i-test.true) in
+    let by_group = group_moves (goal.at.loop-i-preserved c).In_ok-targets in
+    let groups = c.requires.groups in
+    let i = c.loop-i.i in
+    let group = c.index-group.result.now in
+    let numbers = c.args.groups.now.numbers.items in
+    let targets = c.in_ok-targets.targets.items in
+    let known = c.loop-i.known.items in
+    let number = group_is numbers i group (omega (arith, groups.size, c.loop-i-test.true)) c.index-group.ensures in
+    let inside : group < length c.args.groups.now.firsts.items = omega (arith, groups.inside i c.loop-i-test.true, number) in
+    let within : group < length targets = omega (arith, inside, by_group.size) in
     elim c.if-not-is_empty.branch [
       | then-not-is_empty+in_ok-to+in_ok-push w ↦
-          let is = at_place c.in_ok-targets.targets.items c.loop-i.i w.index-then-not-is_empty.result.now within
-          w.index-then-not-is_empty.ensures in
-          let found = rw (w.deref-then-not-is_empty.ensures.value, is) at w.in_ok-to.ensures.found in
-          let low = get_or-map (λ (t : Test). t.start) c.args.pieces.now c.loop-i.i (record { start = 0; end = 0 }) 0 c.loop-i-test.true in
-          let high = get_or-map (λ (t : Test). t.end) c.args.pieces.now c.loop-i.i (record { start = 0; end = 0 }) 0 c.loop-i-test.true in
-          rw (w.self-is, w.out-is, w.scratch-is) (record {
+          let kernel = w.deref-then-not-is_empty.ensures.value
+          ∙ at_place targets group w.index-then-not-is_empty.result.now within w.index-then-not-is_empty.ensures in
+          let P : List ℕ → Type 0 =
+          λ k. IsInterned (nfa_view c.args.nfa.now) k c.loop-i.self.sets.items w.known_or_found.new.self.sets.items w.in_ok-to.to in
+          let Q : List ℕ → Type 0 = HasKernel w.known_or_found.new.self.numbers.entries w.in_ok-to.to in
+          let found = subst P (kernel ∙ ap (items_at targets) (sym number)) w.in_ok-to.ensures.found in
+          let low = get_or-map (λ (t : Test). t.start) c.args.pieces.now i (record { start = 0; end = 0 }) 0 c.loop-i-test.true in
+          let high = get_or-map (λ (t : Test). t.end) c.args.pieces.now i (record { start = 0; end = 0 }) 0 c.loop-i-test.true in
+          rw (w.self-is, w.out-is, w.scratch-is, w.known-is) (record {
             some = rw (w.in_ok-push.ensures.items, map_push edge_view, ← low, ← high)
-                (explore_more (nfa_view c.args.nfa.now) c.args.pieces.now c.in_ok-targets.targets.items c.loop-i.i c.args.state
-                c.args.self.now.sets.items c.loop-i.self.sets.items w.number_of.new.self.sets.items (edges_view c.loop-i.out.items)
+                (explore_more (nfa_view c.args.nfa.now) c.args.pieces.now (λ i. items_at targets (get_or numbers i 0)) i c.args.state
+                c.args.self.now.sets.items c.loop-i.self.sets.items w.known_or_found.new.self.sets.items (edges_view c.loop-i.out.items)
                 w.in_ok-to.to c.requires.pieces moves c.loop-i-test.true c.loop-i.invariant.some found);
+            size = length-set known group w.known_or_found.new.known ∙ c.loop-i.invariant.size;
+            known = known_more known group w.known_or_found.new.known w.in_ok-to.to (items_at targets) c.loop-i.self.numbers.entries
+                w.known_or_found.new.self.numbers.entries (omega (arith, inside, c.loop-i.invariant.size)) w.in_ok-to.ensures.known
+                (subst Q kernel w.in_ok-to.ensures.kernel) w.in_ok-to.ensures.kept c.loop-i.invariant.known;
             sets = w.in_ok-to.ensures.sets;
             numbered = w.in_ok-to.ensures.numbered;
-            bound = w.number_of.ensures.bound ∙ c.loop-i.invariant.bound;
+            bound = w.known_or_found.ensures.bound ∙ c.loop-i.invariant.bound;
           })
       | else-not-is_empty w ↦
-          let is = at_place c.in_ok-targets.targets.items c.loop-i.i c.index-in-loop-i.result.now within c.index-in-loop-i.ensures in
-          rw (w.self-is, w.out-is, w.scratch-is) (record {
+          let is = at_place targets group c.index-in-loop-i.result.now within c.index-in-loop-i.ensures
+          ∙ ap (items_at targets) (sym number) in
+          rw (w.self-is, w.out-is, w.scratch-is, w.known-is) (record {
             some = explore_skip _ _ _ _ _ _ _ _
-                (rw (← is) (λ x k. let size = eqb-true _ _ (sym c.is_empty.ensures ∙ w.if-not-is_empty.false) in
-                absurd (omega (arith, k.1, size, c.index-in-loop-i.result.now.ok.0)))) c.loop-i.invariant.some;
+                (λ x k.
+                let P : List ℕ → Type 0 = λ xs. Contains xs x in
+                let there : Contains c.index-in-loop-i.result.now.items x = subst P (sym is) k in
+                let size = eqb-true _ _ (sym c.is_empty.ensures ∙ w.if-not-is_empty.false) in
+                absurd (omega (arith, there.1, size, c.index-in-loop-i.result.now.ok.0))) c.loop-i.invariant.some;
+            size = c.loop-i.invariant.size;
+            known = c.loop-i.invariant.known;
             sets = c.loop-i.invariant.sets;
             numbered = c.loop-i.invariant.numbered;
             bound = c.loop-i.invariant.bound;
@@ -86,7 +167,3 @@ pub returns-clause-apart : goal.returns-clause-apart
 returns-clause-apart c =
     rw c.shrink_to_fit.ensures.items
     (explore_apart _ c.args.pieces.now _ c.loop-i.i _ _ _ _ c.requires.pieces (omega arith) c.loop-i.invariant.some)
-
-pub moves-requires-clause-pieces : goal.moves-requires-clause-pieces
-moves-requires-clause-pieces c i j order l =
-    omega (arith, c.requires.pieces.filled i (omega arith), c.requires.pieces.ascending i j order l)
