@@ -107,7 +107,7 @@ name_left features (WrittenItem.nonterminal r ∷ items) w n =
 
 -- dropping, as a change of rules in which each name stands for itself
 
-abbrev cfg_change : RuleChange
+abbrev pub cfg_change : RuleChange
 cfg_change = record { declared = λ r. r.declared; expr = λ r c. c.expr; attributes = without_cfg }
 
 abbrev name_itself : TextSpan → Text → WrittenSymbol
@@ -120,7 +120,7 @@ module _ (finds : Text → Text → Option Bool) (features : List Text) (w : Gra
   abbrev after : EnabledGrammar
   after = grammar_between finds (without_disabled features w)
 
-  changed : HasChangedRules cfg_change before after
+  pub changed : HasChangedRules cfg_change before after
   changed = record {
     rules = rules_left features w.items read.items;
     bares = bares_left features w.items;
@@ -129,7 +129,7 @@ module _ (finds : Text → Text → Option Bool) (features : List Text) (w : Gra
     ranks = keeps_ranks;
   }
 
-  replaces : ReplacesNames cfg_change before after
+  abbrev pub replaces : ReplacesNames cfg_change before after
   replaces = record {
     changed = changed;
     by = λ r. name_itself;

@@ -106,7 +106,7 @@ pub record ReplacesNames (w : RuleChange) (g h : EnabledGrammar) : Type 0 where
   pub closes : (n : Text) (r : EnabledRule) → IsRule g n r → (args : Closeds) → ClosesAlike (by r) g h (bind r args) r.name
 
 module _ (w : RuleChange) (g h : EnabledGrammar) (m : ReplacesNames w g h) where
-  keeps_sides : KeepsSides w g h
+  pub keeps_sides : KeepsSides w g h
   keeps_sides n r i args p =
       side_kept w g h m.changed r (m.by r) (m.expr_is r) (bind r args) (m.counts n r i args) (m.closes n r i args) p
 

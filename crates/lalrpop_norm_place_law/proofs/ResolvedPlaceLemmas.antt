@@ -23,7 +23,7 @@ use Rattle.lalrpop_norm_place_law.proofs.ReplacedNameLemmas.{ReplacesNames, Stan
 
 -- resolving, as a change of rules
 
-abbrev name_change : DefinedNames → RuleChange
+abbrev pub name_change : DefinedNames → RuleChange
 name_change d = record {
   declared = λ r. option_map (resolved_type d r.parameters) r.declared;
   expr = λ r c. map (resolved_symbol d r.parameters) c.expr;
@@ -74,7 +74,7 @@ module _ (finds : Text → Text → Option Bool) (g : Grammar) where
   abbrev after : EnabledGrammar
   after = grammar_between finds (resolved_grammar g)
 
-  changed : HasChangedRules (name_change names) before after
+  pub changed : HasChangedRules (name_change names) before after
   changed = record {
     rules = ap (map rule_between) (rules_resolved names g.items) ∙ all_changed names (rules_of g.items);
     bares = bares_resolved names g.items;
@@ -88,7 +88,7 @@ module _ (finds : Text → Text → Option Bool) (g : Grammar) where
 
   -- what stands for a name
 
-  abbrev replacement : EnabledRule → TextSpan → Text → WrittenSymbol
+  abbrev pub replacement : EnabledRule → TextSpan → Text → WrittenSymbol
   replacement r p n = resolved_name (use_of_name names r.parameters n) p n
 
   use_placed : (u : NameUse) (p : TextSpan) (n : Text) → place_of_symbol (resolved_name u p n) ≡ p
@@ -106,7 +106,7 @@ module _ (finds : Text → Text → Option Bool) (g : Grammar) where
   use_alone NameUse.mapped b o k p n = refl
   use_alone NameUse.nothing b o k p n = refl
 
-  stands_alone : (r : EnabledRule) → StandsAlone (replacement r)
+  pub stands_alone : (r : EnabledRule) → StandsAlone (replacement r)
   stands_alone r = record {
     placed = λ p n. use_placed (use_of_name names r.parameters n) p n;
     alone = λ b o k p n. use_alone (use_of_name names r.parameters n) b o k p n;
@@ -171,13 +171,13 @@ module _ (finds : Text → Text → Option Bool) (g : Grammar) where
         ap (λ (b : Bool). (if b && not (is_some (parameter_value (bind r args) n)) then 1 else 0) + 0)
         (sym (not_owner n (none_named n w) (bytes_eq n r.name) refl))
 
-    counts_alike : CountsAlike (replacement r) (bind r args) r.name
+    pub counts_alike : CountsAlike (replacement r) (bind r args) r.name
     counts_alike = λ q n. counted_by_use (use_of_name names r.parameters n) q n (use_is names r.parameters n)
 
-    closes_alike : ClosesAlike (replacement r) before after (bind r args) r.name
+    pub closes_alike : ClosesAlike (replacement r) before after (bind r args) r.name
     closes_alike = λ e k q n. closed_by_use (use_of_name names r.parameters n) e k q n (use_is names r.parameters n)
 
-  replaces : ReplacesNames (name_change names) before after
+  abbrev pub replaces : ReplacesNames (name_change names) before after
   replaces = record {
     changed = changed;
     by = replacement;

@@ -1,0 +1,3 @@
+pub mod MetKeys
+pub mod KeyPlaces
+pub mod KeyPlaceLaws

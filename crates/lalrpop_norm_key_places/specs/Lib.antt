@@ -1,0 +1,4 @@
+pub mod FirstPlaces
+pub mod GrammarPlaces
+pub mod KeySpanLaws
+pub mod Views
