@@ -1,0 +1,44 @@
+//! Orders and hashes of productions and their symbols.
+
+use crate::parts::production_of;
+use lalrpop_grammar_repr::{ActionFn, Production};
+use lalrpop_grammar_symbols::Span;
+use std::alloc::{AllocError, Global};
+use std::collections::HashSet;
+use std::test::Fail;
+
+/// Productions in their order: each differs from the first in one field, the last in the first field.
+fn ascending(alloc: Global) -> Result<[Production; 4], AllocError> {
+    Ok([
+        production_of(alloc, "A", "A", ActionFn::new(0), Span(0, 9))?,
+        production_of(alloc, "A", "A", ActionFn::new(1), Span(0, 9))?,
+        production_of(alloc, "A", "B", ActionFn::new(0), Span(0, 9))?,
+        production_of(alloc, "B", "A", ActionFn::new(0), Span(0, 9))?,
+    ])
+}
+
+/// Whether each of the four is before the next.
+fn are_ascending(productions: &[Production]) -> bool {
+    match productions {
+        [first, second, third, fourth] => first < second && second < third && third < fourth,
+        _ => false,
+    }
+}
+
+#[test]
+fn productions_are_ordered_by_their_fields(rt: HostRuntime) -> Result<(), Fail> {
+    let productions = ascending(rt.alloc())?;
+    assert!(rt; are_ascending(&productions));
+    Ok(())
+}
+
+#[test]
+fn equal_productions_are_one(rt: HostRuntime) -> Result<(), Fail> {
+    let alloc = rt.alloc();
+    let mut seen = HashSet::new(alloc);
+    let production = production_of(alloc, "A", "B", ActionFn::new(0), Span(0, 9))?;
+    let copy = production.try_clone(alloc)?;
+    assert!(rt; seen.insert(production)?);
+    assert!(rt; !seen.insert(copy)?);
+    Ok(())
+}
