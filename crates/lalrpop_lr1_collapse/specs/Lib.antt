@@ -1,0 +1,5 @@
+pub mod StateCores
+pub mod JoinedItems
+pub mod Renumbering
+pub mod JoinedStates
+pub mod CollapseAnswers

@@ -1,0 +1,14 @@
+//! The collapse of canonical LR(1) states: those with the same items, whatever may follow, are put together.
+//!
+//! `StateCores` in `specs/` says what the core of a state is, `JoinedItems` and `JoinedStates` how states are joined place by place,
+//! and `CollapseAnswers` what the collapse answers. What these states are, the laws of `lalrpop_lr1_collapse_laws` say.
+#![tactic(auto)]
+
+mod collapse;
+mod conflicts;
+mod cores;
+mod edges;
+mod joined_states;
+mod joining;
+
+pub use collapse::collapse_to_lalr_states;
