@@ -7,8 +7,12 @@ use lalrpop_grammar_repr::{Map, TryClone};
 use lalrpop_lr1_items::StateIndex;
 use std::alloc::{AllocError, Global};
 
-/// The edges, each to the state with the number of its target.
-pub(crate) fn renumber_edges<K: Ord + Drop + TryClone>(
+/// The edges, each to the state with the number of its target: the number that stands at the target's place.
+///
+/// # Errors
+///
+/// Memory is refused.
+pub fn renumber_edges<K: Ord + Drop + TryClone>(
     alloc: Global,
     edges: &Map<K, StateIndex>,
     numbers: &[usize],

@@ -12,3 +12,4 @@ mod joined_states;
 mod joining;
 
 pub use collapse::collapse_to_lalr_states;
+pub use edges::renumber_edges;
