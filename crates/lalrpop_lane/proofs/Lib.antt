@@ -1,0 +1,5 @@
+pub mod NumberLemmas
+pub mod OrderLemmas
+pub mod TargetLemmas
+pub mod AnswerLemmas
+pub mod ExamplesOfOrders

@@ -1,0 +1,2 @@
+pub mod GotoNumbers
+pub mod BuilderAnswers

@@ -1,0 +1,13 @@
+//! LR(1) states of a grammar by either method, and in the order in which a parser generator writes them out.
+//!
+//! No lane tables are built yet: whichever method is asked for, the canonical way answers. `BuilderAnswers` in `specs/` says what the
+//! builders answer, `GotoNumbers` by which numbers states are put in order.
+#![tactic(auto)]
+
+mod building;
+mod edges;
+mod numbering;
+mod ordering;
+
+pub use building::{build_lalr_states, build_lr1_states, build_states};
+pub use lalrpop_lane_method::Method;

@@ -1,0 +1,3 @@
+pub mod RenumberedStates
+pub mod GotoOrders
+pub mod OrderLaws
