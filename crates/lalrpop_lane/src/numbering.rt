@@ -27,7 +27,7 @@ pub(crate) fn fronts(alloc: Global, states: &[Lr1State<'_>]) -> Result<Vec<bool>
 }
 
 /// How many are marked.
-fn marked(marks: &[bool]) -> usize
+fn count_marks(marks: &[bool]) -> usize
     ensures count { result ≡ count_marked marks.now }
     ensures bound { result ≤ length marks.now }
 {
@@ -45,7 +45,7 @@ pub(crate) fn numbers_of(alloc: Global, fronts: &[bool]) -> Result<Vec<usize>, A
     ensures { IfOk result (λ numbers. numbers.items ≡ goto_numbers fronts.now) }
 {
     let mut front = 0;
-    let mut rest = marked(fronts);
+    let mut rest = count_marks(fronts);
     let mut numbers = Vec::new(alloc);
     for stays in fronts {
         if *stays {

@@ -28,7 +28,7 @@ fn renumber_states<'g>(
 }
 
 /// Puts the states that are marked before the others.
-fn marked_first<'g>(
+fn put_marked_first<'g>(
     alloc: Global,
     marks: &[bool],
     states: Vec<Lr1State<'g>>,
@@ -60,5 +60,5 @@ pub(crate) fn goto_order<'g>(
     let fronts = fronts(alloc, states.as_slice())?;
     let numbers = numbers_of(alloc, fronts.as_slice())?;
     let renumbered = renumber_states(alloc, numbers.as_slice(), states)?;
-    marked_first(alloc, fronts.as_slice(), renumbered)
+    put_marked_first(alloc, fronts.as_slice(), renumbered)
 }

@@ -16,8 +16,8 @@ renumber_states-requires-clause-targets c =
     c.in_ok-numbers.numbers.items c.as_slice-3.result.now c.as_slice.ensures.value c.in_ok-fronts.ensures c.as_slice-2.ensures.value
     c.in_ok-numbers.ensures c.as_slice-3.ensures.value)) c.requires
 
-pub marked_first-requires : goal.marked_first-requires
-marked_first-requires c =
+pub put_marked_first-requires : goal.put_marked_first-requires
+put_marked_first-requires c =
     let numbers = c.as_slice-3.result.now in
     let long = lent_length c.args.states.items c.as_slice.result.now c.in_ok-fronts.fronts.items c.as_slice-2.result.now
     c.in_ok-numbers.numbers.items numbers c.as_slice.ensures.value c.in_ok-fronts.ensures c.as_slice-2.ensures.value

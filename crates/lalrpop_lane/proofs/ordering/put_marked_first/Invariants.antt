@@ -1,7 +1,7 @@
 use Rattle.std.proofs.Common.{◌≡◌, ◌++◌, ◌+◌, drop, length, true, false}
 use Rattle.std.specs.Vec.Iter.{into_iter_items, into_iter_len}
 use Rattle.lalrpop_lane.specs.GotoNumbers.{picked}
-use Rattle.lalrpop_lane.proofs.ordering.marked_first.Given as goal
+use Rattle.lalrpop_lane.proofs.ordering.put_marked_first.Given as goal
 
 abbrev pub invariant-loop-state : goal.invariant-loop-state
 invariant-loop-state l =

@@ -1,7 +1,7 @@
 use Rattle.std.proofs.Common.{◌≡◌, ◌∙◌, ◌+◌, ◌∷◌, ap, arith, drop, drop-cons, false, suc}
 use Rattle.lalrpop_lane.specs.GotoNumbers.{count_marked}
 use Rattle.lalrpop_lane.proofs.NumberLemmas.{marked_within}
-use Rattle.lalrpop_lane.proofs.numbering.marked.Goals as goal
+use Rattle.lalrpop_lane.proofs.numbering.count_marks.Goals as goal
 
 pub overflow_add-count : goal.overflow_add-count
 overflow_add-count c =
