@@ -104,7 +104,7 @@ all_numbers : numbers_after (codes "B" ∷ codes "A" ∷ []) nested 4 ≡ 8
 all_numbers = refl
 
 -- S = A; A = B B; B = C C; C = { "p", "q" }: numbers of all steps count, those of productions that a later step replaces too
-abbrev doubling : NonterminalEntries
+abbrev pub doubling : NonterminalEntries
 doubling =
     rule "A" marked (production "A" 0 (n "B" ∷ n "B" ∷ []) ∷ []) ∷ rule "B" marked (production "B" 1 (n "C" ∷ n "C" ∷ [])
     ∷ [])

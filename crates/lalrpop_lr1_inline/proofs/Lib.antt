@@ -8,7 +8,13 @@ pub mod MadeLemmas
 pub mod StepRuleLemmas
 pub mod MapRuleLemmas
 pub mod AfterStepLemmas
+pub mod StepsLemmas
+pub mod LimitLemmas
+pub mod PlaceLemmas
+pub mod CountLemmas
+pub mod SourceLemmas
 pub mod RecordLabelLemmas
 pub mod ExamplesOfInliningOrders
 pub mod ExamplesOfInliningSteps
 pub mod ExamplesOfNamedProductions
+pub mod ExamplesOfNumberCounts

@@ -22,12 +22,12 @@ use Rattle.lalrpop_lr1_inline.specs.InliningSteps.{record_entries, records_of, s
 use Rattle.lalrpop_lr1_inline.specs.NamedProductions.{entry_by_labels, record_by_labels, side_by_names, symbol_by_name}
 use Rattle.lalrpop_lr1_inline.proofs.AmongLemmas.{among_flat_map, among_left, among_right}
 
-map_among : {A B : Type 0} (f : A → B) (xs : List A) (x : A) → Among xs x → Among (map f xs) (f x)
+pub map_among : {A B : Type 0} (f : A → B) (xs : List A) (x : A) → Among xs x → Among (map f xs) (f x)
 map_among f [] x h = absurd h
 map_among f (y ∷ xs) x (inl e) = inl (ap f e)
 map_among f (y ∷ xs) x (inr h) = inr (map_among f xs x h)
 
-flat_map_among : {A B : Type 0} (f : A → List B) (xs : List A) (a : A) (b : B) → Among xs a → Among (f a) b →
+pub flat_map_among : {A B : Type 0} (f : A → List B) (xs : List A) (a : A) (b : B) → Among xs a → Among (f a) b →
     Among (flat_map f xs) b
 flat_map_among f [] a b i j = absurd i
 flat_map_among f (x ∷ xs) a b (inl e) j = among_left (f x) (flat_map f xs) b (subst (λ y. Among (f y) b) (sym e) j)

@@ -4,3 +4,5 @@ pub mod InlineFaults
 pub mod OrderSearches
 pub mod InliningSteps
 pub mod NamedProductions
+pub mod NumberCounts
+pub mod InlinedGrammars
