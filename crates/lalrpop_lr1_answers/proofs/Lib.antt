@@ -1,0 +1,2 @@
+mod ParsableLemmas
+mod TerminalLemmas

@@ -1,0 +1,75 @@
+//! The answers: counts, or the tree of tokens.
+
+ghost use Rattle.lalrpop_lr1_first.specs.NumberedGrammars.{HasItsTerminals};
+
+use anyhow::Result;
+use clap::ArgMatches;
+use lalrpop_grammar_repr::Grammar;
+use lalrpop_grammar_symbols::NonterminalString;
+use lalrpop_lr1_answers::{
+    answer_tokens, canonical_states, counts_of, parsable_states, read_productions, start_of,
+};
+use std::alloc::Global;
+use std::io;
+use std::rt::Clock;
+use std::time::Instant;
+
+/// Answers what the words ask for.
+pub(crate) fn answer<R: Alloc<A = Global> + Clock + Eprint + Input + Print>(
+    rt: &R,
+    matches: &ArgMatches<'_>,
+) -> Result<()> {
+    let alloc = rt.alloc();
+    let text = io::read_to_string(alloc, rt.reader())?;
+    let grammar = read_productions(alloc, text.as_str())?;
+    let start = start_of(alloc, matches.get_str("start").unwrap_or(""))?;
+    let timed = matches.get_flag("time");
+    match matches.get_str("tokens") {
+        Some(tokens) => tell_tree(rt, &grammar, &start, tokens, timed),
+        None => tell_counts(rt, &grammar, &start, timed),
+    }
+}
+
+/// Tells how many states and conflicts there are.
+fn tell_counts<R: Alloc<A = Global> + Clock + Eprint + Print>(
+    rt: &R,
+    grammar: &Grammar,
+    start: &NonterminalString,
+    timed: bool,
+) -> Result<()>
+    requires { HasItsTerminals grammar.now }
+{
+    let began = Instant::now(rt)?;
+    let canonical = canonical_states(rt.alloc(), grammar, start)?;
+    tell_time(rt, began, timed)?;
+    let counts = counts_of(rt.alloc(), grammar, start, &canonical)?;
+    println!(rt; "{counts}")?;
+    Ok(())
+}
+
+/// Tells the tree of the tokens, or where they are stuck.
+fn tell_tree<R: Alloc<A = Global> + Clock + Eprint + Print>(
+    rt: &R,
+    grammar: &Grammar,
+    start: &NonterminalString,
+    tokens: &str,
+    timed: bool,
+) -> Result<()>
+    requires { HasItsTerminals grammar.now }
+{
+    let began = Instant::now(rt)?;
+    let states = parsable_states(rt.alloc(), grammar, start)?;
+    tell_time(rt, began, timed)?;
+    let text = answer_tokens(rt.alloc(), states.as_slice(), &grammar.terminals, tokens)?;
+    println!(rt; "{text}")?;
+    Ok(())
+}
+
+/// Tells how long it took since then, where that is asked for.
+fn tell_time<R: Clock + Eprint>(rt: &R, began: Instant, timed: bool) -> Result<()> {
+    if timed {
+        let micros = began.elapsed(rt)?.as_micros();
+        eprintln!(rt; "{}.{:03} ms", micros / 1000, micros % 1000)?;
+    }
+    Ok(())
+}
