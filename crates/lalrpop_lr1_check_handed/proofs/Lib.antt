@@ -1,0 +1,10 @@
+pub mod WalkLemmas
+pub mod RestLemmas
+pub mod SlotLemmas
+pub mod BroughtLemmas
+pub mod HandEdgeLemmas
+pub mod ReduceLemmas
+pub mod FlownLemmas
+pub mod SeedLemmas
+pub mod KnownLemmas
+pub mod HandedLemmas

@@ -1,0 +1,49 @@
+use Rattle.std.proofs.Common.{◌≡◌, ◌↔◌, List, Option, ℕ, Contains, refl, subst, sym, true}
+use Rattle.std.specs.Borrow.{Bor}
+use Rattle.lalrpop_grammar_repr.specs.declared.production.Production.{Production}
+use Rattle.lalrpop_lr1_items.specs.Views.{token_lookahead}
+use Rattle.lalrpop_lr1_first.specs.Listings.{HoldSame, lent, productions_of_grammar}
+use Rattle.lalrpop_lr1_check_parts.specs.ListTests.{HoldsAtEach}
+use Rattle.lalrpop_lr1_check_handed.specs.HandFlows.{AreFlown}
+use Rattle.lalrpop_lr1_check_handed.specs.HandReductions.{DoesSlotReduce, option_set}
+use Rattle.lalrpop_lr1_check_handed.specs.HandSlots.{slot_keys}
+use Rattle.lalrpop_lr1_check_handed.proofs.HandedLemmas.{handed_is_tested}
+use Rattle.lalrpop_lr1_check_handed.proofs.SeedLemmas.{edges_between, tokens_small}
+use Rattle.lalrpop_lr1_check_handed.proofs.handed.reduces_before_handed.Goals as goal
+
+pub flown_sets-requires-clause-are : goal.flown_sets-requires-clause-are
+flown_sets-requires-clause-are c = (c.in_ok-edges.ensures (token_lookahead c.args.grammar.now.terminals)).are
+
+pub flown_sets-requires-clause-tokens : goal.flown_sets-requires-clause-tokens
+flown_sets-requires-clause-tokens c =
+    let own = lent c.productions-productions.result.now in
+    tokens_small c.args.grammar.now own own c.args.start.now.0 (token_lookahead c.args.grammar.now.terminals) c.args.states.now
+    c.in_ok-slots.slots c.hand_edges.new.slots c.in_ok-edges.edges.items _ c.in_ok-slots.ensures
+    (c.in_ok-edges.ensures (token_lookahead c.args.grammar.now.terminals))
+
+pub flown_sets-requires-clause-edges : goal.flown_sets-requires-clause-edges
+flown_sets-requires-clause-edges c = λ e m.
+    edges_between c.args.grammar.now (lent c.productions-productions.result.now) (token_lookahead c.args.grammar.now.terminals)
+    c.args.states.now c.in_ok-slots.slots c.hand_edges.new.slots c.in_ok-edges.edges.items _
+    (c.in_ok-edges.ensures (token_lookahead c.args.grammar.now.terminals)) e
+    (subst (λ l. Contains l e) c.as_slice.ensures.value m)
+
+pub returns : goal.returns
+returns c = λ known.
+    let g = c.args.grammar.now in
+    let own = c.productions-productions.result.now in
+    let look = token_lookahead g.terminals in
+    let states = c.args.states.now in
+    let slots = c.hand_edges.new.slots in
+    let sets = c.in_ok-sets.sets.items in
+    let same : HoldSame (lent own) (productions_of_grammar g) =
+    subst (λ (l : List (Bor Production)). HoldSame (lent l) (productions_of_grammar g)) (sym c.productions-productions.ensures)
+    c.requires.table.productions in
+    let flown : AreFlown slots c.in_ok-edges.edges.items sets =
+    subst (λ l. AreFlown slots l sets) c.as_slice.ensures.value c.in_ok-sets.ensures in
+    let says = subst (λ (l : List (Option (List ℕ))). (c.in_ok-all.all ≡ true)
+    ↔ HoldsAtEach (λ j tokens. DoesSlotReduce look states own (slot_keys slots) j (option_set tokens)) l) c.as_slice-2.ensures.value
+    (c.in_ok-all.ensures look) in
+    let tested = handed_is_tested g c.requires.grammar states known (lent own) same c.args.start.now.0 c.in_ok-slots.slots slots
+    c.in_ok-slots.ensures c.in_ok-edges.edges.items (c.in_ok-edges.ensures look) own refl sets flown in
+    (λ e. tested.0 (says.0 e), λ h. says.1 (tested.1 h))

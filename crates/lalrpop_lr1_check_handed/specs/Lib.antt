@@ -1,0 +1,5 @@
+pub mod HandSlots
+pub mod Brought
+pub mod HandEdges
+pub mod HandReductions
+pub mod HandFlows
