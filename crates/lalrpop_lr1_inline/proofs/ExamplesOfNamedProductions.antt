@@ -12,19 +12,19 @@ use Rattle.lalrpop_lr1_inline.specs.NamedProductions.{IsInlinedByName, ProducesB
 use Rattle.lalrpop_lr1_inline.proofs.ExamplesOfInliningOrders.{marked, n, nested, production, rule, t}
 use Rattle.lalrpop_lr1_inline.proofs.ExamplesOfInliningSteps.{by, same}
 
-abbrev bare : String → GrammarSymbol Text
+abbrev pub bare : String → GrammarSymbol Text
 bare s = GrammarSymbol.terminal (Terminal.bare (codes s))
 
 -- S = Op "x"; Op = { "a", "a" }
-abbrev alike : NonterminalEntries
+abbrev pub alike : NonterminalEntries
 alike =
     rule "Op" marked (production "Op" 0 (t "a" ∷ []) ∷ production "Op" 1 (t "a" ∷ []) ∷ [])
     ∷ rule "S" [] (production "S" 2 (n "Op" ∷ t "x" ∷ []) ∷ []) ∷ []
 
-abbrev op_by : ℕ → Label Text ℕ
+abbrev pub op_by : ℕ → Label Text ℕ
 op_by action = label_given (codes "Op") action (bare "a" ∷ [])
 
-abbrev S_by : ℕ → Label Text ℕ
+abbrev pub S_by : ℕ → Label Text ℕ
 S_by action = Label.choose (codes "S") 2 (Inlinings.inlined (op_by action) (Inlinings.kept Inlinings.none))
 
 -- a production of Op, of each action
@@ -50,12 +50,12 @@ S_after action op = (
 )
 
 -- two labels with equal right sides
-two_labels : Inlines (ProducesByAction alike) (IsInlinedByName alike) (codes "S") (S_by 0) (bare "a" ∷ bare "x" ∷ [])
+pub two_labels : Inlines (ProducesByAction alike) (IsInlinedByName alike) (codes "S") (S_by 0) (bare "a" ∷ bare "x" ∷ [])
     × Inlines (ProducesByAction alike) (IsInlinedByName alike) (codes "S") (S_by 1) (bare "a" ∷ bare "x" ∷ [])
 two_labels = (S_after 0 first_op, S_after 1 second_op)
 
 -- the label of Op's production isn't the other's, so one production can't stand for both
-labels_differ : op_by 0 ≢ op_by 1
+pub labels_differ : op_by 0 ≢ op_by 1
 labels_differ e = (let actions : ◌≡◌ {A = ℕ} 0 1 = cc in omega (arith, actions))
 
 -- the labels that the records of the step make

@@ -1,10 +1,10 @@
 -- Computed examples of counts: the numbers that inlining hands out, told by the right sides that are given.
-use Rattle.std.proofs.Common.{◌≡◌, ◌+◌, ◌^◌, ℕ, [], ◌∷◌, refl, arith}
+use Rattle.std.proofs.Common.{◌≡◌, ◌+◌, ◌^◌, [], ◌∷◌, refl}
 use Rattle.std.specs.Prelude.{codes}
 use Rattle.lalrpop_lr1_inline.specs.InlinedNames.{NonterminalEntries}
 use Rattle.lalrpop_lr1_inline.specs.InliningSteps.{numbers_after}
 use Rattle.lalrpop_lr1_inline.specs.NumberCounts.{InlinedCounts, counts_of, handed_out, sum_of_entries, up_to_limit}
-use Rattle.lalrpop_lr1_inline.proofs.ExamplesOfInliningOrders.{marked, n, nested, production, rule, t}
+use Rattle.lalrpop_lr1_inline.proofs.ExamplesOfInliningOrders.{marked, n, nested, production, rule}
 use Rattle.lalrpop_lr1_inline.proofs.ExamplesOfInliningSteps.{doubling}
 
 -- S = A; A = B B; B = C C; C = { "p", "q" }

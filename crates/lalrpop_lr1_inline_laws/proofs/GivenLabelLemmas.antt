@@ -1,11 +1,13 @@
 -- Before the first step each production has the label in which nothing is inlined: for the labels of an inlined grammar.
-use Rattle.std.proofs.Common.{◌≡◌, ◌∙◌, ℕ, List, [], ◌∷◌, ap, refl, sym, subst, true, false, map}
+use Rattle.std.proofs.Common.{◌≡◌, ◌∙◌, ℕ, List, [], ◌∷◌, ap, refl, sym, subst, true, false, map, inl, inr}
 use Rattle.std.specs.Prelude.{Bool}
 use Rattle.std.specs.Ordering.{is_eq}
 use Rattle.lalrpop_grammar_symbols.specs.Symbols.{Text}
 use Rattle.lalrpop_grammar_symbols.specs.contracts.names.NonterminalStringOrd.TheImpl as names
 use Rattle.lalrpop_grammar_language.specs.Among.{Among}
 use Rattle.lalrpop_grammar_language.specs.Expansion.{GrammarSymbol}
+use Rattle.lalrpop_grammar_symbols.specs.declared.names.NonterminalString.{NonterminalString}
+use Rattle.lalrpop_grammar_repr.specs.declared.production.NonterminalData.{NonterminalData}
 use Rattle.lalrpop_grammar_repr.specs.declared.production.Production.{Production}
 use Rattle.lalrpop_norm_labels.specs.Labels.{BaseProductions, GrammarSymbols, Inlinings, Label}
 use Rattle.lalrpop_norm_labels.specs.Inlining.{Inlines, InlinesAll, IsNotInlined}
@@ -97,3 +99,17 @@ module _ (es : NonterminalEntries) (lab : ℕ → Label Text ℕ) (In : Text →
     once = λ x.
         once_by action_number (λ (p : Production). lab p.action.0) (productions_named es x) (given_told x) (named_once es x own);
   }
+
+-- a production that is found under a name stands in an entry
+pub named_stands : (es : NonterminalEntries) (x : Text) (p : Production) → Among (productions_named es x) p →
+    (e : NonterminalString × NonterminalData) × Among es e × Among e.1.productions p
+named_stands [] x p i = absurd i
+named_stands (d ∷ es) x p i = go (is_eq ((names.ghosts).cmp (name_of_text x) d.0)) refl (named_stands es x p)
+  where
+    go : (b : Bool) → is_eq ((names.ghosts).cmp (name_of_text x) d.0) ≡ b →
+        (Among (productions_named es x) p → (e : NonterminalString × NonterminalData) × Among es e × Among e.1.productions p) →
+        (e : NonterminalString × NonterminalData) × Among (d ∷ es) e × Among e.1.productions p
+    go true f later = (d, inl refl, subst (λ (l : List Production). Among l p) (looked_by x d es true f) i)
+    go false f later =
+        let w = later (subst (λ (l : List Production). Among l p) (looked_by x d es false f) i) in
+        (w.0, inr w.1, w.2)

@@ -4,3 +4,6 @@ pub mod MadeLabelLemmas
 pub mod StepLabelLemmas
 pub mod GivenLabelLemmas
 pub mod OrderLabelLemmas
+pub mod SmallerLemmas
+pub mod LabelsExistLemmas
+pub mod ExamplesOfInlinedLabels

@@ -44,7 +44,7 @@ pub labels_back : (lab : ℕ → Label Text ℕ) (k j : ℕ) (ms ns : List Made)
 labels_back lab k j [] ns e h = subst (λ i. LabelsFrom lab i ns) (omega (arith, e)) h
 labels_back lab k j (m ∷ ms) ns e h = labels_back lab (k + 1) j ms ns (omega (arith, e)) h.1
 
-got_at : {A : Type 0} (front : List A) (x : A) (back : List A) → slice_get (front ++ x ∷ back) (length front) ≡ Some x
+pub got_at : {A : Type 0} (front : List A) (x : A) (back : List A) → slice_get (front ++ x ∷ back) (length front) ≡ Some x
 got_at [] x back = refl
 got_at (y ∷ front) x back = got_at front x back
 

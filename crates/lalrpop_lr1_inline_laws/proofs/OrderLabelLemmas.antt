@@ -22,10 +22,12 @@ use Rattle.lalrpop_norm_labels.specs.Steps.{NamesInlinedFirst, OneMore, label_wi
 use Rattle.lalrpop_norm_labels.proofs.OrderLemmas.{never_names}
 use Rattle.lalrpop_norm_labels.proofs.SideLemmas.{inlines_same}
 use Rattle.lalrpop_lr1_inline.specs.InlinedGrammars.{IsInlinedGrammar}
-use Rattle.lalrpop_lr1_inline.specs.InlinedNames.{NonterminalEntries, inlined_in_symbols, inlined_named_by, is_inlined_name, names_in_symbol}
+use Rattle.lalrpop_lr1_inline.specs.InlinedNames.{NonterminalEntries, inlined_in_symbols}
+use Rattle.lalrpop_lr1_inline.specs.InlinedNames.{inlined_named_by, is_inlined_name, names_in_symbol}
 use Rattle.lalrpop_lr1_inline.specs.InliningOrders.{HasAllInlined, HasNamedFirst, HasNameOnce}
 use Rattle.lalrpop_lr1_inline.specs.InliningSteps.{AreInlineSteps, all_records_after, productions_named}
-use Rattle.lalrpop_lr1_inline.specs.NamedProductions.{IsInlinedByName, ProducesByAction, record_by_labels, side_by_names, symbol_by_name}
+use Rattle.lalrpop_lr1_inline.specs.NamedProductions.{IsInlinedByName, ProducesByAction}
+use Rattle.lalrpop_lr1_inline.specs.NamedProductions.{record_by_labels, side_by_names, symbol_by_name}
 use Rattle.lalrpop_lr1_inline.proofs.AmongLemmas.{among_left, among_parts, among_right, append-none}
 use Rattle.lalrpop_lr1_inline.proofs.NamedLemmas.{all_listed}
 use Rattle.lalrpop_lr1_inline.proofs.OrderLemmas.{order_all, order_named_first, order_once}
@@ -58,7 +60,7 @@ one_more_is front n x = (to, λ i. from (among_parts front (n ∷ []) x i))
     from (inr (inr i)) = absurd i
 
 -- what steps add stands behind
-steps_extend : (ns : List Text) (es after : NonterminalEntries) (actions actions_after : List ActionFnDefn) →
+pub steps_extend : (ns : List Text) (es after : NonterminalEntries) (actions actions_after : List ActionFnDefn) →
     AreInlineSteps ns es actions after actions_after → (back : List ActionFnDefn) × (actions_after ≡ actions ++ back)
 steps_extend [] es after actions actions_after h = ([], h.1 ∙ sym (append-none actions))
 steps_extend (n ∷ ns) es after actions actions_after h =

@@ -19,7 +19,8 @@ use Rattle.lalrpop_norm_labels.proofs.StepLawLemmas.{step_makes, step_reaches}
 use Rattle.lalrpop_norm_labels.proofs.StepOnceLemmas.{made_once}
 use Rattle.lalrpop_lr1_inline.specs.InlinedNames.{NonterminalEntries}
 use Rattle.lalrpop_lr1_inline.specs.InliningSteps.{all_records_after, entries_after, is_place, productions_after, productions_in_place}
-use Rattle.lalrpop_lr1_inline.specs.InliningSteps.{production_of_record, productions_named, productions_of_records, record_entries, records_after}
+use Rattle.lalrpop_lr1_inline.specs.InliningSteps.{production_of_record, productions_named}
+use Rattle.lalrpop_lr1_inline.specs.InliningSteps.{productions_of_records, record_entries, records_after}
 use Rattle.lalrpop_lr1_inline.specs.InliningSteps.{records_in_place, records_of, side_of_record}
 use Rattle.lalrpop_lr1_inline.specs.NamedProductions.{record_by_labels, side_by_names}
 use Rattle.lalrpop_lr1_inline.proofs.AmongLemmas.{among_flat_map}
@@ -67,7 +68,10 @@ module _ (lab : ℕ → Label Text ℕ) (n : Text) (ps : List Production) (own :
   put_apart : (qs : List Production) → StandOnce (map (label_by lab) qs) →
       AreApart (map (λ (p : Production). inlined.Inlined p.action p.symbols) qs)
   put_apart [] h = tt
-  put_apart (q ∷ qs) h = (λ d i a b e. first d (among_map (λ (p : Production). inlined.Inlined p.action p.symbols) qs d i) a b e, put_apart qs h.1)
+  put_apart (q ∷ qs) h = (
+    λ d i a b e. first d (among_map (λ (p : Production). inlined.Inlined p.action p.symbols) qs d i) a b e,
+    put_apart qs h.1,
+  )
     where
       first : (d : InlinedSymbol) →
           (p : Production) × Among qs p × (inlined.Inlined p.action p.symbols ≡ d) → (a b : Inlinings Text ℕ) →

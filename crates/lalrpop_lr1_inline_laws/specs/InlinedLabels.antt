@@ -1,5 +1,5 @@
 -- The labels of the productions after inlining, by the records of their actions, and what they say of an inlined grammar.
-use Rattle.std.specs.Prelude.{◌≡◌, ◌≤◌, ℕ, Some, List, [], ◌∷◌, flat_map, length, map, slice_get}
+use Rattle.std.specs.Prelude.{◌≡◌, ◌<◌, ◌≤◌, ℕ, All, Some, List, [], ◌∷◌, flat_map, length, map, slice_get}
 use Rattle.std.specs.List.Sorted.{IsStrictlySortedBy}
 use Rattle.std.specs.Map.{keys_of}
 use Rattle.lalrpop_grammar_symbols.specs.Symbols.{Text}
@@ -60,3 +60,10 @@ InlinedHaveLabels =
     IsStrictlySortedBy (names.ghosts).cmp (keys_of before.nonterminals) → StandOnce (production_actions before.nonterminals) →
     IsInlinedGrammar before after → AreActionLabels before after label_of →
     AreInlinedProductions before.nonterminals after.nonterminals label_of
+
+-- the actions have labels, where each production's action is one of the grammar's
+abbrev pub ActionsHaveLabels : Type 0
+ActionsHaveLabels =
+    (before after : Grammar) → StandOnce (production_actions before.nonterminals) →
+    All (λ e. All (λ p. p.action.0 < length before.action_fn_defns) e.1.productions) before.nonterminals →
+    IsInlinedGrammar before after → (label_of : ℕ → Label Text ℕ) × AreActionLabels before after label_of

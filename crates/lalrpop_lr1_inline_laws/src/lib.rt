@@ -4,12 +4,13 @@
 //! production after inlining a label, the tree of choices that it was made of.
 #![tactic(auto)]
 
-ghost use Rattle.lalrpop_lr1_inline_laws.specs.InlinedLabels.{InlinedHaveLabels};
+ghost use Rattle.lalrpop_lr1_inline_laws.specs.InlinedLabels.{ActionsHaveLabels, InlinedHaveLabels};
 
 /// The law that what `inline` makes of a grammar is its productions with the inlined nonterminals inlined, all and no other,
 /// each label once. Each production of the grammar has an action of its own; the names of its nonterminals ascend, as they do
 /// in each map. The label of a production is told by the records of its action: what stands in them isn't looked into where
-/// it was given.
+/// it was given. Where each production's action is one of the grammar's, as `inline` asks, the actions have such labels.
 pub fn inlined_have_labels()
-    ensures { InlinedHaveLabels }
+    ensures labels { InlinedHaveLabels }
+    ensures exist { ActionsHaveLabels }
 {}
