@@ -1,5 +1,6 @@
 -- What items and productions bring to slots, one after another, until nothing comes: for what can come first behind names.
-use Rattle.std.proofs.Common.{◌≡◌, ◌∙◌, ◌↔◌, ◌⊎◌, ℕ, zero, suc, ◌+◌, ◌<◌, ◌≤◌, true, List, [], ◌∷◌, ◌++◌}
+use Rattle.std.proofs.Common.{◌≡◌, ◌∙◌, ◌↔◌, ◌⊎◌, ℕ, zero, suc, ◌+◌, ◌<◌, ◌≤◌}
+use Rattle.std.proofs.Common.{true, List, [], ◌∷◌, ◌++◌}
 use Rattle.std.proofs.Common.{Option, None, Some, length, take, map, refl, sym, ap, subst, inl, inr, ⊎_elim, arith, slice_get, get_or}
 use Rattle.std.proofs.lemmas.List.{take_all}
 use Rattle.std.proofs.lemmas.List.Elements.{Contains-append_cases, Contains-append_left, Contains-append_right}
@@ -19,14 +20,16 @@ use Rattle.lalrpop_lr1_items.proofs.MemberLemmas.{in_map, map_has}
 use Rattle.lalrpop_lr1_first.specs.Listings.{lent}
 use Rattle.lalrpop_lr1_first.specs.FirstSetsOf.{IsProductionOf}
 use Rattle.lalrpop_lr1_check_parts.proofs.GainLemmas.{get_at, no_element, taken_one}
-use Rattle.lalrpop_lr1_check_handed.specs.Brought.{AreClosingMarks, BeginBrings, BringsMark, ClosesMarks, IsBegunMark, IsFirstMark, OfSome, OfSomePlace}
-use Rattle.lalrpop_lr1_check_handed.specs.HandSlots.{AreSlots, GainsMarks, HasSlotMark, IsMarkIn, SlotKey, slot_key, slot_keys}
+use Rattle.lalrpop_lr1_check_handed.specs.Brought.{AreClosingMarks, BeginBrings, BringsMark, ClosesMarks, IsBegunMark}
+use Rattle.lalrpop_lr1_check_handed.specs.Brought.{IsFirstMark, OfSome, OfSomePlace}
+use Rattle.lalrpop_lr1_check_handed.specs.HandSlots.{AreSlots, GainsSlotMarks, HasSlotMark, IsMarkIn, SlotKey, slot_key, slot_keys}
 use Rattle.lalrpop_lr1_check_handed.specs.declared.slots.Slot.{Slot}
 use Rattle.lalrpop_lr1_check_handed.specs.declared.slots.Slots.{Slots}
 use Rattle.lalrpop_lr1_check_handed.proofs.SlotLemmas.{gains_as, gains_both, gains_nothing, key_of}
 
 -- nonterminals in front of symbols
-pub name_same : (A B : Text) (xs ys : List theory.Symbol) → theory.nonterminal A ∷ xs ≡ theory.nonterminal B ∷ ys → (A ≡ B) × (xs ≡ ys)
+pub name_same : (A B : Text) (xs ys : List theory.Symbol) → theory.nonterminal A ∷ xs ≡ theory.nonterminal B ∷ ys → (A ≡ B)
+    × (xs ≡ ys)
 name_same A B xs ys e = (let z : A ≡ B = cc in z, let z : xs ≡ ys = cc in z)
 
 module _ (g : Grammar) (n : ℕ) (symbols rest : List theory.Symbol) (A : Text) (before : symbols ≡ theory.nonterminal A ∷ rest)
@@ -57,22 +60,22 @@ module _ (g : Grammar) (n : ℕ) (symbols rest : List theory.Symbol) (A : Text) 
 -- no nonterminal, no mark
 pub brings_nothing : (g : Grammar) (n : ℕ) (symbols : List theory.Symbol) (old : Slots) → AreSlots old →
     ((A : Text) (b : List theory.Symbol) → symbols ≡ theory.nonterminal A ∷ b → ⊥) →
-    GainsMarks old old (BringsMark g n symbols)
+    GainsSlotMarks old old (BringsMark g n symbols)
 brings_nothing g n symbols old are none =
     gains_as old old (λ key mark. ⊥) (BringsMark g n symbols)
     (λ key mark. (λ (z : ⊥). absurd z, λ b. none key.name b.rest b.before)) (gains_nothing old are)
 
 module _ {X : Type 0} (Brings : X → SlotKey → Option ℕ → Type 0) where
-  pub some_none : (old : Slots) → AreSlots old → GainsMarks old old (OfSome Brings [])
+  pub some_none : (old : Slots) → AreSlots old → GainsSlotMarks old old (OfSome Brings [])
   some_none old are =
       gains_as old old (λ key mark. ⊥) (OfSome Brings [])
       (λ key mark. (λ (z : ⊥). absurd z, λ (x, c, b). no_element x c)) (gains_nothing old are)
 
   pub some_more : (old mid new : Slots) (xs : List X) (i : ℕ) (x : X) → i < length xs → x ≡ get_or xs i x →
-      GainsMarks old mid (OfSome Brings (take i xs)) → GainsMarks mid new (Brings x) →
-      GainsMarks old new (OfSome Brings (take (i + 1) xs))
+      GainsSlotMarks old mid (OfSome Brings (take i xs)) → GainsSlotMarks mid new (Brings x) →
+      GainsSlotMarks old new (OfSome Brings (take (i + 1) xs))
   some_more old mid new xs i x h e g k =
-      subst (λ l. GainsMarks old new (OfSome Brings l)) (sym (taken_one xs i x h e))
+      subst (λ l. GainsSlotMarks old new (OfSome Brings l)) (sym (taken_one xs i x h e))
       (gains_as old new (λ key mark. OfSome Brings (take i xs) key mark ⊎ Brings x key mark) (OfSome Brings (take i xs ++ x ∷ []))
       (λ key mark. (
         λ s. ⊎_elim
@@ -87,16 +90,16 @@ module _ {X : Type 0} (Brings : X → SlotKey → Option ℕ → Type 0) where
       ))
       (gains_both old mid new (OfSome Brings (take i xs)) (Brings x) g k))
 
-  pub some_all : (old new : Slots) (xs : List X) (i : ℕ) → length xs ≤ i → GainsMarks old new (OfSome Brings (take i xs)) →
-      GainsMarks old new (OfSome Brings xs)
-  some_all old new xs i h g = subst (λ l. GainsMarks old new (OfSome Brings l)) (take_all i xs h) g
+  pub some_all : (old new : Slots) (xs : List X) (i : ℕ) → length xs ≤ i → GainsSlotMarks old new (OfSome Brings (take i xs)) →
+      GainsSlotMarks old new (OfSome Brings xs)
+  some_all old new xs i h g = subst (λ l. GainsSlotMarks old new (OfSome Brings l)) (take_all i xs h) g
 
 module _ {X : Type 0} (Brings : ℕ → X → SlotKey → Option ℕ → Type 0) (xs : List X) where
   -- what the first places bring
   abbrev pub OfFirst : ℕ → SlotKey → Option ℕ → Type 0
   OfFirst i key mark = (n : ℕ) × (x : X) × (n < i) × (slice_get xs n ≡ Some x) × Brings n x key mark
 
-  pub first_none : (old : Slots) → AreSlots old → GainsMarks old old (OfFirst 0)
+  pub first_none : (old : Slots) → AreSlots old → GainsSlotMarks old old (OfFirst 0)
   first_none old are =
       gains_as old old (λ key mark. ⊥) (OfFirst 0)
       (λ key mark. (λ (z : ⊥). absurd z, λ (n, x, h, e, b). absurd (omega (arith, h)))) (gains_nothing old are)
@@ -108,7 +111,7 @@ module _ {X : Type 0} (Brings : ℕ → X → SlotKey → Option ℕ → Type 0)
   cases_last (suc a) (suc b) l = ⊎_elim (λ c. inl (omega (arith, c))) (λ c. inr (ap suc c)) (cases_last a b (omega (arith, l)))
 
   pub first_more : (old mid new : Slots) (i : ℕ) (x : X) → i < length xs → x ≡ get_or xs i x →
-      GainsMarks old mid (OfFirst i) → GainsMarks mid new (Brings i x) → GainsMarks old new (OfFirst (i + 1))
+      GainsSlotMarks old mid (OfFirst i) → GainsSlotMarks mid new (Brings i x) → GainsSlotMarks old new (OfFirst (i + 1))
   first_more old mid new i x h e g k =
       let at = get_at xs i x h e in
       gains_as old new (λ key mark. OfFirst i key mark ⊎ Brings i x key mark) (OfFirst (i + 1))
@@ -125,8 +128,8 @@ module _ {X : Type 0} (Brings : ℕ → X → SlotKey → Option ℕ → Type 0)
       ))
       (gains_both old mid new (OfFirst i) (Brings i x) g k)
 
-  pub first_all : (old new : Slots) (i : ℕ) → length xs ≤ i → GainsMarks old new (OfFirst i) →
-      GainsMarks old new (OfSomePlace Brings xs)
+  pub first_all : (old new : Slots) (i : ℕ) → length xs ≤ i → GainsSlotMarks old new (OfFirst i) →
+      GainsSlotMarks old new (OfSomePlace Brings xs)
   first_all old new i h g =
       gains_as old new (OfFirst i) (OfSomePlace Brings xs)
       (λ key mark. (
@@ -145,7 +148,7 @@ module _ (g : Grammar) (productions : List Production) (old : Slots) where
 
   -- a slot more is closed
   pub closing_more : (now new : Slots) (n : ℕ) (own : SlotKey) → AreClosingMarks g productions old now n →
-      slice_get (slot_keys now) n ≡ Some own → GainsMarks now new (OfSome (BeginBrings g own) productions) →
+      slice_get (slot_keys now) n ≡ Some own → GainsSlotMarks now new (OfSome (BeginBrings g own) productions) →
       AreClosingMarks g productions old new (n + 1)
   closing_more now new n own c at gain = record {
     are = gain.are;
@@ -190,7 +193,7 @@ module _ (g : Grammar) (productions : List Production) (old : Slots) where
 
 -- what is lent brings what it is
 pub gains_lent : (Brings : Production → SlotKey → Option ℕ → Type 0) (old new : Slots) (ps : List (Bor Production)) →
-    GainsMarks old new (OfSome (λ (p : Bor Production). Brings p.now) ps) → GainsMarks old new (OfSome Brings (lent ps))
+    GainsSlotMarks old new (OfSome (λ (p : Bor Production). Brings p.now) ps) → GainsSlotMarks old new (OfSome Brings (lent ps))
 gains_lent Brings old new ps g =
     gains_as old new (OfSome (λ (p : Bor Production). Brings p.now) ps) (OfSome Brings (lent ps))
     (λ key mark. (

@@ -1,5 +1,6 @@
 -- What flows along edges, with the first set that holds the end alone: for what slots hand on.
-use Rattle.std.proofs.Common.{◌≡◌, ◌∙◌, ◌↔◌, ℕ, zero, suc, ◌+◌, ◌<◌, ◌≤◌, true, false, ◌||◌, ◌&&◌, List, [], ◌∷◌}
+use Rattle.std.proofs.Common.{◌≡◌, ◌∙◌, ◌↔◌, ℕ, zero, suc, ◌+◌, ◌<◌, ◌≤◌, true, false}
+use Rattle.std.proofs.Common.{◌||◌, ◌&&◌, List, [], ◌∷◌}
 use Rattle.std.proofs.Common.{Contains, Option, None, Some, length, map, refl, sym, ap, subst, ⊎_elim, arith}
 use Rattle.std.proofs.Common.{slice_get, nat_eq}
 use Rattle.std.specs.Prelude.{not, slice_index_or}
@@ -71,7 +72,8 @@ module _ (end : ℕ) (edges : List Edge) (sets : List (List ℕ))
       let s : not true ≡ true = ap not (sym r) ∙ p.0 in
       let w : ⊥ = cc in w
 
-  pub flows_along : (j k : ℕ) → Flows true end (edges_seen firsts edges) marked j k → (k ≡ end + 2 → ⊥) → FlowsAlong edges sets j k
+  pub flows_along : (j k : ℕ) → Flows true end (edges_seen firsts edges) marked j k → (k ≡ end + 2 → ⊥) →
+      FlowsAlong edges sets j k
   flows_along _ _ (Flows.begins s k h) other = FlowsAlong.stands s k (marked_at (end + 2) sets s k other h)
   flows_along _ _ (Flows.brings r e at f) other = absurd (other refl)
   flows_along _ _ (Flows.starts r e k at f t h) other =
@@ -108,12 +110,14 @@ module _ (end : ℕ) (edges : List Edge) (sets : List (List ℕ))
             let q : end ≡ k = only_end k (subst (λ l. has l k ≡ true) (first_is m.0 b.2) h) in omega (arith, q);
       })
 
-index_mapped : (sets : List (List ℕ)) (j : ℕ) (l : List ℕ) → slice_index_or (map Some sets) j None ≡ Some l → set_of_number sets j ≡ l
+index_mapped : (sets : List (List ℕ)) (j : ℕ) (l : List ℕ) → slice_index_or (map Some sets) j None ≡ Some l →
+    set_of_number sets j ≡ l
 index_mapped [] j l e = let w : ⊥ = cc in absurd w
 index_mapped (s ∷ sets) zero l e = some_same s l e
 index_mapped (s ∷ sets) (suc j) l e = index_mapped sets j l e
 
-index_at : (sets : List (Option (List ℕ))) (j : ℕ) (o : Option (List ℕ)) → slice_get sets j ≡ Some o → slice_index_or sets j None ≡ o
+index_at : (sets : List (Option (List ℕ))) (j : ℕ) (o : Option (List ℕ)) → slice_get sets j ≡ Some o →
+    slice_index_or sets j None ≡ o
 index_at [] j o e = let w : ⊥ = cc in absurd w
 index_at (s ∷ sets) zero o e = some_same s o e
 index_at (s ∷ sets) (suc j) o e = index_at sets j o e
@@ -151,17 +155,20 @@ module _ (end : ℕ) (edges : List Edge) (sets : List (List ℕ))
     λ h.
         let least : k ≤ end + 1 = within j l (index_at new j (Some l) at) k h in
         flows_along end edges sets between j k
-        ((says j k).0 (subst (λ x. has x k ≡ true) (sym (marks_of (end + 2) new j (Some l) at)) (or_right (nat_eq (end + 2) k) (has l k) h)))
+        ((says j k).0 (subst (λ x. has x k ≡ true) (sym (marks_of (end + 2) new j (Some l) at))
+        (or_right (nat_eq (end + 2) k) (has l k) h)))
         (λ e. omega (arith, least, e)),
     λ f.
-        let h = subst (λ x. has x k ≡ true) (marks_of (end + 2) new j (Some l) at) ((says j k).1 (along_flows end edges sets between j k f)) in
+        let h = subst (λ x. has x k ≡ true) (marks_of (end + 2) new j (Some l) at) ((says j k).1
+        (along_flows end edges sets between j k f)) in
         let least = along_small j k f in
         ⊎_elim
         (λ e. let z : end + 2 ≡ k = (Decides-eqb (end + 2) k).0 e in absurd (omega (arith, least, z)))
         (λ m. m) (or_cases (nat_eq (end + 2) k) (has l k) h),
   )
 
-pub slot_tokens : (end : ℕ) (slots : Slots) → AreSlots slots → ((key : SlotKey) (k : ℕ) → HasSlotMark slots key (Some k) → k ≤ end) →
+pub slot_tokens : (end : ℕ) (slots : Slots) → AreSlots slots → ((key : SlotKey) (k : ℕ) → HasSlotMark slots key (Some k) →
+    k ≤ end) →
     (j k : ℕ) → has (set_of_number (slot_sets slots) j) k ≡ true → k ≤ end
 slot_tokens end slots are tokens j k h =
     let here : j < length (slot_sets slots) = inside (slot_sets slots) j h in

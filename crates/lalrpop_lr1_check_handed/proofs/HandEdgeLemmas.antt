@@ -1,5 +1,6 @@
 -- Edges that are added one after another, from slot to slot: for what slots hand on.
-use Rattle.std.proofs.Common.{◌≡◌, ◌∙◌, ◌↔◌, ◌⊎◌, ℕ, zero, suc, ◌+◌, ◌<◌, ◌≤◌, false, List, [], ◌∷◌, ◌++◌, Contains}
+use Rattle.std.proofs.Common.{◌≡◌, ◌∙◌, ◌↔◌, ◌⊎◌, ℕ, zero, suc, ◌+◌, ◌<◌, ◌≤◌}
+use Rattle.std.proofs.Common.{false, List, [], ◌∷◌, ◌++◌, Contains}
 use Rattle.std.proofs.Common.{Option, None, Some, length, take, drop, map, refl, sym, ap, subst, inl, inr, ⊎_elim, arith}
 use Rattle.std.proofs.Common.{slice_get, get_or}
 use Rattle.std.specs.Borrow.{Bor}
@@ -25,7 +26,7 @@ use Rattle.lalrpop_lr1_first.proofs.TableLemmas.{long_map}
 use Rattle.lalrpop_lr1_check_laws.specs.HandedNexts.{LeadAlong}
 use Rattle.lalrpop_lr1_check_parts.proofs.GainLemmas.{no_element, taken_one}
 use Rattle.lalrpop_lr1_check_handed.specs.HandEdges.{AreHandEdges, GainsEdges, HandsAtDot, HandsBySome, LeadsToSlot}
-use Rattle.lalrpop_lr1_check_handed.specs.HandSlots.{AreSlots, GainsMarks, IsMarkIn, SlotKey, slot_key, slot_keys}
+use Rattle.lalrpop_lr1_check_handed.specs.HandSlots.{AreSlots, GainsSlotMarks, IsMarkIn, SlotKey, slot_key, slot_keys}
 use Rattle.lalrpop_lr1_check_handed.specs.declared.slots.Slots.{Slots}
 use Rattle.lalrpop_lr1_check_handed.proofs.BroughtLemmas.{name_same}
 use Rattle.lalrpop_lr1_check_handed.proofs.SlotLemmas.{key_of}
@@ -47,7 +48,8 @@ module _ (from : ℕ) where
   }
 
   pub edges_one : (old new : Slots) (es fs : List Edge) (own : SlotKey) (e : Edge) →
-      GainsMarks old new (λ key mark. (key ≡ own) × IsMarkIn [] mark) → fs ≡ es ++ e ∷ [] → e.from ≡ from → e.rest ≡ 0 →
+      GainsSlotMarks old new (λ key mark. (key ≡ own) × IsMarkIn [] mark) → fs ≡ es ++ e ∷ [] → e.from ≡ from →
+      e.rest ≡ 0 →
       slice_get (slot_keys new) e.to ≡ Some own → GainsEdges from old es new fs (λ key. key ≡ own)
   edges_one old new es fs own e gain is from_is rest_is at = record {
     are = gain.are;

@@ -1,5 +1,6 @@
 -- What flows from slot to slot is what is handed, and states reduce before it just where they pass the test.
-use Rattle.std.proofs.Common.{◌≡◌, ◌∙◌, ◌↔◌, ℕ, zero, suc, ◌+◌, ◌<◌, ◌≤◌, false, true, List, [], ◌∷◌, ◌++◌, Contains}
+use Rattle.std.proofs.Common.{◌≡◌, ◌∙◌, ◌↔◌, ℕ, zero, suc, ◌+◌, ◌<◌, ◌≤◌, false, true}
+use Rattle.std.proofs.Common.{List, [], ◌∷◌, ◌++◌, Contains}
 use Rattle.std.proofs.Common.{Option, None, Some, length, drop, take, map, refl, sym, ap, subst, inl, inr, ⊎_elim, arith, slice_get}
 use Rattle.std.proofs.Common.{nat_eq}
 use Rattle.std.specs.Borrow.{Bor}
@@ -18,7 +19,8 @@ use Rattle.lalrpop_lr1_theory.proofs.ListLemmas.{contains_get, get_contains}
 use Rattle.lalrpop_lr1_theory.proofs.StepLemmas.{some_same}
 use Rattle.lalrpop_lr1_items.proofs.MemberLemmas.{filter_has, in_filter, in_map, in_range, map_has, range_has}
 use Rattle.lalrpop_lr1_items.proofs.NoConflictLemmas.{at_mapped, mapped_at}
-use Rattle.lalrpop_lr1_items.specs.Views.{lr_state_view, next_of_number, production_symbol_view, production_view, reduction_view, token_lookahead}
+use Rattle.lalrpop_lr1_items.specs.Views.{lr_state_view, next_of_number, production_symbol_view, production_view}
+use Rattle.lalrpop_lr1_items.specs.Views.{reduction_view, token_lookahead}
 use Rattle.lalrpop_lr1_items.specs.declared.state.State.{State}
 use Rattle.lalrpop_sets.specs.Bits.{has}
 use Rattle.lalrpop_sets.specs.Tokens.{eof_number}
@@ -209,7 +211,8 @@ module _ (g : Grammar) (terminals : HasItsTerminals g) (all : List (State (List 
       )
 
   -- the test is passed just where states reduce before all that is handed
-  pub handed_is_tested : (own : List (Bor Production)) → lent own ≡ ps → (sets : List (Option (List ℕ))) → AreFlown slots edges sets →
+  pub handed_is_tested : (own : List (Bor Production)) → lent own ≡ ps → (sets : List (Option (List ℕ))) →
+      AreFlown slots edges sets →
       HoldsAtEach (λ j tokens. DoesSlotReduce look all own (slot_keys slots) j (option_set tokens)) sets
       ↔ ReducesBeforeHanded (IsProductionOf g) s (states.HasItem seen) (states.HasEdge seen) (states.Reduces seen)
   handed_is_tested own is sets flown = (

@@ -82,7 +82,8 @@ module _ (g : Grammar) (terminals : HasItsTerminals g) (all : List (State (List 
       let z : terminal_view u ≡ t = cc in
       (h.0, slice_get_within g.terminals.all h.0 u at, ap (option_map terminal_view) at ∙ ap Some z)
 
-  known_production : (p : theory.Production) → IsProductionOf g p → (t : Terminal) → Contains p.right (theory.terminal t) → IsNumbered t
+  known_production : (p : theory.Production) → IsProductionOf g p → (t : Terminal) → Contains p.right (theory.terminal t) →
+      IsNumbered t
   known_production p c t h =
       let m = in_map production_view (productions_of_grammar g) p c in
       let x = in_map production_symbol_view m.0.symbols (theory.terminal t)
@@ -90,7 +91,8 @@ module _ (g : Grammar) (terminals : HasItsTerminals g) (all : List (State (List 
       known_symbol x.0 t (terminals.known m.0 m.1 x.0 x.1) x.2
 
   known_derived : (xs ys : List theory.Symbol) → Derives (IsProductionOf g) xs ys →
-      ((t : Terminal) → Contains xs (theory.terminal t) → IsNumbered t) → (t : Terminal) → Contains ys (theory.terminal t) → IsNumbered t
+      ((t : Terminal) → Contains xs (theory.terminal t) → IsNumbered t) → (t : Terminal) → Contains ys (theory.terminal t) →
+      IsNumbered t
   known_derived _ _ Derives.ends from t c = absurd (no_element (theory.terminal t) c)
   known_derived _ _ (Derives.keeps x {xs} {ys} d) from t c = ⊎_elim
       (λ (e : x ≡ theory.terminal t). from t (subst (Contains (x ∷ xs)) e (contains_here x xs)))

@@ -1,5 +1,6 @@
 -- By what states reduce, reduction by reduction, and sets that are in others: for the test of what is handed.
-use Rattle.std.proofs.Common.{◌≡◌, ◌∙◌, ◌↔◌, ◌⊎◌, ℕ, ◌+◌, ◌<◌, Bool, true, false, ◌||◌, List, [], ◌∷◌, ◌++◌}
+use Rattle.std.proofs.Common.{◌≡◌, ◌∙◌, ◌↔◌, ◌⊎◌, ℕ, ◌+◌, ◌<◌, Bool, true, false}
+use Rattle.std.proofs.Common.{◌||◌, List, [], ◌∷◌, ◌++◌}
 use Rattle.std.proofs.Common.{Option, None, Some, length, take, map, refl, sym, ap, subst, inl, inr, ⊎_elim, arith, slice_get, get_or}
 use Rattle.std.specs.Borrow.{Bor}
 use Rattle.std.specs.Prelude.{not}
@@ -70,7 +71,8 @@ other_name a b r P says e = (
   λ h. refl,
 )
 
-module _ (look : List ℕ → LookaheadSet) (states : List (State (List ℕ))) (n : ℕ) (p : Production) (tokens : List ℕ) (o : Option ℕ)
+module _ (look : List ℕ →
+    LookaheadSet) (states : List (State (List ℕ))) (n : ℕ) (p : Production) (tokens : List ℕ) (o : Option ℕ)
     (walked : (m : ℕ) → (o ≡ Some m)
     ↔ LeadAlong (HasEdge (map (lr_state_view look) states)) (map production_symbol_view p.symbols) n m) where
   pub after_none : o ≡ None → (◌≡◌ {A = Bool} true true) ↔ ReducesAfter look states n p tokens

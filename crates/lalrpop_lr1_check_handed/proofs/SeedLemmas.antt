@@ -15,7 +15,7 @@ use Rattle.lalrpop_lr1_first.proofs.ListLemmas.{or_cases}
 use Rattle.lalrpop_lr1_check_handed.specs.Brought.{ClosesMarks, IsBegunMark, IsFirstMark}
 use Rattle.lalrpop_lr1_check_handed.specs.HandEdges.{AreHandEdges}
 use Rattle.lalrpop_lr1_check_handed.specs.HandFlows.{AreSeeds, IsSlotEdge, ItemsBring}
-use Rattle.lalrpop_lr1_check_handed.specs.HandSlots.{GainsMarks, HasSlotMark, IsMarkIn, SlotKey, slot_keys, slot_sets}
+use Rattle.lalrpop_lr1_check_handed.specs.HandSlots.{GainsSlotMarks, HasSlotMark, IsMarkIn, SlotKey, slot_keys, slot_sets}
 use Rattle.lalrpop_lr1_check_handed.specs.declared.slots.Slots.{Slots}
 use Rattle.lalrpop_lr1_check_handed.proofs.SlotLemmas.{key_of}
 
@@ -28,8 +28,9 @@ begun_as g ps Seed Other more _ _ (IsBegunMark.begun from key mark f b) =
     IsBegunMark.begun from key mark (begun_as g ps Seed Other more from None f) b
 
 pub seeds_are : (g : Grammar) (ps : List Production) (s : Text) (states : List (State (List ℕ))) (none items closed all : Slots) →
-    slot_keys none ≡ [] → GainsMarks none items (ItemsBring g states) → ClosesMarks g ps items closed →
-    GainsMarks closed all (λ key mark. (key ≡ key_of 0 s) × IsMarkIn (eof_number g.terminals ∷ []) mark) → AreSeeds g ps s states all
+    slot_keys none ≡ [] → GainsSlotMarks none items (ItemsBring g states) → ClosesMarks g ps items closed →
+    GainsSlotMarks closed all (λ key mark. (key ≡ key_of 0 s) × IsMarkIn (eof_number g.terminals ∷ []) mark) →
+    AreSeeds g ps s states all
 seeds_are g ps s states none items closed all empty gain closes last = record {
   are = last.are;
   marks = λ key mark. (

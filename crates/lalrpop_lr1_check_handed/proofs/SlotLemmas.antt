@@ -1,5 +1,6 @@
 -- What slots gain: by a slot that is put in, by tokens that are handed to one, and one after another.
-use Rattle.std.proofs.Common.{◌≡◌, ◌∙◌, ◌↔◌, ◌⊎◌, ℕ, zero, suc, ◌+◌, ◌<◌, Bool, true, false, ◌||◌, List, [], ◌∷◌, ◌++◌}
+use Rattle.std.proofs.Common.{◌≡◌, ◌∙◌, ◌↔◌, ◌⊎◌, ℕ, zero, suc, ◌+◌, ◌<◌, Bool, true}
+use Rattle.std.proofs.Common.{false, ◌||◌, List, [], ◌∷◌, ◌++◌}
 use Rattle.std.proofs.Common.{Option, None, Some, length, map, refl, sym, ap, subst, inl, inr, ⊎_elim, arith, slice_get, nat_eq}
 use Rattle.std.specs.Bool.{Decides}
 use Rattle.std.specs.List.{list_any}
@@ -15,7 +16,8 @@ use Rattle.lalrpop_sets.specs.Bits.{has}
 use Rattle.lalrpop_lr1_first.specs.Numbers.{set_of_number}
 use Rattle.lalrpop_lr1_first.proofs.ListLemmas.{at_set_other, at_set_same, or_cases, or_left, or_right, cases_eq, set_long}
 use Rattle.lalrpop_lr1_check_parts.proofs.EqualLemmas.{both_parts, same_names}
-use Rattle.lalrpop_lr1_check_handed.specs.HandSlots.{AreSlots, GainsMarks, HasMarkAt, HasSlotMark, IsMarkIn, SlotKey, slot_key, slot_keys, slot_sets}
+use Rattle.lalrpop_lr1_check_handed.specs.HandSlots.{AreSlots, GainsSlotMarks, HasMarkAt, HasSlotMark, IsMarkIn}
+use Rattle.lalrpop_lr1_check_handed.specs.HandSlots.{SlotKey, slot_key, slot_keys, slot_sets}
 use Rattle.lalrpop_lr1_check_handed.specs.contracts.slots.SlotPartialEq.TheImpl as slots_eq
 use Rattle.lalrpop_lr1_check_handed.specs.declared.slots.Slot.{Slot}
 use Rattle.lalrpop_lr1_check_handed.specs.declared.slots.Slots.{Slots}
@@ -141,7 +143,7 @@ mapped_push f [] y = refl
 mapped_push f (z ∷ ys) y = ap (λ l. f z ∷ l) (mapped_push f ys y)
 
 -- nothing is gained
-pub gains_nothing : (old : Slots) → AreSlots old → GainsMarks old old (λ key mark. ⊥)
+pub gains_nothing : (old : Slots) → AreSlots old → GainsSlotMarks old old (λ key mark. ⊥)
 gains_nothing old are = record {
   are = are;
   kept = λ j key e. e;
@@ -150,7 +152,8 @@ gains_nothing old are = record {
 
 -- what is gained, told otherwise
 pub gains_as : (old new : Slots) (Came Other : SlotKey → Option ℕ → Type 0) →
-    ((key : SlotKey) (mark : Option ℕ) → Came key mark ↔ Other key mark) → GainsMarks old new Came → GainsMarks old new Other
+    ((key : SlotKey) (mark : Option ℕ) → Came key mark ↔ Other key mark) → GainsSlotMarks old new Came →
+    GainsSlotMarks old new Other
 gains_as old new Came Other same g = record {
   are = g.are;
   kept = g.kept;
@@ -161,8 +164,8 @@ gains_as old new Came Other same g = record {
 }
 
 -- what is gained one after another
-pub gains_both : (old mid new : Slots) (Came More : SlotKey → Option ℕ → Type 0) → GainsMarks old mid Came →
-    GainsMarks mid new More → GainsMarks old new (λ key mark. Came key mark ⊎ More key mark)
+pub gains_both : (old mid new : Slots) (Came More : SlotKey → Option ℕ → Type 0) → GainsSlotMarks old mid Came →
+    GainsSlotMarks mid new More → GainsSlotMarks old new (λ key mark. Came key mark ⊎ More key mark)
 gains_both old mid new Came More g h = record {
   are = h.are;
   kept = λ j key e. h.kept j key (g.kept j key e);
@@ -204,7 +207,7 @@ of_keys : (old new : Slots) (own : SlotKey) (tokens : List ℕ) → AreSlots new
     (keys : List SlotKey) (sets : List (List ℕ)) → slot_keys new ≡ keys → slot_sets new ≡ sets →
     ((key : SlotKey) (mark : Option ℕ) →
     HasMarkAt keys sets key mark ↔ (HasSlotMark old key mark ⊎ ((key ≡ own) × IsMarkIn tokens mark))) →
-    GainsMarks old new (λ key mark. (key ≡ own) × IsMarkIn tokens mark)
+    GainsSlotMarks old new (λ key mark. (key ≡ own) × IsMarkIn tokens mark)
 of_keys old new own tokens are kept keys sets e f says = record {
   are = are;
   kept = kept;
@@ -217,7 +220,7 @@ of_keys old new own tokens are kept keys sets e f says = record {
 
 pub gains_new : (old new : Slots) (slot : Slot) → AreSlots old → list_any ((slots_eq.ghosts).eq slot) old.keys.keys ≡ false →
     new.keys.keys ≡ (if list_any ((slots_eq.ghosts).eq slot) old.keys.keys then old.keys.keys else old.keys.keys ++ slot ∷ []) →
-    slot_sets new ≡ slot_sets old ++ [] ∷ [] → GainsMarks old new (λ key mark. (key ≡ slot_key slot) × IsMarkIn [] mark)
+    slot_sets new ≡ slot_sets old ++ [] ∷ [] → GainsSlotMarks old new (λ key mark. (key ≡ slot_key slot) × IsMarkIn [] mark)
 gains_new old new slot are absent inserted pushed =
     let e = inserted_new old.keys.keys new.keys.keys slot absent inserted in
     let long : length (slot_sets new) ≡ length (slot_keys new) =
@@ -232,7 +235,7 @@ pub gains_old : (old new : Slots) (slot : Slot) (n : ℕ) → AreSlots old →
     list_any ((slots_eq.ghosts).eq slot) old.keys.keys ≡ true →
     new.keys.keys ≡ (if list_any ((slots_eq.ghosts).eq slot) old.keys.keys then old.keys.keys else old.keys.keys ++ slot ∷ []) →
     slot_sets new ≡ slot_sets old → slice_get (slot_keys new) n ≡ Some (slot_key slot) →
-    GainsMarks old new (λ key mark. (key ≡ slot_key slot) × IsMarkIn [] mark)
+    GainsSlotMarks old new (λ key mark. (key ≡ slot_key slot) × IsMarkIn [] mark)
 gains_old old new slot n are there inserted same at =
     let e = inserted_old old.keys.keys new.keys.keys slot there inserted in
     of_keys old new (slot_key slot) [] (ap length same ∙ are ∙ ap length (sym e))
@@ -242,10 +245,10 @@ gains_old old new slot n are there inserted same at =
 
 -- tokens are handed to the slot with this number
 pub gains_tokens : (old mid new : Slots) (own : SlotKey) (n : ℕ) (set_new tokens : List ℕ) →
-    GainsMarks old mid (λ key mark. (key ≡ own) × IsMarkIn [] mark) → slice_get (slot_keys mid) n ≡ Some own →
+    GainsSlotMarks old mid (λ key mark. (key ≡ own) × IsMarkIn [] mark) → slice_get (slot_keys mid) n ≡ Some own →
     slot_keys new ≡ slot_keys mid → slot_sets new ≡ set (slot_sets mid) n set_new →
     ((k : ℕ) → has set_new k ≡ (has (set_of_number (slot_sets mid) n) k || has tokens k)) →
-    GainsMarks old new (λ key mark. (key ≡ own) × IsMarkIn tokens mark)
+    GainsSlotMarks old new (λ key mark. (key ≡ own) × IsMarkIn tokens mark)
 gains_tokens old mid new own n set_new tokens first at e f says =
     let are : AreSlots mid = first.are in
     let within : n < length (slot_sets mid) = omega (arith, are, slice_get_within (slot_keys mid) n own at) in

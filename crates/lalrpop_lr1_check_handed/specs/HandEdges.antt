@@ -31,7 +31,8 @@ pub record GainsEdges (from : ℕ) (old : Slots) (old_edges : List Edge) (new : 
   pub tokens : (key : SlotKey) (k : ℕ) → HasSlotMark new key (Some k) → HasSlotMark old key (Some k)
   pub edges : (e : Edge) → Contains old_edges e → Contains new_edges e
   pub sound : (e : Edge) → Contains new_edges e → Contains old_edges e ⊎ LeadsToSlot from new To e
-  pub all : (key : SlotKey) → To key → (e : Edge) × Contains new_edges e × (e.from ≡ from) × (slice_get (slot_keys new) e.to ≡ Some key)
+  pub all : (key : SlotKey) → To key → (e : Edge) × Contains new_edges e × (e.from ≡ from)
+      × (slice_get (slot_keys new) e.to ≡ Some key)
 
 module _ (g : Grammar) (look : List ℕ → LookaheadSet) (states : List (State (List ℕ))) where
   -- the nonterminal stands behind the dot, nothing has to stand behind it, and the symbols before it lead to its state
@@ -56,7 +57,8 @@ module _ (g : Grammar) (look : List ℕ → LookaheadSet) (states : List (State 
     pub are : AreSlots new
     pub has : (key : SlotKey) (mark : Option ℕ) → HasSlotMark old key mark → HasSlotMark new key mark
     pub tokens : (key : SlotKey) (k : ℕ) → HasSlotMark new key (Some k) → HasSlotMark old key (Some k)
-    pub sound : (e : Edge) → Contains edges e → (j : ℕ) × (from : SlotKey) × (j < count) × (slice_get (slot_keys new) j ≡ Some from)
+    pub sound : (e : Edge) → Contains edges e → (j : ℕ) × (from : SlotKey) × (j < count)
+        × (slice_get (slot_keys new) j ≡ Some from)
         × LeadsToSlot j new (λ key. HandsBySome from productions key) e
     pub all : (j : ℕ) (from key : SlotKey) → j < count → slice_get (slot_keys new) j ≡ Some from →
         HandsBySome from productions key →

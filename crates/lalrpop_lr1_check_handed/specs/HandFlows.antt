@@ -1,5 +1,6 @@
 -- With what slots begin, and what flows from slot to slot: for the test of what is handed.
-use Rattle.std.specs.Prelude.{ℕ, ◌≡◌, ◌↔◌, ◌⊎◌, ◌<◌, List, [], ◌∷◌, Contains, Option, Some, length, slice_get, true}
+use Rattle.std.specs.Prelude.{ℕ, ◌≡◌, ◌↔◌, ◌⊎◌, ◌<◌, List, [], ◌∷◌, Contains, Option}
+use Rattle.std.specs.Prelude.{Some, length, slice_get, true}
 use Rattle.lalrpop_grammar_symbols.specs.Symbols.{Text}
 use Rattle.lalrpop_grammar_repr.specs.declared.grammar.Grammar.{Grammar}
 use Rattle.lalrpop_grammar_repr.specs.declared.production.Production.{Production}
@@ -19,7 +20,8 @@ use Rattle.lalrpop_lr1_check_handed.specs.declared.slots.Slots.{Slots}
 
 -- the terminals in the items of the states are numbered
 abbrev pub HaveKnownItems : TerminalSet → List (State (List ℕ)) → Type 0
-HaveKnownItems ts states = (n : ℕ) (state : State (List ℕ)) (item : Item (List ℕ)) (x : Symbol) → slice_get states n ≡ Some state →
+HaveKnownItems ts states = (n : ℕ) (state : State (List ℕ)) (item : Item (List ℕ)) (x : Symbol) →
+    slice_get states n ≡ Some state →
     Contains state.items.vec item → Contains item.production.now.symbols x → HasNumberedTerminal ts x
 
 -- what the items of the states bring

@@ -37,7 +37,7 @@ abbrev pub HasSlotMark : Slots → SlotKey → Option ℕ → Type 0
 HasSlotMark slots key mark = HasMarkAt (slot_keys slots) (slot_sets slots) key mark
 
 -- slots keep their numbers, each new one has a set, and the marks are those that were there and these
-pub record GainsMarks (old new : Slots) (Came : SlotKey → Option ℕ → Type 0) : Type 0 where
+pub record GainsSlotMarks (old new : Slots) (Came : SlotKey → Option ℕ → Type 0) : Type 0 where
   pub are : AreSlots new
   pub kept : (j : ℕ) (key : SlotKey) → slice_get (slot_keys old) j ≡ Some key → slice_get (slot_keys new) j ≡ Some key
   pub marks : (key : SlotKey) (mark : Option ℕ) → HasSlotMark new key mark ↔ (HasSlotMark old key mark ⊎ Came key mark)

@@ -132,7 +132,8 @@ fn reduces_if_of(
     tokens: &TokenSet,
 ) -> Result<bool, AllocError>
     ensures { IfOk result (λ reduces. (look : List ℕ → LookaheadSet) → IsTrue reduces
-        ↔ (production.now.nonterminal.0 ≡ slot.entry.name.now.0 → ReducesAfter look states.now slot.entry.state production.now tokens.now)) }
+        ↔ (production.now.nonterminal.0 ≡ slot.entry.name.now.0 →
+        ReducesAfter look states.now slot.entry.state production.now tokens.now)) }
 {
     if is_of(production, slot.name) {
         let reduces = reduces_after(alloc, terminals, states, slot.state, production, tokens)?;

@@ -5,7 +5,7 @@ ghost use Rattle.lalrpop_lr1_items.specs.Views.{production_symbol_view};
 ghost use Rattle.lalrpop_lr1_first.specs.FirstSetsOf.{AreFirstSetsOf};
 ghost use Rattle.lalrpop_lr1_first.specs.Listings.{lent};
 ghost use Rattle.lalrpop_lr1_check_handed.specs.Brought.{BeginBrings, BringsMark, ClosesMarks, ItemBrings, OfSome, OfSomePlace};
-ghost use Rattle.lalrpop_lr1_check_handed.specs.HandSlots.{AreSlots, GainsMarks, slot_key};
+ghost use Rattle.lalrpop_lr1_check_handed.specs.HandSlots.{AreSlots, GainsSlotMarks, slot_key};
 
 use crate::rests::{name_at, tokens_of};
 use crate::slots::{Slot, Slots};
@@ -27,7 +27,7 @@ fn hand_behind<'g>(
 ) -> Result<(), AllocError>
     requires firsts { AreFirstSetsOf grammar.now firsts.now }
     requires slots { AreSlots slots.old }
-    ensures { OnOk result (GainsMarks slots.old slots.new
+    ensures { OnOk result (GainsSlotMarks slots.old slots.new
         (BringsMark grammar.now state (drop dot (map production_symbol_view symbols.now)))) }
 {
     match name_at(symbols, dot) {
@@ -51,7 +51,7 @@ fn hand_items<'g>(
 ) -> Result<(), AllocError>
     requires firsts { AreFirstSetsOf grammar.now firsts.now }
     requires slots { AreSlots slots.old }
-    ensures { OnOk result (GainsMarks slots.old slots.new (OfSome (ItemBrings grammar.now state) items.now)) }
+    ensures { OnOk result (GainsSlotMarks slots.old slots.new (OfSome (ItemBrings grammar.now state) items.now)) }
 {
     for item in items {
         let symbols = item.production.symbols.as_slice();
@@ -70,7 +70,7 @@ pub(crate) fn hand_all_items<'g>(
 ) -> Result<(), AllocError>
     requires firsts { AreFirstSetsOf grammar.now firsts.now }
     requires slots { AreSlots slots.old }
-    ensures { OnOk result (GainsMarks slots.old slots.new
+    ensures { OnOk result (GainsSlotMarks slots.old slots.new
         (OfSomePlace (λ n state. OfSome (ItemBrings grammar.now n) state.items.vec) states.now)) }
 {
     for state in 0..states.len() {
@@ -98,7 +98,7 @@ fn hand_begin<'g>(
 ) -> Result<(), AllocError>
     requires firsts { AreFirstSetsOf grammar.now firsts.now }
     requires slots { AreSlots slots.old }
-    ensures { OnOk result (GainsMarks slots.old slots.new (BeginBrings grammar.now (slot_key slot.entry) production.now)) }
+    ensures { OnOk result (GainsSlotMarks slots.old slots.new (BeginBrings grammar.now (slot_key slot.entry) production.now)) }
 {
     if is_of(production, slot.name) {
         let symbols = production.symbols.as_slice();
@@ -118,7 +118,7 @@ fn hand_begins<'g>(
 ) -> Result<(), AllocError>
     requires firsts { AreFirstSetsOf grammar.now firsts.now }
     requires slots { AreSlots slots.old }
-    ensures { OnOk result (GainsMarks slots.old slots.new
+    ensures { OnOk result (GainsSlotMarks slots.old slots.new
         (OfSome (BeginBrings grammar.now (slot_key slot.entry)) (lent productions.now))) }
 {
     for production in productions {

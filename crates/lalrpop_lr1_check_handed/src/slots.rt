@@ -1,7 +1,7 @@
 //! Slots, by their numbers, with what is handed to each.
 
 ghost use Rattle.std.specs.Prelude.{◌≡◌, ◌<◌, ◌^◌, [], IfOk, IfSome, OnOk, Some, slice_get};
-ghost use Rattle.lalrpop_lr1_check_handed.specs.HandSlots.{AreSlots, GainsMarks, IsMarkIn, slot_key, slot_keys, slot_sets};
+ghost use Rattle.lalrpop_lr1_check_handed.specs.HandSlots.{AreSlots, GainsSlotMarks, IsMarkIn, slot_key, slot_keys, slot_sets};
 
 use indexmap::IndexSet;
 use lalrpop_grammar_repr::TerminalSet;
@@ -58,7 +58,7 @@ impl<'g> Slots<'g> {
     ) -> Result<usize, AllocError>
         requires { AreSlots self.old }
         ensures at { IfOk result (λ number. slice_get (slot_keys self.new) number ≡ Some (slot_key slot.entry)) }
-        ensures gained { OnOk result (GainsMarks self.old self.new (λ key mark. (key ≡ slot_key slot.entry) × IsMarkIn [] mark)) }
+        ensures gained { OnOk result (GainsSlotMarks self.old self.new (λ key mark. (key ≡ slot_key slot.entry) × IsMarkIn [] mark)) }
     {
         let (number, is_new) = self.keys.insert_full(slot)?;
         if is_new {
@@ -76,7 +76,7 @@ impl<'g> Slots<'g> {
         tokens: &TokenSet,
     ) -> Result<(), AllocError>
         requires { AreSlots self.old }
-        ensures { OnOk result (GainsMarks self.old self.new (λ key mark. (key ≡ slot_key slot.entry) × IsMarkIn tokens.now mark)) }
+        ensures { OnOk result (GainsSlotMarks self.old self.new (λ key mark. (key ≡ slot_key slot.entry) × IsMarkIn tokens.now mark)) }
     {
         let number = self.number_of(alloc, terminals, slot)?;
         self.sets[number].union_with(tokens)?;

@@ -1,7 +1,7 @@
 use Rattle.std.proofs.Common.{◌∙◌, ◌<◌, ◌≤◌, ℕ, List, ap, arith, length, subst, sym}
 use Rattle.lalrpop_lr1_items.specs.declared.state.State.{State}
 use Rattle.lalrpop_lr1_check_handed.specs.Brought.{ItemBrings, OfSome}
-use Rattle.lalrpop_lr1_check_handed.specs.HandSlots.{GainsMarks}
+use Rattle.lalrpop_lr1_check_handed.specs.HandSlots.{GainsSlotMarks}
 use Rattle.lalrpop_lr1_check_handed.proofs.BroughtLemmas.{first_all, first_more}
 use Rattle.lalrpop_lr1_check_handed.proofs.seeds.hand_all_items.Goals as goal
 
@@ -12,7 +12,7 @@ loop-state-preserved c =
     first_more (λ n (state : State (List ℕ)). OfSome (ItemBrings c.args.grammar.now n) state.items.vec) c.args.states.now
     c.args.slots.now c.loop-state.slots c.hand_items.new.slots n c.index-states-state.result here c.index-states-state.is
     c.loop-state.invariant
-    (subst (λ l. GainsMarks c.loop-state.slots c.hand_items.new.slots (OfSome (ItemBrings c.args.grammar.now n) l))
+    (subst (λ l. GainsSlotMarks c.loop-state.slots c.hand_items.new.slots (OfSome (ItemBrings c.args.grammar.now n) l))
     (c.as_slice-items.ensures ∙ ap (λ (s : State (List ℕ)). s.items.vec) (sym c.index-states-state.is))
     c.in_ok-hand_items.ensures)
 

@@ -2,7 +2,7 @@ use Rattle.std.proofs.Common.{ap, map, subst}
 use Rattle.lalrpop_lr1_items.specs.Views.{production_symbol_view}
 use Rattle.lalrpop_grammar_symbols.specs.declared.names.NonterminalString.{NonterminalString}
 use Rattle.lalrpop_lr1_check_handed.specs.Brought.{BeginBrings, BringsMark}
-use Rattle.lalrpop_lr1_check_handed.specs.HandSlots.{GainsMarks, slot_key}
+use Rattle.lalrpop_lr1_check_handed.specs.HandSlots.{GainsSlotMarks, slot_key}
 use Rattle.lalrpop_lr1_check_handed.proofs.SlotLemmas.{gains_as}
 use Rattle.lalrpop_lr1_check_handed.proofs.seeds.hand_begin.Goals as goal
 
@@ -13,5 +13,5 @@ returns-in_ok-hand_behind c =
     gains_as c.args.slots.now c.hand_behind.new.slots (BringsMark g c.args.slot.state (map production_symbol_view p.symbols))
     (BeginBrings g (slot_key c.args.slot) p)
     (λ key mark. (λ b. (ap (λ (n : NonterminalString). n.0) (c.is_of.ensures.0 c.if-is_of.true), b), λ b. b.1))
-    (subst (λ l. GainsMarks c.args.slots.now c.hand_behind.new.slots (BringsMark g c.args.slot.state (map production_symbol_view l)))
+    (subst (λ l. GainsSlotMarks c.args.slots.now c.hand_behind.new.slots (BringsMark g c.args.slot.state (map production_symbol_view l)))
     c.as_slice-symbols.ensures c.in_ok-hand_behind.ensures)

@@ -1,7 +1,7 @@
 use Rattle.std.proofs.Common.{drop, map, subst}
 use Rattle.lalrpop_lr1_items.specs.Views.{production_symbol_view}
 use Rattle.lalrpop_lr1_check_handed.specs.Brought.{BringsMark, ItemBrings}
-use Rattle.lalrpop_lr1_check_handed.specs.HandSlots.{GainsMarks}
+use Rattle.lalrpop_lr1_check_handed.specs.HandSlots.{GainsSlotMarks}
 use Rattle.lalrpop_lr1_check_handed.proofs.BroughtLemmas.{some_more}
 use Rattle.lalrpop_lr1_check_handed.proofs.seeds.hand_items.Goals as goal
 
@@ -9,6 +9,6 @@ pub loop-item-preserved : goal.loop-item-preserved
 loop-item-preserved c =
     some_more (ItemBrings c.args.grammar.now c.args.state) c.args.slots.now c.loop-item.slots c.hand_behind.new.slots c.args.items.now
     c.loop-item.item-index c.item-item.result c.loop-item-test.true c.item-item.is c.loop-item.invariant
-    (subst (λ l. GainsMarks c.loop-item.slots c.hand_behind.new.slots
+    (subst (λ l. GainsSlotMarks c.loop-item.slots c.hand_behind.new.slots
     (BringsMark c.args.grammar.now c.args.state (drop c.item-item.result.index (map production_symbol_view l))))
     c.as_slice-symbols.ensures c.in_ok-hand_behind.ensures)
