@@ -1,14 +1,14 @@
 -- Grammars with the same productions pass the same tests: for the test of states, which asks a table of numbers.
-use Rattle.std.proofs.Common.{◌≡◌, ◌↔◌, ℕ, suc, List, Contains, map, subst}
+use Rattle.std.proofs.Common.{◌≡◌, ◌↔◌, ℕ, List, Contains, map, subst}
 use Rattle.lalrpop_grammar_symbols.specs.Symbols.{Text}
 use Rattle.lalrpop_grammar_repr.specs.declared.production.Production as repr
-use Rattle.lalrpop_lr1_theory.specs.Productions.{Symbol, Production, nonterminal}
+use Rattle.lalrpop_lr1_theory.specs.Productions.{Symbol, Production}
 use Rattle.lalrpop_lr1_items.proofs.MemberLemmas.{in_map, map_has}
 use Rattle.lalrpop_lr1_items.specs.Views.{production_view}
 use Rattle.lalrpop_lr1_first.specs.Listings.{HoldSame}
 use Rattle.lalrpop_lr1_first.specs.NumberedGrammars.{IsSeenIn}
 use Rattle.lalrpop_lr1_check_laws.specs.CoverTests.{HasItemsOfNames}
-use Rattle.lalrpop_lr1_check_laws.specs.NameClosures.{BeginsWithName, IsMovedItem, IsNameBegun, IsNameBrought, IsNameFrom, IsNameReached}
+use Rattle.lalrpop_lr1_check_laws.specs.NameClosures.{BeginsWithName, IsNameFrom}
 use Rattle.lalrpop_lr1_check_laws.specs.NameClosures.{IsProductive, MentionsName}
 use Rattle.lalrpop_lr1_check_parts.specs.CheckedTests.{BringsItems, ReachesProductive}
 

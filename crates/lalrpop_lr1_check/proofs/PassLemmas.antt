@@ -1,18 +1,16 @@
 -- Checked states as the parts of the test see them: for the test of states.
-use Rattle.std.proofs.Common.{◌≡◌, ◌↔◌, ℕ, List, Contains, map}
+use Rattle.std.proofs.Common.{◌↔◌, ℕ, List}
 use Rattle.lalrpop_grammar_symbols.specs.Symbols.{Text}
 use Rattle.lalrpop_grammar_repr.specs.declared.grammar.Grammar.{Grammar}
 use Rattle.lalrpop_grammar_repr.specs.declared.production.Production.{Production}
 use Rattle.lalrpop_grammar_repr.specs.declared.terminal_set.TerminalSet.{TerminalSet}
 use Rattle.lalrpop_lr1_theory.specs.CheckedStates.{AreCheckedStates}
 use Rattle.lalrpop_lr1_theory.specs.States.{HasEdge, HasItem, Reduces}
-use Rattle.lalrpop_lr1_items.specs.Views.{production_view}
 use Rattle.lalrpop_lr1_items.specs.declared.state.State.{State}
 use Rattle.lalrpop_lr1_first.specs.Listings.{HoldSame, productions_of_grammar}
 use Rattle.lalrpop_lr1_first.specs.NumberedGrammars.{IsSeenIn}
 use Rattle.lalrpop_lr1_check_laws.specs.HandedNexts.{ReducesBeforeHanded}
 use Rattle.lalrpop_lr1_check_laws.proofs.NameLemmas.{none_barren_productive}
-use Rattle.lalrpop_lr1_check_parts.specs.CheckedTests.{PassChecks}
 use Rattle.lalrpop_lr1_check_parts.proofs.PassLemmas.{checked_pass, pass_checked}
 use Rattle.lalrpop_lr1_check.specs.StatesOver.{PassAlongEdges, PassByTable, PassReductions, grammar_productions, seen_states}
 use Rattle.lalrpop_lr1_check.proofs.GrammarLemmas.{brings_same, reaches_same, seen_same}

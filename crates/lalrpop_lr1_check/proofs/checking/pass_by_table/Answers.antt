@@ -1,4 +1,3 @@
-use Rattle.std.proofs.Common.{◌≡◌}
 use Rattle.lalrpop_lr1_items.specs.Views.{token_lookahead}
 use Rattle.lalrpop_lr1_check.proofs.checking.pass_by_table.Goals as goal
 
