@@ -21,7 +21,8 @@ seen_same ps qs same p = (
       subst (Contains (map production_view ps)) m.2 (map_has production_view ps m.0 ((same m.0).1 m.1)),
 )
 
-names_more : (Seed : Text → Type 0) (Step Other : Text → Text → Type 0) → ((A B : Text) → Step A B → Other A B) → (A : Text) →
+names_more : (Seed : Text → Type 0) (Step Other : Text → Text → Type 0) → ((A B : Text) → Step A B → Other A B) →
+    (A : Text) →
     IsNameFrom Seed Step A → IsNameFrom Seed Other A
 names_more Seed Step Other more _ (IsNameFrom.seeded A h) = IsNameFrom.seeded A h
 names_more Seed Step Other more _ (IsNameFrom.stepped {A} B h k) =

@@ -12,31 +12,32 @@ use Rattle.lalrpop_lr1_first.specs.NumberedGrammars.{IsSeenIn}
 use Rattle.lalrpop_lr1_check_laws.specs.HandedNexts.{ReducesBeforeHanded}
 use Rattle.lalrpop_lr1_check_laws.proofs.NameLemmas.{none_barren_productive}
 use Rattle.lalrpop_lr1_check_parts.proofs.PassLemmas.{checked_pass, pass_checked}
-use Rattle.lalrpop_lr1_check.specs.StatesOver.{PassAlongEdges, PassByTable, PassReductions, grammar_productions, seen_states}
+use Rattle.lalrpop_lr1_build.specs.BuiltStates.{theory_grammar}
+use Rattle.lalrpop_lr1_check.specs.StatesOver.{PassAlongEdges, PassByTable, PassReductions, seen_states}
 use Rattle.lalrpop_lr1_check.proofs.GrammarLemmas.{brings_same, reaches_same, seen_same}
 
 module _ (g : Grammar) (ts : TerminalSet) (s : Text) (all : List (State (List ℕ))) where
   abbrev pub Checked : Type 0
-  Checked = AreCheckedStates (grammar_productions g) s (seen_states ts all)
+  Checked = AreCheckedStates (theory_grammar g) s (seen_states ts all)
 
   pub checked_reductions : Checked → PassReductions ts s all
   checked_reductions c =
-      let p = checked_pass (grammar_productions g) s (seen_states ts all) c in
+      let p = checked_pass (theory_grammar g) s (seen_states ts all) c in
       record { ends = p.ends; no_conflict = p.no_conflict }
 
   pub checked_edges : Checked → PassAlongEdges ts all
   checked_edges c =
-      let p = checked_pass (grammar_productions g) s (seen_states ts all) c in
+      let p = checked_pass (theory_grammar g) s (seen_states ts all) c in
       record { finished = p.finished; follows = p.follows }
 
   pub checked_handed : Checked → ReducesBeforeHanded (IsSeenIn (productions_of_grammar g)) s (HasItem (seen_states ts all))
       (HasEdge (seen_states ts all)) (Reduces (seen_states ts all))
-  checked_handed c = (checked_pass (grammar_productions g) s (seen_states ts all) c).handed
+  checked_handed c = (checked_pass (theory_grammar g) s (seen_states ts all) c).handed
 
   module _ (ps : List Production) (same : HoldSame ps (productions_of_grammar g)) where
     pub checked_table : Checked → PassByTable (IsSeenIn ps) ts s all
     checked_table c =
-        let p = checked_pass (grammar_productions g) s (seen_states ts all) c in
+        let p = checked_pass (theory_grammar g) s (seen_states ts all) c in
         let back : (q : _) → IsSeenIn (productions_of_grammar g) q ↔ IsSeenIn ps q = λ q.
         let r = seen_same ps (productions_of_grammar g) same q in (r.1, r.0) in
         record {
@@ -51,7 +52,7 @@ module _ (g : Grammar) (ts : TerminalSet) (s : Text) (all : List (State (List �
         (Reduces (seen_states ts all)) → Checked
     passed_checked reductions edges table handed =
         let to = seen_same ps (productions_of_grammar g) same in
-        pass_checked (grammar_productions g) s (seen_states ts all) (record {
+        pass_checked (theory_grammar g) s (seen_states ts all) (record {
           follows = edges.follows;
           brings = brings_same (IsSeenIn ps) (IsSeenIn (productions_of_grammar g)) to s (HasItem (seen_states ts all))
               (HasEdge (seen_states ts all)) table.brings;

@@ -1,23 +1,17 @@
 -- Which states are over a grammar's terminals, and which parts of the test are passed together: for the test of states.
 use Rattle.std.specs.Prelude.{ℕ, List, map}
 use Rattle.lalrpop_grammar_symbols.specs.Symbols.{Text}
-use Rattle.lalrpop_grammar_repr.specs.declared.grammar.Grammar.{Grammar}
 use Rattle.lalrpop_grammar_repr.specs.declared.terminal_set.TerminalSet.{TerminalSet}
 use Rattle.lalrpop_lr1_theory.specs.Laws.{HaveNoConflict}
 use Rattle.lalrpop_lr1_theory.specs.Productions as theory
 use Rattle.lalrpop_lr1_theory.specs.States as states
 use Rattle.lalrpop_lr1_theory.specs.ValidItems.{NoneBarren}
-use Rattle.lalrpop_lr1_items.specs.Views.{lr_state_view, production_view, token_lookahead}
+use Rattle.lalrpop_lr1_items.specs.Views.{lr_state_view, token_lookahead}
 use Rattle.lalrpop_lr1_items.specs.declared.state.State.{State}
-use Rattle.lalrpop_lr1_first.specs.Listings.{productions_of_grammar}
 use Rattle.lalrpop_lr1_check_handed.specs.HandFlows.{HaveKnownItems}
 use Rattle.lalrpop_lr1_check_parts.specs.CheckedTests.{BringsItems}
 use Rattle.lalrpop_lr1_check_parts.specs.Moves.{FollowsEdges}
 use Rattle.lalrpop_lr1_check_parts.specs.Reductions.{EndsAsSeen, FinishedAsSeen, OverTokens}
-
--- what the theory sees of the grammar's productions
-abbrev pub grammar_productions : Grammar → List theory.Production
-grammar_productions g = map production_view (productions_of_grammar g)
 
 -- in the items of the states stand the grammar's terminals alone, and in the sets of their reductions its tokens
 pub record AreStatesOver (ts : TerminalSet) (all : List (State (List ℕ))) : Type 0 where

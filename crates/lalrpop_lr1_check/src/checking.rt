@@ -5,12 +5,12 @@ ghost use Rattle.lalrpop_lr1_theory.specs.CheckedStates.{AreCheckedStates};
 ghost use Rattle.lalrpop_lr1_items.specs.Views.{lr_state_view, token_lookahead};
 ghost use Rattle.lalrpop_lr1_first.specs.NumberedGrammars.{HasItsTerminals, IsNumberTable, IsSeenIn, table_productions};
 ghost use Rattle.lalrpop_lr1_first.specs.Tables.{IsTerminalSet};
+ghost use Rattle.lalrpop_lr1_build.specs.BuiltStates.{theory_grammar};
 ghost use Rattle.lalrpop_lr1_check.specs.StatesOver.{
   AreStatesOver,
   PassAlongEdges,
   PassByTable,
   PassReductions,
-  grammar_productions,
 };
 
 use lalrpop_grammar_repr::{Grammar, TerminalSet};
@@ -94,7 +94,7 @@ pub fn check_states<'g>(
 ) -> Result<bool, AllocError>
     requires { HasItsTerminals grammar.now }
     ensures { IfOk result (λ checked. AreStatesOver grammar.now.terminals states.now → IsTrue checked
-        ↔ AreCheckedStates (grammar_productions grammar.now) start.now.0
+        ↔ AreCheckedStates (theory_grammar grammar.now) start.now.0
         (map (lr_state_view (token_lookahead grammar.now.terminals)) states.now)) }
 {
     let reductions = pass_reductions(alloc, &grammar.terminals, start, states)?;

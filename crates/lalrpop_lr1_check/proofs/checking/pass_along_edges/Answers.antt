@@ -9,7 +9,8 @@ use Rattle.lalrpop_lr1_check.proofs.checking.pass_along_edges.Goals as goal
 pub returns-then-not-reduces_finished : goal.returns-then-not-reduces_finished
 returns-then-not-reduces_finished c =
     let look = token_lookahead c.args.terminals.now in
-    let says = subst (λ (l : List (State (List ℕ))). (c.reduces_finished.result ≡ true) ↔ FinishedAsSeen (map (lr_state_view look) l))
+    let says = subst (λ (l : List (State (List ℕ))). (c.reduces_finished.result ≡ true)
+    ↔ FinishedAsSeen (map (lr_state_view look) l))
     c.in_ok-listing.ensures.states (c.reduces_finished.ensures look) in (
       λ e. let w : ⊥ = cc in absurd w,
       λ p.
@@ -20,7 +21,8 @@ returns-then-not-reduces_finished c =
 pub returns : goal.returns
 returns c =
     let look = token_lookahead c.args.terminals.now in
-    let says = subst (λ (l : List (State (List ℕ))). (c.reduces_finished.result ≡ true) ↔ FinishedAsSeen (map (lr_state_view look) l))
+    let says = subst (λ (l : List (State (List ℕ))). (c.reduces_finished.result ≡ true)
+    ↔ FinishedAsSeen (map (lr_state_view look) l))
     c.in_ok-listing.ensures.states (c.reduces_finished.ensures look) in
     let moves = subst (λ (l : List (State (List ℕ))). (c.follows_edges.result ≡ true)
     ↔ FollowsEdges (HasItem (map (lr_state_view look) l)) (HasEdge (map (lr_state_view look) l)))
