@@ -26,8 +26,12 @@ pub fn no_marks(alloc: Global, count: usize) -> Result<Vec<bool>, AllocError>
     Ok(marks)
 }
 
-/// The names that have trees.
-fn productive_names(alloc: Global, table: &Numbered<'_>) -> Result<Vec<bool>, AllocError>
+/// The names that have finite trees.
+///
+/// # Errors
+///
+/// Memory is refused.
+pub fn productive_names(alloc: Global, table: &Numbered<'_>) -> Result<Vec<bool>, AllocError>
     requires { IsNumberTable table.now }
     ensures { IfOk result (λ marks. AreProductive table.now marks.items) }
 {
@@ -45,8 +49,16 @@ pub fn set_mark(marks: &mut Vec<bool>, number: usize)
     marks[number] = true;
 }
 
-/// The names that the name with this number reaches.
-fn reached_names(alloc: Global, table: &Numbered<'_>, start: usize) -> Result<Vec<bool>, AllocError>
+/// The names that the name with this number reaches, itself among them.
+///
+/// # Errors
+///
+/// Memory is refused.
+pub fn reached_names(
+    alloc: Global,
+    table: &Numbered<'_>,
+    start: usize,
+) -> Result<Vec<bool>, AllocError>
     requires table { IsNumberTable table.now }
     requires start { start < name_count table.now }
     ensures count { IfOk result (λ marks. length marks.items ≡ name_count table.now) }
@@ -67,7 +79,7 @@ fn is_same_name(name: &NonterminalString, other: &NonterminalString) -> bool
 }
 
 /// The place of the name, if it is one of these.
-fn place_of(names: &[&NonterminalString], name: &NonterminalString) -> Option<usize>
+pub fn place_of(names: &[&NonterminalString], name: &NonterminalString) -> Option<usize>
     ensures { IsMarkPlace (lent names.now) name.now result }
 {
     for place in 0..names.len() {

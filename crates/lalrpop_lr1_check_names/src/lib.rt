@@ -9,6 +9,6 @@ mod barren;
 mod clauses;
 mod rule_names;
 
-pub use barren::{no_marks, none_is_barren, set_mark};
+pub use barren::{no_marks, none_is_barren, place_of, productive_names, reached_names, set_mark};
 pub use clauses::{Clause, close, is_marked};
 pub use rule_names::reach_clause;

@@ -6,6 +6,7 @@ ghost use Rattle.lalrpop_judge_search.specs.Search.{finds, is_too_deep};
 ghost use Rattle.lalrpop_lexer.specs.Simulation.{Decides};
 ghost use Rattle.lalrpop_norm_chain.specs.Normalized.{IsNormalized};
 ghost use Rattle.lalrpop_norm_entries.specs.Patterns.{entry_patterns, entry_precedences};
+ghost use Rattle.lalrpop_norm_lower.specs.TableReadiness.{IsReadyForTables};
 ghost use Rattle.lalrpop_norm_lower_law.specs.LoweredViews.{lowered_view};
 ghost use Rattle.lalrpop_norm.specs.Normalizing.{HasNoWrittenFault, IsNormalizable, TellsOfWritten};
 
@@ -26,6 +27,7 @@ use std::alloc::Global;
 /// origin and an action of its own; and the tokenizer's entries, of exactly the literals that these productions use.
 ///
 /// It is promised for a grammar as one is read, with any prefix of two or more underscores, in which no enabled alternative has `!`.
+/// Of whatever grammar the productions are, tables can be made of them.
 ///
 /// # Errors
 ///
@@ -35,6 +37,7 @@ pub fn normalize(alloc: Global, session: &Session, grammar: Grammar) -> NormResu
     ensures given { IfOk result (λ made.
         IsNormalizable finds session.now.features.items (grammar_view grammar)
         → IsNormalized finds session.now.features.items (grammar_view grammar) (lowered_view made)) }
+    ensures ready { IfOk result (λ made. IsReadyForTables made.grammar) }
     ensures none { IfOk result (λ made.
         IsNormalizable finds session.now.features.items (grammar_view grammar)
         → HasNoWrittenFault finds is_too_deep session.now.features.items session.now.macro_recursion_limit
@@ -65,6 +68,7 @@ pub fn normalize_with_dfa(
         IsNormalizable finds session.now.features.items (grammar_view grammar)
         → Decides made.1 (entry_patterns (lowered_view made.0).entries)
         (entry_precedences (lowered_view made.0).entries)) }
+    ensures ready { IfOk result (λ made. IsReadyForTables made.0.grammar) }
     ensures none { IfOk result (λ made.
         IsNormalizable finds session.now.features.items (grammar_view grammar)
         → HasNoWrittenFault finds is_too_deep session.now.features.items session.now.macro_recursion_limit

@@ -11,3 +11,4 @@ pub mod InlineLemmas
 pub mod ListedLemmas
 pub mod LoweredLemmas
 pub mod ExamplesOfLowering
+mod ReadyLemmas

@@ -39,7 +39,8 @@ use Rattle.lalrpop_norm_lower.proofs.OrderLemmas.{equal_terminals}
 use Rattle.lalrpop_norm_lower.proofs.PutLemmas.{key_found}
 use Rattle.lalrpop_norm_lower.proofs.NonterminalLemmas.{IsKnownSymbol, known_production, nonterminals_lowered}
 
-mapped_many : {A B : Type 0} (f : A → B) (xs : List A) → length (map f xs) ≡ length xs
+-- a list and its images are as many
+pub mapped_many : {A B : Type 0} (f : A → B) (xs : List A) → length (map f xs) ≡ length xs
 mapped_many f [] = refl
 mapped_many f (x ∷ xs) = ap suc (mapped_many f xs)
 

@@ -5,3 +5,4 @@ pub mod Lowered
 pub mod RuleLists
 pub mod MadeLists
 pub mod LowerFaults
+pub mod TableReadiness

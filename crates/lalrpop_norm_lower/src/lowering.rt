@@ -13,6 +13,8 @@ ghost use Rattle.lalrpop_norm_lower.specs.LoweredLists.{start_name_entries, star
 ghost use Rattle.lalrpop_norm_lower.specs.LowerFaults.{HasFewActions, IsLowerFault};
 ghost use Rattle.lalrpop_norm_lower.specs.MadeLists.{AreMadeNonterminals, IsMadeOfLists, IsMadeTerminalSet, put_names};
 ghost use Rattle.lalrpop_norm_lower.specs.RuleLists.{rules_at};
+ghost use Rattle.lalrpop_norm_lower.specs.TableReadiness.{IsReadyForTables};
+ghost use Rattle.lalrpop_norm_types.specs.TerminalTypes.{HasTerminalTypes};
 
 use crate::actions::{
     add_rule_definitions, add_rule_origins, add_start_definitions, add_start_origins,
@@ -168,7 +170,8 @@ fn lower_grammar(alloc: Global, grammar: &Grammar, types: Types) -> Result<Norma
 
 /// Lowers an expanded grammar to plain productions: one for each alternative of each rule, with an action of its own, and for
 /// each public rule a start, which is named by the prefix and the rule's name and produces the rule alone. `types` has the
-/// types of rules and of terminals. Nothing of it depends on the session.
+/// types of rules and of terminals. Nothing of it depends on the session. Whatever grammar is lowered, tables can be made of what
+/// comes out: its terminals are numbered by their places, and each production has one of its actions.
 ///
 /// # Errors
 ///
@@ -183,6 +186,8 @@ pub fn lower(
     ensures lowered { IfOk result (λ made. (finds : Text → Text → Option Bool) → IsLowerable finds (grammar_view grammar) types
         → IsLowered (grammar_between finds (grammar_view grammar)) (grammar_view grammar) types made) }
     ensures kept { IfOk result (λ made. KeepsTheRest grammar made) }
+    ensures ready { IfOk result (λ made. HasTerminalTypes (grammar_view grammar) types.terminal_types
+        → IsReadyForTables made.grammar) }
     ensures few { IfOk result (λ made. HasFewActions (grammar_view grammar)) }
     ensures fault { IfErr result (IsLowerFault (grammar_view grammar)) }
 {

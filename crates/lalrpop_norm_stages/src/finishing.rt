@@ -3,6 +3,7 @@
 ghost use Rattle.std.specs.Prelude.{IfErr, IfOk};
 ghost use Rattle.lalrpop_grammar.specs.Views.{grammar_view};
 ghost use Rattle.lalrpop_norm_entries.specs.KeptPlaces.{first_places};
+ghost use Rattle.lalrpop_norm_lower.specs.TableReadiness.{IsReadyForTables};
 ghost use Rattle.lalrpop_norm_lower_law.specs.LoweredViews.{lowered_view};
 ghost use Rattle.lalrpop_norm_stages.specs.Stages.{DecidesEntriesOf, HasNoLaterFault, IsLaterFault, IsNormalizedWhereRead};
 
@@ -15,7 +16,8 @@ use lalrpop_norm_types::infer_types;
 use std::alloc::Global;
 
 /// What an expanded grammar is normalized to: its plain productions with their origins and the tokenizer's entries, and the
-/// automaton of these entries. `places` says where literals stand first in the written grammar without its disabled parts.
+/// automaton of these entries. Whatever grammar it is, tables can be made of these productions. `places` says where literals stand
+/// first in the written grammar without its disabled parts.
 ///
 /// # Errors
 ///
@@ -29,6 +31,7 @@ pub fn finish_expanded(
 ) -> NormResult<(Normalized, Dfa)>
     ensures given { IfOk result (λ made. IsNormalizedWhereRead (grammar_view grammar) (lowered_view made.0)) }
     ensures decides { IfOk result (λ made. DecidesEntriesOf (grammar_view grammar) (lowered_view made.0) made.1) }
+    ensures ready { IfOk result (λ made. IsReadyForTables made.0.grammar) }
     ensures none { IfOk result (λ made. HasNoLaterFault (first_places places.now) (grammar_view grammar)) }
     ensures refused { IfErr result (IsLaterFault (first_places places.now) (grammar_view grammar)) }
 {

@@ -43,6 +43,8 @@ refusal_status errors.Recovery = 3
 refusal_status (errors.Norm fault) = 3
 refusal_status (errors.UnknownStart name) = 3
 refusal_status (errors.PrivateStart name) = 3
+refusal_status (errors.Barren name) = 3
+refusal_status (errors.Unexplained conflicts) = 3
 refusal_status errors.ConditionLimit = 3
 refusal_status errors.Memory = 5
 

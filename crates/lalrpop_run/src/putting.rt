@@ -47,6 +47,7 @@ fn refusal_status(error: &GenerateError) -> u8
     match error {
         GenerateError::Extern | GenerateError::Recovery | GenerateError::Norm(_) => 3,
         GenerateError::UnknownStart(_) | GenerateError::PrivateStart(_) => 3,
+        GenerateError::Barren(_) | GenerateError::Unexplained(_) => 3,
         GenerateError::ConditionLimit => 3,
         GenerateError::Memory => 5,
     }

@@ -48,6 +48,7 @@ fn is_memory(error: &GenerateError) -> bool
         GenerateError::Memory => true,
         GenerateError::Extern | GenerateError::Recovery | GenerateError::Norm(_) => false,
         GenerateError::UnknownStart(_) | GenerateError::PrivateStart(_) => false,
+        GenerateError::Barren(_) | GenerateError::Unexplained(_) => false,
         GenerateError::ConditionLimit => false,
     }
 }

@@ -48,6 +48,8 @@ refusal_text errors.Recovery = codes "error recovery not carried"
 refusal_text (errors.Norm error) = fault_head (fault_number error.kind) (span_view error.span) ++ norm_error_text error.kind
 refusal_text (errors.UnknownStart name) = codes "unknown start: " ++ name
 refusal_text (errors.PrivateStart name) = codes "private start: " ++ name
+refusal_text (errors.Barren name) = codes "barren nonterminal: " ++ name
+refusal_text (errors.Unexplained conflicts) = codes "conflicts: " ++ decimal conflicts
 refusal_text errors.ConditionLimit = codes "condition limit"
 refusal_text errors.Memory = codes "out of memory"
 

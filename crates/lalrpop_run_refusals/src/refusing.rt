@@ -23,6 +23,10 @@ pub enum GenerateError {
     UnknownStart(Atom),
     /// Some enabled rule of this name has no parameters, but none of these is public.
     PrivateStart(Atom),
+    /// The start reaches this nonterminal, and no finite sentence comes from it.
+    Barren(Atom),
+    /// It isn't LR(1): the canonical states have so many conflicts.
+    Unexplained(usize),
     /// The search for a condition's pattern gave up for the pattern's size. It comes in the place of a later fault of the
     /// normalizer.
     ConditionLimit,
@@ -48,6 +52,8 @@ impl Display for GenerateError {
             ),
             GenerateError::UnknownStart(name) => write!(f, "unknown start: {name}"),
             GenerateError::PrivateStart(name) => write!(f, "private start: {name}"),
+            GenerateError::Barren(name) => write!(f, "barren nonterminal: {name}"),
+            GenerateError::Unexplained(conflicts) => write!(f, "conflicts: {conflicts}"),
             GenerateError::ConditionLimit => f.write_str("condition limit"),
             GenerateError::Memory => f.write_str("out of memory"),
         }

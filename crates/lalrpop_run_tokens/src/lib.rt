@@ -9,4 +9,6 @@ mod entries;
 mod starting;
 mod tokenizing;
 
+pub use carrying::refuse_uncarried;
+pub use starting::{find_start, refuse_start};
 pub use tokenizing::tokenizer;
