@@ -53,7 +53,8 @@ none_shown : (tokens : List Token) → shown_tokens tokens ≡ [] → tokens ≡
 none_shown [] e = refl
 none_shown (k ∷ tokens) e = cc
 
-one_shown : (tokens : List Token) (k : Token) → shown_tokens tokens ≡ k ∷ [] → (j : Token) × (tokens ≡ j ∷ []) × (shown_token j ≡ k)
+one_shown : (tokens : List Token) (k : Token) → shown_tokens tokens ≡ k ∷ [] →
+    (j : Token) × (tokens ≡ j ∷ []) × (shown_token j ≡ k)
 one_shown [] k e = cc
 one_shown (j ∷ []) k e = let same : shown_token j ≡ k = cc in (j, refl, same)
 one_shown (j ∷ i ∷ tokens) k e = cc

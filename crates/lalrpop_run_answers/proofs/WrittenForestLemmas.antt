@@ -23,7 +23,7 @@ use Rattle.lalrpop_lr1_theory.specs.Productions as theory
 use Rattle.lalrpop_lr1_theory.specs.Trees.{IsTreeOf, nodes, yield}
 use Rattle.lalrpop_lr1_theory.specs.Spans.{SpannedForest, leaf_spans, without_spans}
 use Rattle.lalrpop_run_answers.specs.Expansions.{AreExpansion}
-use Rattle.lalrpop_run_answers.specs.ExpansionTrees.{IsForestOfTree, labelled_tree, labelled_trees, first_expanded}
+use Rattle.lalrpop_run_answers.specs.ExpansionTrees.{IsForestOfTree, tree_by_labels, trees_by_labels, first_expanded}
 use Rattle.lalrpop_run_answers.specs.ExpansionTrees.{expanded_size, expanded_sizes, is_inlined_nonterminal}
 use Rattle.lalrpop_run_answers.proofs.ForestCountLemmas.{sizes-labelled, spans-labelled, terminals-labelled, token_spans, token_terminals}
 use Rattle.lalrpop_run_answers.proofs.ForestLemmas.{forest_is, labelled_is, labelled_once}
@@ -73,12 +73,12 @@ start_is_public g n i = let m = (start_produces g n i).1 in (m.0, m.1, m.3)
 -- a tree from the start has as many nodes over the productions as over the labels
 pub root_size : (g : EnabledGrammar) (prefix : Text) (G : theory.Production → Type 0) (e : AreExpansion g prefix G) (start : Text) →
     InExpansion g (Nonterminal.start start) → (ts : SpannedForest) → IsTreeOf G (prefix ++ start) (without_spans ts) →
-    expanded_size (labelled_tree e.label_of ts) ≡ nodes (without_spans ts)
+    expanded_size (tree_by_labels e.label_of ts) ≡ nodes (without_spans ts)
 root_size g prefix G e start i ts h =
     let alone = (labelled_is g (IsInlined g) prefix G e (Nonterminal.start start) ts i
     (subst (λ n. IsTreeOf G n (without_spans ts)) (sym (e.naming.starts start i)) h)).1 in
-    let sizes : expanded_sizes (labelled_trees e.label_of ts)
-    ≡ expanded_sizes (ExpandedTrees.more (labelled_tree e.label_of ts) ExpandedTrees.none) = ap expanded_sizes alone in
+    let sizes : expanded_sizes (trees_by_labels e.label_of ts)
+    ≡ expanded_sizes (ExpandedTrees.more (tree_by_labels e.label_of ts) ExpandedTrees.none) = ap expanded_sizes alone in
     omega (arith, sizes, sizes-labelled e.label_of ts)
 
 module _ (finds : Text → Text → Option Bool) (features : List Text) (w : Grammar) (prefix : Text) (G : theory.Production → Type 0)
@@ -98,8 +98,8 @@ module _ (finds : Text → Text → Option Bool) (features : List Text) (w : Gra
 
   -- a tree from the start over the productions, as one over the labels
   from_root : (ts : SpannedForest) → IsTreeOf G (prefix ++ start) (without_spans ts) →
-      IsExpandedTreeOf (Produces g) (IsInlined g) (GrammarSymbol.nonterminal root) (labelled_tree e.label_of ts)
-      × (labelled_trees e.label_of ts ≡ ExpandedTrees.more (labelled_tree e.label_of ts) ExpandedTrees.none)
+      IsExpandedTreeOf (Produces g) (IsInlined g) (GrammarSymbol.nonterminal root) (tree_by_labels e.label_of ts)
+      × (trees_by_labels e.label_of ts ≡ ExpandedTrees.more (tree_by_labels e.label_of ts) ExpandedTrees.none)
   from_root ts h = labelled_is g (IsInlined g) prefix G e root ts there (root_tree ts h)
 
   append-none : {A : Type 0} (xs : List A) → xs ++ [] ≡ xs
@@ -107,9 +107,9 @@ module _ (finds : Text → Text → Option Bool) (features : List Text) (w : Gra
   append-none (x ∷ xs) = ap (λ l. x ∷ l) (append-none xs)
 
   root_tokens : (ts : SpannedForest) → IsTreeOf G (prefix ++ start) (without_spans ts) →
-      all_expanded_tokens (labelled_trees e.label_of ts) ≡ expanded_tokens (labelled_tree e.label_of ts)
+      all_expanded_tokens (trees_by_labels e.label_of ts) ≡ expanded_tokens (tree_by_labels e.label_of ts)
   root_tokens ts h =
-      ap all_expanded_tokens (from_root ts h).1 ∙ append-none (expanded_tokens (labelled_tree e.label_of ts))
+      ap all_expanded_tokens (from_root ts h).1 ∙ append-none (expanded_tokens (tree_by_labels e.label_of ts))
 
   -- an admitted tree has its tree over the productions
   pub forest_of_tree : (t : Tree) (tokens : List Token) → AdmitsStart g start t tokens →
@@ -120,9 +120,9 @@ module _ (finds : Text → Text → Option Bool) (features : List Text) (w : Gra
       let s = inlined_tree g (IsInlined g) (is_inlined_nonterminal g) decides (GrammarSymbol.nonterminal root) t tokens grown.0
       grown.1 in
       let f = forest_is g (IsInlined g) prefix G e root d there s.grows in
-      let labels : labelled_trees e.label_of f.0 ≡ ExpandedTrees.more d ExpandedTrees.none = f.2 in
-      let one : labelled_tree e.label_of f.0 ≡ d = ap first_expanded labels in
-      let leaves_are : all_expanded_tokens (labelled_trees e.label_of f.0) ≡ shown_tokens tokens =
+      let labels : trees_by_labels e.label_of f.0 ≡ ExpandedTrees.more d ExpandedTrees.none = f.2 in
+      let one : tree_by_labels e.label_of f.0 ≡ d = ap first_expanded labels in
+      let leaves_are : all_expanded_tokens (trees_by_labels e.label_of f.0) ≡ shown_tokens tokens =
       ap all_expanded_tokens labels ∙ append-none (expanded_tokens d) ∙ s.over in (
         f.0,
         record {
@@ -138,13 +138,13 @@ module _ (finds : Text → Text → Option Bool) (features : List Text) (w : Gra
       yield (without_spans ts) ≡ token_terminals tokens → leaf_spans ts ≡ token_spans tokens →
       (t : Tree) × AdmitsStart g start t tokens × IsForestOfTree e.label_of G (prefix ++ start) t tokens ts
   tree_of_forest ts tokens h terminals spans =
-      let d = labelled_tree e.label_of ts in
+      let d = tree_by_labels e.label_of ts in
       let grows = (from_root ts h).0 in
       let tokens_of = expanded_tokens d in
       let shown : tokens_of ≡ shown_tokens tokens =
       sym (root_tokens ts h)
-      ∙ sym (trees_shown (labelled_trees e.label_of ts))
-      ∙ shown_same (all_expanded_tokens (labelled_trees e.label_of ts)) tokens
+      ∙ sym (trees_shown (trees_by_labels e.label_of ts))
+      ∙ shown_same (all_expanded_tokens (trees_by_labels e.label_of ts)) tokens
       (terminals-labelled e.label_of ts ∙ terminals) (spans-labelled e.label_of ts ∙ spans) in
       let apart = taken_apart d in
       let admitted : AdmitsStart g start (tree_written d) (shown_tokens tokens) =
@@ -160,8 +160,8 @@ module _ (finds : Text → Text → Option Bool) (features : List Text) (w : Gra
       IsForestOfTree e.label_of G (prefix ++ start) t tokens ts → IsForestOfTree e.label_of G (prefix ++ start) t tokens us → ts ≡ us
   forest_once t tokens ts us a b =
       let p = GrammarSymbol.nonterminal root in
-      let d = labelled_tree e.label_of ts in
-      let f = labelled_tree e.label_of us in
+      let d = tree_by_labels e.label_of ts in
+      let f = tree_by_labels e.label_of us in
       let x = from_root ts a.is_tree in
       let y = from_root us b.is_tree in
       let one : d ≡ f =
@@ -173,8 +173,9 @@ module _ (finds : Text → Text → Option Bool) (features : List Text) (w : Gra
       (x.1 ∙ ap (λ z. ExpandedTrees.more z ExpandedTrees.none) one ∙ sym y.1)
 
   -- trees over the same tokens that have one tree over the productions are one
-  pub tree_once : (t u : Tree) (tokens : List Token) (ts : SpannedForest) → AdmitsStart g start t tokens → AdmitsStart g start u tokens →
-      IsForestOfTree e.label_of G (prefix ++ start) t tokens ts → IsForestOfTree e.label_of G (prefix ++ start) u tokens ts → t ≡ u
+  pub tree_once : (t u : Tree) (tokens : List Token) (ts : SpannedForest) → AdmitsStart g start t tokens →
+      AdmitsStart g start u tokens → IsForestOfTree e.label_of G (prefix ++ start) t tokens ts →
+      IsForestOfTree e.label_of G (prefix ++ start) u tokens ts → t ≡ u
   tree_once t u tokens ts at au a b =
       shown_and_leaves t u (sym a.stands ∙ b.stands) (sym (of_start t at) ∙ of_start u au)
     where

@@ -15,7 +15,7 @@ use Rattle.lalrpop_lr1_theory.specs.States.{State}
 use Rattle.lalrpop_lr1_theory.specs.Trees.{IsTreeOf, nodes, yield}
 use Rattle.lalrpop_lr1_theory.specs.ValidItems.{IsBarren, NoneBarren}
 use Rattle.lalrpop_run_answers.specs.Expansions.{AreExpansion, AreBaseExpansion}
-use Rattle.lalrpop_run_answers.specs.ExpansionTrees.{IsForestOfTree, expanded_size, labelled_tree}
+use Rattle.lalrpop_run_answers.specs.ExpansionTrees.{IsForestOfTree, expanded_size, tree_by_labels}
 use Rattle.lalrpop_run_answers.specs.Barren.{IsBarrenFrom, HasNoBarren}
 
 -- a start of the expansion stands on no right side
@@ -90,7 +90,7 @@ ForestsHaveSizes =
     (g : EnabledGrammar) (prefix start : Text) (grammar : List Production) (e : AreExpansion g prefix (Contains grammar)) →
     InExpansion g (Nonterminal.start start) → (ts : SpannedForest) →
     IsTreeOf (Contains grammar) (prefix ++ start) (without_spans ts) →
-    expanded_size (labelled_tree e.label_of ts) ≡ nodes (without_spans ts)
+    expanded_size (tree_by_labels e.label_of ts) ≡ nodes (without_spans ts)
 
 -- tokens are a sentence exactly where their terminals are the leaves of a tree from the start
 abbrev pub SentencesAreYields : Type 0
