@@ -1,6 +1,7 @@
 -- Whatever grammar was lowered, tables can be made of what comes out; for the pass.
 use Rattle.std.specs.Prelude.{map}
-use Rattle.std.proofs.Common.{◌≡◌, ◌∙◌, ◌⊎◌, ◌<◌, ◌≤◌, ℕ, ◌+◌, List, [], ◌∷◌, ◌++◌, Bool, refl, ap, ap₂, sym, subst, inl, inr, arith}
+use Rattle.std.proofs.Common.{◌≡◌, ◌∙◌, ◌⊎◌, ◌<◌, ◌≤◌, ℕ, ◌+◌, List, [], ◌∷◌, ◌++◌}
+use Rattle.std.proofs.Common.{refl, ap, sym, subst, inl, inr, arith}
 use Rattle.std.proofs.Common.{Ordering, length, length-append}
 use Rattle.std.specs.declared.cmp.Ordering.TheVariants.{Less, Equal, Greater}
 use Rattle.std.specs.Bool.{Decides}
@@ -10,13 +11,11 @@ use Rattle.lalrpop_grammar_symbols.specs.Symbols.{Text, Terminal, Sym, WrittenSy
 use Rattle.lalrpop_grammar_symbols.specs.Views.{terminal_view}
 use Rattle.lalrpop_grammar_symbols.specs.contracts.names.NonterminalStringOrd.TheImpl as names
 use Rattle.lalrpop_grammar_symbols.specs.declared.names.NonterminalString.{NonterminalString}
-use Rattle.lalrpop_grammar_symbols.specs.declared.terminal.TerminalString.{TerminalString}
 use Rattle.lalrpop_grammar.specs.WrittenGrammar.{Alternative, Grammar, Rule, rules_of}
 use Rattle.lalrpop_grammar_language.specs.Among.{Among}
 use Rattle.lalrpop_grammar_language.specs.Expansion.{GrammarSymbol}
 use Rattle.lalrpop_grammar_repr.specs.declared.production.NonterminalData.{NonterminalData}
 use Rattle.lalrpop_grammar_repr.specs.declared.production.Production.{Production}
-use Rattle.lalrpop_grammar_repr.specs.declared.production.Symbol.{Symbol}
 use Rattle.lalrpop_grammar_repr.specs.declared.production.Symbol.TheVariants as symbols
 use Rattle.lalrpop_grammar_repr.specs.declared.types.Types.{Types}
 use Rattle.lalrpop_grammar_types.specs.declared.type_repr.TypeRepr.{TypeRepr}
@@ -27,9 +26,9 @@ use Rattle.lalrpop_norm_lower.specs.Definitions.{definition_of, type_in_table}
 use Rattle.lalrpop_norm_lower.specs.LoweredLists.{LoweredNonterminal, LoweredProduction, alternative_productions, count_alternatives}
 use Rattle.lalrpop_norm_lower.specs.LoweredLists.{lowered_definitions, lowered_entries, lowered_entry_view, lowered_production_view}
 use Rattle.lalrpop_norm_lower.specs.LoweredLists.{put_entries, rule_definitions, rule_entries, rules_with_starts, start_definitions}
-use Rattle.lalrpop_norm_lower.specs.LoweredLists.{start_entries}
+use Rattle.lalrpop_norm_lower.specs.LoweredLists.{start_entries, start_production}
 use Rattle.lalrpop_norm_lower.specs.LoweredSymbols.{lowered_side, lowered_symbol, named_symbol}
-use Rattle.lalrpop_norm_lower.specs.MadeLists.{IsMadeOfLists, put_names}
+use Rattle.lalrpop_norm_lower.specs.MadeLists.{IsMadeOfLists}
 use Rattle.lalrpop_norm_lower.specs.TableReadiness.{IsReadyForTables}
 use Rattle.lalrpop_norm_lower.specs.declared.lowering.Normalized.{Normalized}
 use Rattle.lalrpop_norm_lower.proofs.ListedLemmas.{terminals_lowered}
@@ -76,32 +75,37 @@ module _ {K X : Type 0} (R : K → K → Ordering) (decides : (a b : K) → Deci
 
 -- productions of lowered rules
 
--- the production's action is below a number, and the terminals on its right side are among those of a list
-record IsWithin (most : ℕ) (ts : List Terminal) (q : LoweredProduction) : Type 0 where
+-- the production is of this name, its action is below a number, and the terminals on its right side are among those of a list
+record IsWithin (name : Text) (most : ℕ) (ts : List Terminal) (q : LoweredProduction) : Type 0 where
+  pub nonterminal : q.production.nonterminal ≡ name
   pub action : q.production.action < most
   pub terminals : (t : Terminal) → Among q.production.symbols (GrammarSymbol.terminal t) → Among ts t
 
 -- of more of both the same is so
-widened : (most more : ℕ) (ts us : List Terminal) (q : LoweredProduction) → most ≤ more → ((t : Terminal) → Among ts t → Among us t)
-    → IsWithin most ts q → IsWithin more us q
-widened most more ts us q le to h = record {
+widened : (name : Text) (most more : ℕ) (ts us : List Terminal) (q : LoweredProduction) → most ≤ more
+    → ((t : Terminal) → Among ts t → Among us t) → IsWithin name most ts q → IsWithin name more us q
+widened name most more ts us q le to h = record {
+  nonterminal = h.nonterminal;
   action = let a = h.action in omega (arith, a, le);
   terminals = λ t i. to t (h.terminals t i);
 }
 
 start_within : (prefix : Text) (k : ℕ) (rs : List Rule) (l : LoweredNonterminal) (q : LoweredProduction)
-    → Among (start_entries prefix k rs) l → Among l.productions q → IsWithin (k + length rs) [] q
+    → Among (start_entries prefix k rs) l → Among l.productions q → IsWithin l.key (k + length rs) [] q
 start_within prefix k [] l q i j = absurd i
-start_within prefix k (r ∷ rs) l q (inl e) j = go (subst (λ (x : LoweredNonterminal). Among x.productions q) (sym e) j)
+start_within prefix k (r ∷ rs) l q (inl e) j =
+    subst (λ (x : LoweredNonterminal). IsWithin x.key (k + length (r ∷ rs)) [] q) e
+    (go (subst (λ (x : LoweredNonterminal). Among x.productions q) (sym e) j))
   where
     no_terminal : (t : Terminal) → Among (GrammarSymbol.nonterminal r.name ∷ []) (GrammarSymbol.terminal t) → Among [] t
     no_terminal t (inl f) = absurd (let wrong : ⊥ = cc in wrong)
     no_terminal t (inr f) = f
 
-    go : Among (_ ∷ []) q → IsWithin (k + length (r ∷ rs)) [] q
+    go : Among (start_production prefix k r ∷ []) q → IsWithin (prefix ++ r.name) (k + length (r ∷ rs)) [] q
     go (inl f) =
         let a : q.production.action ≡ k = ap (λ (x : LoweredProduction). x.production.action) (sym f) in
         record {
+          nonterminal = ap (λ (x : LoweredProduction). x.production.nonterminal) (sym f);
           action = omega (arith, a);
           terminals = λ t i.
               no_terminal t (subst (λ (x : LoweredProduction). Among x.production.symbols (GrammarSymbol.terminal t)) (sym f) i);
@@ -109,10 +113,11 @@ start_within prefix k (r ∷ rs) l q (inl e) j = go (subst (λ (x : LoweredNonte
     go (inr f) = absurd f
 start_within prefix k (r ∷ rs) l q (inr i) j =
     let h = start_within prefix (k + 1) rs l q i j in
-    widened (k + 1 + length rs) (k + length (r ∷ rs)) [] [] q (omega arith) (λ t x. x) h
+    widened l.key (k + 1 + length rs) (k + length (r ∷ rs)) [] [] q (omega arith) (λ t x. x) h
 
 -- a terminal that a symbol is lowered to stands in the symbol
-symbol_terminal : (s : WrittenSymbol) (t : Terminal) → Among (lowered_symbol s) (GrammarSymbol.terminal t) → Among (inner_terminals s) t
+symbol_terminal : (s : WrittenSymbol) (t : Terminal) → Among (lowered_symbol s) (GrammarSymbol.terminal t)
+    → Among (inner_terminals s) t
 symbol_terminal (Sym.terminal p u) t (inl e) = inl (let same : u ≡ t = cc in same)
 symbol_terminal (Sym.terminal p u) t (inr e) = absurd e
 symbol_terminal (Sym.nonterminal p n) t (inl e) = absurd (let wrong : ⊥ = cc in wrong)
@@ -134,11 +139,12 @@ side_terminal xs t i =
     flat_map_among inner_terminals xs e.0 t e.1 (symbol_terminal e.0 t e.2)
 
 alternative_within : (n : Text) (k : ℕ) (alts : List Alternative) (q : LoweredProduction) → Among (alternative_productions n k alts) q
-    → IsWithin (k + length alts) (terminals_of_alternatives alts) q
+    → IsWithin n (k + length alts) (terminals_of_alternatives alts) q
 alternative_within n k [] q i = absurd i
 alternative_within n k (a ∷ rest) q (inl e) =
     let same : q.production.action ≡ k = ap (λ (x : LoweredProduction). x.production.action) (sym e) in
     record {
+      nonterminal = ap (λ (x : LoweredProduction). x.production.nonterminal) (sym e);
       action = omega (arith, same);
       terminals = λ t i.
           among_left (terminals_of_symbols a.expr) (terminals_of_alternatives rest) t
@@ -147,7 +153,7 @@ alternative_within n k (a ∷ rest) q (inl e) =
     }
 alternative_within n k (a ∷ rest) q (inr i) =
     let h = alternative_within n (k + 1) rest q i in
-    widened (k + 1 + length rest) (k + length (a ∷ rest)) (terminals_of_alternatives rest) (terminals_of_alternatives (a ∷ rest)) q
+    widened n (k + 1 + length rest) (k + length (a ∷ rest)) (terminals_of_alternatives rest) (terminals_of_alternatives (a ∷ rest)) q
     (omega arith) (λ t x. behind (terminals_of_symbols a.expr) (terminals_of_alternatives rest) t x) h
   where
     behind : (xs ys : List Terminal) (t : Terminal) → Among ys t → Among (xs ++ ys) t
@@ -155,16 +161,19 @@ alternative_within n k (a ∷ rest) q (inr i) =
     behind (y ∷ xs) ys t x = inr (behind xs ys t x)
 
 rule_within : (k : ℕ) (rs : List Rule) (l : LoweredNonterminal) (q : LoweredProduction) → Among (rule_entries k rs) l
-    → Among l.productions q → IsWithin (k + count_alternatives rs) (terminals_of_rules rs) q
+    → Among l.productions q → IsWithin l.key (k + count_alternatives rs) (terminals_of_rules rs) q
 rule_within k [] l q i j = absurd i
 rule_within k (r ∷ rs) l q (inl e) j =
-    let h = alternative_within r.name k r.alternatives q (subst (λ (x : LoweredNonterminal). Among x.productions q) (sym e) j) in
-    widened (k + length r.alternatives) (k + count_alternatives (r ∷ rs)) (terminals_of_alternatives r.alternatives)
+    let own = alternative_within r.name k r.alternatives q
+    (subst (λ (x : LoweredNonterminal). Among x.productions q) (sym e) j) in
+    let h = subst (λ (x : LoweredNonterminal). IsWithin x.key (k + length r.alternatives) (terminals_of_alternatives r.alternatives) q)
+    e own in
+    widened l.key (k + length r.alternatives) (k + count_alternatives (r ∷ rs)) (terminals_of_alternatives r.alternatives)
     (terminals_of_rules (r ∷ rs)) q (omega arith)
     (λ t x. among_left (terminals_of_alternatives r.alternatives) (terminals_of_rules rs) t x) h
 rule_within k (r ∷ rs) l q (inr i) j =
     let h = rule_within (k + length r.alternatives) rs l q i j in
-    widened (k + length r.alternatives + count_alternatives rs) (k + count_alternatives (r ∷ rs)) (terminals_of_rules rs)
+    widened l.key (k + length r.alternatives + count_alternatives rs) (k + count_alternatives (r ∷ rs)) (terminals_of_rules rs)
     (terminals_of_rules (r ∷ rs)) q (omega arith)
     (λ t x. behind (terminals_of_alternatives r.alternatives) (terminals_of_rules rs) t x) h
   where
@@ -194,15 +203,15 @@ definition_count table rs =
 -- each production of the lowered entries has one of the actions, and terminals of the rules alone
 entry_within : (prefix : Text) (rs : List Rule) (l : LoweredNonterminal) (q : LoweredProduction)
     → Among (lowered_entries prefix rs) l → Among l.productions q
-    → IsWithin (length (rules_with_starts rs) + count_alternatives rs) (terminals_of_rules rs) q
+    → IsWithin l.key (length (rules_with_starts rs) + count_alternatives rs) (terminals_of_rules rs) q
 entry_within prefix rs l q i j =
     go (among_parts (start_entries prefix 0 (rules_with_starts rs)) (rule_entries (length (rules_with_starts rs)) rs) l i)
   where
     go : Among (start_entries prefix 0 (rules_with_starts rs)) l ⊎ Among (rule_entries (length (rules_with_starts rs)) rs) l
-        → IsWithin (length (rules_with_starts rs) + count_alternatives rs) (terminals_of_rules rs) q
+        → IsWithin l.key (length (rules_with_starts rs) + count_alternatives rs) (terminals_of_rules rs) q
     go (inl x) =
-        widened (0 + length (rules_with_starts rs)) (length (rules_with_starts rs) + count_alternatives rs) [] (terminals_of_rules rs) q
-        (omega arith) (λ t y. absurd y) (start_within prefix 0 (rules_with_starts rs) l q x j)
+        widened l.key (0 + length (rules_with_starts rs)) (length (rules_with_starts rs) + count_alternatives rs) []
+        (terminals_of_rules rs) q (omega arith) (λ t y. absurd y) (start_within prefix 0 (rules_with_starts rs) l q x j)
     go (inr x) = rule_within (length (rules_with_starts rs)) rs l q x j
 
 -- the whole
@@ -211,7 +220,7 @@ module _ (w : Grammar) (types : Types) (made : Normalized) (m : IsMadeOfLists w 
   -- a production of the lowered grammar is as the rules have it
   production_within : (n : NonterminalString) (d : NonterminalData) (p : Production) → Among made.grammar.nonterminals (n, d)
       → Among d.productions p
-      → IsWithin (length (rules_with_starts (rules_of w.items)) + count_alternatives (rules_of w.items))
+      → IsWithin n.0 (length (rules_with_starts (rules_of w.items)) + count_alternatives (rules_of w.items))
       (terminals_of_rules (rules_of w.items)) (lowered_production_view p)
   production_within n d p i j =
       entry_within w.prefix (rules_of w.items) (lowered_entry_view (n, d)) (lowered_production_view p)
@@ -235,6 +244,7 @@ module _ (w : Grammar) (types : Types) (made : Normalized) (m : IsMadeOfLists w 
         ((terminals_lowered w types.terminal_types made.grammar.terminals h m.terminals).members t).1
         (among_left (terminals_of_rules (rules_of w.items)) (terminals_of_items w.items) (terminal_view t)
         ((production_within n d p i j).terminals (terminal_view t) (map_among named_symbol p.symbols (symbols.Terminal t) k)));
+    named = λ n d p i j. ap (λ (x : Text). record { 0 = x }) (production_within n d p i j).nonterminal;
     actions = λ n d p i j.
         subst (λ k. p.action.0 < k)
         (sym (definition_count types.nonterminal_types (rules_of w.items)) ∙ sym (ap length m.definitions))

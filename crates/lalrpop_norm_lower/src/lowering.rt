@@ -171,7 +171,7 @@ fn lower_grammar(alloc: Global, grammar: &Grammar, types: Types) -> Result<Norma
 /// Lowers an expanded grammar to plain productions: one for each alternative of each rule, with an action of its own, and for
 /// each public rule a start, which is named by the prefix and the rule's name and produces the rule alone. `types` has the
 /// types of rules and of terminals. Nothing of it depends on the session. Whatever grammar is lowered, tables can be made of what
-/// comes out: its terminals are numbered by their places, and each production has one of its actions.
+/// comes out: its terminals are numbered by their places, and each production stands under its name and has one of its actions.
 ///
 /// # Errors
 ///

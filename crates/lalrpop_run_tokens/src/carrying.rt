@@ -23,11 +23,7 @@ use lalrpop_run_refusals::GenerateError;
 use std::alloc::{AllocError, Global};
 
 /// Refuses a grammar with an extern block, then one with error recovery in an enabled alternative.
-///
-/// # Errors
-///
-/// `Extern`, or `Recovery`, or `Memory`.
-pub fn refuse_uncarried(
+pub(crate) fn refuse_uncarried(
     alloc: Global,
     features: &[Atom],
     grammar: &Grammar,

@@ -12,8 +12,12 @@ use lalrpop_grammar_symbols::{List, TerminalString};
 use std::alloc::{AllocError, Global};
 
 /// For each entry the terminal of its pieces, none where they are skipped.
+///
+/// # Errors
+///
+/// Memory is refused.
 #[tactic(auto, using(crate::proofs::EntryLemmas::one_more))]
-pub(crate) fn terminals_of(
+pub fn terminals_of(
     alloc: Global,
     entries: List<MatchEntry>,
 ) -> Result<Vec<Option<TerminalString>>, AllocError>

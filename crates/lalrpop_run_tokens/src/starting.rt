@@ -13,12 +13,8 @@ use lalrpop_grammar_rules::{Rules, Start};
 use lalrpop_run_refusals::GenerateError;
 use std::alloc::{AllocError, Global};
 
-/// Whether the name can be a start: whether some enabled rule without parameters has it, and whether a public one does.
-///
-/// # Errors
-///
-/// Want of memory.
-pub fn find_start(
+/// Whether the name can be a start.
+pub(crate) fn find_start(
     alloc: Global,
     features: &[Atom],
     start: &Atom,
@@ -34,11 +30,7 @@ pub fn find_start(
 }
 
 /// Refuses a name that can be no start, then one that no public rule has.
-///
-/// # Errors
-///
-/// `UnknownStart`, or `PrivateStart`, each with the name, or `Memory`.
-pub fn refuse_start(found: Start, start: &Atom) -> Result<(), GenerateError>
+pub(crate) fn refuse_start(found: Start, start: &Atom) -> Result<(), GenerateError>
     ensures public { IfOk result (λ _. is_public_start found ≡ true) }
     ensures refused { IfErr result (λ error. (error ≡ GenerateError.Memory)
         ⊎ IsStartRefusal (is_known found) (is_public_start found) start.now error) }

@@ -7,13 +7,11 @@ ghost use Rattle.lalrpop_norm_expansion.specs.Premises.{IsReadGrammar};
 ghost use Rattle.lalrpop_run_tokens.specs.Refused.{IsGrammarRefusal};
 ghost use Rattle.lalrpop_run_tokens.specs.Tokenizers.{IsTokenizer};
 
-use crate::carrying::refuse_uncarried;
 use crate::entries::terminals_of;
-use crate::starting::{find_start, refuse_start};
+use crate::normalized::normalize_for_start;
 use lalrpop_grammar::{Atom, Grammar};
 use lalrpop_grammar_repr::Session;
 use lalrpop_lexer_scan::Scanner;
-use lalrpop_norm::normalize_with_dfa;
 use lalrpop_run_refusals::GenerateError;
 use std::alloc::Global;
 
@@ -40,11 +38,7 @@ pub fn tokenizer(
         → IsGrammarRefusal finds is_too_deep session.now.features.items session.now.macro_recursion_limit start.now
         (grammar_view grammar) error) }
 {
-    let features = session.features.as_slice();
-    refuse_uncarried(alloc, features, &grammar)?;
-    let found = find_start(alloc, features, start, &grammar)?;
-    let (made, dfa) = normalize_with_dfa(alloc, session, grammar)?;
-    refuse_start(found, start)?;
+    let (made, dfa) = normalize_for_start(alloc, session, start, grammar)?;
     let terminals = terminals_of(alloc, made.entries)?;
     Ok(Scanner::new(dfa, terminals))
 }
