@@ -1,5 +1,8 @@
 -- What the laws say of the productions of an expansion, over lists of productions.
-use Rattle.std.specs.Prelude.{◌≡◌, ◌↔◌, ◌++◌, Bool, List, Option, Contains, map}
+use Rattle.std.specs.Prelude.{◌≡◌, ◌↔◌, ◌⊎◌, ◌++◌, Bool, List, Option, Contains, map}
+use Rattle.std.specs.Cmp.Lexicographic.{slice_cmp}
+use Rattle.std.specs.Ordering.{nat_cmp}
+use Rattle.std.specs.declared.cmp.Ordering.TheVariants.{Less}
 use Rattle.lalrpop_grammar_symbols.specs.Symbols.{Text, Terminal}
 use Rattle.lalrpop_grammar.specs.WrittenGrammar.{Grammar}
 use Rattle.lalrpop_grammar.specs.Trees.{Token, Tree}
@@ -16,7 +19,7 @@ use Rattle.lalrpop_lr1_theory.specs.Trees.{IsTreeOf, nodes, yield}
 use Rattle.lalrpop_lr1_theory.specs.ValidItems.{IsBarren, NoneBarren}
 use Rattle.lalrpop_run_answers.specs.Expansions.{AreExpansion, AreBaseExpansion}
 use Rattle.lalrpop_run_answers.specs.ExpansionTrees.{IsForestOfTree, expanded_size, tree_by_labels}
-use Rattle.lalrpop_run_answers.specs.Barren.{IsBarrenFrom, HasNoBarren}
+use Rattle.lalrpop_run_answers.specs.Barren.{IsBarrenFrom, IsLeastBarrenName, HasNoBarren}
 
 -- a start of the expansion stands on no right side
 abbrev pub StartsStandAlone : Type 0
@@ -36,6 +39,14 @@ BarrenNamesAreBarren =
     (g : EnabledGrammar) (prefix start : Text) (grammar : List Production) (e : AreBaseExpansion g prefix (Contains grammar)) →
     InExpansion g (Nonterminal.start start) → (n : Text) →
     IsBarren (Contains grammar) start n ↔ ((x : Nonterminal) × IsBarrenFrom g start x × (e.name_of x ≡ n))
+
+-- and the least of them is the one that is told
+abbrev pub LeastBarrenNamesAreTold : Type 0
+LeastBarrenNamesAreTold =
+    (g : EnabledGrammar) (prefix start : Text) (grammar : List Production) → AreBaseExpansion g prefix (Contains grammar) →
+    InExpansion g (Nonterminal.start start) → (n : Text) → IsBarren (Contains grammar) start n →
+    ((m : Text) → IsBarren (Contains grammar) start m → (m ≡ n) ⊎ (slice_cmp nat_cmp n m ≡ Less)) →
+    IsLeastBarrenName g prefix start n
 
 -- and where none is barren, no nonterminal is
 abbrev pub NoBarrenNameIsNone : Type 0

@@ -13,6 +13,7 @@ ghost use Rattle.lalrpop_run_answers.specs.Laws.{
   ForestsAreAdmitted,
   ForestsAreOne,
   ForestsHaveSizes,
+  LeastBarrenNamesAreTold,
   NoBarrenNameIsNone,
   NoneBarrenAfterInlining,
   OneWrittenTree,
@@ -27,9 +28,10 @@ pub fn starts_stand_alone()
 {}
 
 /// The law of barren nonterminals: before inlining, the names that the written start reaches and that no finite tree has at its root
-/// are those of barren nonterminals. Where there are none, the expansion's start reaches none after inlining.
+/// are those of barren nonterminals, and the least is the one that is told. Where there are none, the expansion's start reaches none after inlining.
 pub fn barren_names_are_told()
     ensures barren { BarrenNamesAreBarren }
+    ensures least { LeastBarrenNamesAreTold }
     ensures no_name { NoBarrenNameIsNone }
     ensures after { NoneBarrenAfterInlining }
 {}

@@ -13,6 +13,19 @@ returns-clause-barren c =
       λ b. subst (IsBarren (Contains grammar) start) b.2 (barren_named g prefix (Contains grammar) e start i b.0 b.1),
     )
 
+pub returns-clause-least : goal.returns-clause-least
+returns-clause-least c =
+    λ g prefix start grammar e i n b least.
+    let x = named_barren g prefix (Contains grammar) e start i n b in
+    record {
+      name_of = e.name_of;
+      naming = e.naming;
+      nonterminal = x.0;
+      is_barren = x.1;
+      name_is = x.2;
+      least = λ y k. least (e.name_of y) (barren_named g prefix (Contains grammar) e start i y k);
+    }
+
 pub returns-clause-no_name : goal.returns-clause-no_name
 returns-clause-no_name c = λ g prefix start grammar e i none. none_barren_named g prefix (Contains grammar) e start i none
 
