@@ -8,3 +8,4 @@ pub mod WrittenForestLemmas
 pub mod ContainsLemmas
 pub mod BarrenLemmas
 pub mod YieldLemmas
+pub mod ExamplesOfExpansions
