@@ -9,3 +9,4 @@ pub mod ContainsLemmas
 pub mod BarrenLemmas
 pub mod YieldLemmas
 pub mod ExamplesOfExpansions
+pub mod ExamplesOfTrees
