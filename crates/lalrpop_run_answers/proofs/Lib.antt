@@ -10,3 +10,4 @@ pub mod BarrenLemmas
 pub mod YieldLemmas
 pub mod ExamplesOfExpansions
 pub mod ExamplesOfTrees
+pub mod ExamplesOfBarren
