@@ -1,0 +1,3 @@
+pub mod ExpandedForestLemmas
+pub mod AnswerLemmas
+pub mod ExamplesOfAnswers
