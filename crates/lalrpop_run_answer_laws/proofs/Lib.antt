@@ -3,3 +3,4 @@ pub mod EntryLemmas
 pub mod NamedProductionLemmas
 pub mod InlinedExpansionLemmas
 pub mod NormalizedLemmas
+pub mod ExamplesOfNamedLabels
