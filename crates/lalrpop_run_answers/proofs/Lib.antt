@@ -1,0 +1,11 @@
+pub mod ReachLemmas
+pub mod StartSideLemmas
+pub mod InlinedTestLemmas
+pub mod ForestLemmas
+pub mod ForestCountLemmas
+pub mod TextLemmas
+pub mod WrittenForestLemmas
+pub mod ContainsLemmas
+pub mod BarrenLemmas
+pub mod YieldLemmas
+pub mod ExamplesOfExpansions

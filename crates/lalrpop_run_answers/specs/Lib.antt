@@ -1,0 +1,4 @@
+pub mod Expansions
+pub mod ExpansionTrees
+pub mod Barren
+pub mod Laws
