@@ -23,7 +23,7 @@ use Rattle.lalrpop_lr1_build.proofs.OrderLemmas.{sorted_at}
 use Rattle.lalrpop_lr1_check_names.specs.Clauses.{IsMarked}
 use Rattle.lalrpop_lr1_check_names.specs.NameMarks.{AreProductive, AreReached, IsNumberOf}
 use Rattle.lalrpop_lr1_check_names.proofs.NameLemmas.{productive_there, reached_number, rule_there}
-use Rattle.lalrpop_lr1_barren.specs.LeastBarren.{IsFirstLacking, IsFirstLackingAt, IsLeastBarren}
+use Rattle.lalrpop_lr1_barren.specs.LeastBarren.{IsFirstMissing, IsFirstMissingAt, IsLeastBarren}
 
 -- the same productions have the same barren names
 
@@ -110,13 +110,13 @@ module _ (table : Numbered) (is : IsNumberTable table) where
           λ m. let t = productive_tree G ((are_productive n.0 B n.1).0 m) in b.1 t.0 t.1,
         )
 
-    pub none_least : IsFirstLacking reached productive None → IsLeastBarren G start.0 None
+    pub none_least : IsFirstMissing reached productive None → IsLeastBarren G start.0 None
     none_least all =
         (none_barren_productive G start.0).1 (λ A r.
         let n = reached_number table is start.0 number number_is r in
         (are_productive n.0 A n.1).0 (all n.0 ((are_reached start.0 number_is n.0 A n.1).1 r)))
 
-    pub first_least : (k : ℕ) → IsFirstLackingAt reached productive k → (n : NonterminalString)
+    pub first_least : (k : ℕ) → IsFirstMissingAt reached productive k → (n : NonterminalString)
         → slice_get (table_names table) k ≡ Some n → IsNumberOf table k n.0 → IsLeastBarren G start.0 (Some n)
     first_least k h n at number_of = record {
       barren = (

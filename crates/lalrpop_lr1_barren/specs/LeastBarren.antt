@@ -18,11 +18,11 @@ IsLeastBarren G s None = NoneBarren G s
 IsLeastBarren G s (Some n) = IsLeastAmongBarren G s n.0
 
 -- The number is marked in the first and not in the second, as no number before it is.
-pub record IsFirstLackingAt (first second : List Bool) (k : ℕ) : Type 0 where
+pub record IsFirstMissingAt (first second : List Bool) (k : ℕ) : Type 0 where
   pub marked : IsMarked first k
   pub lacks : IsMarked second k → ⊥
   pub before : (n : ℕ) → n < k → IsMarked first n → IsMarked second n
 
-abbrev pub IsFirstLacking : List Bool → List Bool → Option ℕ → Type 0
-IsFirstLacking first second None = (n : ℕ) → IsMarked first n → IsMarked second n
-IsFirstLacking first second (Some k) = IsFirstLackingAt first second k
+abbrev pub IsFirstMissing : List Bool → List Bool → Option ℕ → Type 0
+IsFirstMissing first second None = (n : ℕ) → IsMarked first n → IsMarked second n
+IsFirstMissing first second (Some k) = IsFirstMissingAt first second k

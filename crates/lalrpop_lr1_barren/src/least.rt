@@ -4,7 +4,7 @@ ghost use Rattle.std.specs.Prelude.{◌≡◌, Contains, IfOk, IsFalse, IsTrue};
 ghost use Rattle.lalrpop_lr1_build.specs.BuiltStates.{theory_grammar};
 ghost use Rattle.lalrpop_lr1_check_names.specs.Clauses.{IsMarked};
 ghost use Rattle.lalrpop_lr1_first.specs.NumberedGrammars.{HasItsTerminals, IsNumberTable, IsSeenIn, table_productions};
-ghost use Rattle.lalrpop_lr1_barren.specs.LeastBarren.{IsFirstLacking, IsLeastBarren};
+ghost use Rattle.lalrpop_lr1_barren.specs.LeastBarren.{IsFirstMissing, IsLeastBarren};
 
 use lalrpop_grammar_repr::Grammar;
 use lalrpop_grammar_symbols::NonterminalString;
@@ -22,7 +22,7 @@ fn is_lacking(first: &[bool], second: &[bool], number: usize) -> bool
 
 /// The first number that is marked in the first and isn't in the second, if there is one.
 fn first_lacking(first: &[bool], second: &[bool]) -> Option<usize>
-    ensures { IsFirstLacking first.now second.now result }
+    ensures { IsFirstMissing first.now second.now result }
 {
     for number in 0..first.len() {
         if is_lacking(first, second, number) {

@@ -10,7 +10,7 @@ use Rattle.lalrpop_lr1_first.proofs.TableLemmas.{get_mapped, long_map}
 use Rattle.lalrpop_lr1_check_names.specs.Clauses.{IsMarked}
 use Rattle.lalrpop_lr1_check_names.specs.NameMarks.{IsMarkPlace, IsNumberOf}
 use Rattle.lalrpop_lr1_check_names.proofs.ClauseLemmas.{marked_within}
-use Rattle.lalrpop_lr1_barren.specs.LeastBarren.{IsFirstLacking, IsLeastBarren}
+use Rattle.lalrpop_lr1_barren.specs.LeastBarren.{IsFirstMissing, IsLeastBarren}
 use Rattle.lalrpop_lr1_barren.proofs.BarrenLemmas.{absent_least, first_least, none_least}
 use Rattle.lalrpop_lr1_barren.proofs.least.least_by_table.Goals as goal
 
@@ -46,12 +46,12 @@ returns-in-None-first_lacking c =
     let productive = c.in_ok-productive-in-Some.productive.items in
     let within : (n : ℕ) → IsMarked reached n → n < name_count t =
     λ n m. omega (arith, marked_within reached n m, c.in_ok-reached-in-Some.ensures.count) in
-    let found : IsFirstLacking reached productive c.first_lacking.result =
-    subst (λ a. IsFirstLacking a productive c.first_lacking.result) c.as_slice.ensures.value
-    (subst (λ b. IsFirstLacking c.as_slice.result.now b c.first_lacking.result) c.as_slice-in-Some.ensures.value
+    let found : IsFirstMissing reached productive c.first_lacking.result =
+    subst (λ a. IsFirstMissing a productive c.first_lacking.result) c.as_slice.ensures.value
+    (subst (λ b. IsFirstMissing c.as_slice.result.now b c.first_lacking.result) c.as_slice-in-Some.ensures.value
     c.first_lacking.ensures) in
     none_least t c.requires start k number_is reached productive c.in_ok-reached-in-Some.ensures.reached
-    c.in_ok-productive-in-Some.ensures within (subst (IsFirstLacking reached productive) c.in-None-first_lacking.is found)
+    c.in_ok-productive-in-Some.ensures within (subst (IsFirstMissing reached productive) c.in-None-first_lacking.is found)
 
 pub returns : goal.returns
 returns c =
@@ -67,12 +67,12 @@ returns c =
     let productive = c.in_ok-productive-in-Some.productive.items in
     let within : (n : ℕ) → IsMarked reached n → n < name_count t =
     λ n m. omega (arith, marked_within reached n m, c.in_ok-reached-in-Some.ensures.count) in
-    let found : IsFirstLacking reached productive c.first_lacking.result =
-    subst (λ a. IsFirstLacking a productive c.first_lacking.result) c.as_slice.ensures.value
-    (subst (λ b. IsFirstLacking c.as_slice.result.now b c.first_lacking.result) c.as_slice-in-Some.ensures.value
+    let found : IsFirstMissing reached productive c.first_lacking.result =
+    subst (λ a. IsFirstMissing a productive c.first_lacking.result) c.as_slice.ensures.value
+    (subst (λ b. IsFirstMissing c.as_slice.result.now b c.first_lacking.result) c.as_slice-in-Some.ensures.value
     c.first_lacking.ensures) in
     let j = c.in-Some-first_lacking.number in
-    let lacking = subst (IsFirstLacking reached productive) c.in-Some-first_lacking.is found in
+    let lacking = subst (IsFirstMissing reached productive) c.in-Some-first_lacking.is found in
     let x = c.index-names-number.result in
     let own : slice_get t.names.items j ≡ Some x =
     get_slice t.names.items j x (omega (arith, within j lacking.marked))
