@@ -89,34 +89,34 @@ private attributes s alternatives = WrittenItem.nonterminal (record {
 })
 
 -- pub S = Op "x"; #[inline] Op = { "a", "a" }
-abbrev alike : EnabledGrammar
+abbrev pub alike : EnabledGrammar
 alike = enabled_grammar finds [] (grammar (rule_of "S" (alt (id "Op" ∷ lit "x" ∷ []) ∷ [])
     ∷ private (inline ∷ []) "Op" (alt (lit "a" ∷ []) ∷ alt (lit "a" ∷ []) ∷ []) ∷ []))
 
-abbrev start : Nonterminal
+abbrev pub start : Nonterminal
 start = Nonterminal.start (codes "S")
 
-abbrev alike_nonterminals : List Nonterminal
+abbrev pub alike_nonterminals : List Nonterminal
 alike_nonterminals = start ∷ rule "S" ∷ rule "Op" ∷ []
 
-abbrev names : Nonterminal → Text
+abbrev pub names : Nonterminal → Text
 names = name_by (leveled_key_text alike) (codes "__") []
 
-abbrev op : ℕ → L
+abbrev pub op : ℕ → L
 op k = Label.choose (rule "Op") (place "Op" k) (kept end)
 
-abbrev by_op : ℕ → L
+abbrev pub by_op : ℕ → L
 by_op k = Label.choose (rule "S") (place "S" 0) (inlined (op k) (kept end))
 
-abbrev by_start : L
+abbrev pub by_start : L
 by_start = Label.choose start Origin.start (kept end)
 
 -- five productions, of which two and two have the same symbols
-abbrev five : List theory.Production
+abbrev pub five : List theory.Production
 five = production "__S" (name "S" ∷ []) 0 ∷ production "S" (word "a" ∷ word "x" ∷ []) 1 ∷ production "S" (word "a" ∷ word "x" ∷ []) 2
     ∷ production "Op" (word "a" ∷ []) 3 ∷ production "Op" (word "a" ∷ []) 4 ∷ []
 
-abbrev five_labels : ℕ → L
+abbrev pub five_labels : ℕ → L
 five_labels = label_at by_start (by_start ∷ by_op 0 ∷ by_op 1 ∷ op 0 ∷ op 1 ∷ [])
 
 abbrev IsAlike : Nonterminal → L → RightSide → Type 0

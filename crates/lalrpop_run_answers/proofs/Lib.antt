@@ -9,3 +9,5 @@ pub mod ContainsLemmas
 pub mod BarrenLemmas
 pub mod YieldLemmas
 pub mod ExamplesOfExpansions
+pub mod ExamplesOfTrees
+pub mod ExamplesOfBarren
