@@ -1,7 +1,7 @@
 -- Computed examples of productions that are those of an expansion, and of productions that aren't.
 use Prim.Native.String.{String}
-use Rattle.std.proofs.Common.{◌≡◌, ◌≢◌, ℕ, zero, suc, List, [], ◌∷◌, ◌++◌, refl, ap, sym, ◌∙◌, subst, inl, inr, ◌⊎◌, arith}
-use Rattle.std.proofs.Common.{Contains, true, false, ◌+◌}
+use Rattle.std.proofs.Common.{◌≡◌, ◌≢◌, ℕ, zero, suc, List, [], ◌∷◌, ◌++◌, refl, ap, sym, ◌∙◌, subst}
+use Rattle.std.proofs.Common.{inl, inr, true, false, ◌+◌, ◌⊎◌, arith}
 use Rattle.std.specs.Fmt.{digits}
 use Rattle.std.specs.Prelude.{None, codes}
 use Rattle.lalrpop_grammar_symbols.specs.Symbols.{Text, Closed, Closeds, Terminal}
@@ -113,7 +113,8 @@ by_start = Label.choose start Origin.start (kept end)
 
 -- five productions, of which two and two have the same symbols
 abbrev pub five : List theory.Production
-five = production "__S" (name "S" ∷ []) 0 ∷ production "S" (word "a" ∷ word "x" ∷ []) 1 ∷ production "S" (word "a" ∷ word "x" ∷ []) 2
+five = production "__S" (name "S" ∷ []) 0 ∷ production "S" (word "a" ∷ word "x" ∷ []) 1
+    ∷ production "S" (word "a" ∷ word "x" ∷ []) 2
     ∷ production "Op" (word "a" ∷ []) 3 ∷ production "Op" (word "a" ∷ []) 4 ∷ []
 
 abbrev pub five_labels : ℕ → L
@@ -133,7 +134,8 @@ Op_goes = (inlined_decided alike (rule "Op")).1 refl
 abbrev All : RightSide → I → RightSide → Type 0
 All before inlinings side = InlinesAll (Produces alike) (IsInlined alike) before inlinings side
 
-of_S : (inlinings : I) (side : RightSide) → All (n (rule "S") ∷ []) inlinings side → (inlinings ≡ kept end) × (side ≡ n (rule "S") ∷ [])
+of_S : (inlinings : I) (side : RightSide) → All (n (rule "S") ∷ []) inlinings side →
+    (inlinings ≡ kept end) × (side ≡ n (rule "S") ∷ [])
 of_S Inlinings.none side h = absurd h
 of_S (Inlinings.inlined l inlinings) side h = absurd (S_stays h.0)
 of_S (Inlinings.kept Inlinings.none) side h = (refl, h.2 ∙ ap (λ z. n (rule "S") ∷ z) h.3)
@@ -292,7 +294,8 @@ by_number (suc (suc (suc (suc k)))) = production "Op" (word "a" ∷ []) 4
 
 abbrev number_of : Nonterminal → Origin → I → ℕ
 number_of (Nonterminal.start s) o inlinings = 0
-number_of (Nonterminal.closed x) (Origin.alternative s args k) (Inlinings.inlined (Label.choose y (Origin.alternative m more j) i) rest) = 1 + j
+number_of (Nonterminal.closed x) (Origin.alternative s args k)
+    (Inlinings.inlined (Label.choose y (Origin.alternative m more j) i) rest) = 1 + j
 number_of (Nonterminal.closed x) (Origin.alternative s args k) (Inlinings.kept rest) = 3 + k
 number_of x o inlinings = 9
 
@@ -454,18 +457,18 @@ six_are_not e = go (label (production "Op" (word "a" ∷ []) 5) (inl refl) refl)
         (p.action ≡ q.action)
     one p q i j f = ap (λ (z : theory.Production). z.action) (e.once p q i j f)
 
-    differ : (j k : ℕ) → j ≡ k → (j ≢ k) → ⊥
-    differ j k f g = g f
-
     a_b : e.label_of 5 ≡ e.label_of 3 → ⊥
     a_b f = let k : ◌≡◌ {A = ℕ} 5 3 = one (an_op 5) (an_op 3) (inl refl) (inr (inr (inr (inr (inl refl))))) f in omega (arith, k)
 
     a_c : e.label_of 5 ≡ e.label_of 4 → ⊥
-    a_c f = let k : ◌≡◌ {A = ℕ} 5 4 = one (an_op 5) (an_op 4) (inl refl) (inr (inr (inr (inr (inr (inl refl)))))) f in omega (arith, k)
+    a_c f =
+        let k : ◌≡◌ {A = ℕ} 5 4 = one (an_op 5) (an_op 4) (inl refl) (inr (inr (inr (inr (inr (inl refl)))))) f in
+        omega (arith, k)
 
     b_c : e.label_of 3 ≡ e.label_of 4 → ⊥
     b_c f =
-        let k : ◌≡◌ {A = ℕ} 3 4 = one (an_op 3) (an_op 4) (inr (inr (inr (inr (inl refl))))) (inr (inr (inr (inr (inr (inl refl)))))) f in
+        let k : ◌≡◌ {A = ℕ} 3 4 = one (an_op 3) (an_op 4) (inr (inr (inr (inr (inl refl)))))
+        (inr (inr (inr (inr (inr (inl refl)))))) f in
         omega (arith, k)
 
     go : IsTwo e.label_of (an_op 5) → IsTwo e.label_of (an_op 3) → IsTwo e.label_of (an_op 4) → ⊥

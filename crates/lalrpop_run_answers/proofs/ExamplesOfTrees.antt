@@ -1,17 +1,14 @@
 -- Computed examples of written trees that trees over productions stand for, and trees that they don't stand for.
 use Prim.Native.String.{String}
-use Rattle.std.proofs.Common.{◌≡◌, ◌≢◌, ℕ, List, [], ◌∷◌, ◌++◌, refl, ap, inl, inr, length, arith, ◌+◌}
-use Rattle.std.specs.Fmt.{digits}
-use Rattle.std.specs.Prelude.{Some, None, codes}
-use Rattle.lalrpop_grammar_symbols.specs.Symbols.{Text, TextSpan, Closed, Closeds, Terminal, Op}
+use Rattle.std.proofs.Common.{◌≡◌, ◌≢◌, ℕ, List, [], ◌∷◌, refl, ap, inl, inr, length, arith, ◌+◌}
+use Rattle.std.specs.Prelude.{Some, codes}
+use Rattle.lalrpop_grammar_symbols.specs.Symbols.{TextSpan, Closed, Closeds, Terminal, Op}
 use Rattle.lalrpop_grammar.specs.WrittenGrammar.{Origin}
 use Rattle.lalrpop_grammar.specs.Trees.{Token, Tree, trees}
-use Rattle.lalrpop_grammar_language.specs.Among.{Among}
 use Rattle.lalrpop_grammar_language.specs.Expansion.{Nonterminal}
 use Rattle.lalrpop_grammar_language.specs.Derivations.{leaf_token}
 use Rattle.lalrpop_grammar_language.proofs.WrittenTreeLemmas.{nd}
-use Rattle.lalrpop_norm_labels.specs.Labels.{Label, Inlinings}
-use Rattle.lalrpop_lr1_theory.specs.Productions as theory
+use Rattle.lalrpop_norm_labels.specs.Labels.{Label}
 use Rattle.lalrpop_lr1_theory.specs.Spans.{SpannedForest, none_at, leaf_at, node_at}
 use Rattle.lalrpop_run_answers.specs.ExpansionTrees.{IsForestOfTree, written_of_forest}
 use Rattle.lalrpop_run_answers.proofs.ExamplesOfExpansions.{IsOneOf, L, end, inlined, kept, label_at, name, place, production, rule, word}

@@ -28,7 +28,8 @@ pub fn starts_stand_alone()
 {}
 
 /// The law of barren nonterminals: before inlining, the names that the written start reaches and that no finite tree has at its root
-/// are those of barren nonterminals, and the least is the one that is told. Where there are none, the expansion's start reaches none after inlining.
+/// are those of barren nonterminals, and the least is the one that is told. Where there are none, the expansion's start reaches none
+/// after inlining.
 pub fn barren_names_are_told()
     ensures barren { BarrenNamesAreBarren }
     ensures least { LeastBarrenNamesAreTold }

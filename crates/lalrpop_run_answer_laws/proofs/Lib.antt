@@ -1,0 +1,5 @@
+pub mod NamedLabelLemmas
+pub mod EntryLemmas
+pub mod NamedProductionLemmas
+pub mod InlinedExpansionLemmas
+pub mod NormalizedLemmas

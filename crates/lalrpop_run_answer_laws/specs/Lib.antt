@@ -1,0 +1,3 @@
+pub mod NamedLabels
+pub mod NamedGrammars
+pub mod NormalizedExpansions

@@ -1,0 +1,16 @@
+//! Laws that tie what the program makes of a written grammar to the grammar's expansion: the plain productions of a normalized grammar are
+//! those of the expansion before inlining, and the inlined ones those after it.
+//!
+//! The crate has no code but laws. The definitions stand in `specs/`: `NamedLabels` (labels under names, and back), `NamedGrammars` (when
+//! a lowered grammar's productions are an expansion's under names) and `NormalizedExpansions` (what the laws say).
+#![tactic(auto)]
+
+ghost use Rattle.lalrpop_run_answer_laws.specs.NormalizedExpansions.{InlinedAreExpansion, NormalizedAreBaseExpansion};
+
+/// The law of normalized grammars: what the theory of tables sees of the plain productions are the productions of the written grammar's
+/// expansion, one for each written choice, under the expansion's names. Inlined, they are the productions of the expansion after
+/// inlining, one for each label.
+pub fn inlined_are_expansion()
+    ensures before { NormalizedAreBaseExpansion }
+    ensures after { InlinedAreExpansion }
+{}
