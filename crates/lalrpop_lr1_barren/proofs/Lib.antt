@@ -1,0 +1,2 @@
+pub mod BarrenLemmas
+pub mod AloneLemmas
