@@ -5,6 +5,7 @@
 //! a lowered grammar's productions are an expansion's under names) and `NormalizedExpansions` (what the laws say).
 #![tactic(auto)]
 
+ghost use Rattle.lalrpop_run_answer_laws.specs.NamedGrammars.{LabelsAreNamed};
 ghost use Rattle.lalrpop_run_answer_laws.specs.NormalizedExpansions.{InlinedAreExpansion, NormalizedAreBaseExpansion};
 
 /// The law of normalized grammars: what the theory of tables sees of the plain productions are the productions of the written grammar's
@@ -13,4 +14,10 @@ ghost use Rattle.lalrpop_run_answer_laws.specs.NormalizedExpansions.{InlinedAreE
 pub fn inlined_are_expansion()
     ensures before { NormalizedAreBaseExpansion }
     ensures after { InlinedAreExpansion }
+{}
+
+/// The law of labels under names: where a lowered grammar's productions are those of an expansion under names, labels over names and
+/// numbers of actions are those over closed symbols and written choices, both ways, and no two of the former are one of the latter.
+pub fn labels_are_named()
+    ensures { LabelsAreNamed }
 {}
