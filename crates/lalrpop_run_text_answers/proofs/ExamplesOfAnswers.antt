@@ -19,11 +19,12 @@ use Rattle.lalrpop_grammar_language.proofs.WrittenTreeLemmas.{lit, alt, rule_of,
 use Rattle.lalrpop_norm_expansion.proofs.ProductionListLemmas.{is_production, listed}
 use Rattle.lalrpop_norm_expansion.specs.Inlined.{IsInlined}
 use Rattle.lalrpop_norm_labels.specs.Labels.{Inlinings, Label}
-use Rattle.lalrpop_norm_labels.specs.ExpandedTrees.{ExpandedTree, ExpandedTrees}
+use Rattle.lalrpop_norm_labels.specs.ExpandedTrees.{ExpandedTree, ExpandedTrees, base_tree}
 use Rattle.lalrpop_norm_labels.specs.WrittenTrees.{IsExpandedTreeOfTree}
 use Rattle.lalrpop_norm_labels.proofs.ExpandedWrittenLemmas.{apart_is, apart_once, taken_apart}
 use Rattle.lalrpop_run_answers.specs.ExpansionTrees.{expanded_size, is_inlined_nonterminal}
 use Rattle.lalrpop_run_answers.proofs.InlinedTestLemmas.{inlined_decided}
+use Rattle.lalrpop_run_text_answers.specs.TreeChoices.{base_choices, tree_choices}
 use Rattle.lalrpop_run_text_answers.specs.TextAnswers.{TextAnswer, IsRightForTokens, terminals_of_tokens}
 
 -- Short ways to write.
@@ -296,3 +297,11 @@ no_wrong_token h = h.begins_no_more (begun h.number)
     begun (suc (suc i)) =
         subst (λ z. Begins finds [] sum (codes "S") (word "1" ∷ word "+" ∷ word "1" ∷ z)) (sym (take_none i))
         (the_tokens, [], refl, is_sentence)
+
+-- the choices of the tree are those of its expanded tree, and none is left out
+choices : (tree_choices the_tree ≡ record { rule = codes "S"; args = []; place = 0 } ∷ [])
+    × (base_choices (base_tree the_expanded) ≡ record { rule = codes "S"; args = []; place = 0 } ∷ [])
+choices = (refl, refl)
+
+choices_left_out : tree_choices the_tree ≡ [] → ⊥
+choices_left_out e = cc

@@ -1,3 +1,4 @@
 pub mod ExpandedForestLemmas
 pub mod AnswerLemmas
+pub mod ChoiceLemmas
 pub mod ExamplesOfAnswers
