@@ -1,0 +1,3 @@
+pub mod MoveLemmas
+
+mod ExamplesOfCertificates
