@@ -5,7 +5,8 @@ use Rattle.lalrpop_grammar_symbols.specs.Symbols.{Terminal, Text}
 use Rattle.lalrpop_lr1_theory.specs.Productions.{Production, nonterminal, terminal}
 use Rattle.lalrpop_lr1_theory.specs.Trees.{AreOver, Move, reduce, shift}
 use Rattle.lalrpop_lr1_theory.specs.Spans.{SpannedForest, leaf_at, node_at, none_at, without_spans}
-use Rattle.lalrpop_lr1_theory.proofs.ExampleLemmas.{head_same, name, nonterminal_is, nothing_in, production, quoted, quoted_same, tail_same}
+use Rattle.lalrpop_lr1_theory.proofs.ExampleLemmas.{head_same, name, nonterminal_is, nothing_in, production, quoted, quoted_same}
+use Rattle.lalrpop_lr1_theory.proofs.ExampleLemmas.{tail_same}
 use Rattle.lalrpop_lr1_theory.proofs.ListLemmas.{contains_split}
 use Rattle.lalrpop_judge_certificates.specs.Certificates.{Certifies, ShownConflict, number_move, reduce_by, shift_of}
 use Rattle.lalrpop_judge_certificates.proofs.MoveLemmas.{moves_behind}
@@ -101,7 +102,8 @@ abbrev before_x : ShownConflict
 before_x = record two_reductions { next = Some x }
 
 wrong_next : Certifies (Contains pairs) start before_x → ⊥
-wrong_next h = differs (moves_behind (Contains pairs) start (two_leaves x) (Some x) (reduce_by 1) (over_pair first_pair x) h.makes1).next
+wrong_next h =
+    differs (moves_behind (Contains pairs) start (two_leaves x) (Some x) (reduce_by 1) (over_pair first_pair x) h.makes1).continues.next
   where
     differs : None ≡ Some x → ⊥
     differs e = cc
@@ -154,7 +156,7 @@ one_leaf = record two_reductions { shared = leaf_at a (0, 1) none_at }
 shared_tree_dropped : Certifies (Contains pairs) start one_leaf → ⊥
 shared_tree_dropped h =
     let m = moves_behind (Contains pairs) start one_leaf.shared None (reduce_by 1) (over_pair first_pair x) h.makes1 in
-    differs m.move m.move_is m.move_named
+    differs m.continues.move m.continues.move_is m.continues.move_named
   where
     differs : (v : Move) → Some (shift x) ≡ Some v → number_move v ≡ reduce_by 1 → ⊥
     differs (shift t) e k = cc
@@ -166,7 +168,8 @@ child_alone = record two_reductions { tree2 = node_at second_pair (two_leaves x)
 
 not_from_the_start : Certifies (Contains pairs) start child_alone → ⊥
 not_from_the_start h =
-    omega (arith, head_same 83 90 [] [] (nonterminal_is (name 83) start (head_same (nonterminal (name 83)) (nonterminal start) [] [] h.makes2.is_tree.0)))
+    let same = head_same (nonterminal (name 83)) (nonterminal start) [] [] h.makes2.is_tree.0 in
+    omega (arith, head_same 83 90 [] [] (nonterminal_is (name 83) start same))
 
 -- sentences that part one move before the shared trees end
 abbrev parted : ShownConflict

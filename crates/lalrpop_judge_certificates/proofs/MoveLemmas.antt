@@ -1,17 +1,20 @@
 -- Forests by their moves, and a tree's move behind shared trees by its list of moves: for the test of certificates and its law.
-use Rattle.std.proofs.Common.{◌≡◌, ℕ, zero, suc, ◌+◌, ◌-◌, ◌<◌, ◌≤◌, List, [], ◌∷◌, ◌++◌, length, take, drop, Some}
+use Rattle.std.proofs.Common.{◌≡◌, ℕ, zero, suc, ◌+◌, ◌-◌, ◌<◌, ◌≤◌, List, [], ◌∷◌, ◌++◌}
+use Rattle.std.proofs.Common.{length, take, drop}
 use Rattle.std.proofs.Common.{refl, sym, ap, ◌∙◌, subst, arith, slice_get, ◌⊎◌, inl, inr}
 use Rattle.std.proofs.Common.{take-append-drop}
 use Rattle.std.proofs.lemmas.Bool.{cases_lt}
 use Rattle.std.proofs.lemmas.List.{take-append-le, length-take-le}
 use Rattle.std.proofs.lemmas.Option.{slice_get_within}
-use Rattle.lalrpop_grammar_symbols.specs.Symbols.{Text, Terminal}
+use Rattle.lalrpop_grammar_symbols.specs.Symbols.{Text}
 use Rattle.lalrpop_lr1_theory.specs.Productions.{Next, Production, first}
-use Rattle.lalrpop_lr1_theory.specs.Trees.{AreOver, Forest, IsTreeOf, Move, MovesLead, forest, leaf, moves, node, nodes, none, reduce, shift, yield}
+use Rattle.lalrpop_lr1_theory.specs.Trees.{AreOver, Forest, IsTreeOf, Move, MovesLead, forest, leaf, moves, node, nodes, none}
+use Rattle.lalrpop_lr1_theory.specs.Trees.{reduce, shift, yield}
 use Rattle.lalrpop_lr1_theory.specs.Spans.{SpannedForest, leaf_spans, without_spans}
 use Rattle.lalrpop_lr1_theory.specs.Answers.{IsLr1, IsValidMove}
 use Rattle.lalrpop_lr1_theory.proofs.PlaceLemmas.{forest_inside, forest_past}
 use Rattle.lalrpop_lr1_theory.proofs.TreeLemmas.{leads-moves, leads_one, length-moves}
+use Rattle.lalrpop_judge_certificates.specs.MoveLists.{MovesBehind, shifted_terminals}
 use Rattle.lalrpop_judge_certificates.specs.Certificates.{AreCountedFrom, Certifies, MakesMove, NumberedMove, ShownConflict, number_move}
 
 -- the front of joined lists that reaches into the second
@@ -63,12 +66,6 @@ module _ (G : Production → Type 0) where
       leads_one (moves ts ++ []) none ts us (leads-moves G ts h [] none ts refl)
       (subst (λ ms. MovesLead (ms ++ []) none us) (sym e) (leads-moves G us k [] none us refl))
 
--- the terminals that moves shift
-abbrev pub shifted_terminals : List Move → List Terminal
-shifted_terminals [] = []
-shifted_terminals (shift t ∷ ms) = t ∷ shifted_terminals ms
-shifted_terminals (reduce p ∷ ms) = shifted_terminals ms
-
 pub shifted-append : (ms ns : List Move) → shifted_terminals (ms ++ ns) ≡ shifted_terminals ms ++ shifted_terminals ns
 shifted-append [] ns = refl
 shifted-append (shift t ∷ ms) ns = ap (λ w. t ∷ w) (shifted-append ms ns)
@@ -91,15 +88,6 @@ get-drop [] zero = refl
 get-drop [] (suc k) = refl
 get-drop (x ∷ xs) zero = refl
 get-drop (x ∷ xs) (suc k) = get-drop xs k
-
--- What the lists of moves say of a tree and of the shared trees: those of the shared trees come first, then the move, and the
--- first shift behind them is of what comes next.
-pub record MovesBehind (shared whole : List Move) (x : Next) (m : NumberedMove) : Type 0 where
-  pub move : Move
-  pub front : take (length shared) whole ≡ shared
-  pub move_is : slice_get (drop (length shared) whole) 0 ≡ Some move
-  pub move_named : number_move move ≡ m
-  pub next : first (shifted_terminals (drop (length shared) whole)) ≡ x
 
 -- the leaves behind some moves
 leaves_behind : (ts : Forest) (k : ℕ) →
@@ -129,12 +117,14 @@ module _ (G : Production → Type 0) (s : Text) where
       ap (λ w. w ++ shifted_terminals (drop h.count (moves ts)))
       (sym (ap shifted_terminals front ∙ shifted-moves f)) ∙ sym (leaves_behind ts h.count) ∙ h.leaves in
       record {
-        move = h.move;
         front = ap (λ n. take n (moves ts)) k ∙ front;
-        move_is = ap (λ n. slice_get (drop n (moves ts)) 0) k ∙ get-drop (moves ts) h.count ∙ h.move_is;
-        move_named = h.move_named;
-        next = ap (λ n. first (shifted_terminals (drop n (moves ts)))) k
-            ∙ ap first (rest_same (yield f) (shifted_terminals (drop h.count (moves ts))) h.left leaves) ∙ h.next;
+        continues = record {
+          move = h.move;
+          move_is = ap (λ n. slice_get (drop n (moves ts)) 0) k ∙ get-drop (moves ts) h.count ∙ h.move_is;
+          move_named = h.move_named;
+          next = ap (λ n. first (shifted_terminals (drop n (moves ts)))) k
+              ∙ ap first (rest_same (yield f) (shifted_terminals (drop h.count (moves ts))) h.left leaves) ∙ h.next;
+        };
       }
 
   -- and from the moves the record
@@ -147,16 +137,16 @@ module _ (G : Production → Type 0) (s : Text) where
       let k = length (moves f) in
       record {
         count = k;
-        move = h.move;
+        move = h.continues.move;
         left = shifted_terminals (drop k (moves ts));
         is_tree = t;
         spans = spans;
         forest_is = same_by_moves G (forest ts k) f (over-forest G ts k t.1) o (moves-forest ts k ∙ h.front);
-        move_is = sym (get-drop (moves ts) k) ∙ h.move_is;
-        move_named = h.move_named;
+        move_is = sym (get-drop (moves ts) k) ∙ h.continues.move_is;
+        move_named = h.continues.move_named;
         leaves = leaves_behind ts k
             ∙ ap (λ w. w ++ shifted_terminals (drop k (moves ts))) (ap shifted_terminals h.front ∙ shifted-moves f);
-        next = h.next;
+        next = h.continues.next;
       }
 
   -- the move is valid there

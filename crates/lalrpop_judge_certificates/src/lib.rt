@@ -1,9 +1,18 @@
-//! Conflict certificates.
+//! Conflict certificates: two whole sentences that agree up to one place and need different moves there.
+//!
+//! `Certificates` in `specs/` says what certifies a conflict. The test reads a grammar's productions alone: whoever made a
+//! certificate, and whatever states they had, a yes shows that the grammar isn't LR(1) (`certificates_refute`).
 #![tactic(auto)]
 
-ghost use Rattle.lalrpop_judge_certificates.specs.Laws.{CertificatesRefute};
+mod certificate;
+mod check;
+mod laws;
+mod membership;
+mod moves;
+mod step;
+mod walk;
 
-/// The law that a grammar is not LR(1) where a certificate shows a conflict of it.
-pub fn certificates_refute()
-    ensures { CertificatesRefute }
-{}
+pub use certificate::Certificate;
+pub use check::check_conflict;
+pub use laws::certificates_refute;
+pub use moves::Move;
