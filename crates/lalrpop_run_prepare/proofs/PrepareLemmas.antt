@@ -1,0 +1,150 @@
+-- What is told of a written grammar by its plain productions, before and after inlining; for what is prepared.
+use Rattle.std.specs.Prelude.{Bool, Option, ◌++◌}
+use Rattle.std.specs.List.Sorted.{IsStrictlySortedBy}
+use Rattle.std.specs.Map.{keys_of}
+use Rattle.std.proofs.Common.{◌≡◌, ◌∙◌, ℕ, List, ap, sym, subst, inl, inr, Contains}
+use Rattle.lalrpop_grammar_symbols.specs.Symbols.{Text}
+use Rattle.lalrpop_grammar_symbols.specs.Views.{span_view}
+use Rattle.lalrpop_grammar_symbols.specs.contracts.names.NonterminalStringOrd.TheImpl as names
+use Rattle.lalrpop_grammar_symbols.specs.declared.names.NonterminalString.{NonterminalString}
+use Rattle.lalrpop_grammar_symbols.specs.declared.span.Span.{Span}
+use Rattle.lalrpop_grammar.specs.Views.{grammar_view}
+use Rattle.lalrpop_grammar.specs.WrittenGrammar.{Grammar, InternEntry}
+use Rattle.lalrpop_grammar_language.specs.Enabled.{EnabledGrammar, enabled_grammar}
+use Rattle.lalrpop_grammar_language.specs.Expansion.{InExpansion, Nonterminal}
+use Rattle.lalrpop_grammar_repr.specs.declared.grammar.Grammar as repr
+use Rattle.lalrpop_lexer.specs.Simulation.{Decides, StateView}
+use Rattle.lalrpop_lexer_scan.specs.Scanning.{IsScannerOf}
+use Rattle.lalrpop_lr1_barren.specs.LeastBarren.{IsLeastAmongBarren}
+use Rattle.lalrpop_lr1_build.specs.BuiltStates.{theory_grammar}
+use Rattle.lalrpop_lr1_first.specs.NumberedGrammars.{HasItsTerminals}
+use Rattle.lalrpop_lr1_inline.specs.InlinedGrammars.{IsInlinedGrammar}
+use Rattle.lalrpop_lr1_theory.specs.ValidItems.{NoneBarren}
+use Rattle.lalrpop_norm_entries.specs.Patterns.{entry_patterns, entry_precedences}
+use Rattle.lalrpop_norm_expansion.specs.Inlined.{IsInlined}
+use Rattle.lalrpop_norm_expansion.specs.Premises.{IsReadGrammar}
+use Rattle.lalrpop_norm_lower.specs.TableReadiness.{IsReadyForTables}
+use Rattle.lalrpop_norm_lower.specs.declared.lowering.Normalized.{Normalized}
+use Rattle.lalrpop_norm_lower_law.specs.LoweredViews.{lowered_view}
+use Rattle.lalrpop_run_answer_laws.proofs.InlinedExpansionLemmas.{base_expansion, inlined_expansion}
+use Rattle.lalrpop_run_answer_laws.proofs.NormalizedLemmas.{named_expansion}
+use Rattle.lalrpop_run_answers.specs.Barren.{HasNoBarren, IsLeastBarrenName}
+use Rattle.lalrpop_run_answers.specs.ExpansionTrees.{is_inlined_nonterminal}
+use Rattle.lalrpop_run_answers.specs.Expansions.{AreBaseExpansion, AreExpansion}
+use Rattle.lalrpop_run_answers.proofs.BarrenLemmas.{barren_named, named_barren, none_barren_after, none_barren_named, start_is_alone}
+use Rattle.lalrpop_run_answers.proofs.InlinedTestLemmas.{inlined_decided}
+use Rattle.lalrpop_run_prepare.specs.PrepareRefusals.{IsPrepareRefusal, IsRefusedExpansion, IsRefusedStart}
+use Rattle.lalrpop_run_prepare.specs.PreparedGrammars.{IsPreparedWhereRead, MayBeParsedFrom, PreparedGrammar}
+use Rattle.lalrpop_run_prepare.proofs.StartLemmas.{start_in_expansion}
+use Rattle.lalrpop_run_refusals.specs.declared.refusing.GenerateError.{GenerateError}
+use Rattle.lalrpop_run_tokens.specs.Refused.{IsGenerable, IsGrammarRefusal}
+use Rattle.lalrpop_run_tokens.specs.Tokenizers.{IsNormalizedFor, scan_entries}
+
+module _ (finds : Text → Text → Option Bool) (deep : Text → Bool) (features : List Text) (limit : ℕ) (start : Text) (w : Grammar)
+    (made : Normalized) (dfa : List StateView) (read : IsReadGrammar w)
+    (n : IsNormalizedFor finds deep features limit start w made dfa) (ready : IsReadyForTables made.grammar)
+    (sorted : IsStrictlySortedBy (names.ghosts).cmp (keys_of made.grammar.nonterminals)) where
+  abbrev g : EnabledGrammar
+  g = enabled_grammar finds features w
+
+  in_expansion : InExpansion g (Nonterminal.start start)
+  in_expansion = start_in_expansion finds deep features limit w read n.generable.faultless start n.generable.starts
+
+  base : AreBaseExpansion g w.prefix (Contains (theory_grammar made.grammar))
+  base =
+      base_expansion g w.prefix made.grammar sorted (λ e p i j. ready.named e.0 e.1 p i j)
+      (named_expansion finds features w made n.normalized)
+
+  -- inlined productions are those of the expansion after inlining
+  pub expansion : (after : repr.Grammar) → IsInlinedGrammar made.grammar after
+      → AreExpansion g w.prefix (Contains (theory_grammar after))
+  expansion after i =
+      inlined_expansion g w.prefix made.grammar sorted (λ e p i j. ready.named e.0 e.1 p i j)
+      (named_expansion finds features w made n.normalized) after i ready.actions
+
+  no_barren : NoneBarren (Contains (theory_grammar made.grammar)) start → HasNoBarren g start
+  no_barren none = none_barren_named g w.prefix (Contains (theory_grammar made.grammar)) base start in_expansion none
+
+  least_told : (name : Text) → IsLeastAmongBarren (Contains (theory_grammar made.grammar)) start name
+      → IsLeastBarrenName g w.prefix start name
+  least_told name h =
+      let x = named_barren g w.prefix (Contains (theory_grammar made.grammar)) base start in_expansion name h.barren in
+      record {
+        name_of = base.name_of;
+        naming = base.naming;
+        nonterminal = x.0;
+        is_barren = x.1;
+        name_is = x.2;
+        least = λ y k. h.least (base.name_of y)
+            (barren_named g w.prefix (Contains (theory_grammar made.grammar)) base start in_expansion y k);
+      }
+
+  -- the start may be parsed from
+  pub may_be_parsed : (after : repr.Grammar) (name : NonterminalString) → IsInlinedGrammar made.grammar after
+      → NoneBarren (Contains (theory_grammar made.grammar)) start → name.0 ≡ w.prefix ++ start → MayBeParsedFrom after name
+  may_be_parsed after name i none same =
+      let e = expansion after i in
+      subst (λ (t : Text). MayBeParsedFrom after (record { 0 = t })) (sym same) (record {
+        alone = λ p m k. start_is_alone g (IsInlined g) w.prefix (Contains (theory_grammar after)) e start in_expansion p m k;
+        none_barren = none_barren_after g (IsInlined g) w.prefix (Contains (theory_grammar after)) e (is_inlined_nonterminal g)
+            (inlined_decided g) start in_expansion (no_barren none);
+      })
+
+  -- what is told of the plain productions is told of the written grammar
+  pub expansion_refused : (whole : Span) (error : GenerateError) → span_view whole ≡ w.span
+      → IsRefusedExpansion whole made.grammar start error → IsPrepareRefusal finds deep features limit start w error
+  expansion_refused whole error at (IsRefusedExpansion.inlining (inl e)) = IsPrepareRefusal.before (IsGrammarRefusal.memory e)
+  expansion_refused whole error at (IsRefusedExpansion.inlining (inr h)) =
+      IsPrepareRefusal.inlining n.generable (record {
+        lowered = made;
+        normalized = n.normalized;
+        whole = whole;
+        whole_is = at;
+        told = h.0;
+        stands = h.1;
+        error_is = h.2;
+      })
+  expansion_refused whole error at (IsRefusedExpansion.barren name after i least e) =
+      IsPrepareRefusal.barren name.0 n.generable
+      (record { lowered = made; normalized = n.normalized; expansion = after; inlined = i }) (least_told name.0 least) e
+
+  pub start_refused : (whole : Span) (error : GenerateError) → span_view whole ≡ w.span
+      → IsRefusedStart whole made.grammar w.prefix start error → IsPrepareRefusal finds deep features limit start w error
+  start_refused whole error at (IsRefusedStart.expansion h) = expansion_refused whole error at h
+  start_refused whole error at (IsRefusedStart.unread after name i none same unparsed) =
+      absurd (unparsed (may_be_parsed after name i none same))
+
+module _ (finds : Text → Text → Option Bool) (deep : Text → Bool) (v : PreparedGrammar) (made : Normalized) (dfa : List StateView)
+    (start : Text) where
+  abbrev entries : List InternEntry
+  entries = (lowered_view made).entries
+
+  -- what is put together is prepared
+  pub prepared_where_read : made.grammar ≡ v.lowered → made.origins ≡ v.origins → v.start ≡ start
+      → v.start_name.0 ≡ v.written.prefix ++ start → HasItsTerminals v.expansion → MayBeParsedFrom v.expansion v.start_name
+      → IsInlinedGrammar made.grammar v.expansion → IsReadyForTables made.grammar
+      → IsStrictlySortedBy (names.ghosts).cmp (keys_of made.grammar.nonterminals)
+      → (IsReadGrammar (grammar_view v.written)
+      → IsNormalizedFor finds deep v.session.features.items v.session.macro_recursion_limit start (grammar_view v.written) made dfa)
+      → (Decides dfa (entry_patterns entries) (entry_precedences entries) → IsScannerOf v.scanner (scan_entries entries))
+      → IsPreparedWhereRead finds deep v
+  prepared_where_read low origins same name terminals parsed i ready sorted normal scans = record {
+    name_is = name ∙ ap (λ (s : Text). v.written.prefix ++ s) (sym same);
+    terminals = terminals;
+    parsed = parsed;
+    prepared = λ read.
+        let n = normal read in
+        record {
+          made = made;
+          lowered_is = low;
+          origins_are = origins;
+          generable = subst (λ (s : Text).
+              IsGenerable finds deep v.session.features.items v.session.macro_recursion_limit s (grammar_view v.written)) (sym same)
+              n.generable;
+          normalized = n.normalized;
+          scans = scans n.decides;
+          inlined = subst (λ (g : repr.Grammar). IsInlinedGrammar g v.expansion) low i;
+          expansion = expansion finds deep v.session.features.items v.session.macro_recursion_limit start (grammar_view v.written)
+              made dfa read n ready sorted v.expansion i;
+        };
+  }

@@ -1,0 +1,3 @@
+pub mod InlineRefusals
+pub mod PreparedGrammars
+pub mod PrepareRefusals

@@ -1,0 +1,61 @@
+-- What is seen of a prepared grammar, and what it is.
+use Rattle.std.specs.Prelude.{◌≡◌, ◌++◌, Bool, List, Option, Contains}
+use Rattle.lalrpop_grammar_symbols.specs.Symbols.{Text}
+use Rattle.lalrpop_grammar_symbols.specs.declared.names.NonterminalString.{NonterminalString}
+use Rattle.lalrpop_grammar.specs.Views.{grammar_view}
+use Rattle.lalrpop_grammar.specs.declared.grammar.Grammar.{Grammar}
+use Rattle.lalrpop_grammar.specs.declared.origin.Origin.{Origin}
+use Rattle.lalrpop_grammar_language.specs.Enabled.{enabled_grammar}
+use Rattle.lalrpop_grammar_repr.specs.declared.grammar.Grammar as repr
+use Rattle.lalrpop_grammar_repr.specs.declared.session.Session.{Session}
+use Rattle.lalrpop_lexer_scan.specs.Scanning.{IsScannerOf}
+use Rattle.lalrpop_lexer_scan.specs.declared.scanner.Scanner.{Scanner}
+use Rattle.lalrpop_lr1_build.specs.BuiltStates.{theory_grammar}
+use Rattle.lalrpop_lr1_first.specs.NumberedGrammars.{HasItsTerminals}
+use Rattle.lalrpop_lr1_inline.specs.InlinedGrammars.{IsInlinedGrammar}
+use Rattle.lalrpop_lr1_theory.specs.CheckedStates.{IsStartAlone}
+use Rattle.lalrpop_lr1_theory.specs.ValidItems.{NoneBarren}
+use Rattle.lalrpop_norm_chain.specs.Normalized.{IsNormalized}
+use Rattle.lalrpop_norm_expansion.specs.Premises.{IsReadGrammar}
+use Rattle.lalrpop_norm_lower.specs.declared.lowering.Normalized.{Normalized}
+use Rattle.lalrpop_norm_lower_law.specs.LoweredViews.{lowered_view}
+use Rattle.lalrpop_run_answers.specs.Expansions.{AreExpansion}
+use Rattle.lalrpop_run_tokens.specs.Refused.{IsGenerable}
+use Rattle.lalrpop_run_tokens.specs.Tokenizers.{scan_entries}
+
+-- the written grammar with the features and the limit of macros, the rule to start from and its start's name, the plain productions
+-- before and after inlining, with the written choices that those before stand for, and the scanner of its tokens
+pub record PreparedGrammar : Type 0 where
+  pub written : Grammar
+  pub session : Session
+  pub start : Text
+  pub start_name : NonterminalString
+  pub lowered : repr.Grammar
+  pub origins : List Origin
+  pub scanner : Scanner
+  pub expansion : repr.Grammar
+
+-- The start stands on no right side, and reaches nothing barren.
+pub record MayBeParsedFrom (g : repr.Grammar) (start : NonterminalString) : Type 0 where
+  pub alone : IsStartAlone (theory_grammar g) start.0
+  pub none_barren : NoneBarren (Contains (theory_grammar g)) start.0
+
+-- Nothing is wrong with the grammar, nor with the start. The plain productions are those of its expansion before inlining and after
+-- it, and the scanner cuts by the tokenizer's entries.
+pub record IsPrepared (finds : Text → Text → Option Bool) (deep : Text → Bool) (v : PreparedGrammar) : Type 0 where
+  pub made : Normalized
+  pub lowered_is : made.grammar ≡ v.lowered
+  pub origins_are : made.origins ≡ v.origins
+  pub generable : IsGenerable finds deep v.session.features.items v.session.macro_recursion_limit v.start (grammar_view v.written)
+  pub normalized : IsNormalized finds v.session.features.items (grammar_view v.written) (lowered_view made)
+  pub scans : IsScannerOf v.scanner (scan_entries (lowered_view made).entries)
+  pub inlined : IsInlinedGrammar v.lowered v.expansion
+  pub expansion : AreExpansion (enabled_grammar finds v.session.features.items (grammar_view v.written)) v.written.prefix
+      (Contains (theory_grammar v.expansion))
+
+-- For a grammar as one is read it is prepared. Tables can be made of any, and the start may be parsed from.
+pub record IsPreparedWhereRead (finds : Text → Text → Option Bool) (deep : Text → Bool) (v : PreparedGrammar) : Type 0 where
+  pub name_is : v.start_name.0 ≡ v.written.prefix ++ v.start
+  pub terminals : HasItsTerminals v.expansion
+  pub parsed : MayBeParsedFrom v.expansion v.start_name
+  pub prepared : IsReadGrammar (grammar_view v.written) → IsPrepared finds deep v

@@ -1,0 +1,104 @@
+//! What is known of a grammar once nothing is wrong with it.
+
+ghost use Rattle.std.specs.Prelude.{◌≡◌};
+ghost use Rattle.lalrpop_grammar.specs.Views.{grammar_view};
+ghost use Rattle.lalrpop_judge_search.specs.Search.{finds, is_too_deep};
+ghost use Rattle.lalrpop_lr1_first.specs.NumberedGrammars.{HasItsTerminals};
+ghost use Rattle.lalrpop_norm_expansion.specs.Premises.{IsReadGrammar};
+ghost use Rattle.lalrpop_run_prepare.specs.PreparedGrammars.{IsPrepared, MayBeParsedFrom};
+
+use lalrpop_grammar::{Atom, Grammar, Origin};
+use lalrpop_grammar_repr::{Grammar as LoweredGrammar, Session};
+use lalrpop_grammar_symbols::{List, NonterminalString};
+use lalrpop_lexer_scan::Scanner;
+use std::marker::Model;
+
+/// A written grammar in which nothing is wrong, for one of its starts: its plain productions, before and after inlining, with the
+/// written choices that those before stand for, and the scanner of its tokens.
+#[derive(Drop)]
+pub struct Prepared {
+    pub(crate) written: Grammar,
+    pub(crate) session: Session,
+    // The rule to start from, and its start among the plain productions.
+    pub(crate) start: Atom,
+    pub(crate) start_name: NonterminalString,
+    pub(crate) lowered: LoweredGrammar,
+    pub(crate) origins: List<Origin>,
+    pub(crate) scanner: Scanner,
+    pub(crate) expansion: LoweredGrammar,
+}
+
+impl Model for Prepared {
+    ghost use Rattle.std.specs.Coded.{codes};
+    ghost use Rattle.lalrpop_grammar.specs.contracts.grammar.Grammar as written_grammar;
+    ghost use Rattle.lalrpop_grammar.specs.contracts.origin.Origin as written_choice;
+    ghost use Rattle.lalrpop_grammar_repr.specs.contracts.grammar.Grammar as plain_grammar;
+    ghost use Rattle.lalrpop_judge_search.specs.Search.{finds, is_too_deep};
+    ghost use Rattle.lalrpop_run_prepare.specs.PreparedGrammars.{IsPreparedWhereRead, PreparedGrammar};
+
+    ghost Value = { PreparedGrammar };
+
+    ghost coded = { Prim.hlevel (codes, written_grammar.the_row.coded, written_choice.the_row.coded, plain_grammar.the_row.coded) };
+
+    ghost view = { λ p. record {
+      written = p.written;
+      session = p.session;
+      start = p.start;
+      start_name = p.start_name;
+      lowered = p.lowered;
+      origins = p.origins;
+      scanner = p.scanner;
+      expansion = p.expansion;
+    } };
+
+    ghost invariant = { λ p. IsPreparedWhereRead finds is_too_deep (record {
+      written = p.written;
+      session = p.session;
+      start = p.start;
+      start_name = p.start_name;
+      lowered = p.lowered;
+      origins = p.origins;
+      scanner = p.scanner;
+      expansion = p.expansion;
+    }) };
+}
+
+impl Prepared {
+    /// The grammar's plain productions with its inlined rules inlined.
+    pub fn expansion(&self) -> &LoweredGrammar
+        ensures { result.now ≡ self.now.expansion }
+    {
+        &self.expansion
+    }
+
+    /// The rule to start from.
+    pub fn start(&self) -> &Atom
+        ensures { result.now ≡ self.now.start }
+    {
+        &self.start
+    }
+
+    /// The start's name among the plain productions: a nonterminal whose one production is the rule to start from.
+    pub fn start_name(&self) -> &NonterminalString
+        ensures name { result.now ≡ self.now.start_name }
+        ensures terminals { HasItsTerminals self.now.expansion }
+        ensures parsed { MayBeParsedFrom self.now.expansion self.now.start_name }
+    {
+        &self.start_name
+    }
+
+    /// The scanner of the grammar's tokens.
+    pub fn scanner(&self) -> &Scanner
+        ensures { result.now ≡ self.now.scanner }
+    {
+        &self.scanner
+    }
+
+    /// The grammar as it is written.
+    pub fn written(&self) -> &Grammar
+        ensures written { result.now ≡ self.now.written }
+        ensures prepared { IsReadGrammar (grammar_view self.now.written) → IsPrepared finds is_too_deep self.now }
+    {
+        &self.written
+    }
+}

@@ -1,0 +1,96 @@
+//! The refusals of a grammar in their order, and what is prepared where none stands.
+
+ghost use Rattle.std.specs.Prelude.{◌≡◌, IfErr, IfOk, map};
+ghost use Rattle.std.specs.List.Sorted.{IsStrictlySortedBy};
+ghost use Rattle.std.specs.Map.{keys_of};
+ghost use Rattle.lalrpop_grammar_symbols.specs.contracts.names.NonterminalStringOrd.TheImpl as names_order;
+ghost use Rattle.lalrpop_grammar.specs.Views.{grammar_view, intern_entry_view};
+ghost use Rattle.lalrpop_judge_search.specs.Search.{finds, is_too_deep};
+ghost use Rattle.lalrpop_lexer.specs.Simulation.{Decides};
+ghost use Rattle.lalrpop_lexer_scan.specs.Scanning.{IsScannerOf};
+ghost use Rattle.lalrpop_norm_entries.specs.Patterns.{entry_patterns, entry_precedences};
+ghost use Rattle.lalrpop_norm_expansion.specs.Premises.{IsReadGrammar};
+ghost use Rattle.lalrpop_run_prepare.specs.PrepareRefusals.{IsPrepareRefusal};
+ghost use Rattle.lalrpop_run_tokens.specs.Tokenizers.{scan_entries};
+
+use crate::expanding::expand;
+use crate::prepared::Prepared;
+use lalrpop_grammar::{Atom, Grammar, MatchEntry};
+use lalrpop_grammar_repr::{Grammar as LoweredGrammar, Session};
+use lalrpop_grammar_symbols::List;
+use lalrpop_lexer::dfa::Dfa;
+use lalrpop_lexer_scan::Scanner;
+use lalrpop_norm::Normalized;
+use lalrpop_run_refusals::GenerateError;
+use lalrpop_run_tokens::{normalize_for_start, terminals_of};
+use std::alloc::{AllocError, Global};
+
+/// Looks at the map of the nonterminals, which says that their names ascend.
+fn see_order(lowered: &LoweredGrammar)
+    ensures { IsStrictlySortedBy (names_order.ghosts).cmp (keys_of lowered.now.nonterminals) }
+{
+    lowered.nonterminals.iter();
+}
+
+/// The scanner of the tokenizer's entries, which the automaton decides.
+fn scanner_of(alloc: Global, dfa: Dfa, entries: List<MatchEntry>) -> Result<Scanner, AllocError>
+    ensures { IfOk result (λ scanner. Decides dfa (entry_patterns (map intern_entry_view entries))
+        (entry_precedences (map intern_entry_view entries))
+        → IsScannerOf scanner (scan_entries (map intern_entry_view entries))) }
+{
+    let terminals = terminals_of(alloc, entries)?;
+    Ok(Scanner::new(dfa, terminals))
+}
+
+/// What a parser of the grammar is made of, or why there is none. `start` names the rule to start from; the session's features say
+/// what is enabled.
+///
+/// It is promised for a grammar as one is read, with any prefix of two or more underscores.
+///
+/// # Errors
+///
+/// The refusals in their order: an extern block; error recovery in an enabled alternative; a fault of the grammar with its place; a
+/// start that no enabled rule without parameters can be, or no public one; rules that would be inlined into themselves, or too many
+/// actions; a nonterminal that the start reaches and of which no finite sentence comes, the least by name. `ConditionLimit` only where
+/// an alternative of a macro call that is made is under `~~` or `!~`. Or `Memory`. Never a conflict.
+pub fn prepare(
+    alloc: Global,
+    grammar: Grammar,
+    start: &Atom,
+    session: Session,
+) -> Result<Prepared, GenerateError>
+    ensures written { IfOk result (λ prepared. prepared.written ≡ grammar) }
+    ensures session { IfOk result (λ prepared. prepared.session ≡ session) }
+    ensures start { IfOk result (λ prepared. prepared.start ≡ start.now) }
+    ensures refused { IfErr result (λ error. IsReadGrammar (grammar_view grammar)
+        → IsPrepareRefusal finds is_too_deep session.features.items session.macro_recursion_limit start.now
+        (grammar_view grammar) error) }
+{
+    let copy = grammar.try_clone(alloc)?;
+    let (made, dfa) = normalize_for_start(alloc, &session, start, copy)?;
+    see_order(&made.grammar);
+    let (expansion, start_name) = expand(
+        alloc,
+        &made.grammar,
+        &grammar.prefix,
+        start,
+        grammar.span,
+    )?;
+    let Normalized {
+        grammar: lowered,
+        origins,
+        entries,
+    } = made;
+    let scanner = scanner_of(alloc, dfa, entries)?;
+    let start = start.try_clone()?;
+    Ok(Prepared {
+        written: grammar,
+        session,
+        start,
+        start_name,
+        lowered,
+        origins,
+        scanner,
+        expansion,
+    })
+}
