@@ -1,0 +1,20 @@
+//! Tables: first sets, LR(0) and canonical LR(1) states, their collapse, the test of states, parsing by states, and inlining.
+//!
+//! What stands here is what users of the tables see. The crates below hold it, with the definitions that the contracts cite.
+#![tactic(auto)]
+
+pub use lalrpop_lr1_build::{build_lr0_states, build_lr1_states_canonical};
+pub use lalrpop_lr1_check::check_states;
+pub use lalrpop_lr1_collapse::collapse_to_lalr_states;
+pub use lalrpop_lr1_first::FirstSets;
+pub use lalrpop_lr1_inline::{InlineFault, inline, inline_order};
+pub use lalrpop_lr1_items::{
+    Action, Conflict, Item, Items, Lookahead, LookaheadInterpret, Lr0Conflict, Lr0Item, Lr0Items,
+    Lr0State, Lr0TableConstructionError, Lr1Conflict, Lr1Item, Lr1Items, Lr1Result, Lr1State,
+    Lr1TableConstructionError, LrResult, Predecessors, State, StateGraph, StateIndex, Successors,
+    SymbolSets, TableConstructionError, TableFault,
+};
+pub use lalrpop_lr1_parse::{
+    ActionTable, ExpandedTree, InterpretError, InterpretFault, NoTrees, ParseTree, Stop, TreeRef,
+    TreeStack, interpret, interpret_partial, parse_limited,
+};
