@@ -95,7 +95,7 @@ impl Prepared {
     }
 
     /// The grammar as it is written.
-    pub fn written(&self) -> &Grammar
+    pub fn grammar(&self) -> &Grammar
         ensures written { result.now ≡ self.now.written }
         ensures prepared { IsReadGrammar (grammar_view self.now.written) → IsPrepared finds is_too_deep self.now }
     {
