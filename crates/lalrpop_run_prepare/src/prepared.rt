@@ -1,6 +1,6 @@
 //! What is known of a grammar once nothing is wrong with it.
 
-ghost use Rattle.std.specs.Prelude.{◌≡◌};
+ghost use Rattle.std.specs.Prelude.{◌≡◌, ◌++◌};
 ghost use Rattle.lalrpop_grammar.specs.Views.{grammar_view};
 ghost use Rattle.lalrpop_judge_search.specs.Search.{finds, is_too_deep};
 ghost use Rattle.lalrpop_lr1_first.specs.NumberedGrammars.{HasItsTerminals};
@@ -81,6 +81,7 @@ impl Prepared {
     /// The start's name among the plain productions: a nonterminal whose one production is the rule to start from.
     pub fn start_name(&self) -> &NonterminalString
         ensures name { result.now ≡ self.now.start_name }
+        ensures prefixed { result.now.0 ≡ self.now.written.prefix ++ self.now.start }
         ensures terminals { HasItsTerminals self.now.expansion }
         ensures parsed { MayBeParsedFrom self.now.expansion self.now.start_name }
     {

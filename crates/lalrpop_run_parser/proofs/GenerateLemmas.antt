@@ -1,0 +1,74 @@
+-- What states of an expansion say of its written grammar; for what generates a parser.
+use Rattle.std.proofs.Common.{◌≡◌, ◌∙◌, ◌++◌, ℕ, List, length, subst, sym, Contains}
+use Rattle.std.proofs.lemmas.List.{length-map}
+use Rattle.lalrpop_grammar_symbols.specs.declared.names.NonterminalString.{NonterminalString}
+use Rattle.lalrpop_grammar.specs.Views.{grammar_view}
+use Rattle.lalrpop_grammar_repr.specs.declared.grammar.Grammar.{Grammar}
+use Rattle.lalrpop_judge_search.specs.Search.{finds, is_too_deep}
+use Rattle.lalrpop_lr1_build.specs.BuiltStates.{IsCanonicalFault, TellsNoLr1, theory_grammar}
+use Rattle.lalrpop_lr1_collapse.specs.CollapseAnswers.{states_over}
+use Rattle.lalrpop_lr1_items.specs.declared.state.State.{State}
+use Rattle.lalrpop_lr1_items.specs.declared.table_fault.TableConstructionError.{TableConstructionError}
+use Rattle.lalrpop_lr1_items.specs.declared.table_fault.TableFault.{TableFault}
+use Rattle.lalrpop_lr1_items.specs.declared.table_fault.TableFault.TheVariants as faults
+use Rattle.lalrpop_lr1_parse.specs.Tables.{IsTableOf}
+use Rattle.lalrpop_lr1_parse.specs.declared.action_table.ActionTable.{ActionTable}
+use Rattle.lalrpop_lr1_theory.specs.Answers.{IsLr1}
+use Rattle.lalrpop_lr1_theory.specs.CheckedStates.{AreCheckedStates, IsStartAlone}
+use Rattle.lalrpop_lr1_theory.specs.ValidItems.{NoneBarren}
+use Rattle.lalrpop_norm_expansion.specs.Premises.{IsReadGrammar}
+use Rattle.lalrpop_run_answers.specs.Laws.{OneWrittenTree}
+use Rattle.lalrpop_run_parser.specs.Parsers.{HasConflicts, HasOneTreeEach, IsParserTable}
+use Rattle.lalrpop_run_prepare.specs.PreparedGrammars.{IsPrepared, MayBeParsedFrom, PreparedGrammar}
+use Rattle.lalrpop_run_prepare.proofs.StartLemmas.{start_in_expansion}
+
+-- what is said of the productions and the start that were handed on is said of the prepared ones
+module _ (v : PreparedGrammar) (g : Grammar) (start : NonterminalString) (same : g ≡ v.expansion) (named : start ≡ v.start_name) where
+  handed : (P : Grammar → NonterminalString → Type 0) → P g start → P v.expansion v.start_name
+  handed P p = subst (P v.expansion) named (subst (λ (h : Grammar). P h start) same p)
+
+  pub states_lr1 : (NoneBarren (Contains (theory_grammar g)) start.0 → IsLr1 (Contains (theory_grammar g)) start.0)
+      → MayBeParsedFrom v.expansion v.start_name → IsLr1 (Contains (theory_grammar v.expansion)) v.start_name.0
+  states_lr1 f m =
+      handed (λ h n. NoneBarren (Contains (theory_grammar h)) n.0 → IsLr1 (Contains (theory_grammar h)) n.0) f m.none_barren
+
+  pub states_checked : (built : List (State (List ℕ)))
+      → (NoneBarren (Contains (theory_grammar g)) start.0 → IsStartAlone (theory_grammar g) start.0
+      → AreCheckedStates (theory_grammar g) start.0 (states_over g.terminals built)) → MayBeParsedFrom v.expansion v.start_name
+      → AreCheckedStates (theory_grammar v.expansion) v.start_name.0 (states_over v.expansion.terminals built)
+  states_checked built f m =
+      handed (λ h n. NoneBarren (Contains (theory_grammar h)) n.0 → IsStartAlone (theory_grammar h) n.0
+      → AreCheckedStates (theory_grammar h) n.0 (states_over h.terminals built)) f m.none_barren m.alone
+
+  pub conflicts_told : (fault : TableFault (List ℕ)) (error : TableConstructionError (List ℕ)) (count : ℕ)
+      → fault ≡ faults.Conflicts error → count ≡ length error.conflicts.items → IsCanonicalFault g start fault
+      → (NoneBarren (Contains (theory_grammar g)) start.0 → TellsNoLr1 g start fault)
+      → MayBeParsedFrom v.expansion v.start_name → HasConflicts v count
+  conflicts_told fault error count is many stands f m = record {
+    error = error;
+    canonical = subst (IsCanonicalFault v.expansion v.start_name) is (handed (λ h n. IsCanonicalFault h n fault) stands);
+    count_is = many;
+    no_lr1 = subst (TellsNoLr1 v.expansion v.start_name) is
+        (handed (λ h n. NoneBarren (Contains (theory_grammar h)) n.0 → TellsNoLr1 h n fault) f m.none_barren);
+  }
+
+module _ (v : PreparedGrammar) (built : List (State (List ℕ)))
+    (checked : AreCheckedStates (theory_grammar v.expansion) v.start_name.0 (states_over v.expansion.terminals built)) where
+  pub is_table : (table : ActionTable) (g : Grammar) (given : List (State (List ℕ))) (count : ℕ) → g ≡ v.expansion → given ≡ built
+      → IsTableOf table (states_over g.terminals given) → count ≡ length built → IsParserTable v table count
+  is_table table g given count same all made many = record {
+    states = states_over v.expansion.terminals built;
+    checked = checked;
+    table_is = subst (λ (xs : List (State (List ℕ))). IsTableOf table (states_over v.expansion.terminals xs)) all
+        (subst (λ (h : Grammar). IsTableOf table (states_over h.terminals given)) same made);
+    count_is = many ∙ sym (length-map built _);
+  }
+
+  pub one_tree_each : OneWrittenTree → IsPrepared finds is_too_deep v → IsReadGrammar (grammar_view v.written)
+      → v.start_name.0 ≡ v.written.prefix ++ v.start → HasOneTreeEach v
+  one_tree_each law p read name =
+      law finds v.session.features.items (grammar_view v.written) v.written.prefix v.start (theory_grammar v.expansion)
+      (states_over v.expansion.terminals built) p.expansion
+      (start_in_expansion finds is_too_deep v.session.features.items v.session.macro_recursion_limit (grammar_view v.written) read
+      p.generable.faultless v.start p.generable.starts)
+      (subst (λ s. AreCheckedStates (theory_grammar v.expansion) s (states_over v.expansion.terminals built)) name checked)

@@ -1,0 +1,35 @@
+use Rattle.std.proofs.Common.{◌∙◌, ap, length, sym}
+use Rattle.lalrpop_grammar_symbols.specs.declared.names.NonterminalString.{NonterminalString}
+use Rattle.lalrpop_run_parser.proofs.GenerateLemmas.{conflicts_told, is_table, one_tree_each, states_checked, states_lr1}
+use Rattle.lalrpop_run_parser.proofs.generating.generate.Goals as goal
+
+pub invariant_of-result : goal.invariant_of-result
+invariant_of-result c =
+    let v = c.args.prepared.now in
+    let checked =
+    states_checked v c.expansion.result.now c.in_ok-start.start c.expansion.ensures
+    (c.in_ok-start.ensures ∙ c.start_name.ensures.name) c.in-Ok.states.items c.in-Ok.ensures.checked c.start_name.ensures.parsed in
+    is_table v c.in-Ok.states.items checked c.in_ok-table-in-Ok.table c.expansion-in-Ok.result.now
+    c.as_slice-built.result.now (length c.as_slice-built.result.now) c.expansion-in-Ok.ensures c.as_slice-built.ensures.value
+    c.in_ok-table-in-Ok.ensures (ap length c.as_slice-built.ensures.value)
+
+pub returns-in_ok-table-in-Ok-clause-lr1 : goal.returns-in_ok-table-in-Ok-clause-lr1
+returns-in_ok-table-in-Ok-clause-lr1 c =
+    states_lr1 c.args.prepared.now c.expansion.result.now c.in_ok-start.start c.expansion.ensures
+    (c.in_ok-start.ensures ∙ c.start_name.ensures.name) c.in-Ok.ensures.lr1 c.start_name.ensures.parsed
+
+pub returns-in_ok-table-in-Ok-clause-one_tree : goal.returns-in_ok-table-in-Ok-clause-one_tree
+returns-in_ok-table-in-Ok-clause-one_tree c =
+    let v = c.args.prepared.now in
+    let checked =
+    states_checked v c.expansion.result.now c.in_ok-start.start c.expansion.ensures
+    (c.in_ok-start.ensures ∙ c.start_name.ensures.name) c.in-Ok.states.items c.in-Ok.ensures.checked c.start_name.ensures.parsed in
+    λ read.
+    one_tree_each v c.in-Ok.states.items checked c.one_written_tree.ensures (c.grammar.ensures.prepared read) read
+    (ap (λ (n : NonterminalString). n.0) (sym c.start_name.ensures.name) ∙ c.start_name.ensures.prefixed)
+
+pub returns-in-Err-Conflicts-clause-refused : goal.returns-in-Err-Conflicts-clause-refused
+returns-in-Err-Conflicts-clause-refused c =
+    conflicts_told c.args.prepared.now c.expansion.result.now c.in_ok-start.start c.expansion.ensures
+    (c.in_ok-start.ensures ∙ c.start_name.ensures.name) c.in-Err-Conflicts.field-0 c.in-Err-Conflicts.error (length c.as_slice.result.now)
+    c.in-Err-Conflicts.field-0-is (ap length c.as_slice.ensures.value ∙ ap (λ e. length e.conflicts.items) c.in-Err-Conflicts.error-is) c.in-Err-Conflicts.ensures.fault c.in-Err-Conflicts.ensures.lr1 c.start_name.ensures.parsed

@@ -1,0 +1,49 @@
+-- What a parser is, and why a prepared grammar has none.
+use Rattle.std.specs.Prelude.{ℕ, ◌≡◌, List, Contains, length}
+use Rattle.lalrpop_grammar.specs.Trees.{Token, Tree}
+use Rattle.lalrpop_grammar.specs.Views.{grammar_view}
+use Rattle.lalrpop_grammar_language.specs.Admitting.{AdmitsFrom}
+use Rattle.lalrpop_judge_search.specs.Search.{finds}
+use Rattle.lalrpop_lr1_build.specs.BuiltStates.{IsCanonicalFault, theory_grammar}
+use Rattle.lalrpop_lr1_items.specs.declared.table_fault.TableConstructionError.{TableConstructionError}
+use Rattle.lalrpop_lr1_items.specs.declared.table_fault.TableFault.TheVariants as faults
+use Rattle.lalrpop_lr1_parse.specs.Tables.{IsTableOf}
+use Rattle.lalrpop_lr1_parse.specs.declared.action_table.ActionTable.{ActionTable}
+use Rattle.lalrpop_lr1_theory.specs.Answers.{IsLr1}
+use Rattle.lalrpop_lr1_theory.specs.CheckedStates.{AreCheckedStates}
+use Rattle.lalrpop_lr1_theory.specs.States.{State}
+use Rattle.lalrpop_run_prepare.specs.PreparedGrammars.{PreparedGrammar}
+use Rattle.lalrpop_run_refusals.specs.declared.refusing.GenerateError.{GenerateError}
+use Rattle.lalrpop_run_refusals.specs.declared.refusing.GenerateError.TheVariants as errors
+
+-- what is seen of a parser: what it was generated from, and how many states it has
+pub record ParserView : Type 0 where
+  pub prepared : PreparedGrammar
+  pub count : ℕ
+
+-- The table is that of states with which the expansion may be parsed from its start, and they are so many.
+pub record IsParserTable (v : PreparedGrammar) (table : ActionTable) (count : ℕ) : Type 0 where
+  pub states : List State
+  pub checked : AreCheckedStates (theory_grammar v.expansion) v.start_name.0 states
+  pub table_is : IsTableOf table states
+  pub count_is : count ≡ length states
+
+-- no token list has two written trees that the start admits, spans inside arguments aside
+abbrev pub HasOneTreeEach : PreparedGrammar → Type 0
+HasOneTreeEach v =
+    (t u : Tree) (tokens : List Token)
+    → AdmitsFrom finds v.session.features.items (grammar_view v.written) v.start t tokens
+    → AdmitsFrom finds v.session.features.items (grammar_view v.written) v.start u tokens → t ≡ u
+
+-- The canonical states of the expansion have so many conflicts, at least one.
+pub record HasConflicts (v : PreparedGrammar) (count : ℕ) : Type 0 where
+  pub error : TableConstructionError (List ℕ)
+  pub canonical : IsCanonicalFault v.expansion v.start_name (faults.Conflicts error)
+  pub count_is : count ≡ length error.conflicts.items
+  pub no_lr1 : IsLr1 (Contains (theory_grammar v.expansion)) v.start_name.0 → ⊥
+
+-- It isn't LR(1), and that is told by the number of conflicts; or memory ran out.
+abbrev pub IsGenerateRefusal : PreparedGrammar → GenerateError → Type 0
+IsGenerateRefusal v (errors.Unexplained count) = HasConflicts v count
+IsGenerateRefusal v errors.Memory = Unit {0}
+IsGenerateRefusal v _ = ⊥

@@ -1,0 +1,54 @@
+//! The parser of a prepared grammar.
+
+ghost use Rattle.std.specs.Prelude.{◌≡◌, Contains, IfErr, IfOk};
+ghost use Rattle.lalrpop_grammar.specs.Views.{grammar_view};
+ghost use Rattle.lalrpop_lr1_build.specs.BuiltStates.{theory_grammar};
+ghost use Rattle.lalrpop_lr1_theory.specs.Answers.{IsLr1};
+ghost use Rattle.lalrpop_norm_expansion.specs.Premises.{IsReadGrammar};
+ghost use Rattle.lalrpop_run_parser.specs.Parsers.{HasOneTreeEach, IsGenerateRefusal};
+
+use crate::parser::Parser;
+use lalrpop_lane::build_lr1_states;
+use lalrpop_lane_method::Method;
+use lalrpop_lr1_items::TableFault;
+use lalrpop_lr1_parse::ActionTable;
+use lalrpop_run_answers::one_written_tree;
+use lalrpop_run_prepare::Prepared;
+use lalrpop_run_refusals::GenerateError;
+use std::alloc::Global;
+
+/// The parser of the grammar for its start, by LR(1) states.
+///
+/// # Errors
+///
+/// `Unexplained` where the grammar's expansion isn't LR(1), with the number of conflicts of its canonical states; or `Memory`.
+pub fn generate<'p>(
+    alloc: Global,
+    prepared: &'p Prepared,
+    method: Method,
+) -> Result<Parser<'p>, GenerateError>
+    ensures prepared { IfOk result (λ parser. parser.prepared ≡ prepared.now) }
+    ensures lr1 { IfOk result (λ _. IsLr1 (Contains (theory_grammar prepared.now.expansion)) prepared.now.start_name.0) }
+    ensures one_tree { IfOk result (λ _. IsReadGrammar (grammar_view prepared.now.written) → HasOneTreeEach prepared.now) }
+    ensures refused { IfErr result (IsGenerateRefusal prepared.now) }
+{
+    // the law and what is known of the grammar
+    one_written_tree();
+    prepared.grammar();
+    let start = prepared.start_name().try_clone()?;
+    match build_lr1_states(alloc, prepared.expansion(), start, method) {
+        Ok(states) => {
+            let built = states.as_slice();
+            let table = ActionTable::new(alloc, built, &prepared.expansion().terminals)?;
+            Ok(Parser {
+                prepared,
+                table,
+                state_count: built.len(),
+            })
+        }
+        Err(TableFault::Conflicts(error)) => {
+            Err(GenerateError::Unexplained(error.conflicts.as_slice().len()))
+        }
+        Err(TableFault::Memory) => Err(GenerateError::Memory),
+    }
+}

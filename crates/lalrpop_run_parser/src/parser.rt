@@ -1,0 +1,62 @@
+//! Parsers.
+
+ghost use Rattle.std.specs.Prelude.{◌≡◌, IfErr, IfOk, List, map};
+ghost use Rattle.std.specs.Str.{chars};
+ghost use Rattle.lalrpop_grammar.specs.Views.{token_view};
+ghost use Rattle.lalrpop_lexer_scan.specs.Entries.{ScanEntry};
+ghost use Rattle.lalrpop_lexer_scan.specs.Faults.{TellsNoToken};
+ghost use Rattle.lalrpop_lexer_scan.specs.Scanning.{IsScannerOf};
+ghost use Rattle.lalrpop_lexer_scan.specs.Tokens.{AreTokensOf, FillTheText};
+
+use lalrpop_grammar::ScanToken;
+use lalrpop_lexer_scan::ScanError;
+use lalrpop_lr1_parse::ActionTable;
+use lalrpop_run_prepare::Prepared;
+use std::alloc::Global;
+use std::marker::Model;
+
+/// A parser of a prepared grammar: what its states do, by numbers. No call changes it.
+#[derive(Drop)]
+pub struct Parser<'p> {
+    pub(crate) prepared: &'p Prepared,
+    pub(crate) table: ActionTable<'p>,
+    pub(crate) state_count: usize,
+}
+
+impl<'p> Model for Parser<'p> {
+    ghost use Rattle.std.specs.Coded.{codes};
+    ghost use Rattle.lalrpop_run_parser.specs.Parsers.{IsParserTable, ParserView};
+    ghost use Rattle.lalrpop_run_prepare.specs.contracts.prepared.Prepared as preparations;
+
+    ghost Value = { ParserView };
+
+    ghost coded = { Prim.hlevel (codes, preparations.the_row.coded) };
+
+    ghost view = { λ p. record { prepared = p.prepared.now; count = p.state_count } };
+
+    ghost invariant = { λ p. IsParserTable p.prepared.now p.table p.state_count };
+}
+
+impl<'p> Parser<'p> {
+    /// How many states it has.
+    pub fn state_count(&self) -> usize
+        ensures { result ≡ self.now.count }
+    {
+        self.state_count
+    }
+
+    /// The tokens of the text: the pieces of its cut that aren't skipped.
+    ///
+    /// # Errors
+    ///
+    /// The byte from which on nothing nonempty is matched, where the cut doesn't reach the end; or want of memory.
+    pub fn scan<'t>(&self, alloc: Global, text: &'t str) -> Result<Vec<ScanToken<'t>>, ScanError>
+        ensures tokens { IfOk result (λ tokens. (entries : List ScanEntry) → IsScannerOf self.now.prepared.scanner entries
+            → AreTokensOf entries (chars text.now) (map token_view tokens.items)) }
+        ensures filled { IfOk result (λ tokens. FillTheText text.now (map token_view tokens.items)) }
+        ensures no_token { IfErr result (λ error. (entries : List ScanEntry) → IsScannerOf self.now.prepared.scanner entries
+            → TellsNoToken entries (chars text.now) error) }
+    {
+        self.prepared.scanner().scan(alloc, text)
+    }
+}
