@@ -15,12 +15,22 @@ pub enum LinesError {
 }
 
 impl From<AllocError> for LinesError {
+    ghost use Rattle.std.specs.Prelude.{◌≡◌};
+    ghost use Rattle.lalrpop_lr1_lines.specs.declared.error.LinesError.TheVariants.{Memory};
+
+    ghost from_gives = { λ _ error. error ≡ Memory };
+
     fn from(_: AllocError) -> LinesError {
         LinesError::Memory
     }
 }
 
 impl<T: Drop> From<AllocFailed<T>> for LinesError {
+    ghost use Rattle.std.specs.Prelude.{◌≡◌};
+    ghost use Rattle.lalrpop_lr1_lines.specs.declared.error.LinesError.TheVariants.{Memory};
+
+    ghost from_gives = { λ _ error. error ≡ Memory };
+
     fn from(_: AllocFailed<T>) -> LinesError {
         LinesError::Memory
     }

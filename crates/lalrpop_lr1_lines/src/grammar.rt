@@ -1,5 +1,8 @@
 //! Grammars of plain productions, and token lists.
 
+ghost use Rattle.std.specs.Prelude.{◌≡◌, ◌≤◌, ◌⊎◌, ◌^◌, IfErr, IfNone, IfOk, OnOk, length, suc};
+ghost use Rattle.lalrpop_lr1_lines.specs.Lines.{AreSymbolWords, IsFaultOfLine, IsFaultOfLines, IsFaultOfProduction};
+
 use crate::error::LinesError;
 use crate::words::{is_name, symbol_of, words};
 use lalrpop_grammar_repr::{
@@ -31,16 +34,22 @@ struct Reading {
 /// # Errors
 ///
 /// A line is no production, there are too many of them, or memory runs out.
-pub fn read_lines(alloc: Global, text: &str) -> Result<Grammar, LinesError> {
+pub fn read_lines(alloc: Global, text: &str) -> Result<Grammar, LinesError>
+    ensures { IfErr result (IsFaultOfLines text.now) }
+{
     let mut reading = Reading {
         productions: BTreeMap::new(alloc),
         terminals: BTreeMap::new(alloc),
         actions: List::new(alloc),
     };
-    for (i, line) in text.lines().enumerate() {
+    // No more lines than bytes.
+    let _length = text.len();
+    let mut number = 0usize;
+    for line in text.lines() {
+        number += 1;
         let line = line.trim();
         if !line.is_empty() {
-            read_line(alloc, line, i.saturating_add(1), &mut reading)?;
+            read_line(alloc, line, number, &mut reading)?;
         }
     }
     Ok(grammar_of(alloc, reading)?)
@@ -61,7 +70,10 @@ fn read_line(
     line: &str,
     number: usize,
     reading: &mut Reading,
-) -> Result<(), LinesError> {
+) -> Result<(), LinesError>
+    ensures fault { IfErr result (IsFaultOfLine line.now number (length reading.old.actions)) }
+    ensures one_more { OnOk result (length reading.new.actions ≡ suc (length reading.old.actions)) }
+{
     let Some((name, side)) = line.split_once(':') else {
         return Err(LinesError::Line(number));
     };
@@ -69,23 +81,41 @@ fn read_line(
     if !is_name(name) {
         return Err(LinesError::Line(number));
     }
-    let Some(symbols) = read_side(alloc, side.trim())? else {
-        return Err(LinesError::Line(number));
-    };
-    let name = NonterminalString(Atom::new(alloc, name)?);
-    add_production(alloc, name, symbols, number, reading)
+    match read_side(alloc, side.trim())? {
+        Some(symbols) => {
+            let name = NonterminalString(Atom::new(alloc, name)?);
+            add_production(alloc, name, symbols, number, reading)
+        }
+        None => Err(LinesError::Line(number)),
+    }
 }
 
 /// The symbols that the text spells.
-fn read_side(alloc: Global, side: &str) -> Result<Option<List<Symbol>>, AllocError> {
+fn read_side(alloc: Global, side: &str) -> Result<Option<List<Symbol>>, AllocError>
+    ensures { IfOk result (λ symbols. IfNone symbols (AreSymbolWords side.now → ⊥)) }
+{
     let mut symbols = List::new(alloc);
-    for word in words(alloc, side)? {
+    let words = words(alloc, side)?;
+    for word in words.as_slice() {
         let Some(symbol) = symbol_of(alloc, word)? else {
             return Ok(None);
         };
         symbols.push(symbol)?;
     }
     Ok(Some(symbols))
+}
+
+/// Puts the terminals among the symbols to the others.
+fn add_terminals(
+    symbols: &[Symbol],
+    terminals: &mut BTreeMap<TerminalString, ()>,
+) -> Result<(), AllocError> {
+    for symbol in symbols {
+        if let Symbol::Terminal(terminal) = symbol {
+            terminals.insert(terminal.try_clone()?, ())?;
+        }
+    }
+    Ok(())
 }
 
 /// Puts the production behind the others, and its terminals to theirs.
@@ -95,16 +125,15 @@ fn add_production(
     symbols: List<Symbol>,
     number: usize,
     reading: &mut Reading,
-) -> Result<(), LinesError> {
+) -> Result<(), LinesError>
+    ensures fault { IfErr result (IsFaultOfProduction (length reading.old.actions)) }
+    ensures one_more { OnOk result (length reading.new.actions ≡ suc (length reading.old.actions)) }
+{
     let action = reading.actions.len();
     if action >= MOST_ACTIONS {
         return Err(LinesError::TooMany);
     }
-    for symbol in symbols.as_slice() {
-        if let Symbol::Terminal(terminal) = symbol {
-            reading.terminals.insert(terminal.try_clone()?, ())?;
-        }
-    }
+    add_terminals(symbols.as_slice(), &mut reading.terminals)?;
     reading.actions.push(unit_action(alloc))?;
     let production = Production {
         nonterminal: name.try_clone()?,

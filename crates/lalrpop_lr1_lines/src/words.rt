@@ -1,5 +1,11 @@
 //! The words of a line, and the symbols that they spell.
 
+ghost use Rattle.std.specs.Prelude.{◌≡◌, ◌↔◌, ◌≤◌, ◌<◌, IfNone, IfOk, IsTrue, OnOk};
+ghost use Rattle.std.specs.List.{All, list_all};
+ghost use Rattle.std.specs.Str.{IsCharBoundary};
+ghost use Rattle.lalrpop_lr1_lines.specs.Words.{IsQuotedText, IsSymbolText, IsWordAt, IsWordOf, is_name_byte, is_name_text, quotes_behind};
+ghost use Rattle.lalrpop_lr1_lines.specs.declared.words.Quotes.TheVariants.{Outside};
+
 use lalrpop_grammar_repr::Symbol;
 use lalrpop_grammar_symbols::{Atom, NonterminalString, TerminalString};
 use serde_json::Value;
@@ -10,7 +16,7 @@ pub(crate) type Read<T> = Result<Option<T>, AllocError>;
 
 /// Whether a character stands in a quoted terminal.
 #[derive(Clone, Copy)]
-enum Quotes {
+pub(crate) enum Quotes {
     Outside,
     Inside,
     /// Inside, behind a backslash.
@@ -18,14 +24,26 @@ enum Quotes {
 }
 
 /// Whether the character behind this one stands in a quoted terminal.
-fn behind(quotes: Quotes, c: char) -> Quotes {
+fn behind(quotes: Quotes, c: u8) -> Quotes
+    ensures { result ≡ quotes_behind quotes c }
+{
     match (quotes, c) {
-        (Quotes::Outside, '"') => Quotes::Inside,
+        (Quotes::Outside, b'"') => Quotes::Inside,
         (Quotes::Outside, _) => Quotes::Outside,
-        (Quotes::Inside, '"') => Quotes::Outside,
-        (Quotes::Inside, '\\') => Quotes::Escaped,
+        (Quotes::Inside, b'"') => Quotes::Outside,
+        (Quotes::Inside, b'\\') => Quotes::Escaped,
         (Quotes::Inside, _) => Quotes::Inside,
         (Quotes::Escaped, _) => Quotes::Inside,
+    }
+}
+
+/// Whether it is a blank outside of quotes.
+fn is_free_blank(quotes: Quotes, c: u8) -> bool
+    ensures { IsTrue result ↔ ((c ≡ 32) × (quotes ≡ Outside)) }
+{
+    match quotes {
+        Quotes::Outside => c == b' ',
+        Quotes::Inside | Quotes::Escaped => false,
     }
 }
 
@@ -35,50 +53,84 @@ fn push_word<'t>(
     from: usize,
     to: usize,
     words: &mut Vec<&'t str>,
-) -> Result<(), AllocError> {
-    match text.get(from..to) {
-        Some(word) if !word.is_empty() => Ok(words.push(word)?),
-        _ => Ok(()),
+) -> Result<(), AllocError>
+    requires before { IsCharBoundary text.now from }
+    requires behind { IsCharBoundary text.now to }
+    requires order { from ≤ to }
+    requires word { from < to → IsWordAt text.now from to }
+    requires words { All (λ w. IsWordOf text.now w.now) words.old.items }
+    ensures { OnOk result (All (λ w. IsWordOf text.now w.now) words.new.items) }
+{
+    if from < to {
+        words.push(&text[from..to])?;
     }
+    Ok(())
 }
 
 /// The words of the text: what stands between blanks outside of quotes.
-pub(crate) fn words(alloc: Global, text: &str) -> Result<Vec<&str>, AllocError> {
+pub(crate) fn words(alloc: Global, text: &str) -> Result<Vec<&str>, AllocError>
+    ensures { IfOk result (λ words. All (λ w. IsWordOf text.now w.now) words.items) }
+{
     let mut words = Vec::new(alloc);
     let mut quotes = Quotes::Outside;
     let mut from = 0;
-    for (at, c) in text.char_indices() {
-        if c == ' ' && matches!(quotes, Quotes::Outside) {
+    let bytes = text.as_bytes();
+    for at in 0..bytes.len() {
+        let c = bytes[at];
+        let next = behind(quotes, c);
+        if is_free_blank(quotes, c) {
             push_word(text, from, at, &mut words)?;
-            from = at.saturating_add(1);
+            from = at + 1;
         }
-        quotes = behind(quotes, c);
+        quotes = next;
     }
-    push_word(text, from, text.len(), &mut words)?;
+    push_word(text, from, bytes.len(), &mut words)?;
     Ok(words)
 }
 
+/// Whether all bytes of the word are letters, digits or underscores.
+fn are_name_bytes(word: &str) -> bool
+    ensures { result ≡ list_all is_name_byte word.now }
+{
+    word.as_bytes()
+        .iter()
+        .all(|b| b.is_ascii_alphanumeric() || *b == b'_')
+}
+
 /// Whether the word is a name: letters, digits and underscores.
-pub(crate) fn is_name(word: &str) -> bool {
-    !word.is_empty() && word.bytes().all(|b| b.is_ascii_alphanumeric() || b == b'_')
+pub(crate) fn is_name(word: &str) -> bool
+    ensures { result ≡ is_name_text word.now }
+{
+    !word.is_empty() && are_name_bytes(word)
 }
 
 /// The text of the terminal that the word quotes.
-fn quoted(alloc: Global, word: &str) -> Read<Atom> {
+fn quoted(alloc: Global, word: &str) -> Read<Atom>
+    ensures { IfOk result (λ text. IfNone text (IsQuotedText word.now → ⊥)) }
+{
+    if !word.starts_with('"') {
+        return Ok(None);
+    }
     match Value::from_str(alloc, word) {
-        Ok(Value::String(text)) => Ok(Some(Atom::new(alloc, text.as_str())?)),
-        _ => Ok(None),
+        Ok(value) => match value.as_str() {
+            Some(text) => Ok(Some(Atom::new(alloc, text)?)),
+            None => Ok(None),
+        },
+        Err(error) if error.is_memory() => Err(AllocError),
+        Err(_) => Ok(None),
     }
 }
 
 /// The symbol that the word spells.
-pub(crate) fn symbol_of(alloc: Global, word: &str) -> Read<Symbol> {
-    if word.starts_with('"') {
-        let text = quoted(alloc, word)?;
-        return Ok(text.map(|text| Symbol::Terminal(TerminalString::quoted(text))));
+pub(crate) fn symbol_of(alloc: Global, word: &str) -> Read<Symbol>
+    ensures { IfOk result (λ symbol. IfNone symbol (IsSymbolText word.now → ⊥)) }
+{
+    if is_name(word) {
+        let name = NonterminalString(Atom::new(alloc, word)?);
+        return Ok(Some(Symbol::Nonterminal(name)));
     }
-    if !is_name(word) {
-        return Ok(None);
+    match quoted(alloc, word)? {
+        Some(text) => Ok(Some(Symbol::Terminal(TerminalString::quoted(text)))),
+        None => Ok(None),
     }
-    Ok(Some(Symbol::Nonterminal(NonterminalString(Atom::new(alloc, word)?))))
 }

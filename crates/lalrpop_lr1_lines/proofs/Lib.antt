@@ -1,0 +1,3 @@
+pub mod ExamplesOfLines
+pub mod LineLemmas
+pub mod WordLemmas
