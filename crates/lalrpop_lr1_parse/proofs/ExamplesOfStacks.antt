@@ -1,23 +1,24 @@
 -- Stacks of trees and of states, trees without productions, parts of lists and numbers of names, computed.
 use Rattle.std.proofs.Common.{◌≡◌, ℕ, zero, suc, ◌<◌, ◌≤◌, [], ◌∷◌, Some, None}
-use Rattle.std.proofs.Common.{refl, arith, take}
+use Rattle.std.proofs.Common.{refl, ap, arith, length, length-append, take}
 use Rattle.std.specs.Prelude.{slice_index}
 use Rattle.lalrpop_grammar_symbols.specs.Symbols.{Terminal, TextSpan}
 use Rattle.lalrpop_lr1_theory.specs.Productions.{Production, Symbol, terminal}
 use Rattle.lalrpop_lr1_theory.specs.Automata.{Walk, stands}
 use Rattle.lalrpop_lr1_theory.specs.Spans.{SpannedForest, leaf_at, node_at, none_at, without_spans}
-use Rattle.lalrpop_lr1_theory.specs.Trees.{reduce, shift}
+use Rattle.lalrpop_lr1_theory.specs.Trees.{reduce, roots, shift}
+use Rattle.lalrpop_lr1_theory.proofs.TreeLemmas.{roots-and}
 use Rattle.lalrpop_lr1_parse.specs.ExpandedViews.{nth_tree, root_children}
 use Rattle.lalrpop_lr1_parse.specs.NamedTrees.{name_forest, named_leaf, named_leaves, named_node, no_trees}
 use Rattle.lalrpop_lr1_parse.specs.Rows.{AreNumbersOf, part_at}
-use Rattle.lalrpop_lr1_parse.specs.Stacks.{AreStatesOn, EndsByShift, by_shift, no_moves, ◌beside◌}
-use Rattle.lalrpop_lr1_parse.proofs.StackLemmas.{states_on}
+use Rattle.lalrpop_lr1_parse.specs.Stacks.{AreStatesOn, EndsByShift, HasChildren, by_shift, no_moves, ◌beside◌}
+use Rattle.lalrpop_lr1_parse.proofs.StackLemmas.{states_on, without-beside}
 
-abbrev one : Terminal
+abbrev pub one : Terminal
 one = Terminal.regex (49 ∷ [])
 
 -- `N = r"1"`
-abbrev number : Production
+abbrev pub number : Production
 number = record { left = 78 ∷ []; right = terminal one ∷ []; action = 0; from = 0; to = 1 }
 
 abbrev span : TextSpan
@@ -51,6 +52,21 @@ children_of_a_node = refl
 
 children_of_a_leaf : root_children a_leaf ≡ none_at
 children_of_a_leaf = refl
+
+-- what stands for a leaf ends with the child of a node over it; what stands for nothing doesn't
+child_there : HasChildren (λ ts ks. (ts ≡ a_leaf) × (ks ≡ [])) number
+child_there = record { kept = none_at; children = a_leaf; tokens = []; stands = (refl, refl); roots_are = refl }
+
+no_child_there : HasChildren (λ ts ks. ts ≡ none_at) number → ⊥
+no_child_there h =
+    omega (
+      arith,
+      ap (λ ts. length (roots (without_spans ts))) h.stands,
+      ap (λ f. length (roots f)) (without-beside h.kept h.children),
+      ap length (roots-and (without_spans h.kept) (without_spans h.children)),
+      length-append (roots (without_spans h.kept)) (roots (without_spans h.children)),
+      ap length h.roots_are,
+    )
 
 -- a tree without productions, and its leaves
 without_productions : name_forest (without_spans a_node) ≡ named_node (78 ∷ []) (named_leaf one no_trees) no_trees

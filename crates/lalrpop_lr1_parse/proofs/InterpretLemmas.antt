@@ -5,6 +5,7 @@ use Rattle.std.proofs.Common.{Contains, Err, arith, ◌++◌}
 use Rattle.std.specs.Prelude.{nat_lt}
 use Rattle.std.proofs.lemmas.Bool.{cases_lt, lt-ltb, ltb-true}
 use Rattle.std.proofs.lemmas.List.{length-map}
+use Rattle.lalrpop_grammar.specs.Trees.{Token}
 use Rattle.lalrpop_grammar.specs.declared.token.ScanToken.{ScanToken}
 use Rattle.lalrpop_grammar_symbols.specs.Symbols.{Terminal, Text}
 use Rattle.lalrpop_grammar_symbols.specs.Views.{terminal_view}
@@ -52,7 +53,7 @@ may_run table states q = record {
 
 -- a stuck run is in one of the states
 pub halt_within : (table : ActionTable) (states : List (State (List ℕ))) (q : MayInterpret table states) (tokens : List ScanToken)
-    (limit : ℕ) (whole : Bool) (Made : SpannedForest → Type 0) (halt : Halt) →
+    (limit : ℕ) (whole : Bool) (Made : SpannedForest → List Token → Type 0) (halt : Halt) →
     IsEndOfRun (map (lr_state_view (token_lookahead q.terminals)) states) q.parsable.start tokens limit whole Made (Err halt) →
     IsHaltWithin (length states) halt
 halt_within table states q tokens limit whole Made (halts.Stuck at state) e =
@@ -81,7 +82,7 @@ module _ (grammar : List Production) (s : Text) (ts : TerminalSet) (states : Lis
       go (inr h) false e = end_right grammar s (map (lr_state_view (token_lookahead ts)) states) alone ok w at number move_limit stuck h
 
   -- what is answered where the machine halts is right
-  pub fault_right : (whole : Bool) (Made : SpannedForest → Type 0) (halt : Halt) (fault : InterpretFault) →
+  pub fault_right : (whole : Bool) (Made : SpannedForest → List Token → Type 0) (halt : Halt) (fault : InterpretFault) →
       IsEndOfRun (map (lr_state_view (token_lookahead ts)) states) s tokens move_limit whole Made (Err halt) →
       IsInterpretFaultOf states tokens halt fault → IsRightFault grammar s ts states (map (λ t. t.terminal) tokens) fault
   fault_right whole Made (halts.Stuck at number) (faults.Stuck e) h f =
@@ -108,7 +109,7 @@ module _ (grammar : List Production) (s : Text) (ts : TerminalSet) (states : Lis
   -- the tree that is made is right
   pub tree_right : (items rest : List ParseTree) (t : ParseTree) →
       MakesTree (map (lr_state_view (token_lookahead ts)) states) s tokens move_limit
-      (λ made. parse_tree_views items ≡ name_forest (without_spans made)) → items ≡ rest ++ t ∷ [] →
+      (λ made _. parse_tree_views items ≡ name_forest (without_spans made)) → items ≡ rest ++ t ∷ [] →
       IsTreeOfTokens grammar s (map (λ t. t.terminal) tokens) t
   tree_right items rest t made a = record {
     whole = without_spans made.trees;
@@ -128,7 +129,7 @@ module _ (grammar : List Production) (s : Text) (ts : TerminalSet) (states : Lis
 
 -- where a tree was made one is there
 pub none_made : (states : List TheoryState) (s : Text) (tokens : List ScanToken) (limit : ℕ) (items : List ParseTree) →
-    MakesTree states s tokens limit (λ made. parse_tree_views items ≡ name_forest (without_spans made)) → items ≡ [] → ⊥
+    MakesTree states s tokens limit (λ made _. parse_tree_views items ≡ name_forest (without_spans made)) → items ≡ [] → ⊥
 none_made states s tokens limit items made e =
     omega (
       arith,

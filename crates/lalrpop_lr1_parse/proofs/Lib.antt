@@ -1,6 +1,7 @@
 pub mod NamedLemmas
 pub mod NumberLemmas
 pub mod StackLemmas
+pub mod ExamplesOfParses
 pub mod ExamplesOfStacks
 pub mod ExpandedLemmas
 pub mod InterpretLemmas

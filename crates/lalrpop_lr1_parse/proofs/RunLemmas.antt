@@ -1,10 +1,12 @@
 -- What the machine's loop keeps, over its table: for the machine.
 use Rattle.std.proofs.Common.{◌≡◌, ◌∙◌, ℕ, suc, ◌-◌, ◌<◌, ◌≤◌, Bool, true, false, List, []}
-use Rattle.std.proofs.Common.{◌∷◌, ◌++◌, take, drop, length}
+use Rattle.std.proofs.Common.{◌∷◌, ◌++◌, take, drop, length, map}
 use Rattle.std.proofs.Common.{get_or, Some, None, ap, sym, refl, subst, arith, append-nil}
 use Rattle.std.proofs.Common.{Contains, zero}
 use Rattle.std.specs.Prelude.{slice_get}
-use Rattle.std.proofs.lemmas.List.{length-drop, length-map, length-take-le}
+use Rattle.std.proofs.lemmas.List.{length-drop, length-map, length-take-le, take_all}
+use Rattle.lalrpop_grammar.specs.Trees.{Token}
+use Rattle.lalrpop_grammar.specs.Views.{token_view}
 use Rattle.lalrpop_grammar.specs.declared.token.ScanToken.{ScanToken}
 use Rattle.lalrpop_grammar_symbols.specs.Symbols.{Terminal, Text}
 use Rattle.lalrpop_grammar_symbols.specs.Views.{span_view, terminal_view}
@@ -22,7 +24,7 @@ use Rattle.lalrpop_lr1_theory.specs.Automata.{Walk}
 use Rattle.lalrpop_lr1_theory.proofs.CheckedLemmas.{checked_automaton}
 use Rattle.lalrpop_lr1_theory.proofs.SoundnessLemmas.{can_reduce}
 use Rattle.lalrpop_lr1_theory.proofs.StepLemmas.{some_same}
-use Rattle.lalrpop_lr1_parse.specs.Ends.{IsDone, MayRun, spans_of, terminals_of}
+use Rattle.lalrpop_lr1_parse.specs.Ends.{IsDone, MayRun, spans_of, terminals_of, token_views}
 use Rattle.lalrpop_lr1_parse.specs.Outcomes.{IsStuckAt}
 use Rattle.lalrpop_lr1_parse.specs.Stacks.{HasChildren, ◌beside◌}
 use Rattle.lalrpop_lr1_parse.specs.Tables.{HasAction, HasGoto, IsActionBefore, IsNextBy, IsNumberedProduction, IsTableOf}
@@ -37,19 +39,26 @@ use Rattle.lalrpop_lr1_parse.proofs.ParsingLemmas.{limit_reduce, limit_shift, pa
 use Rattle.lalrpop_lr1_parse.proofs.ParsingLemmas.{top_walk, walk_in}
 use Rattle.lalrpop_lr1_parse.proofs.StackLemmas.{falls_in_two, spans-beside, states_top, without-beside}
 
--- Between two moves: the stack stands for trees of the first tokens, with their spans, and over any states of which the table is
+-- Between two moves: the stack stands for trees over the first tokens, with their spans, and over any states of which the table is
 -- one the run has come there.
 pub record IsRunning (table : ActionTable) (tokens : List ScanToken) (limit : ℕ) (whole : Bool)
-    (Made : SpannedForest → Type 0) (numbers : List ℕ) (at left : ℕ) (next : NextNumber) : Type 0 where
+    (Made : SpannedForest → List Token → Type 0) (numbers : List ℕ) (at left : ℕ) (next : NextNumber) : Type 0 where
   pub trees : SpannedForest
-  pub stands : Made trees
+  pub stands : Made trees (take at (token_views tokens))
   pub spans_are : leaf_spans trees ≡ take at (spans_of tokens)
   pub next_is : IsNextBy table (first (drop at (terminals_of tokens))) next
   pub parsing : (states : List State) → IsTableOf table states →
       Parsing states (terminals_of tokens) limit whole numbers (without_spans trees) at left
 
-pub running_start : (table : ActionTable) (tokens : List ScanToken) (limit : ℕ) (whole : Bool) (Made : SpannedForest → Type 0)
-    (numbers : List ℕ) (next : NextNumber) → Made none_at → numbers ≡ 0 ∷ [] →
+-- what is seen of one token more
+taken_more : {A : Type 0} (f : ScanToken → A) (xs : List ScanToken) (i : ℕ) (x : ScanToken) → i < length xs → x ≡ get_or xs i x →
+    take (suc i) (map f xs) ≡ take i (map f xs) ++ f x ∷ []
+taken_more f [] i x j r = absurd (omega arith)
+taken_more f (y ∷ xs) zero x j r = ap (λ z. f z ∷ []) (sym r)
+taken_more f (y ∷ xs) (suc i) x j r = ap (λ z. f y ∷ z) (taken_more f xs i x (omega arith) r)
+
+pub running_start : (table : ActionTable) (tokens : List ScanToken) (limit : ℕ) (whole : Bool)
+    (Made : SpannedForest → List Token → Type 0) (numbers : List ℕ) (next : NextNumber) → Made none_at [] → numbers ≡ 0 ∷ [] →
     IsNextBy table (first (drop 0 (terminals_of tokens))) next → IsRunning table tokens limit whole Made numbers 0 limit next
 running_start table tokens limit whole Made numbers next made e n = record {
   trees = none_at;
@@ -154,8 +163,8 @@ no_goto_says table n r states is numbered none_there m e =
     is.one_nonterminal l.number r.nonterminal r.production.now.nonterminal (l.at ∙ ap Some same) numbered.name in
     none_there m (subst (λ j. HasGoto table n j m) one l.leads)
 
-module _ (table : ActionTable) (tokens : List ScanToken) (limit : ℕ) (whole : Bool) (Made : SpannedForest → Type 0) (ns : List ℕ)
-    (at left : ℕ) (next : NextNumber) (p : IsRunning table tokens limit whole Made ns at left next)
+module _ (table : ActionTable) (tokens : List ScanToken) (limit : ℕ) (whole : Bool) (Made : SpannedForest → List Token → Type 0)
+    (ns : List ℕ) (at left : ℕ) (next : NextNumber) (p : IsRunning table tokens limit whole Made ns at left next)
     (n : ℕ) (is_top : n ≡ get_or ns (length ns - 1) n) where
   -- the state on top is one of the table's
   pub state_there : MayRun table → n < length table.rows.items
@@ -177,10 +186,12 @@ module _ (table : ActionTable) (tokens : List ScanToken) (limit : ℕ) (whole : 
       limit_shift states (terminals_of tokens) limit whole ns (without_spans p.trees) at left (p.parsing states is) n is_top m s.token
       l s.next_is (s.leads states is)
 
-  pub shift_on : (m left' at' : ℕ) (ns' : List ℕ) (t : ScanToken) (next' : NextNumber) (Made' : SpannedForest → Type 0) →
+  pub shift_on : (m left' at' : ℕ) (ns' : List ℕ) (t : ScanToken) (next' : NextNumber)
+      (Made' : SpannedForest → List Token → Type 0) →
       at' ≡ suc at → IsActionBefore table n next (Some (actions.Shift m)) → left ≡ suc left' → t ≡ get_or tokens at t →
       ns' ≡ ns ++ m ∷ [] →
-      ((ts : SpannedForest) → Made ts → Made' (ts beside leaf_at (terminal_view t.terminal) (span_view t.span) none_at)) →
+      ((ts : SpannedForest) (ks : List Token) → Made ts ks →
+      Made' (ts beside leaf_at (terminal_view t.terminal) (span_view t.span) none_at) (ks ++ token_view t ∷ [])) →
       IsNextBy table (first (drop at' (terminals_of tokens))) next' →
       IsRunning table tokens limit whole Made' ns' at' left' next'
   shift_on m left' at' ns' t next' Made' more a l read e made next_is' =
@@ -190,9 +201,11 @@ module _ (table : ActionTable) (tokens : List ScanToken) (limit : ℕ) (whole : 
       ∙ next_at tokens at t h read) in
       record {
         trees = p.trees beside leaf_at (terminal_view t.terminal) (span_view t.span) none_at;
-        stands = made p.trees p.stands;
+        stands = subst (Made' (p.trees beside leaf_at (terminal_view t.terminal) (span_view t.span) none_at))
+            (sym (taken_more token_view tokens at t h read) ∙ ap (λ i. take i (token_views tokens)) (sym more))
+            (made p.trees (take at (token_views tokens)) p.stands);
         spans_are = spans-beside p.trees (leaf_at (terminal_view t.terminal) (span_view t.span) none_at)
-            ∙ ap (λ l. l ++ span_view t.span ∷ []) p.spans_are ∙ sym (spans_more tokens at t h read)
+            ∙ ap (λ l. l ++ span_view t.span ∷ []) p.spans_are ∙ sym (taken_more (λ k. span_view k.span) tokens at t h read)
             ∙ ap (λ i. take i (spans_of tokens)) (sym more);
         next_is = next_is';
         parsing = λ states is.
@@ -206,12 +219,6 @@ module _ (table : ActionTable) (tokens : List ScanToken) (limit : ℕ) (whole : 
             ∙ sym (without-beside p.trees (leaf_at (terminal_view t.terminal) (span_view t.span) none_at)))
             k);
       }
-    where
-      spans_more : (xs : List ScanToken) (i : ℕ) (x : ScanToken) → i < length xs → x ≡ get_or xs i x →
-          take (suc i) (spans_of xs) ≡ take i (spans_of xs) ++ span_view x.span ∷ []
-      spans_more [] i x j r = absurd (omega arith)
-      spans_more (y ∷ xs) zero x j r = ap (λ z. span_view z.span ∷ []) (sym r)
-      spans_more (y ∷ xs) (suc i) x j r = ap (λ z. span_view y.span ∷ z) (spans_more xs i x (omega arith) r)
 
   -- where nothing is done, the run is stuck
   pub is_stuck : IsActionBefore table n next None → (states : List State) → IsTableOf table states →
@@ -222,7 +229,7 @@ module _ (table : ActionTable) (tokens : List ScanToken) (limit : ℕ) (whole : 
 
   module _ (q : MayRun table) (r : NumberedProduction) (a : IsActionBefore table n next (Some (actions.Reduce r))) where
     -- the trees end with the children of a node by the production
-    pub has_children : HasChildren (λ ts. p.trees ≡ ts) (production_view r.production.now)
+    pub has_children : HasChildren (λ ts _. p.trees ≡ ts) (production_view r.production.now)
     has_children =
         let says = reduce_says table n (first (drop at (terminals_of tokens))) next r p.next_is a in
         let walk = top_walk q.states (terminals_of tokens) limit whole ns (without_spans p.trees) at left
@@ -231,7 +238,13 @@ module _ (table : ActionTable) (tokens : List ScanToken) (limit : ℕ) (whole : 
         (checked_automaton q.grammar q.start q.states q.checked) (without_spans p.trees) n (production_view r.production.now)
         (first (drop at (terminals_of tokens))) walk (says.reduces q.states q.is_table) in
         let t = falls_in_two p.trees c.kept c.children c.parts in
-        record { kept = t.front; children = t.back; stands = t.parts; roots_are = ap roots t.back_is ∙ c.roots_are }
+        record {
+          kept = t.front;
+          children = t.back;
+          tokens = take at (token_views tokens);
+          stands = t.parts;
+          roots_are = ap roots t.back_is ∙ c.roots_are;
+        }
 
     module _ (kept children : SpannedForest) (parts : p.trees ≡ kept beside children)
         (roots_are : roots (without_spans children) ≡ (production_view r.production.now).right) where
@@ -281,9 +294,10 @@ module _ (table : ActionTable) (tokens : List ScanToken) (limit : ℕ) (whole : 
             q.is_table.count,
           )
 
-      pub reduce_on : (k n2 m left' : ℕ) (ns' : List ℕ) (Made' : SpannedForest → Type 0) → left ≡ suc left' →
+      pub reduce_on : (k n2 m left' : ℕ) (ns' : List ℕ) (Made' : SpannedForest → List Token → Type 0) → left ≡ suc left' →
           k ≡ length ns - r.length → n2 ≡ get_or (take k ns) (length (take k ns) - 1) n2 → HasGoto table n2 r.nonterminal m →
-          ns' ≡ take k ns ++ m ∷ [] → Made' (kept beside node_at (production_view r.production.now) children none_at) →
+          ns' ≡ take k ns ++ m ∷ [] →
+          Made' (kept beside node_at (production_view r.production.now) children none_at) (take at (token_views tokens)) →
           (whole ≡ false → at ≡ length tokens → ⊥) → IsRunning table tokens limit whole Made' ns' at left' next
       reduce_on k n2 m left' ns' Made' l e read g z made early =
           let says = reduce_says table n (first (drop at (terminals_of tokens))) next r p.next_is a in
@@ -311,10 +325,11 @@ module _ (table : ActionTable) (tokens : List ScanToken) (limit : ℕ) (whole : 
 
       -- where the nonterminal leads nowhere, the run is done
       pub done : (grammar : List Production) (s : Text) (states : List State) → AreCheckedStates grammar s states →
-          IsTableOf table states → (k n2 left' : ℕ) (numbers : List ℕ) (Made' : SpannedForest → Type 0) → left ≡ suc left' →
+          IsTableOf table states → (k n2 left' : ℕ) (numbers : List ℕ) (Made' : SpannedForest → List Token → Type 0) →
+          left ≡ suc left' →
           k ≡ length ns - r.length → n2 ≡ get_or (take k ns) (length (take k ns) - 1) n2 →
           ((m : ℕ) → HasGoto table n2 r.nonterminal m → ⊥) →
-          Made' (kept beside node_at (production_view r.production.now) children none_at) →
+          Made' (kept beside node_at (production_view r.production.now) children none_at) (take at (token_views tokens)) →
           (whole ≡ false → at ≡ length tokens → ⊥) → IsDone states s tokens limit Made' numbers whole
       done grammar s states ok is k n2 left' numbers Made' l e read none_there made early = go whole refl
         where
@@ -340,24 +355,21 @@ module _ (table : ActionTable) (tokens : List ScanToken) (limit : ℕ) (whole : 
                 length-map tokens (λ t. terminal_view t.terminal),
               )
 
-          all_spans : (xs : List ScanToken) (i : ℕ) → i ≡ length xs → take i (spans_of xs) ≡ spans_of xs
-          all_spans [] zero h = refl
-          all_spans [] (suc i) h = refl
-          all_spans (x ∷ xs) zero h = absurd (omega arith)
-          all_spans (x ∷ xs) (suc i) h = ap (λ l. span_view x.span ∷ l) (all_spans xs i (omega arith))
+          all_taken : {A : Type 0} (f : ScanToken → A) → take at (map f tokens) ≡ map f tokens
+          all_taken f = take_all at (map f tokens) (omega (arith, all_there, length-map tokens f))
 
           go : (b : Bool) → whole ≡ b → IsDone states s tokens limit Made' numbers b
           go false partly = absurd (early partly all_there)
           go true whole_is = record {
             trees = kept beside node_at (production_view r.production.now) children none_at;
-            stands = made;
+            stands = subst (Made' (kept beside node_at (production_view r.production.now) children none_at)) (all_taken token_view) made;
             accepts = subst (AcceptsWithin states s (terminals_of tokens) limit)
                 (sym (without-beside kept (node_at (production_view r.production.now) children none_at))) ended.2;
             spans_are =
                 spans-beside kept (node_at (production_view r.production.now) children none_at)
                 ∙ ap (λ l. leaf_spans kept ++ l) (append-nil (leaf_spans children))
                 ∙ sym (ap leaf_spans parts ∙ spans-beside kept children)
-                ∙ p.spans_are ∙ all_spans tokens at all_there;
+                ∙ p.spans_are ∙ all_taken (λ k. span_view k.span);
           }
 
 -- the number on top, as it is read

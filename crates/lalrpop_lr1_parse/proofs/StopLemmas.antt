@@ -3,6 +3,7 @@ use Rattle.std.proofs.Common.{◌≡◌, ℕ, zero, suc, ◌<◌, ◌≤◌, Lis
 use Rattle.std.proofs.Common.{length, drop, ap, sym, refl, subst, arith, Contains}
 use Rattle.std.proofs.Common.{Err, length-append, true}
 use Rattle.std.proofs.lemmas.List.{length-drop, length-map}
+use Rattle.lalrpop_grammar.specs.Trees.{Token as WholeToken}
 use Rattle.lalrpop_grammar.specs.declared.token.ScanToken.{ScanToken}
 use Rattle.lalrpop_grammar_symbols.specs.Symbols.{Terminal, Text}
 use Rattle.lalrpop_grammar_symbols.specs.Views.{terminal_view}
@@ -19,7 +20,7 @@ use Rattle.lalrpop_lr1_theory.proofs.CheckedLemmas.{checked_automaton}
 use Rattle.lalrpop_lr1_theory.proofs.SoundnessLemmas.{runs_yield}
 use Rattle.lalrpop_lr1_parse.specs.Ends.{IsEndOfRun, terminals_of}
 use Rattle.lalrpop_lr1_parse.specs.Outcomes.{IsStuckAt}
-use Rattle.lalrpop_lr1_parse.specs.Parses.{IsRightParse, IsStopOf}
+use Rattle.lalrpop_lr1_parse.specs.Parses.{IsRightStop, IsStopOf}
 use Rattle.lalrpop_lr1_parse.specs.declared.machine.Halt.{Halt}
 use Rattle.lalrpop_lr1_parse.specs.declared.machine.Halt.TheVariants as halts
 use Rattle.lalrpop_lr1_parse.specs.declared.stop.Stop.{Stop}
@@ -66,9 +67,9 @@ module _ (grammar : List Production) (s : Text) (states : List State) (alone : I
 -- what is answered where the machine halts is right
 pub stop_right : (grammar : List Production) (s : Text) (states : List State) → IsStartAlone grammar s →
     AreCheckedStates grammar s states → (tokens : List ScanToken) (limit : ℕ)
-    (Made : SpannedForest → Type 0) (halt : Halt) (stop : Stop) →
+    (Made : SpannedForest → List WholeToken → Type 0) (halt : Halt) (stop : Stop) →
     IsEndOfRun states s tokens limit true Made (Err halt) → IsStopOf (length tokens) halt stop →
-    IsRightParse grammar s tokens limit (Err stop)
+    IsRightStop grammar s tokens limit stop
 stop_right grammar s states alone ok tokens limit Made (halts.Stuck at state) (Token i) e h =
     subst (λ k. IsRightParseAnswer (Contains grammar) s (terminals_of tokens) limit (wrong_token k)) h.0
     (token_right grammar s states alone ok (terminals_of tokens) at state limit e
@@ -79,7 +80,7 @@ stop_right grammar s states alone ok tokens limit Made (halts.Stuck at state) En
 stop_right grammar s states alone ok tokens limit Made (halts.Stuck at state) Limit e h = absurd h
 stop_right grammar s states alone ok tokens limit Made (halts.Stuck at state) Memory e h = absurd h
 stop_right grammar s states alone ok tokens limit Made halts.Limit stop e h =
-    subst (λ x. IsRightParse grammar s tokens limit (Err x)) (sym h)
+    subst (IsRightStop grammar s tokens limit) (sym h)
     (ends_right grammar s states alone ok (terminals_of tokens) limit over_limit e)
 stop_right grammar s states alone ok tokens limit Made halts.Memory stop e h =
-    subst (λ x. IsRightParse grammar s tokens limit (Err x)) (sym h) tt
+    subst (IsRightStop grammar s tokens limit) (sym h) tt

@@ -1,5 +1,6 @@
 -- The states on a parser's stack, and what its trees are while it parses: for the machine, and for all that its stack may hold.
 use Rattle.std.specs.Prelude.{ℕ, suc, ◌≤◌, List, [], ◌∷◌, ◌++◌, length, take, slice_index, ◌≡◌}
+use Rattle.lalrpop_grammar.specs.Trees.{Token}
 use Rattle.lalrpop_grammar_symbols.specs.Symbols.{Terminal}
 use Rattle.lalrpop_lr1_theory.specs.Productions.{Production, Symbol}
 use Rattle.lalrpop_lr1_theory.specs.Trees.{Move, roots, shift}
@@ -23,9 +24,10 @@ pub data EndsByShift : List Move → Type 0 where
   no_moves : EndsByShift []
   by_shift : (before : List Move) (t : Terminal) → EndsByShift (before ++ shift t ∷ [])
 
--- what stands for trees ends with the children of a node by the production
-pub record HasChildren (Stands : SpannedForest → Type 0) (p : Production) : Type 0 where
+-- what stands for trees over tokens ends with the children of a node by the production
+pub record HasChildren (Stands : SpannedForest → List Token → Type 0) (p : Production) : Type 0 where
   pub kept : SpannedForest
   pub children : SpannedForest
-  pub stands : Stands (kept beside children)
+  pub tokens : List Token
+  pub stands : Stands (kept beside children) tokens
   pub roots_are : roots (without_spans children) ≡ p.right

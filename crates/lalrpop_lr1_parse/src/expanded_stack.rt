@@ -5,8 +5,8 @@ ghost use Rattle.lalrpop_lr1_parse.specs.declared.expanded_tree.ExpandedTree.{Ex
 
 use crate::expanded_tree::ExpandedTree;
 use crate::tree_stack::TreeStack;
+use lalrpop_grammar::ScanToken;
 use lalrpop_grammar_repr::Production;
-use lalrpop_grammar_symbols::{Span, TerminalString};
 use std::alloc::{AllocError, Global};
 
 /// The expanded trees that a parse has made so far.
@@ -44,10 +44,12 @@ impl<'g> TreeStack<'g> for ExpandedTrees<'g> {
     ghost use Rattle.std.specs.Prelude.{◌≡◌};
     ghost use Rattle.lalrpop_lr1_parse.specs.ExpandedViews.{expanded_views};
 
-    ghost stands = { λ it ts. expanded_views it.trees.items ≡ ts };
+    ghost given = { λ _. tt };
 
-    fn leaf(&mut self, terminal: &TerminalString, span: Span) -> Result<(), AllocError> {
-        let tree = ExpandedTree::leaf(self.alloc, terminal.try_clone()?, span)?;
+    ghost stands = { λ it ts _. expanded_views it.trees.items ≡ ts };
+
+    fn leaf(&mut self, token: &ScanToken<'_>) -> Result<(), AllocError> {
+        let tree = ExpandedTree::leaf(self.alloc, token.terminal.try_clone()?, token.span)?;
         self.trees.push(tree)?;
         Ok(())
     }

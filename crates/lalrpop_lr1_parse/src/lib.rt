@@ -1,8 +1,8 @@
 //! Parsing by states: the tree of tokens, or where they go wrong.
 //!
 //! A table of actions (`ActionTable`) says what states do, by numbers. One machine runs it over tokens; what it makes is a
-//! `TreeStack`, which contracts see as a list of trees of the tables' theory. `Tables` in `specs/` says when a table is one of states,
-//! `Ends` how a run ends, `Parses` which answer to tokens is right.
+//! `TreeStack`, which contracts see as a list of trees of the tables' theory over tokens. `Tables` in `specs/` says when a table is one
+//! of states, `Ends` how a run ends, `Parses` which answer to tokens is right.
 #![tactic(auto)]
 
 mod action_table;

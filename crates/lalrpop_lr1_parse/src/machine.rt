@@ -51,7 +51,7 @@ fn push_number(numbers: &mut Vec<usize>, number: usize) -> Result<(), AllocError
 }
 
 /// Runs the table over the tokens, from no tree: until it accepts, where the parse is to be whole, or else until all tokens are
-/// shifted. What is made stands on the stack. Answers the states on the stack, by their numbers.
+/// shifted. What is made stands on the stack, which keeps what it was given. Answers the states on the stack, by their numbers.
 pub(crate) fn run<'g, S: TreeStack<'g>>(
     alloc: Global,
     table: &ActionTable<'g>,
@@ -61,10 +61,11 @@ pub(crate) fn run<'g, S: TreeStack<'g>>(
     stack: &mut S,
 ) -> Result<Vec<usize>, Halt>
     requires checked { MayRun table.now }
-    requires empty { S.stands stack.old none_at }
-    ensures { (grammar : List Production) (s : Text) (states : List State) → IsStartAlone grammar s
+    requires empty { S.stands stack.old none_at [] }
+    ensures ends { (grammar : List Production) (s : Text) (states : List State) → IsStartAlone grammar s
         → AreCheckedStates grammar s states → IsTableOf table.now states
         → IsEndOfRun states s tokens.now limit whole (S.stands stack.new) result }
+    ensures same { S.given stack.new ≡ S.given stack.old }
 {
     let mut numbers = Vec::new(alloc);
     push_number(&mut numbers, 0)?;
@@ -83,7 +84,7 @@ pub(crate) fn run<'g, S: TreeStack<'g>>(
                 }
                 left -= 1;
                 let token = &tokens[at];
-                stack.leaf(&token.terminal, token.span)?;
+                stack.leaf(token)?;
                 push_number(&mut numbers, target)?;
                 at += 1;
                 next = table.next_number(tokens, at);

@@ -1,13 +1,14 @@
 //! Parsing within a limit.
 
-ghost use Rattle.std.specs.Prelude.{◌≡◌, List, map};
+ghost use Rattle.std.specs.Prelude.{◌≡◌, [], List, map};
 ghost use Rattle.lalrpop_grammar_symbols.specs.Symbols.{Text};
 ghost use Rattle.lalrpop_lr1_theory.specs.CheckedStates.{AreCheckedStates, IsStartAlone};
 ghost use Rattle.lalrpop_lr1_theory.specs.Productions.{Production};
+ghost use Rattle.lalrpop_lr1_theory.specs.Spans.{none_at};
 ghost use Rattle.lalrpop_lr1_theory.specs.States.{State};
 ghost use Rattle.lalrpop_lr1_items.specs.Views.{lr_state_view, token_lookahead};
 ghost use Rattle.lalrpop_lr1_parse.specs.Ends.{MayRun};
-ghost use Rattle.lalrpop_lr1_parse.specs.Parses.{AreParsable, IsRightParse, IsStopOf};
+ghost use Rattle.lalrpop_lr1_parse.specs.Parses.{AreParsable, IsRightParse, IsRightParseOnto, IsStopOf};
 ghost use Rattle.lalrpop_lr1_parse.specs.Tables.{IsTableOf};
 ghost use Rattle.lalrpop_lr1_parse.specs.declared.stop.Stop.TheVariants.{Memory};
 
@@ -16,6 +17,7 @@ use crate::expanded_stack::ExpandedTrees;
 use crate::expanded_tree::ExpandedTree;
 use crate::machine::{Halt, run};
 use crate::stop::Stop;
+use crate::tree_stack::TreeStack;
 use lalrpop_grammar::ScanToken;
 use lalrpop_grammar_repr::TerminalSet;
 use lalrpop_lr1_items::Lr1State;
@@ -42,6 +44,33 @@ fn stop_of(halt: Halt, count: usize) -> Stop
 }
 
 impl<'g> ActionTable<'g> {
+    /// Parses the tokens onto the stack, on which nothing was made before: it then stands for the tree of the tokens, which has at
+    /// most `limit` leaves and nodes. What the stack was given stays.
+    ///
+    /// # Errors
+    ///
+    /// The first token with which they begin no sentence, or that the end is wrong, or that more than `limit` moves would be made, or
+    /// that memory ran out.
+    pub fn parse_onto<S: TreeStack<'g>>(
+        &self,
+        alloc: Global,
+        tokens: &[ScanToken<'_>],
+        limit: u64,
+        stack: &mut S,
+    ) -> Result<(), Stop>
+        requires checked { MayRun self.now }
+        requires empty { S.stands stack.old none_at [] }
+        ensures right { (grammar : List Production) (s : Text) (states : List State) → IsStartAlone grammar s
+            → AreCheckedStates grammar s states → IsTableOf self.now states
+            → IsRightParseOnto grammar s tokens.now limit (S.stands stack.new) result }
+        ensures same { S.given stack.new ≡ S.given stack.old }
+    {
+        match run(alloc, self, tokens, limit, true, stack) {
+            Ok(_) => Ok(()),
+            Err(halt) => Err(stop_of(halt, tokens.len())),
+        }
+    }
+
     /// The tree of the tokens, with at most `limit` leaves and nodes; or the first token with which they begin no sentence, or that
     /// the end is wrong, or that more than `limit` moves would be made.
     pub fn parse(
@@ -55,12 +84,10 @@ impl<'g> ActionTable<'g> {
             → AreCheckedStates grammar s states → IsTableOf self.now states → IsRightParse grammar s tokens.now limit result }
     {
         let mut stack = ExpandedTrees::new(alloc);
-        match run(alloc, self, tokens, limit, true, &mut stack) {
-            Ok(_) => match stack.into_last() {
-                Some(tree) => Ok(tree),
-                None => unreachable!(),
-            },
-            Err(halt) => Err(stop_of(halt, tokens.len())),
+        self.parse_onto(alloc, tokens, limit, &mut stack)?;
+        match stack.into_last() {
+            Some(tree) => Ok(tree),
+            None => unreachable!(),
         }
     }
 }

@@ -5,8 +5,9 @@ ghost use Rattle.lalrpop_lr1_parse.specs.declared.parse_tree.ParseTree.{ParseTre
 
 use crate::parse_tree::ParseTree;
 use crate::tree_stack::TreeStack;
+use lalrpop_grammar::ScanToken;
 use lalrpop_grammar_repr::Production;
-use lalrpop_grammar_symbols::{List, Span, TerminalString};
+use lalrpop_grammar_symbols::List;
 use std::alloc::{AllocError, Global};
 
 /// The parse trees that a parse has made so far.
@@ -40,10 +41,13 @@ impl<'g> TreeStack<'g> for ParseTrees {
     ghost use Rattle.lalrpop_lr1_theory.specs.Spans.{without_spans};
     ghost use Rattle.lalrpop_lr1_parse.specs.NamedTrees.{name_forest, parse_tree_views};
 
-    ghost stands = { λ it ts. parse_tree_views it.trees.items ≡ name_forest (without_spans ts) };
+    ghost given = { λ _. tt };
 
-    fn leaf(&mut self, terminal: &TerminalString, _: Span) -> Result<(), AllocError> {
-        self.trees.push(ParseTree::Terminal(terminal.try_clone()?))?;
+    ghost stands = { λ it ts _. parse_tree_views it.trees.items ≡ name_forest (without_spans ts) };
+
+    fn leaf(&mut self, token: &ScanToken<'_>) -> Result<(), AllocError> {
+        let terminal = token.terminal.try_clone()?;
+        self.trees.push(ParseTree::Terminal(terminal))?;
         Ok(())
     }
 

@@ -12,8 +12,8 @@ overflow_sub-first c =
       c.len-2.ensures,
     )
 
-pub returns : goal.returns
-returns c = λ kept children e r.
+pub returns-clause-node_stands : goal.returns-clause-node_stands
+returns-clause-node_stands c = λ kept children ks e r.
     node_on c.args.self.now.trees.items c.split_off.new.self.items c.in_ok-children.children.items c.push.new.self.items
     (c.len.result - c.len-2.result) c.args.production.now c.in_ok-tree.tree kept children e r
     (omega (arith, c.len.ensures, c.len-2.ensures)) c.in_ok-children.ensures.items c.in_ok-children.ensures.tail c.in_ok-tree.ensures

@@ -6,9 +6,9 @@ use Rattle.lalrpop_lr1_parse.specs.declared.parse_tree.ParseTree.TheVariants.{Te
 use Rattle.lalrpop_lr1_parse.proofs.NamedLemmas.{named_leaf_on, terminal_seen}
 use Rattle.lalrpop_lr1_parse.proofs.parse_tree_stack.ParseTreesTreeStack.leaf.Goals as goal
 
-pub returns : goal.returns
-returns c = λ ts e.
-    named_leaf_on c.args.self.now.trees.items c.push.new.self.items (Terminal c.in_ok-try_clone.field-0) ts
-    (leaf_at (terminal_view c.args.terminal.now) (span_view c.args.arg3) none_at) e
-    (terminal_seen c.in_ok-try_clone.field-0 ∙ ap (λ t. named_leaf (terminal_view t) no_trees) c.in_ok-try_clone.ensures)
+pub returns-clause-leaf_stands : goal.returns-clause-leaf_stands
+returns-clause-leaf_stands c = λ ts ks e.
+    named_leaf_on c.args.self.now.trees.items c.push.new.self.items (Terminal c.in_ok-terminal.terminal) ts
+    (leaf_at (terminal_view c.args.token.now.terminal) (span_view c.args.token.now.span) none_at) e
+    (terminal_seen c.in_ok-terminal.terminal ∙ ap (λ t. named_leaf (terminal_view t) no_trees) c.in_ok-terminal.ensures)
     c.in_ok-push.ensures.items

@@ -14,8 +14,8 @@ overflow_sub-first c =
       c.len-2.ensures,
     )
 
-pub returns : goal.returns
-returns c = λ kept children e r.
+pub returns-clause-node_stands : goal.returns-clause-node_stands
+returns-clause-node_stands c = λ kept children ks e r.
     named_node_on c.args.self.now.trees.items c.split_off.new.self.items c.in_ok-children.children.items c.push.new.self.items
     (c.len.result - c.len-2.result) c.args.production.now (Nonterminal c.in_ok-name.name c.from_vec.result) kept children e r
     (omega (arith, c.len.ensures, c.len-2.ensures)) c.in_ok-children.ensures.items c.in_ok-children.ensures.tail

@@ -1,0 +1,28 @@
+use Rattle.std.proofs.Common.{subst, sym}
+use Rattle.lalrpop_lr1_theory.specs.Answers.{tree}
+use Rattle.lalrpop_lr1_theory.specs.Spans.{without_spans}
+use Rattle.lalrpop_lr1_theory.proofs.AnswerLemmas.{ends_right}
+use Rattle.lalrpop_lr1_parse.specs.Ends.{terminals_of}
+use Rattle.lalrpop_lr1_parse.specs.Parses.{IsRightParseOnto}
+use Rattle.lalrpop_lr1_parse.proofs.StopLemmas.{stop_right}
+use Rattle.lalrpop_lr1_parse.proofs.action_table.ActionTable.parse_onto.Goals as goal
+use Rattle.lalrpop_lr1_parse.proofs.action_table.ActionTable.parse_onto.Goals.{in-Ok, in-Err}
+
+pub returns-clause-right : goal.returns-clause-right
+returns-clause-right g c = λ grammar s states alone ok is.
+    elim c.match-run.branch [
+      | in-Ok w ↦
+          let made = w.in-Ok.ensures.ends grammar s states alone ok is in
+          subst (IsRightParseOnto grammar s c.args.tokens.now c.args.limit (g.S.TreeStack.stands c.run.new.stack)) (sym w.result-is)
+          (record {
+            trees = made.trees;
+            stands = made.stands;
+            right = ends_right grammar s states alone ok (terminals_of c.args.tokens.now) c.args.limit (tree (without_spans made.trees))
+                made.accepts;
+            spans_are = made.spans_are;
+          })
+      | in-Err w ↦
+          subst (IsRightParseOnto grammar s c.args.tokens.now c.args.limit (g.S.TreeStack.stands c.run.new.stack)) (sym w.result-is)
+          (stop_right grammar s states alone ok c.args.tokens.now c.args.limit (g.S.TreeStack.stands c.run.new.stack) w.in-Err.halt
+          w.stop_of.result (w.in-Err.ensures.ends grammar s states alone ok is) w.stop_of.ensures)
+    ]
