@@ -1,3 +1,4 @@
 pub mod Counts
 pub mod KnownTerminals
+pub mod Readings
 pub mod TokenAnswers

@@ -7,7 +7,7 @@ use std::fmt::{self, Display, Formatter, Write};
 /// Why there is no answer.
 #[derive(Clone, Copy, Debug, PartialEq, Eq)]
 pub enum AnswerFault {
-    /// Something is wrong with the lines.
+    /// Something is wrong with the lines; want of memory is told as such.
     Lines(LinesError),
     /// The terminals of the grammar aren't numbered by their places.
     Terminals,

@@ -2,7 +2,7 @@
 
 use lalrpop_grammar_repr::{Grammar, Production, Symbol};
 use lalrpop_grammar_symbols::{Atom, NonterminalString, TerminalString};
-use lalrpop_lr1_lines::read_lines;
+use lalrpop_lr1_lines::{LinesError, read_lines};
 use lalrpop_sets::Token;
 use std::alloc::{AllocError, Global};
 use std::test::Fail;
@@ -11,6 +11,7 @@ use std::test::Fail;
 pub(crate) fn grammar_of(alloc: Global, lines: &str) -> Result<Grammar, Fail> {
     match read_lines(alloc, lines) {
         Ok(grammar) => Ok(grammar),
+        Err(LinesError::Memory) => Err(AllocError.into()),
         Err(error) => Err(Fail::new(error)),
     }
 }
