@@ -3,8 +3,10 @@
 ghost use Rattle.lalrpop_lr1_first.specs.NumberedGrammars.{HasItsTerminals};
 
 use crate::case::{Call, Case};
+use crate::checks::check_text;
 use crate::conflicts::{canonical_conflicts, collapsed_conflicts};
 use crate::firsts::first_text;
+use crate::onto::onto_text;
 use crate::parses::parse_text;
 use lalrpop_grammar_repr::Grammar;
 use lalrpop_grammar_symbols::NonterminalString;
@@ -59,6 +61,8 @@ fn answer_call(
         Call::Counts => Ok(counts_text(alloc, grammar, start)?),
         Call::Tree => tree_text(alloc, grammar, start, tokens),
         Call::Parse => parse_text(alloc, grammar, start, tokens, case.limit),
+        Call::Onto => onto_text(alloc, grammar, start, tokens, case.limit),
+        Call::Check => Ok(check_text(alloc, grammar, start, case.change.as_str())?),
         Call::Conflicts => Ok(canonical_conflicts(alloc, grammar, start)?),
         Call::CollapsedConflicts => Ok(collapsed_conflicts(alloc, grammar, start)?),
         Call::First => Ok(first_text(alloc, grammar, case.names.as_str())?),

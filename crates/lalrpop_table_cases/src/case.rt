@@ -18,6 +18,10 @@ pub(crate) struct Case {
     /// Tokens between blanks.
     #[serde(default)]
     pub(crate) tokens: String,
+    /// What is changed in the first state that has it: `no shifts`, `no gotos`, `no reductions` or `no items`, or its reductions
+    /// `before all tokens`, or `before the end too`. Nothing where it is empty.
+    #[serde(default)]
+    pub(crate) change: String,
     /// How many moves a parse may make.
     #[serde(default)]
     pub(crate) limit: u64,
@@ -38,6 +42,10 @@ pub(crate) enum Call {
     Tree,
     /// How many leaves and nodes the tree of the tokens has within the limit, or why there is none.
     Parse,
+    /// What is made of the tokens within the limit, leaf by leaf and node by node, or why that ends.
+    Onto,
+    /// Whether the canonical states, changed, may be parsed with.
+    Check,
     /// The conflicts of the canonical states.
     Conflicts,
     /// The conflicts of the states into which these collapse.

@@ -6,8 +6,10 @@ ghost use Rattle.std.specs.Prelude.{◌≤◌, IfOk, length};
 
 mod answer;
 mod case;
+mod checks;
 mod conflicts;
 mod firsts;
+mod onto;
 mod parses;
 
 use crate::answer::answer_of;

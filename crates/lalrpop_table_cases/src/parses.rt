@@ -13,7 +13,7 @@ use lalrpop_lr1_parse::{Stop, parse_limited};
 use std::alloc::{AllocError, Global};
 
 /// The tokens whose terminals stand in the text between blanks.
-fn tokens_of(alloc: Global, text: &str) -> Result<Vec<ScanToken<'static>>, AllocError> {
+pub(crate) fn tokens_of(alloc: Global, text: &str) -> Result<Vec<ScanToken<'static>>, AllocError> {
     let mut tokens = Vec::new(alloc);
     for terminal in read_tokens(alloc, text)? {
         tokens.push(ScanToken {
@@ -26,7 +26,7 @@ fn tokens_of(alloc: Global, text: &str) -> Result<Vec<ScanToken<'static>>, Alloc
 }
 
 /// Why there is no tree, as text.
-fn stop_text(alloc: Global, stop: Stop) -> Result<String, AllocError> {
+pub(crate) fn stop_text(alloc: Global, stop: Stop) -> Result<String, AllocError> {
     match stop {
         Stop::Token(place) => Ok(format!(in alloc; "token {place}")?),
         Stop::End => String::from_str(alloc, "end"),

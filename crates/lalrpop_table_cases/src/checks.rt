@@ -1,0 +1,150 @@
+//! Tests of states, as the tables make them or with one thing changed, as text.
+
+ghost use Rattle.lalrpop_lr1_first.specs.NumberedGrammars.{HasItsTerminals};
+
+use lalrpop_grammar_repr::{Grammar, Map, Production, TerminalSet};
+use lalrpop_grammar_symbols::{List, NonterminalString};
+use lalrpop_lr1_answers::canonical_states;
+use lalrpop_lr1_check::check_states;
+use lalrpop_lr1_items::{Items, Lr1State, State};
+use lalrpop_sets::TokenSet;
+use std::alloc::{AllocError, Global};
+
+/// A reduction of a state, with what may follow.
+type Reduction<'g> = (TokenSet, &'g Production);
+
+/// Whether one of the reductions isn't before the end.
+fn some_not_at_end(reductions: &[Reduction<'_>], terminals: &TerminalSet) -> bool {
+    for (tokens, _) in reductions {
+        if !tokens.contains_eof(terminals) {
+            return true;
+        }
+    }
+    false
+}
+
+/// Whether the state has what is to be changed.
+fn has_it(state: &Lr1State<'_>, change: &str, terminals: &TerminalSet) -> bool {
+    match change {
+        "no shifts" => !state.shifts.is_empty(),
+        "no gotos" => !state.gotos.is_empty(),
+        "no reductions" | "before all tokens" => !state.reductions.is_empty(),
+        "before the end too" => some_not_at_end(state.reductions.as_slice(), terminals),
+        "no items" => !state.items.vec.is_empty(),
+        _ => false,
+    }
+}
+
+/// The reductions, each before all tokens.
+fn before_all<'g>(
+    alloc: Global,
+    reductions: List<Reduction<'g>>,
+    terminals: &TerminalSet,
+) -> Result<List<Reduction<'g>>, AllocError> {
+    let mut more = List::new(alloc);
+    for (_, production) in reductions.into_vec() {
+        more.push((TokenSet::all(alloc, terminals)?, production))?;
+    }
+    Ok(more)
+}
+
+/// The reductions, each before the end too.
+fn before_the_end<'g>(
+    alloc: Global,
+    reductions: List<Reduction<'g>>,
+    terminals: &TerminalSet,
+) -> Result<List<Reduction<'g>>, AllocError> {
+    let mut more = List::new(alloc);
+    for (mut tokens, production) in reductions.into_vec() {
+        tokens.insert_eof(terminals)?;
+        more.push((tokens, production))?;
+    }
+    Ok(more)
+}
+
+/// The reductions with the change.
+fn change_reductions<'g>(
+    alloc: Global,
+    reductions: List<Reduction<'g>>,
+    change: &str,
+    terminals: &TerminalSet,
+) -> Result<List<Reduction<'g>>, AllocError> {
+    match change {
+        "no reductions" => Ok(List::new(alloc)),
+        "before all tokens" => before_all(alloc, reductions, terminals),
+        "before the end too" => before_the_end(alloc, reductions, terminals),
+        _ => Ok(reductions),
+    }
+}
+
+/// The state with the change.
+fn change_state<'g>(
+    alloc: Global,
+    state: Lr1State<'g>,
+    change: &str,
+    terminals: &TerminalSet,
+) -> Result<Lr1State<'g>, AllocError> {
+    let State {
+        index,
+        mut items,
+        mut shifts,
+        reductions,
+        mut gotos,
+    } = state;
+    let reductions = change_reductions(alloc, reductions, change, terminals)?;
+    match change {
+        "no shifts" => shifts = Map::new(alloc),
+        "no gotos" => gotos = Map::new(alloc),
+        "no items" => {
+            items = Items {
+                vec: List::new(alloc),
+            }
+        }
+        _ => {}
+    }
+    Ok(State {
+        index,
+        items,
+        shifts,
+        reductions,
+        gotos,
+    })
+}
+
+/// The states, with the change in the first that has what is to be changed.
+fn change_first<'g>(
+    alloc: Global,
+    states: Vec<Lr1State<'g>>,
+    change: &str,
+    terminals: &TerminalSet,
+) -> Result<Vec<Lr1State<'g>>, AllocError> {
+    let mut changed = Vec::new(alloc);
+    let mut is_done = false;
+    for state in states {
+        if !is_done && has_it(&state, change, terminals) {
+            changed.push(change_state(alloc, state, change, terminals)?)?;
+            is_done = true;
+        } else {
+            changed.push(state)?;
+        }
+    }
+    Ok(changed)
+}
+
+/// Whether the canonical states may be parsed with, once they are changed.
+pub(crate) fn check_text(
+    alloc: Global,
+    grammar: &Grammar,
+    start: &NonterminalString,
+    change: &str,
+) -> Result<String, AllocError>
+    requires { HasItsTerminals grammar.now }
+{
+    let canonical = canonical_states(alloc, grammar, start)?;
+    let states = change_first(alloc, canonical.states, change, &grammar.terminals)?;
+    if check_states(alloc, grammar, start, states.as_slice())? {
+        String::from_str(alloc, "right")
+    } else {
+        String::from_str(alloc, "wrong")
+    }
+}
