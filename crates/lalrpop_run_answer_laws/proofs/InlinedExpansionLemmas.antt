@@ -32,7 +32,7 @@ use Rattle.lalrpop_lr1_inline.specs.InlinedGrammars.{IsInlinedGrammar}
 use Rattle.lalrpop_lr1_inline.specs.InlinedNames.{NonterminalEntries, name_of_text}
 use Rattle.lalrpop_lr1_inline.specs.InliningSteps.{productions_named}
 use Rattle.lalrpop_lr1_inline.specs.NamedProductions.{IsInlinedByName, ProducesByAction, side_by_names}
-use Rattle.lalrpop_lr1_inline_laws.specs.InlinedLabels.{HasLabelled, StandOnce, production_actions}
+use Rattle.lalrpop_lr1_inline_laws.specs.InlinedLabels.{AreActionLabels, HasLabelled, StandOnce, production_actions}
 use Rattle.lalrpop_lr1_inline_laws.proofs.GivenLabelLemmas.{given_labels}
 use Rattle.lalrpop_lr1_inline_laws.proofs.LabelsExistLemmas.{labels_exist}
 use Rattle.lalrpop_lr1_inline_laws.proofs.OrderLabelLemmas.{inlined_labels}
@@ -63,7 +63,7 @@ once_same f (z ∷ xs) x y o (inr i) (inl b) e =
 once_same f (z ∷ xs) x y o (inr i) (inr j) e = once_same f xs x y o.1 i j e
 
 -- what the theory sees of entries
-abbrev seen_in : NonterminalEntries → List theory.Production
+abbrev pub seen_in : NonterminalEntries → List theory.Production
 seen_in es = map production_view (flat_map (λ e. e.1.productions) es)
 
 seen : (es : NonterminalEntries) (e : NonterminalString × NonterminalData) (q : Production) → Among es e → Among e.1.productions q →
@@ -74,14 +74,14 @@ seen es e q i j =
     (flat_map_among (λ (d : NonterminalString × NonterminalData). d.1.productions) es e q i j))
 
 -- A production of the theory, where it stands.
-record IsSeen (es : NonterminalEntries) (p : theory.Production) : Type 0 where
-  entry : NonterminalString × NonterminalData
-  production : Production
-  in_grammar : Among es entry
-  in_entry : Among entry.1.productions production
-  seen_is : production_view production ≡ p
+pub record IsSeen (es : NonterminalEntries) (p : theory.Production) : Type 0 where
+  pub entry : NonterminalString × NonterminalData
+  pub production : Production
+  pub in_grammar : Among es entry
+  pub in_entry : Among entry.1.productions production
+  pub seen_is : production_view production ≡ p
 
-is_seen : (es : NonterminalEntries) (p : theory.Production) → Contains (seen_in es) p → IsSeen es p
+pub is_seen : (es : NonterminalEntries) (p : theory.Production) → Contains (seen_in es) p → IsSeen es p
 is_seen es p c =
     let u = among_map production_view (flat_map (λ (d : NonterminalString × NonterminalData). d.1.productions) es) p
     (contained_among (seen_in es) p c) in
@@ -243,24 +243,40 @@ module _ (g : EnabledGrammar) (prefix : Text) (before : Grammar) (before_sorted 
       labelled_expansion g prefix es before_sorted before_own n (λ x. ⊥) (λ m. ⊥)
       (are_named_base g prefix es before_sorted before_own n) es before_sorted before_own lab are.sound are.all are.once
 
+  -- each production's action is one of the grammar's
+  abbrev AreKnown : Type 0
+  AreKnown =
+      (n : NonterminalString) (d : NonterminalData) (p : Production) → Among before.nonterminals (n, d) → Among d.productions p →
+      p.action.0 < length before.action_fn_defns
+
+  pub all_known : AreKnown → All (λ (e : NonterminalString × NonterminalData).
+      All (λ (p : Production). p.action.0 < length before.action_fn_defns) e.1.productions) before.nonterminals
+  all_known known =
+      all_of_each (λ (e : NonterminalString × NonterminalData).
+      All (λ (p : Production). p.action.0 < length before.action_fn_defns) e.1.productions) before.nonterminals
+      (λ e i. all_of_each (λ (p : Production). p.action.0 < length before.action_fn_defns) e.1.productions
+      (λ p j. known e.0 e.1 p i j))
+
   -- after inlining
-  pub inlined_expansion : (after : Grammar) → IsInlinedGrammar before after →
-      ((n : NonterminalString) (d : NonterminalData) (p : Production) → Among before.nonterminals (n, d) → Among d.productions p →
-      p.action.0 < length before.action_fn_defns) →
+  pub inlined_expansion : (after : Grammar) → IsInlinedGrammar before after → AreKnown →
       AreExpansion g prefix (Contains (theory_grammar after))
   inlined_expansion after inlined known =
       let es = before.nonterminals in
       let steps = inlined.steps in
-      let all_known : All (λ (e : NonterminalString × NonterminalData).
-      All (λ (p : Production). p.action.0 < length before.action_fn_defns) e.1.productions) es =
-      all_of_each (λ (e : NonterminalString × NonterminalData).
-      All (λ (p : Production). p.action.0 < length before.action_fn_defns) e.1.productions) es
-      (λ e i. all_of_each (λ (p : Production). p.action.0 < length before.action_fn_defns) e.1.productions
-      (λ p j. known e.0 e.1 p i j)) in
-      let labels = labels_exist before after actions_once all_known inlined in
+      let labels = labels_exist before after actions_once (all_known known) inlined in
       let are = inlined_labels before after labels.0 before_sorted actions_once inlined labels.1 in
       labelled_expansion g prefix es before_sorted before_own n (IsInlined g) (IsInlinedByName es)
       (are_named g prefix es before_sorted before_own n) after.nonterminals
       (steps_sorted inlined.order es after.nonterminals before.action_fn_defns after.action_fn_defns steps before_sorted)
       (steps_own inlined.order es after.nonterminals before.action_fn_defns after.action_fn_defns steps before_own)
       labels.0 are.has_label are.all are.once
+
+  -- its labels are those of the actions, back
+  pub labels_by_actions : (after : Grammar) (inlined : IsInlinedGrammar before after) (known : AreKnown) →
+      (lab : ℕ → Label Text ℕ) × AreActionLabels before after lab
+      × ((k : ℕ) → (inlined_expansion after inlined known).label_of k
+      ≡ label_back (back g prefix before.nonterminals before_sorted before_own n) (lab k))
+  unfolding inlined_expansion labelled_expansion
+  labels_by_actions after inlined known =
+      let labels = labels_exist before after actions_once (all_known known) inlined in
+      (labels.0, labels.1, λ k. refl)

@@ -96,3 +96,10 @@ named_expansion finds features w made h = record {
     λ k. (h.inlined x i).0 (among_inlined made.grammar.nonterminals (h.name_of x) k),
   );
 }
+
+-- its origins are those of the grammar
+pub named_origins : (finds : Text → Text → Option Bool) (features : List Text) (w : Grammar) (made : Normalized)
+    (h : IsNormalized finds features w (lowered_view made)) →
+    (named_expansion finds features w made h).origins ≡ map origin_view made.origins
+unfolding named_expansion
+named_origins finds features w made h = refl
