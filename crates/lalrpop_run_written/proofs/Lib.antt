@@ -1,0 +1,12 @@
+pub mod FillLemmas
+pub mod FrontLemmas
+pub mod TakenLemmas
+pub mod ShownTreeLemmas
+pub mod PartLemmas
+pub mod MadeTreeLemmas
+pub mod ToldLemmas
+pub mod SeenLemmas
+pub mod EntryLemmas
+pub mod RecordLemmas
+pub mod TakingLemmas
+pub mod ExamplesOfLabelledTrees

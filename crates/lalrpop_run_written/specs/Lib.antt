@@ -1,0 +1,2 @@
+pub mod ActionLabels
+pub mod LabelledTrees
