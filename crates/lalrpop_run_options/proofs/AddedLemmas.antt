@@ -1,4 +1,4 @@
--- A command with three more arguments, for the functions that add the program's.
+-- A command with two or three more arguments, for the functions that add the program's.
 use Rattle.std.proofs.Common.{◌∙◌, ap₂, refl, ◌∷◌, [], Result, IfOk}
 use Rattle.std.proofs.lemmas.Result.{IfOk-weaker}
 use Rattle.std.specs.declared.alloc.AllocError.{AllocError}
@@ -9,6 +9,19 @@ use Rattle.clap.specs.Walk.{Rule}
 use Rattle.clap.specs.declared.builder.arg.Arg.{Arg}
 use Rattle.clap.specs.declared.builder.command.Command.{Command}
 use Rattle.lalrpop_run_options.specs.Program.{AddsRules, IsArgument}
+
+-- two arguments that are added in turn add their two rules
+pub adds_two : {old one : Command} {a b : Arg} {u v : Rule} (result : Result Command AllocError)
+    → AddsArg old a one → IsArgument u a → IfOk result (AddsArg one b) → IsArgument v b
+    → IfOk result (AddsRules (u ∷ v ∷ []) old)
+adds_two {old} {one} {a} {b} {u} {v} result first is_first second is_second =
+    IfOk-weaker result _ (AddsRules (u ∷ v ∷ []) old)
+    (λ new added. record {
+      shape = added.shape is_second.global
+          ∙ ap₂ with_rule (first.shape is_first.global ∙ ap₂ with_rule refl is_first.rule) is_second.rule;
+      plain = λ plain. added_plain _ new _ added (added_plain _ _ _ first plain is_first.plain) is_second.plain;
+    })
+    second
 
 -- three arguments that are added in turn add their three rules
 pub adds_three : {old one two : Command} {a b c : Arg} {u v w : Rule} (result : Result Command AllocError)

@@ -1,4 +1,4 @@
--- A parse that succeeds has a task and a start, and its numbers passed their parsers, for `options`.
+-- A parse that succeeds has a task and a start, and its method and numbers passed their parsers, for `options`.
 use Rattle.std.proofs.Common.{◌≡◌, ◌∙◌, ◌<◌, ◌≤◌, ◌&&◌, ◌||◌, ap, arith, inl, inr, sym, subst, refl, ℕ}
 use Rattle.std.proofs.Common.{Bool, true, false, not, List, [], ◌∷◌, length, Some, None, Option, is_some, codes}
 use Rattle.std.specs.Prelude.{map}
@@ -23,9 +23,11 @@ use Rattle.clap.specs.declared.builder.value_parser.ValueParser.TheVariants as v
 use Rattle.clap.specs.declared.parser.matches.ArgMatches.{ArgMatches}
 use Rattle.lalrpop_run_options.proofs.GivenLemmas.{IsOwn, given_passed}
 use Rattle.lalrpop_run_options.proofs.RuleLemmas.{and_first, and_second, not_true, only_at, only_place, seen_at}
-use Rattle.lalrpop_run_options.specs.Given.{IsComplete, HasPassed}
-use Rattle.lalrpop_run_options.specs.Program.{IsProgram, WordList, limit_rule, macro_limit_rule, parser_of_u16, parser_of_u64, program}
-use Rattle.lalrpop_run_options.specs.Program.{rules_of_program, start_rule, task_rule}
+use Rattle.lalrpop_run_options.specs.Given.{HasMethodWord, IsComplete, HasPassed}
+use Rattle.lalrpop_run_options.specs.Method.{IsMethodWord, canonical_word, lane_word, method_words}
+use Rattle.lalrpop_run_options.specs.Program.{IsProgram, WordList, copies_rule, limit_rule, macro_limit_rule, method_rule}
+use Rattle.lalrpop_run_options.specs.Program.{parser_of_u16, parser_of_u64, parser_of_usize, program, rules_of_program, start_rule}
+use Rattle.lalrpop_run_options.specs.Program.{task_rule}
 use Rattle.lalrpop_run_options.specs.Task.{IsTaskWord, all_tasks, task_words, word_of}
 use Rattle.lalrpop_run_options.specs.declared.task.Task.{Task}
 
@@ -42,9 +44,10 @@ not_false : (b : Bool) → not b ≡ true → b ≡ false
 not_false true h = cc
 not_false false h = refl
 
-has_rules : (c : Command) (tasks : WordList) → app_of c ≡ program tasks → IsPlain c → HasRules c (rules_of_program tasks)
+has_rules : (c : Command) (tasks methods : WordList) → app_of c ≡ program tasks methods → IsPlain c
+    → HasRules c (rules_of_program tasks methods)
 unfolding program
-has_rules c tasks app plain = record {
+has_rules c tasks methods app plain = record {
   rules_are = ap (λ (a : App). a.top.rules) app;
   plain = plain;
   globals = not_false _ (and_first _ _ (and_second _ _ (and_second _ _ (ap (λ (a : App). a.top.is_plain) app))));
@@ -170,27 +173,50 @@ task_named (x ∷ xs) t h = go (bytes_eq (word_of x) t) refl (λ rest. task_name
     go true e later = (x, (bytes_eq-Decides (word_of x) t).0 e)
     go false e later = later (rw e at h)
 
+-- ---- the word of the method
+
+method_named : (t : Text) → list_any (λ w. bytes_eq w t) method_words ≡ true → IsMethodWord t
+method_named t h = go (bytes_eq lane_word t) (bytes_eq canonical_word t) refl refl h
+  where
+    go : (a b : Bool) → bytes_eq lane_word t ≡ a → bytes_eq canonical_word t ≡ b → (a || (b || false)) ≡ true → IsMethodWord t
+    go true b is_lane is_canonical some = inl (sym ((bytes_eq-Decides lane_word t).0 is_lane))
+    go false true is_lane is_canonical some = inr (sym ((bytes_eq-Decides canonical_word t).0 is_canonical))
+    go false false is_lane is_canonical some = cc
+
 -- ---- all of it
 
 -- a parse of the program's command line that succeeds has all that the options need
 pub complete : (c : Command) (m : ArgMatches) → IsProgram (app_of c) → IsPlain c → IsParsedFrom c m → IsComplete (found_of m)
 complete c m shown plain p =
     let tasks = shown.0 in
-    let rules = rules_of_program tasks in
-    let h = has_rules c tasks shown.2 plain in
+    let methods = shown.1 in
+    let rules = rules_of_program tasks methods in
+    let h = has_rules c tasks methods shown.3 plain in
     let task = argument_at c rules h 0 (task_rule tasks) (omega arith) (λ d. refl) refl refl in
     let start = argument_at c rules h 1 start_rule (omega arith) (λ d. refl) refl refl in
     let macro_limit = argument_at c rules h 5 macro_limit_rule (omega arith) (λ d. refl) refl refl in
     let limit = argument_at c rules h 6 limit_rule (omega arith) (λ d. refl) refl refl in
+    let method = argument_at c rules h 7 (method_rule methods) (omega arith) (λ d. refl) refl refl in
+    let copies = argument_at c rules h 8 copies_rule (omega arith) (λ d. refl) refl refl in
     let task_passed = passed c m rules h p 0 (task_rule tasks) task (vp.Names tasks) refl refl in
     record {
-      task = of_word tasks shown.1 (first_value (found_of m) (codes "command")) refl
+      task = of_word tasks shown.2.of_tasks (first_value (found_of m) (codes "command")) refl
           (given c m rules h p 0 (task_rule tasks) task refl refl refl refl) task_passed;
       start = given c m rules h p 1 start_rule start refl refl refl refl;
       macro_limit = passed c m rules h p 5 macro_limit_rule macro_limit parser_of_u16 refl refl;
+      method = of_method methods shown.2.of_methods
+          (passed c m rules h p 7 (method_rule methods) method (vp.Names methods) refl refl);
+      copies = passed c m rules h p 8 copies_rule copies parser_of_usize refl refl;
       limit = passed c m rules h p 6 limit_rule limit parser_of_u64 refl refl;
     }
   where
+    of_method : (methods : WordList) → texts methods.now ≡ method_words
+        → HasPassed (vp.Names methods) (codes "method") (found_of m) → HasMethodWord (found_of m)
+    of_method methods words method_passed t given =
+        let among : list_any (λ w. bytes_eq w t) (texts methods.now) ≡ true =
+        sym (any_text methods.now t) ∙ (method_passed t given).0 in
+        method_named t (rw words at among)
+
     of_word : (tasks : WordList) → texts tasks.now ≡ task_words → (o : Option Text)
         → first_value (found_of m) (codes "command") ≡ o
         → is_some (first_value (found_of m) (codes "command")) ≡ true → HasPassed (vp.Names tasks) (codes "command") (found_of m)

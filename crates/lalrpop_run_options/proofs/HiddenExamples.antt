@@ -1,11 +1,11 @@
--- Lines as `clap` is shown them, and its faults there, computed, for the reader of specs/Hidden.antt.
+-- Lines as `clap` is shown them, and its faults there, computed, for the reader of specs/Hidden.antt and specs/Program.antt.
 use Rattle.std.proofs.Common.{◌≡◌, refl, List, [], ◌∷◌, Some, None, codes}
 use Rattle.clap.proofs.OnLiterals.{clap_on_literals}
 use Rattle.clap.specs.Faults.{fault_of}
 use Rattle.clap.specs.Kinds.{Kinds}
 use Rattle.clap.specs.Walk.{Text}
-use Rattle.clap.specs.declared.error.kind.ErrorKind.TheVariants.{ArgumentConflict, InvalidValue, UnknownArgument}
-use Rattle.lalrpop_run_options.proofs.ProgramLemmas.{some_tasks}
+use Rattle.clap.specs.declared.error.kind.ErrorKind.TheVariants.{ArgumentConflict, InvalidValue, UnknownArgument, ValueValidation}
+use Rattle.lalrpop_run_options.proofs.ProgramLemmas.{some_methods, some_tasks}
 use Rattle.lalrpop_run_options.specs.Hidden.{hidden, hidden_value}
 use Rattle.lalrpop_run_options.specs.Program.{program}
 
@@ -14,7 +14,7 @@ abbrev judged : List Text → List Text
 judged words = codes "lalrpop_run" ∷ codes "judge" ∷ codes "--start" ∷ codes "S" ∷ words
 
 abbrev faults : List Text → Kinds
-faults line = fault_of (program some_tasks) (hidden line)
+faults line = fault_of (program some_tasks some_methods) (hidden line)
 
 -- ---- both values are hidden, and found
 
@@ -129,3 +129,36 @@ attached-faults = refl
 
 name-hidden : hidden (codes "--text" ∷ codes "-x" ∷ []) ≡ codes "--text" ∷ codes "-x" ∷ []
 name-hidden = refl
+
+-- ---- the way to states: a word that names a method, and a number
+
+abbrev checked : List Text → List Text
+checked words = codes "lalrpop_run" ∷ codes "check" ∷ codes "--start" ∷ codes "S" ∷ words
+
+lane-faults : faults (checked (codes "--method" ∷ codes "lane" ∷ codes "--copies" ∷ codes "+5" ∷ [])) ≡ []
+unfolding program clap_on_literals
+lane-faults = refl
+
+canonical-faults : faults (checked (codes "--method=canonical" ∷ [])) ≡ []
+unfolding program clap_on_literals
+canonical-faults = refl
+
+another_method-faults : faults (checked (codes "--method" ∷ codes "Lane" ∷ [])) ≡ InvalidValue ∷ []
+unfolding program clap_on_literals
+another_method-faults = refl
+
+no_number-faults : faults (checked (codes "--copies" ∷ codes "x" ∷ [])) ≡ ValueValidation ∷ []
+unfolding program clap_on_literals
+no_number-faults = refl
+
+too_large-faults : faults (checked (codes "--copies" ∷ codes "18446744073709551616" ∷ [])) ≡ ValueValidation ∷ []
+unfolding program clap_on_literals
+too_large-faults = refl
+
+no_copies-faults : faults (checked (codes "--copies" ∷ [])) ≡ InvalidValue ∷ []
+unfolding program clap_on_literals
+no_copies-faults = refl
+
+another_task-faults : faults (codes "lalrpop_run" ∷ codes "report" ∷ codes "--start" ∷ codes "S" ∷ []) ≡ InvalidValue ∷ []
+unfolding program clap_on_literals
+another_task-faults = refl

@@ -2,12 +2,11 @@
 use Rattle.std.specs.Prelude.{◌≡◌, List, [], Result, MatchResult}
 use Rattle.clap.specs.Faults.{fault_of}
 use Rattle.clap.specs.Simple.{matches_of}
-use Rattle.clap.specs.Walk.{Text, texts}
+use Rattle.clap.specs.Walk.{Text}
 use Rattle.lalrpop_run_options.specs.Hidden.{hidden}
 use Rattle.lalrpop_run_options.specs.Options.{AreOptionsOf}
-use Rattle.lalrpop_run_options.specs.Program.{WordList, program}
+use Rattle.lalrpop_run_options.specs.Program.{AreWords, WordList, program}
 use Rattle.lalrpop_run_options.specs.Refusal.{RefusesBy}
-use Rattle.lalrpop_run_options.specs.Task.{task_words}
 use Rattle.lalrpop_run_options.specs.declared.settings.Options.{Options}
 use Rattle.lalrpop_run_options.specs.declared.fault.OptionsError.{OptionsError}
 
@@ -15,8 +14,8 @@ use Rattle.lalrpop_run_options.specs.declared.fault.OptionsError.{OptionsError}
 -- values hidden: the options that they read there, where they find no fault, with the hidden values
 -- in their places, and else a fault of theirs
 abbrev pub FollowsRules : List Text → Result Options OptionsError → Type 0
-FollowsRules line answer = (tasks : WordList) × (texts tasks.now ≡ task_words)
+FollowsRules line answer = (tasks : WordList) × (methods : WordList) × AreWords tasks methods
     × MatchResult answer
-    (λ options. (fault_of (program tasks) (hidden line) ≡ [])
-    × AreOptionsOf line (matches_of (program tasks) (hidden line)) options)
-    (RefusesBy (fault_of (program tasks) (hidden line)))
+    (λ options. (fault_of (program tasks methods) (hidden line) ≡ [])
+    × AreOptionsOf line (matches_of (program tasks methods) (hidden line)) options)
+    (RefusesBy (fault_of (program tasks methods) (hidden line)))

@@ -1,4 +1,5 @@
 pub mod Task
+pub mod Method
 pub mod Hidden
 pub mod Place
 pub mod Program

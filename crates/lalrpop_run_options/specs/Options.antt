@@ -6,9 +6,12 @@ use Rattle.std.specs.Option.{option_or}
 use Rattle.std.specs.Str.Parse.{IsNumeral, signed_digits_value, without_leading_sign}
 use Rattle.std.specs.String.{string_bytes}
 use Rattle.clap.specs.Walk.{Row, Text, first_of}
+use Rattle.lalrpop_lane_method.specs.declared.Method.{Method}
+use Rattle.lalrpop_lane_method.specs.declared.Method.TheVariants as methods
 use Rattle.lalrpop_run_options.specs.Hidden.{hidden_value}
+use Rattle.lalrpop_run_options.specs.Method.{canonical_word, lane_word}
 use Rattle.lalrpop_run_options.specs.Task.{word_of}
-use Rattle.lalrpop_run_options.specs.declared.found.TheConstants.{USUAL_LIMIT, USUAL_MACRO_LIMIT}
+use Rattle.lalrpop_run_options.specs.declared.found.TheConstants.{USUAL_COPIES, USUAL_LIMIT, USUAL_MACRO_LIMIT}
 use Rattle.lalrpop_run_options.specs.declared.settings.Options.{Options}
 
 -- the names in a list: its parts between commas, but for empty ones
@@ -20,6 +23,12 @@ abbrev pub IsNumberOr : ℕ → Option Text → ℕ → Type 0
 IsNumberOr usual None n = n ≡ usual
 IsNumberOr usual (Some text) n =
     IsNumeral 10 (without_leading_sign text) × (signed_digits_value 10 text ≡ pos n)
+
+-- The method that the words say: by lane tables where no word says another, with the copies that a number writes. By the canonical
+-- way a number of copies says nothing.
+abbrev pub IsMethodOf : Option Text → Option Text → Method → Type 0
+IsMethodOf word copies (methods.Lane n) = (unwrap_or word lane_word ≡ lane_word) × IsNumberOr USUAL_COPIES copies n
+IsMethodOf word copies methods.Canonical = word ≡ Some canonical_word
 
 -- the text to read: the word that was hidden, and else what `clap` found
 abbrev pub text_of : List Text → List Row → Option Text
@@ -40,4 +49,5 @@ pub record AreOptionsOf (line : List Text) (rows : List Row) (options : Options)
       ≡ features_in (unwrap_or (first_of (codes "features") rows) [])
   pub macro_limit : IsNumberOr USUAL_MACRO_LIMIT (first_of (codes "macro-limit") rows)
       options.macro_limit
+  pub method : IsMethodOf (first_of (codes "method") rows) (first_of (codes "copies") rows) options.method
   pub limit : IsNumberOr USUAL_LIMIT (first_of (codes "limit") rows) options.limit

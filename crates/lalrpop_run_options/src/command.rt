@@ -2,10 +2,11 @@
 ghost use Rattle.std.specs.Prelude.{IfOk, codes};
 ghost use Rattle.clap.specs.Built.{IsPlain};
 ghost use Rattle.clap.specs.Simple.{app_of};
-ghost use Rattle.lalrpop_run_options.specs.Program.{AddsRules, IsArgument, IsProgram, IsTaskArgument, IsTaskCommand};
-ghost use Rattle.lalrpop_run_options.specs.Program.{input_rules, limit_rule, limit_rules, macro_limit_rule, option_rule};
+ghost use Rattle.lalrpop_run_options.specs.Program.{AddsRules, IsArgument, IsMethodArgument, IsMethodCommand, IsProgram, IsTaskArgument};
+ghost use Rattle.lalrpop_run_options.specs.Program.{IsTaskCommand, copies_rule, input_rules, limit_rule, limit_rules, macro_limit_rule, option_rule};
 ghost use Rattle.lalrpop_run_options.specs.Program.{start_rule};
 
+use crate::method::METHOD_WORDS;
 use crate::task::TASK_WORDS;
 use clap::{Arg, ArgAction, Command};
 use std::alloc::{AllocError, Global};
@@ -15,6 +16,7 @@ const TASKS_AND_STATUSES: &str = "\
 Commands, each with an example:
   judge   whether the grammar admits a tree: lalrpop_run judge --start S --tree \"$(cat examples/lists.tree.json)\" < examples/lists.grammar.json
   tokens  the tokens of a text: lalrpop_run tokens --start S --text 'a b' < examples/lists.grammar.json
+  check   whether the grammar has a parser: lalrpop_run check --start Expr < examples/calculator.grammar.json
 
 Status:
   0  an answer
@@ -31,7 +33,8 @@ pub(crate) fn command<'a>(alloc: Global) -> Result<Command<'a>, AllocError>
 {
     let command = with_task(alloc)?;
     let command = with_inputs(alloc, command)?;
-    with_limits(alloc, command)
+    let command = with_limits(alloc, command)?;
+    with_method(alloc, command)
 }
 
 /// The program's name and what it is for, with the word that names the task.
@@ -63,6 +66,13 @@ fn with_limits<'a>(alloc: Global, command: Command<'a>) -> Result<Command<'a>, A
         .arg(features(alloc))?
         .arg(macro_limit(alloc))?
         .arg(limit(alloc))
+}
+
+/// The command with `--method` and `--copies`.
+fn with_method<'a>(alloc: Global, command: Command<'a>) -> Result<Command<'a>, AllocError>
+    ensures { IfOk result (IsMethodCommand command.entry) }
+{
+    command.arg(method(alloc))?.arg(copies(alloc))
 }
 
 /// The word that names the task.
@@ -116,6 +126,30 @@ fn limit<'a>(alloc: Global) -> Arg<'a>
         "How many moves a parse may make [default: 1000000]",
     )
     .value_parser(clap::value_parser!(u64))
+}
+
+fn method<'a>(alloc: Global) -> Arg<'a>
+    ensures { IsMethodArgument result }
+{
+    option(
+        alloc,
+        "method",
+        "METHOD",
+        "How LR(1) states are built [default: lane]",
+    )
+    .value_parser(METHOD_WORDS.as_slice())
+}
+
+fn copies<'a>(alloc: Global) -> Arg<'a>
+    ensures { IsArgument copies_rule result }
+{
+    option(
+        alloc,
+        "copies",
+        "N",
+        "How many states may be copied by lane tables [default: 10000]",
+    )
+    .value_parser(clap::value_parser!(usize))
 }
 
 /// The option `--name`, with one value.

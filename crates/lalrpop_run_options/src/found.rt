@@ -3,16 +3,19 @@ ghost use Rattle.std.specs.Prelude.{◌≡◌, [], IfOk, IsSome, Some, codes, ma
 ghost use Rattle.std.specs.String.{string_bytes};
 ghost use Rattle.clap.specs.Matches.{first_value, found_of};
 ghost use Rattle.clap.specs.Walk.{rows_of, texts};
-ghost use Rattle.lalrpop_run_options.specs.Given.{IsComplete, HasPassed};
-ghost use Rattle.lalrpop_run_options.specs.Options.{AreOptionsOf, IsNumberOr, features_in};
+ghost use Rattle.lalrpop_run_options.specs.Given.{HasMethodWord, IsComplete, HasPassed};
+ghost use Rattle.lalrpop_run_options.specs.Method.{lane_word};
+ghost use Rattle.lalrpop_run_options.specs.Options.{AreOptionsOf, IsMethodOf, IsNumberOr, features_in};
 ghost use Rattle.lalrpop_run_options.specs.Options.{text_of, tree_of};
-ghost use Rattle.lalrpop_run_options.specs.Program.{parser_of_u16, parser_of_u64};
+ghost use Rattle.lalrpop_run_options.specs.Program.{parser_of_u16, parser_of_u64, parser_of_usize};
 ghost use Rattle.lalrpop_run_options.specs.Task.{word_of};
 ghost use Rattle.lalrpop_run_options.specs.declared.task.Task.{Task};
 
 use crate::hidden::hidden_value;
+use crate::method::from_word;
 use crate::{Options, Task};
 use clap::ArgMatches;
+use lalrpop_lane_method::Method;
 use std::alloc::{AllocError, Global};
 
 /// How deep macros may call macros where the words do not say.
@@ -20,6 +23,9 @@ const USUAL_MACRO_LIMIT: u16 = 200;
 
 /// How many moves a parse may make where the words do not say.
 const USUAL_LIMIT: u64 = 1_000_000;
+
+/// How many states may be copied by lane tables where the words do not say.
+const USUAL_COPIES: usize = 10_000;
 
 /// The options that a parse found, with the values of `line` that were hidden from it.
 pub(crate) fn read(
@@ -37,6 +43,7 @@ pub(crate) fn read(
         tree: tree(alloc, line, matches)?,
         features: features(alloc, matches.get_str("features").unwrap_or(""))?,
         macro_limit: macro_limit(matches),
+        method: method(matches),
         limit: limit(matches),
     })
 }
@@ -104,4 +111,27 @@ fn limit(matches: &ArgMatches<'_>) -> u64
     ensures { IsNumberOr USUAL_LIMIT (first_value (found_of matches.now) (codes "limit")) result }
 {
     matches.get_one::<u64>("limit").unwrap_or(USUAL_LIMIT)
+}
+
+/// By lane tables where no word was given.
+fn method(matches: &ArgMatches<'_>) -> Method
+    requires method { HasMethodWord (found_of matches.now) }
+    requires copies { HasPassed parser_of_usize (codes "copies") (found_of matches.now) }
+    ensures { IsMethodOf (first_value (found_of matches.now) (codes "method"))
+        (first_value (found_of matches.now) (codes "copies")) result }
+{
+    from_word(method_word(matches), copies(matches))
+}
+
+fn method_word<'a>(matches: &ArgMatches<'a>) -> &'a str
+    ensures { result.now ≡ unwrap_or (first_value (found_of matches.now) (codes "method")) lane_word }
+{
+    matches.get_str("method").unwrap_or("lane")
+}
+
+fn copies(matches: &ArgMatches<'_>) -> usize
+    requires { HasPassed parser_of_usize (codes "copies") (found_of matches.now) }
+    ensures { IsNumberOr USUAL_COPIES (first_value (found_of matches.now) (codes "copies")) result }
+{
+    matches.get_one::<usize>("copies").unwrap_or(USUAL_COPIES)
 }

@@ -5,11 +5,13 @@ mod command;
 mod fault;
 mod found;
 mod hidden;
+mod method;
 mod settings;
 mod task;
 mod words;
 
 pub use fault::OptionsError;
+pub use lalrpop_lane_method::Method;
 pub use settings::Options;
 pub use task::Task;
 pub use words::options;

@@ -1,5 +1,6 @@
 //! What the words ask for.
 use crate::Task;
+use lalrpop_lane_method::Method;
 
 /// What the words ask for.
 #[derive(Debug, Drop)]
@@ -16,6 +17,9 @@ pub struct Options {
     pub features: Vec<String>,
     /// How deep macros may call macros: 200 where no number was given.
     pub macro_limit: u16,
+    /// How LR(1) states are built: by lane tables where no word was given, with 10,000 copies of states at most where no number
+    /// was given.
+    pub method: Method,
     /// How many moves a parse may make: 1,000,000 where no number was given.
     pub limit: u64,
 }

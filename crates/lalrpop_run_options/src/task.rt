@@ -9,10 +9,12 @@ pub enum Task {
     Judge,
     /// The tokens of a text.
     Tokens,
+    /// Whether a grammar has a parser.
+    Check,
 }
 
 /// The words that name tasks, in the order of `Task`.
-pub(crate) static TASK_WORDS: [&str; 2] = ["judge", "tokens"];
+pub(crate) static TASK_WORDS: [&str; 3] = ["judge", "tokens", "check"];
 
 impl Task {
     /// The word that names the task.
@@ -22,6 +24,7 @@ impl Task {
         match self {
             Task::Judge => "judge",
             Task::Tokens => "tokens",
+            Task::Check => "check",
         }
     }
 
@@ -33,6 +36,7 @@ impl Task {
         match word {
             "judge" => Task::Judge,
             "tokens" => Task::Tokens,
+            "check" => Task::Check,
             _ => unreachable!(),
         }
     }

@@ -18,5 +18,6 @@ returns c =
           ∙ unwrap_or_text c.get_str.result _
           ∙ ap (λ o. unwrap_or o []) (c.get_str.ensures ∙ row (codes "features")));
       macro_limit = rw (← row (codes "macro-limit")) c.macro_limit.ensures;
+      method = rw (← row (codes "method"), ← row (codes "copies")) c.method.ensures;
       limit = rw (← row (codes "limit")) c.limit.ensures;
     }
