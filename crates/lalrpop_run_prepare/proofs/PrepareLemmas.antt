@@ -8,7 +8,9 @@ use Rattle.lalrpop_grammar_symbols.specs.Views.{span_view}
 use Rattle.lalrpop_grammar_symbols.specs.contracts.names.NonterminalStringOrd.TheImpl as names
 use Rattle.lalrpop_grammar_symbols.specs.declared.names.NonterminalString.{NonterminalString}
 use Rattle.lalrpop_grammar_symbols.specs.declared.span.Span.{Span}
-use Rattle.lalrpop_grammar.specs.Views.{grammar_view}
+use Rattle.std.proofs.lemmas.List.{length-map}
+use Rattle.lalrpop_grammar.specs.Views.{grammar_view, origin_view}
+use Rattle.lalrpop_grammar.specs.declared.origin.Origin as choices
 use Rattle.lalrpop_grammar.specs.WrittenGrammar.{Grammar, InternEntry}
 use Rattle.lalrpop_grammar_language.specs.Enabled.{EnabledGrammar, enabled_grammar}
 use Rattle.lalrpop_grammar_language.specs.Expansion.{InExpansion, Nonterminal}
@@ -26,13 +28,15 @@ use Rattle.lalrpop_norm_expansion.specs.Premises.{IsReadGrammar}
 use Rattle.lalrpop_norm_lower.specs.TableReadiness.{IsReadyForTables}
 use Rattle.lalrpop_norm_lower.specs.declared.lowering.Normalized.{Normalized}
 use Rattle.lalrpop_norm_lower_law.specs.LoweredViews.{lowered_view}
-use Rattle.lalrpop_run_answer_laws.proofs.InlinedExpansionLemmas.{base_expansion, inlined_expansion}
-use Rattle.lalrpop_run_answer_laws.proofs.NormalizedLemmas.{named_expansion}
+use Rattle.lalrpop_run_answer_laws.proofs.InlinedExpansionLemmas.{base_expansion}
+use Rattle.lalrpop_run_answer_laws.proofs.NormalizedLemmas.{named_expansion, named_origins}
 use Rattle.lalrpop_run_answers.specs.Barren.{HasNoBarren, IsLeastBarrenName}
 use Rattle.lalrpop_run_answers.specs.ExpansionTrees.{is_inlined_nonterminal}
-use Rattle.lalrpop_run_answers.specs.Expansions.{AreBaseExpansion, AreExpansion}
+use Rattle.lalrpop_run_answers.specs.Expansions.{AreBaseExpansion}
 use Rattle.lalrpop_run_answers.proofs.BarrenLemmas.{barren_named, named_barren, none_barren_after, none_barren_named, start_is_alone}
 use Rattle.lalrpop_run_answers.proofs.InlinedTestLemmas.{inlined_decided}
+use Rattle.lalrpop_run_label_laws.specs.ToldExpansions.{AreToldExpansion}
+use Rattle.lalrpop_run_label_laws.proofs.ToldExpansionLemmas.{told_expansion}
 use Rattle.lalrpop_run_prepare.specs.PrepareRefusals.{IsPrepareRefusal, IsRefusedExpansion, IsRefusedStart}
 use Rattle.lalrpop_run_prepare.specs.PreparedGrammars.{IsPreparedWhereRead, MayBeParsedFrom, PreparedGrammar}
 use Rattle.lalrpop_run_prepare.proofs.StartLemmas.{start_in_expansion}
@@ -55,12 +59,13 @@ module _ (finds : Text → Text → Option Bool) (deep : Text → Bool) (feature
       base_expansion g w.prefix made.grammar sorted (λ e p i j. ready.named e.0 e.1 p i j)
       (named_expansion finds features w made n.normalized)
 
-  -- inlined productions are those of the expansion after inlining
-  pub expansion : (after : repr.Grammar) → IsInlinedGrammar made.grammar after
-      → AreExpansion g w.prefix (Contains (theory_grammar after))
-  expansion after i =
-      inlined_expansion g w.prefix made.grammar sorted (λ e p i j. ready.named e.0 e.1 p i j)
-      (named_expansion finds features w made n.normalized) after i ready.actions
+  -- inlined productions are those of the expansion after inlining, and their actions tell their labels
+  pub told : (after : repr.Grammar) → IsInlinedGrammar made.grammar after
+      → AreToldExpansion g w.prefix after.action_fn_defns made.origins (theory_grammar after)
+  told after i =
+      told_expansion g w.prefix made.grammar sorted (λ e p i j. ready.named e.0 e.1 p i j)
+      (named_expansion finds features w made n.normalized) made.origins (named_origins finds features w made n.normalized)
+      (n.normalized.actions.no_other ∙ length-map made.origins origin_view) after i ready.actions
 
   no_barren : NoneBarren (Contains (theory_grammar made.grammar)) start → HasNoBarren g start
   no_barren none = none_barren_named g w.prefix (Contains (theory_grammar made.grammar)) base start in_expansion none
@@ -83,7 +88,7 @@ module _ (finds : Text → Text → Option Bool) (deep : Text → Bool) (feature
   pub may_be_parsed : (after : repr.Grammar) (name : NonterminalString) → IsInlinedGrammar made.grammar after
       → NoneBarren (Contains (theory_grammar made.grammar)) start → name.0 ≡ w.prefix ++ start → MayBeParsedFrom after name
   may_be_parsed after name i none same =
-      let e = expansion after i in
+      let e = (told after i).expansion in
       subst (λ (t : Text). MayBeParsedFrom after (record { 0 = t })) (sym same) (record {
         alone = λ p m k. start_is_alone g (IsInlined g) w.prefix (Contains (theory_grammar after)) e start in_expansion p m k;
         none_barren = none_barren_after g (IsInlined g) w.prefix (Contains (theory_grammar after)) e (is_inlined_nonterminal g)
@@ -144,7 +149,10 @@ module _ (finds : Text → Text → Option Bool) (deep : Text → Bool) (v : Pre
           normalized = n.normalized;
           scans = scans n.decides;
           inlined = subst (λ (g : repr.Grammar). IsInlinedGrammar g v.expansion) low i;
-          expansion = expansion finds deep v.session.features.items v.session.macro_recursion_limit start (grammar_view v.written)
-              made dfa read n ready sorted v.expansion i;
+          told = subst (λ (given : List choices.Origin).
+              AreToldExpansion (enabled_grammar finds v.session.features.items (grammar_view v.written)) v.written.prefix
+              v.expansion.action_fn_defns given (theory_grammar v.expansion)) origins
+              (told finds deep v.session.features.items v.session.macro_recursion_limit start (grammar_view v.written) made dfa read n
+              ready sorted v.expansion i);
         };
   }

@@ -19,7 +19,7 @@ use Rattle.lalrpop_norm_chain.specs.Normalized.{IsNormalized}
 use Rattle.lalrpop_norm_expansion.specs.Premises.{IsReadGrammar}
 use Rattle.lalrpop_norm_lower.specs.declared.lowering.Normalized.{Normalized}
 use Rattle.lalrpop_norm_lower_law.specs.LoweredViews.{lowered_view}
-use Rattle.lalrpop_run_answers.specs.Expansions.{AreExpansion}
+use Rattle.lalrpop_run_label_laws.specs.ToldExpansions.{AreToldExpansion}
 use Rattle.lalrpop_run_tokens.specs.Refused.{IsGenerable}
 use Rattle.lalrpop_run_tokens.specs.Tokenizers.{scan_entries}
 
@@ -41,7 +41,7 @@ pub record MayBeParsedFrom (g : repr.Grammar) (start : NonterminalString) : Type
   pub none_barren : NoneBarren (Contains (theory_grammar g)) start.0
 
 -- Nothing is wrong with the grammar, nor with the start. The plain productions are those of its expansion before inlining and after
--- it, and the scanner cuts by the tokenizer's entries.
+-- it, where the action of each tells its label, and the scanner cuts by the tokenizer's entries.
 pub record IsPrepared (finds : Text → Text → Option Bool) (deep : Text → Bool) (v : PreparedGrammar) : Type 0 where
   pub made : Normalized
   pub lowered_is : made.grammar ≡ v.lowered
@@ -50,8 +50,8 @@ pub record IsPrepared (finds : Text → Text → Option Bool) (deep : Text → B
   pub normalized : IsNormalized finds v.session.features.items (grammar_view v.written) (lowered_view made)
   pub scans : IsScannerOf v.scanner (scan_entries (lowered_view made).entries)
   pub inlined : IsInlinedGrammar v.lowered v.expansion
-  pub expansion : AreExpansion (enabled_grammar finds v.session.features.items (grammar_view v.written)) v.written.prefix
-      (Contains (theory_grammar v.expansion))
+  pub told : AreToldExpansion (enabled_grammar finds v.session.features.items (grammar_view v.written)) v.written.prefix
+      v.expansion.action_fn_defns v.origins (theory_grammar v.expansion)
 
 -- For a grammar as one is read it is prepared. Tables can be made of any, and the start may be parsed from.
 pub record IsPreparedWhereRead (finds : Text → Text → Option Bool) (deep : Text → Bool) (v : PreparedGrammar) : Type 0 where

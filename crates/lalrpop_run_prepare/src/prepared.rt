@@ -71,6 +71,13 @@ impl Prepared {
         &self.expansion
     }
 
+    /// For the number of each action of the plain productions before inlining the written choice that its production stands for.
+    pub fn origins(&self) -> &[Origin]
+        ensures { result.now ≡ self.now.origins }
+    {
+        self.origins.as_slice()
+    }
+
     /// The rule to start from.
     pub fn start(&self) -> &Atom
         ensures { result.now ≡ self.now.start }
