@@ -5,6 +5,8 @@ use Rattle.lalrpop_grammar_symbols.specs.declared.names.NonterminalString.{Nonte
 use Rattle.lalrpop_grammar.specs.Views.{grammar_view}
 use Rattle.lalrpop_grammar_repr.specs.declared.grammar.Grammar.{Grammar}
 use Rattle.lalrpop_judge_search.specs.Search.{finds, is_too_deep}
+use Rattle.lalrpop_lane.specs.BuilderAnswers.{AreLr1By}
+use Rattle.lalrpop_lane_method.specs.declared.Method.{Method}
 use Rattle.lalrpop_lr1_build.specs.BuiltStates.{IsCanonicalFault, TellsNoLr1, theory_grammar}
 use Rattle.lalrpop_lr1_collapse.specs.CollapseAnswers.{states_over}
 use Rattle.lalrpop_lr1_items.specs.declared.state.State.{State}
@@ -18,7 +20,7 @@ use Rattle.lalrpop_lr1_theory.specs.CheckedStates.{AreCheckedStates, IsStartAlon
 use Rattle.lalrpop_lr1_theory.specs.ValidItems.{NoneBarren}
 use Rattle.lalrpop_norm_expansion.specs.Premises.{IsReadGrammar}
 use Rattle.lalrpop_run_answers.specs.Laws.{OneWrittenTree}
-use Rattle.lalrpop_run_parser.specs.Parsers.{HasConflicts, HasOneTreeEach, IsParserTable}
+use Rattle.lalrpop_run_parser.specs.Parsers.{HasConflicts, HasOneTreeEach, HasStatesBy, IsParserTable}
 use Rattle.lalrpop_run_prepare.specs.PreparedGrammars.{IsPrepared, MayBeParsedFrom, PreparedGrammar}
 use Rattle.lalrpop_run_prepare.proofs.StartLemmas.{start_in_expansion}
 
@@ -39,6 +41,16 @@ module _ (v : PreparedGrammar) (g : Grammar) (start : NonterminalString) (same :
   states_checked built f m =
       handed (λ h n. NoneBarren (Contains (theory_grammar h)) n.0 → IsStartAlone (theory_grammar h) n.0
       → AreCheckedStates (theory_grammar h) n.0 (states_over h.terminals built)) f m.none_barren m.alone
+
+  pub states_counted : (method : Method) (built : List (State (List ℕ))) (count : ℕ)
+      → AreCheckedStates (theory_grammar v.expansion) v.start_name.0 (states_over v.expansion.terminals built)
+      → AreLr1By method g start built → count ≡ length built → HasStatesBy method v count
+  states_counted method built count checked by_method many = record {
+    states = built;
+    by_method = handed (λ h n. AreLr1By method h n built) by_method;
+    checked = checked;
+    count_is = many;
+  }
 
   pub conflicts_told : (fault : TableFault (List ℕ)) (error : TableConstructionError (List ℕ)) (count : ℕ)
       → fault ≡ faults.Conflicts error → count ≡ length error.conflicts.items → IsCanonicalFault g start fault
@@ -68,7 +80,7 @@ module _ (v : PreparedGrammar) (built : List (State (List ℕ)))
       → v.start_name.0 ≡ v.written.prefix ++ v.start → HasOneTreeEach v
   one_tree_each law p read name =
       law finds v.session.features.items (grammar_view v.written) v.written.prefix v.start (theory_grammar v.expansion)
-      (states_over v.expansion.terminals built) p.expansion
+      (states_over v.expansion.terminals built) p.told.expansion
       (start_in_expansion finds is_too_deep v.session.features.items v.session.macro_recursion_limit (grammar_view v.written) read
       p.generable.faultless v.start p.generable.starts)
       (subst (λ s. AreCheckedStates (theory_grammar v.expansion) s (states_over v.expansion.terminals built)) name checked)

@@ -1,1 +1,3 @@
 pub mod GenerateLemmas
+pub mod WrittenStackLemmas
+pub mod ParseLemmas

@@ -4,7 +4,11 @@ use Rattle.lalrpop_grammar.specs.Trees.{Token, Tree}
 use Rattle.lalrpop_grammar.specs.Views.{grammar_view}
 use Rattle.lalrpop_grammar_language.specs.Admitting.{AdmitsFrom}
 use Rattle.lalrpop_judge_search.specs.Search.{finds}
+use Rattle.lalrpop_lane.specs.BuilderAnswers.{AreLr1By}
+use Rattle.lalrpop_lane_method.specs.declared.Method.{Method}
 use Rattle.lalrpop_lr1_build.specs.BuiltStates.{IsCanonicalFault, theory_grammar}
+use Rattle.lalrpop_lr1_collapse.specs.CollapseAnswers.{states_over}
+use Rattle.lalrpop_lr1_items.specs.declared.state.State as built_states
 use Rattle.lalrpop_lr1_items.specs.declared.table_fault.TableConstructionError.{TableConstructionError}
 use Rattle.lalrpop_lr1_items.specs.declared.table_fault.TableFault.TheVariants as faults
 use Rattle.lalrpop_lr1_parse.specs.Tables.{IsTableOf}
@@ -26,6 +30,14 @@ pub record IsParserTable (v : PreparedGrammar) (table : ActionTable) (count : �
   pub states : List State
   pub checked : AreCheckedStates (theory_grammar v.expansion) v.start_name.0 states
   pub table_is : IsTableOf table states
+  pub count_is : count ≡ length states
+
+-- There are so many states of the expansion by the method, with which it may be parsed from its start. By the canonical way they are
+-- the canonical ones.
+pub record HasStatesBy (method : Method) (v : PreparedGrammar) (count : ℕ) : Type 0 where
+  pub states : List (built_states.State (List ℕ))
+  pub by_method : AreLr1By method v.expansion v.start_name states
+  pub checked : AreCheckedStates (theory_grammar v.expansion) v.start_name.0 (states_over v.expansion.terminals states)
   pub count_is : count ≡ length states
 
 -- no token list has two written trees that the start admits, spans inside arguments aside

@@ -1,8 +1,12 @@
-//! From a prepared grammar to its parser, or to the number of conflicts for which it has none; and the tokens that a parser reads.
+//! From a prepared grammar to its parser, or to the number of conflicts for which it has none; and from a text to its tokens and its written tree.
 #![tactic(auto)]
 
 mod generating;
+mod parse_error;
 mod parser;
+mod parsing;
+mod written_stack;
 
 pub use generating::generate;
+pub use parse_error::ParseError;
 pub use parser::Parser;

@@ -1,0 +1,53 @@
+use Rattle.std.proofs.Common.{◌∙◌, ap, refl, subst, sym}
+use Rattle.std.proofs.Common.{Err, Ok, map}
+use Rattle.lalrpop_grammar_symbols.specs.declared.names.NonterminalString.{NonterminalString}
+use Rattle.lalrpop_grammar.specs.Views.{grammar_view, token_view}
+use Rattle.lalrpop_grammar_repr.specs.declared.grammar.Grammar.{Grammar}
+use Rattle.lalrpop_lr1_build.specs.BuiltStates.{theory_grammar}
+use Rattle.lalrpop_norm_expansion.specs.Premises.{IsReadGrammar}
+use Rattle.lalrpop_run_parser.specs.ParserAnswers.{IsRightForItsTokens}
+use Rattle.lalrpop_run_parser.specs.Parsers.{ParserView}
+use Rattle.lalrpop_run_parser.proofs.ParseLemmas.{may_run, none_stand, right_stop, right_tree}
+use Rattle.lalrpop_run_parser.proofs.parser.Parser.parse_tokens.Goals as goal
+use Rattle.lalrpop_run_prepare.specs.PreparedGrammars.{PreparedGrammar}
+
+pub parse_onto-requires : goal.parse_onto-requires
+parse_onto-requires c = λ k. (
+  (refl, tt),
+  (
+    may_run c.self.inside.prepared.now c.self.inside.table c.self.inside.state_count c.self.invariant c.start_name.ensures.parsed,
+    none_stand c.new-stack.result.actions.now c.new-stack.result.origins.now c.new-stack.result.trees.items
+        c.new-stack.ensures.none,
+  ),
+)
+
+pub returns-in-Some : goal.returns-in-Some
+returns-in-Some c =
+    let v = c.self.inside.prepared.now in
+    subst (λ (u : PreparedGrammar). IsReadGrammar (grammar_view u.written)
+    → IsRightForItsTokens u (map token_view c.args.tokens.now) c.args.limit (Ok c.in-Some.tree))
+    (ap (λ (u : ParserView). u.prepared) c.self.view_is)
+    (λ read.
+    right_tree c.forests_correspond.ensures.admitted c.right_parses_are_right.ensures.right v read (c.grammar.ensures.prepared read)
+    (ap (λ (n : NonterminalString). n.0) (sym c.start_name.ensures.name) ∙ c.start_name.ensures.prefixed) c.args.tokens.now c.args.limit
+    c.parse_onto.new.stack.actions.now c.parse_onto.new.stack.origins.now
+    (ap (λ g. g.0) c.in-Ok.ensures.same ∙ c.new-stack.ensures.actions ∙ c.as_slice-actions.ensures
+    ∙ ap (λ (g : Grammar). g.action_fn_defns) c.expansion.ensures)
+    (ap (λ g. g.1) c.in-Ok.ensures.same ∙ c.new-stack.ensures.origins ∙ c.origins.ensures) c.parse_onto.new.stack.trees.items
+    (c.in-Ok.ensures.right (theory_grammar v.expansion) v.start_name.0 c.self.invariant.states c.start_name.ensures.parsed.alone
+    c.self.invariant.checked c.self.invariant.table_is)
+    c.in-Some.ensures.0 c.in-Some.tree c.in-Some.ensures.1)
+
+pub returns-in-Err : goal.returns-in-Err
+returns-in-Err c =
+    let v = c.self.inside.prepared.now in
+    subst (λ (u : PreparedGrammar). IsReadGrammar (grammar_view u.written)
+    → IsRightForItsTokens u (map token_view c.args.tokens.now) c.args.limit (Err c.error_of_stop.result))
+    (ap (λ (u : ParserView). u.prepared) c.self.view_is)
+    (λ read.
+    right_stop c.forests_correspond.ensures.admitted c.right_parses_are_right.ensures.right v read (c.grammar.ensures.prepared read)
+    (ap (λ (n : NonterminalString). n.0) (sym c.start_name.ensures.name) ∙ c.start_name.ensures.prefixed) c.args.tokens.now c.args.limit
+    c.in-Err.stop c.error_of_stop.result
+    (c.in-Err.ensures.right (theory_grammar v.expansion) v.start_name.0 c.self.invariant.states c.start_name.ensures.parsed.alone
+    c.self.invariant.checked c.self.invariant.table_is)
+    c.error_of_stop.ensures)
