@@ -1,2 +1,3 @@
+pub mod ParserLemmas
 pub mod ReadLemmas
 pub mod TokenLineLemmas

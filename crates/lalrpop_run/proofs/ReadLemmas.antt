@@ -22,3 +22,5 @@ readable g h = record {
 pub grammar_read : (t : Task) (bytes : List ℕ) (g : Grammar) → GivesGrammar bytes (Ok g) → IsGrammarFor t g
 grammar_read tasks.Judge bytes g given = tt
 grammar_read tasks.Tokens bytes g given = readable g (grammar_takes given.0 g given.1.1).1
+grammar_read tasks.Check bytes g given = readable g (grammar_takes given.0 g given.1.1).1
+grammar_read tasks.Parse bytes g given = readable g (grammar_takes given.0 g given.1.1).1

@@ -1,6 +1,7 @@
 -- What the words ask, and what has to be read to answer it.
 use Rattle.std.specs.Prelude.{ℕ, Bool, true, false, List, Option, Some, None, option_map, map, string_bytes}
 use Rattle.lalrpop_grammar_symbols.specs.Symbols.{Text}
+use Rattle.lalrpop_lane_method.specs.declared.Method.{Method}
 use Rattle.lalrpop_run_options.specs.declared.settings.Options.{Options}
 use Rattle.lalrpop_run_options.specs.declared.task.Task.{Task}
 use Rattle.lalrpop_run_options.specs.declared.task.Task.TheVariants as tasks
@@ -13,6 +14,10 @@ pub record Question : Type 0 where
   pub macro_limit : ℕ
   -- the rule to start from
   pub start : Text
+  -- how states are built
+  pub method : Method
+  -- how many moves a parse may make
+  pub limit : ℕ
   -- the tree's JSON, where one was given
   pub tree : Option Text
 
@@ -23,6 +28,8 @@ question_of options = record {
   features = map string_bytes options.features.items;
   macro_limit = options.macro_limit;
   start = string_bytes options.start;
+  method = options.method;
+  limit = options.limit;
   tree = option_map string_bytes options.tree;
 }
 
@@ -32,6 +39,8 @@ question_view q = record {
   features = q.session.features.items;
   macro_limit = q.session.macro_recursion_limit;
   start = q.start;
+  method = q.method;
+  limit = q.limit;
   tree = option_map (λ text. text.now) q.tree;
 }
 
@@ -39,6 +48,8 @@ abbrev pub task_reads_grammar : Task → Option Text → Bool
 task_reads_grammar tasks.Judge None = false
 task_reads_grammar tasks.Judge (Some tree) = true
 task_reads_grammar tasks.Tokens tree = true
+task_reads_grammar tasks.Check tree = true
+task_reads_grammar tasks.Parse tree = true
 
 -- the grammar is read: always, but where `judge` has no tree
 abbrev pub reads_grammar : Question → Bool
@@ -47,6 +58,8 @@ reads_grammar q = task_reads_grammar q.task q.tree
 abbrev pub task_reads_text : Task → Bool
 task_reads_text tasks.Judge = false
 task_reads_text tasks.Tokens = true
+task_reads_text tasks.Check = false
+task_reads_text tasks.Parse = true
 
 -- the text is read
 abbrev pub reads_text : Question → Bool

@@ -5,7 +5,8 @@ use Rattle.lalrpop_json_values.specs.FaultText.{fault_text}
 use Rattle.lalrpop_json_values.specs.JsonText.{json_text}
 use Rattle.lalrpop_grammar.specs.declared.token.ScanToken.{ScanToken}
 use Rattle.lalrpop_grammar.specs.Trees.{Token}
-use Rattle.lalrpop_grammar.specs.Views.{token_view}
+use Rattle.lalrpop_grammar.specs.Views.{token_view, tree_view}
+use Rattle.lalrpop_json_grammar.specs.Printing.{tree_text}
 use Rattle.lalrpop_run_refusals.specs.Refusals.{refusal_text}
 use Rattle.lalrpop_run_refusals.specs.declared.refusing.GenerateError.{GenerateError}
 use Rattle.lalrpop_run_refusals.specs.declared.refusing.GenerateError.TheVariants as errors
@@ -34,8 +35,13 @@ reply_text (replies.TreeFault fault) = line (codes "tree value: " ++ fault_text 
 reply_text replies.ConditionLimit = line (codes "condition limit")
 reply_text replies.NotUtf8 = line (codes "text isn't UTF-8")
 reply_text (replies.Refused error) = line (refusal_text error)
+reply_text (replies.Parser states) = line (codes "parser with " ++ decimal states ++ codes " states")
 reply_text (replies.Tokens tokens) = tokens_text tokens.items
 reply_text (replies.NoToken at) = line (codes "no token at byte " ++ decimal at)
+reply_text (replies.Tree tree) = line (tree_text (tree_view tree))
+reply_text (replies.WrongToken at text) = line (codes "token " ++ json_text text ++ codes " at byte " ++ decimal at)
+reply_text replies.EarlyEnd = line (codes "end of input")
+reply_text (replies.OverLimit limit) = line (codes "limit of " ++ decimal limit ++ codes " moves used up")
 
 abbrev pub refusal_status : GenerateError → ℕ
 refusal_status errors.Extern = 3
@@ -58,8 +64,13 @@ reply_status (replies.TreeFault fault) = 4
 reply_status replies.ConditionLimit = 3
 reply_status replies.NotUtf8 = 4
 reply_status (replies.Refused error) = refusal_status error
+reply_status (replies.Parser states) = 0
 reply_status (replies.Tokens tokens) = 0
 reply_status (replies.NoToken at) = 1
+reply_status (replies.Tree tree) = 0
+reply_status (replies.WrongToken at text) = 1
+reply_status replies.EarlyEnd = 1
+reply_status (replies.OverLimit limit) = 2
 
 -- where a growth was refused
 abbrev pub memory_text : List ℕ

@@ -5,7 +5,9 @@ ghost use Rattle.lalrpop_run.specs.Questions.{question_of, question_view};
 ghost use Rattle.lalrpop_run.specs.Replies.{IsGrammarFor, IsReplyTo};
 ghost use Rattle.lalrpop_run.specs.Runs.{answer_view, reply_output};
 
+use crate::checking::check_reply;
 use crate::judging::judge_reply;
+use crate::parsing::parse_reply;
 use crate::putting::put;
 use crate::question::{Question, question_of};
 use crate::reply::{Answer, Reply};
@@ -14,8 +16,8 @@ use lalrpop_grammar::Grammar;
 use lalrpop_run_options::{Options, Task};
 use std::alloc::{AllocError, Global};
 
-/// The answer once the grammar and the text are read. `judge` has no use for the text. What `tokens` answers is promised for a
-/// grammar that looks as one that was read, with any prefix of two or more underscores.
+/// The answer once the grammar and the text are read. `judge` and `check` have no use for the text. What `tokens`, `check` and `parse` answer is
+/// promised for a grammar that looks as one that was read, with any prefix of two or more underscores.
 pub fn answer(
     alloc: Global,
     options: &Options,
@@ -27,7 +29,7 @@ pub fn answer(
         × (answer_view answer ≡ reply_output reply))) }
 {
     let question = question_of(alloc, options)?;
-    let reply = reply_to(alloc, &question, grammar, text)?;
+    let reply = reply_to(alloc, question, grammar, text)?;
     let said = put(alloc, reply)?;
     Ok(said)
 }
@@ -35,20 +37,28 @@ pub fn answer(
 /// The reply to a grammar and a text, by the task.
 fn reply_to<'t>(
     alloc: Global,
-    question: &Question<'_>,
+    question: Question<'_>,
     grammar: Grammar,
     text: &'t str,
 ) -> Result<Reply<'t>, AllocError>
-    ensures { IfOk result (λ reply. IsGrammarFor question.now.task grammar
-        → IsReplyTo (question_view question.now) grammar text.now reply) }
+    ensures { IfOk result (λ reply. IsGrammarFor question.entry.task grammar
+        → IsReplyTo (question_view question.entry) grammar text.now reply) }
 {
     match question.task {
         Task::Judge => {
-            let reply = judge_reply(alloc, question, &grammar)?;
+            let reply = judge_reply(alloc, &question, &grammar)?;
             Ok(reply)
         }
         Task::Tokens => {
             let reply = tokens_reply(alloc, question, grammar, text)?;
+            Ok(reply)
+        }
+        Task::Check => {
+            let reply = check_reply(alloc, question, grammar)?;
+            Ok(reply)
+        }
+        Task::Parse => {
+            let reply = parse_reply(alloc, question, grammar, text)?;
             Ok(reply)
         }
     }

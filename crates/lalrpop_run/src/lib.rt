@@ -2,11 +2,15 @@
 #![tactic(auto)]
 
 mod answering;
+mod checking;
 mod input;
 mod json_value;
 mod judging;
+mod parsing;
+mod preparing;
 mod putting;
 mod question;
+mod refusals;
 mod reply;
 mod running;
 mod texts;
@@ -18,7 +22,9 @@ pub use lalrpop_json_grammar::{
     Fault, FaultKind, Key, ReadError, Step, TreeText, print_tree, read_grammar, read_tree,
 };
 pub use lalrpop_json_writer::{WriteError, write_grammar};
-pub use lalrpop_run_options::{Options, OptionsError, Task, options};
+pub use lalrpop_run_options::{Method, Options, OptionsError, Task, options};
+pub use lalrpop_run_parser::{ParseError, Parser, generate};
+pub use lalrpop_run_prepare::{Prepared, prepare};
 pub use lalrpop_run_refusals::GenerateError;
 pub use reply::{Answer, Reply};
 pub use running::run;

@@ -31,8 +31,10 @@ fn status(reply: &Reply<'_>) -> u8
     ensures { result ≡ reply_status reply.now }
 {
     match reply {
-        Reply::Judged(true) | Reply::Tokens(_) => 0,
+        Reply::Judged(true) | Reply::Parser(_) | Reply::Tokens(_) | Reply::Tree(_) => 0,
         Reply::Judged(false) | Reply::NoToken(_) => 1,
+        Reply::WrongToken(_, _) | Reply::EarlyEnd => 1,
+        Reply::OverLimit(_) => 2,
         Reply::ConditionLimit => 3,
         Reply::Refused(error) => refusal_status(error),
         Reply::WantsTree | Reply::NotJson | Reply::NotUtf8 => 4,

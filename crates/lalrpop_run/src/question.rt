@@ -1,20 +1,22 @@
 //! What the words ask of a grammar.
 
 ghost use Rattle.std.specs.Prelude.{◌≡◌, IfOk, map, string_bytes};
-ghost use Rattle.lalrpop_run.specs.Questions.{question_of, question_view, reads_grammar};
+ghost use Rattle.lalrpop_run.specs.Questions.{question_of, question_view, reads_grammar, reads_text};
 
 use lalrpop_grammar::Atom;
 use lalrpop_grammar_repr::Session;
-use lalrpop_run_options::{Options, Task};
+use lalrpop_run_options::{Method, Options, Task};
 use std::alloc::{AllocError, Global};
 
-/// What the words ask: the task, the rule to start from, the features with the limit of macros, and the tree's JSON, where one was
-/// given.
+/// What the words ask: the task, the rule to start from, the features with the limit of macros, how states are built, how many moves a parse may make, and the tree's
+/// JSON, where one was given.
 #[derive(Drop)]
 pub(crate) struct Question<'a> {
     pub(crate) task: Task,
     pub(crate) start: Atom,
     pub(crate) session: Session,
+    pub(crate) method: Method,
+    pub(crate) limit: u64,
     pub(crate) tree: Option<&'a str>,
 }
 
@@ -34,6 +36,8 @@ pub(crate) fn question_of<'a>(
             features,
             macro_recursion_limit: options.macro_limit,
         },
+        method: options.method,
+        limit: options.limit,
         tree: options.tree.as_deref(),
     })
 }
@@ -55,6 +59,16 @@ pub(crate) fn reads_grammar(options: &Options) -> bool
 {
     match options.task {
         Task::Judge => options.tree.is_some(),
-        Task::Tokens => true,
+        Task::Tokens | Task::Check | Task::Parse => true,
+    }
+}
+
+/// Whether the text is read: `judge` and `check` have no use for it.
+pub(crate) fn reads_text(options: &Options) -> bool
+    ensures { result ≡ reads_text (question_of options.now) }
+{
+    match options.task {
+        Task::Judge | Task::Check => false,
+        Task::Tokens | Task::Parse => true,
     }
 }

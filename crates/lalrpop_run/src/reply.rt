@@ -1,6 +1,6 @@
 //! What the program has to say.
 
-use lalrpop_grammar::ScanToken;
+use lalrpop_grammar::{Atom, ScanToken, WrittenTree};
 use lalrpop_json_grammar::Fault;
 use lalrpop_run_refusals::GenerateError;
 
@@ -23,10 +23,20 @@ pub enum Reply<'t> {
     NotUtf8,
     /// Why the grammar is refused.
     Refused(GenerateError),
+    /// The grammar has a parser, of so many states.
+    Parser(usize),
     /// The tokens of the text.
     Tokens(Vec<ScanToken<'t>>),
     /// From this byte of the text on nothing is matched.
     NoToken(usize),
+    /// The tree of the text.
+    Tree(WrittenTree),
+    /// The tokens up to and with the one at this byte, which has this text, begin no sentence.
+    WrongToken(usize, Atom),
+    /// The tokens are no sentence, and begin one.
+    EarlyEnd,
+    /// A parse would make more moves than this.
+    OverLimit(u64),
 }
 
 /// What the program writes, and the status that it ends with.

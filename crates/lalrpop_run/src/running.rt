@@ -11,18 +11,18 @@ ghost use Rattle.lalrpop_run.specs.Runs.{answer_view, read_fault, reply_output, 
 use crate::answering::answer;
 use crate::input::{Input, grammar_input};
 use crate::putting::put;
-use crate::question::reads_grammar;
+use crate::question::{reads_grammar, reads_text};
 use crate::reply::{Answer, Reply};
 use lalrpop_grammar::Grammar;
 use lalrpop_grammar_streams::{Sink, Source, SourceError, read_all, write_all};
-use lalrpop_run_options::{Options, Task};
+use lalrpop_run_options::Options;
 use std::alloc::{AllocError, Global};
 use std::str;
 
 /// Answers the words over the grammar's JSON and, for `tokens`, over the text, and writes the answer; its own answer is
 /// the exit status.
 ///
-/// `grammar` is read to its end, but not where the words give `judge` no tree. `judge` never reads `text`; `tokens` reads
+/// `grammar` is read to its end, but not where the words give `judge` no tree. `judge` and `check` never read `text`; `tokens` reads
 /// it to its end, once the grammar's JSON has given a grammar, whatever is wrong with that, and not where it gives none. The answer's
 /// text is made whole before the first write. Where memory was wanting the status is 5, where a reader or the writer has
 /// failed it is 6.
@@ -165,17 +165,13 @@ fn answer_over<R: Source>(
     ensures unread { reads_text (question_of options.now) ≡ false → text.new ≡ text.old }
     ensures uses { R.ended text.old ≡ false → R.misused text.new ≡ R.misused text.old }
 {
-    match options.task {
-        Task::Judge => {
-            let answer = answer(alloc, options, grammar, "")?;
-            Ok(answer)
-        }
-        Task::Tokens => {
-            let bytes = read_all(alloc, text)?;
-            let answer = answer_over_bytes(alloc, options, grammar, bytes.as_slice())?;
-            Ok(answer)
-        }
+    if reads_text(options) {
+        let bytes = read_all(alloc, text)?;
+        let answer = answer_over_bytes(alloc, options, grammar, bytes.as_slice())?;
+        return Ok(answer);
     }
+    let answer = answer(alloc, options, grammar, "")?;
+    Ok(answer)
 }
 
 /// The answer over a grammar and the text's bytes.

@@ -7,7 +7,7 @@ ghost use Rattle.lalrpop_run.specs.ReplyTexts.{reply_text, line, token_text, tok
 
 use crate::reply::Reply;
 use lalrpop_grammar::ScanToken;
-use lalrpop_json_grammar::JsonText;
+use lalrpop_json_grammar::{JsonText, TreeText};
 use std::fmt::{self, Display, Formatter, Write};
 
 /// Prints what the program writes for the reply: each line ends with a line feed.
@@ -25,8 +25,15 @@ impl Display for Reply<'_> {
             Reply::ConditionLimit => f.write_str("condition limit\n"),
             Reply::NotUtf8 => f.write_str("text isn't UTF-8\n"),
             Reply::Refused(error) => writeln!(f, "{error}"),
+            Reply::Parser(states) => writeln!(f, "parser with {states} states"),
             Reply::Tokens(tokens) => write_tokens(tokens.as_slice(), f),
             Reply::NoToken(at) => writeln!(f, "no token at byte {at}"),
+            Reply::Tree(tree) => writeln!(f, "{}", TreeText(tree)),
+            Reply::WrongToken(at, text) => {
+                writeln!(f, "token {} at byte {at}", JsonText(text.as_str()))
+            }
+            Reply::EarlyEnd => f.write_str("end of input\n"),
+            Reply::OverLimit(limit) => writeln!(f, "limit of {limit} moves used up"),
         }
     }
 }

@@ -1,64 +1,81 @@
 //! What `tokens` replies.
 
-ghost use Rattle.std.specs.Prelude.{◌≡◌, ◌↔◌, IfOk, IsTrue, List};
+ghost use Rattle.std.specs.Prelude.{◌≡◌, IfOk, List};
 ghost use Rattle.lalrpop_grammar.specs.Views.{grammar_view};
+ghost use Rattle.lalrpop_grammar.specs.declared.grammar.Grammar.{Grammar as WrittenGrammar};
 ghost use Rattle.lalrpop_lexer_scan.specs.Entries.{ScanEntry};
 ghost use Rattle.lalrpop_lexer_scan.specs.Scanning.{IsScannerOf};
 ghost use Rattle.lalrpop_norm_expansion.specs.Premises.{IsReadGrammar};
-ghost use Rattle.lalrpop_run.specs.Questions.{question_view};
+ghost use Rattle.lalrpop_run.specs.Parsers.{IsPreparedFor};
+ghost use Rattle.lalrpop_run.specs.Questions.{Question as AskedQuestion, question_view};
 ghost use Rattle.lalrpop_run.specs.Tokens.{IsScanReply, IsTokensReply};
 
+use crate::preparing::prepare_for;
 use crate::question::Question;
+use crate::refusals::refusal_reply;
 use crate::reply::Reply;
 use lalrpop_grammar::Grammar;
-use lalrpop_lexer_scan::{ScanError, Scanner};
-use lalrpop_run_refusals::GenerateError;
-use lalrpop_run_tokens::tokenizer;
+use lalrpop_lexer_scan::ScanError;
+use lalrpop_run_options::Method;
+use lalrpop_run_parser::{Parser, generate};
+use lalrpop_run_prepare::Prepared;
 use std::alloc::{AllocError, Global};
 
 /// The reply to a grammar and a text.
 pub(crate) fn tokens_reply<'t>(
     alloc: Global,
-    question: &Question<'_>,
+    question: Question<'_>,
     grammar: Grammar,
     text: &'t str,
 ) -> Result<Reply<'t>, AllocError>
     ensures { IfOk result (λ reply. IsReadGrammar (grammar_view grammar)
-        → IsTokensReply (question_view question.now) grammar text.now reply) }
+        → IsTokensReply (question_view question.entry) grammar text.now reply) }
 {
-    match tokenizer(alloc, &question.session, &question.start, grammar) {
-        Ok(scanner) => {
-            let reply = scan_reply(alloc, &scanner, text)?;
+    let method = question.method;
+    match prepare_for(alloc, question, grammar) {
+        Ok(prepared) => {
+            let reply = text_reply(alloc, &prepared, method, text)?;
             Ok(reply)
         }
         Err(error) => {
-            if is_memory(&error) {
-                return Err(AllocError);
-            }
-            Ok(Reply::Refused(error))
+            let reply = refusal_reply(error)?;
+            Ok(reply)
         }
     }
 }
 
-/// Whether the refusal is want of memory.
-fn is_memory(error: &GenerateError) -> bool
-    ensures { IsTrue result ↔ (error.now ≡ GenerateError.Memory) }
+/// The reply once the grammar is prepared: what the scan of the text tells, or how many conflicts the grammar has.
+fn text_reply<'t>(
+    alloc: Global,
+    prepared: &Prepared,
+    method: Method,
+    text: &'t str,
+) -> Result<Reply<'t>, AllocError>
+    ensures { IfOk result (λ reply. (q : AskedQuestion) (g : WrittenGrammar) → IsPreparedFor q g prepared.now
+        → IsReadGrammar (grammar_view g) → IsTokensReply q g text.now reply) }
 {
-    match error {
-        GenerateError::Memory => true,
-        GenerateError::Extern | GenerateError::Recovery | GenerateError::Norm(_) => false,
-        GenerateError::UnknownStart(_) | GenerateError::PrivateStart(_) => false,
-        GenerateError::Barren(_) | GenerateError::Unexplained(_) => false,
-        GenerateError::ConditionLimit => false,
+    match generate(alloc, prepared, method) {
+        Ok(parser) => {
+            let reply = scan_reply(alloc, &parser, text)?;
+            Ok(reply)
+        }
+        Err(error) => {
+            let reply = refusal_reply(error)?;
+            Ok(reply)
+        }
     }
 }
 
 /// The tokens of the text, or the first byte without one.
-fn scan_reply<'t>(alloc: Global, scanner: &Scanner, text: &'t str) -> Result<Reply<'t>, AllocError>
-    ensures { IfOk result (λ reply. (entries : List ScanEntry) → IsScannerOf scanner.now entries
+fn scan_reply<'t>(
+    alloc: Global,
+    parser: &Parser<'_>,
+    text: &'t str,
+) -> Result<Reply<'t>, AllocError>
+    ensures { IfOk result (λ reply. (entries : List ScanEntry) → IsScannerOf parser.now.prepared.scanner entries
         → IsScanReply entries text.now reply) }
 {
-    match scanner.scan(alloc, text) {
+    match parser.scan(alloc, text) {
         Ok(tokens) => Ok(Reply::Tokens(tokens)),
         Err(ScanError::NoToken(at)) => Ok(Reply::NoToken(at)),
         Err(ScanError::Memory) => Err(AllocError),

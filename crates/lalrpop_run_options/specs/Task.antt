@@ -1,16 +1,17 @@
 -- The words that name tasks.
 use Rattle.std.specs.Prelude.{◌≡◌, ℕ, List, [], ◌∷◌, codes, map}
 use Rattle.lalrpop_run_options.specs.declared.task.Task.{Task}
-use Rattle.lalrpop_run_options.specs.declared.task.Task.TheVariants.{Check, Judge, Tokens}
+use Rattle.lalrpop_run_options.specs.declared.task.Task.TheVariants.{Check, Judge, Parse, Tokens}
 
 -- the word that names a task
 abbrev pub word_of : Task → List ℕ
 word_of Judge = codes "judge"
 word_of Tokens = codes "tokens"
 word_of Check = codes "check"
+word_of Parse = codes "parse"
 
 abbrev pub all_tasks : List Task
-all_tasks = Judge ∷ Tokens ∷ Check ∷ []
+all_tasks = Judge ∷ Tokens ∷ Check ∷ Parse ∷ []
 
 abbrev pub task_words : List (List ℕ)
 task_words = map word_of all_tasks

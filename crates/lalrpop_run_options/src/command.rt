@@ -17,10 +17,12 @@ Commands, each with an example:
   judge   whether the grammar admits a tree: lalrpop_run judge --start S --tree \"$(cat examples/lists.tree.json)\" < examples/lists.grammar.json
   tokens  the tokens of a text: lalrpop_run tokens --start S --text 'a b' < examples/lists.grammar.json
   check   whether the grammar has a parser: lalrpop_run check --start Expr < examples/calculator.grammar.json
+  parse   the tree of a text: lalrpop_run parse --start Expr --text '1+2*3' < examples/calculator.grammar.json
 
 Status:
   0  an answer
-  1  the answer no, or a place without a token
+  1  the answer no, or a text without a tree
+  2  a parse would make more moves than --limit says
   3  the grammar is refused
   4  wrong words, or a value that can't be read
   5  out of memory

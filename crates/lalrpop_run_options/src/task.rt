@@ -11,10 +11,12 @@ pub enum Task {
     Tokens,
     /// Whether a grammar has a parser.
     Check,
+    /// The tree of a text.
+    Parse,
 }
 
 /// The words that name tasks, in the order of `Task`.
-pub(crate) static TASK_WORDS: [&str; 3] = ["judge", "tokens", "check"];
+pub(crate) static TASK_WORDS: [&str; 4] = ["judge", "tokens", "check", "parse"];
 
 impl Task {
     /// The word that names the task.
@@ -25,6 +27,7 @@ impl Task {
             Task::Judge => "judge",
             Task::Tokens => "tokens",
             Task::Check => "check",
+            Task::Parse => "parse",
         }
     }
 
@@ -37,6 +40,7 @@ impl Task {
             "judge" => Task::Judge,
             "tokens" => Task::Tokens,
             "check" => Task::Check,
+            "parse" => Task::Parse,
             _ => unreachable!(),
         }
     }

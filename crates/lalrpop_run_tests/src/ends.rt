@@ -14,6 +14,9 @@ static JUDGE: [&str; 6] = ["lalrpop_run", "judge", "--start", "S", "--tree", ONE
 /// The words of `tokens`.
 static TOKENS: [&str; 4] = ["lalrpop_run", "tokens", "--start", "S"];
 
+/// The words of `check`.
+static CHECK: [&str; 4] = ["lalrpop_run", "check", "--start", "S"];
+
 /// That a run over these readers and this writer ends so.
 fn ends<R1: Read + Drop, R2: Read + Drop>(
     rt: &impl Abort,
@@ -132,4 +135,11 @@ fn a_text_without_a_grammar_is_not_read(rt: HostRuntime) -> Result<(), Fail> {
         ends(&rt, &TOKENS, readers, out, text, 4)?;
     }
     Ok(())
+}
+
+#[test]
+fn the_text_of_check_is_not_read(rt: HostRuntime) -> Result<(), Fail> {
+    let readers = (lists(), Pieces::failing(b"", 0));
+    let out = Room::new(rt.alloc(), usize::MAX, 0);
+    ends(&rt, &CHECK, readers, out, "parser with 5 states\n", 0)
 }

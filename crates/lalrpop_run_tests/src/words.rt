@@ -1,6 +1,6 @@
 //! What the words ask for, on worked lines.
 
-use lalrpop_run::{OptionsError, Task, options};
+use lalrpop_run::{Method, OptionsError, Task, options};
 use std::alloc::{AllocError, Global};
 use std::test::Fail;
 
@@ -24,6 +24,7 @@ fn what_is_not_given_has_its_usual_value(rt: HostRuntime) -> Result<(), Fail> {
         assert!(rt; found.tree.is_none());
         assert_eq!(rt; found.features.len(), 0);
         assert_eq!(rt; found.macro_limit, 200);
+        assert_eq!(rt; found.method, Method::Lane { copies: 10_000 });
         assert_eq!(rt; found.limit, 1_000_000);
     }
     Ok(())
@@ -32,7 +33,7 @@ fn what_is_not_given_has_its_usual_value(rt: HostRuntime) -> Result<(), Fail> {
 #[test]
 fn each_option_is_read(rt: HostRuntime) -> Result<(), Fail> {
     let line = "lalrpop_run --limit=18446744073709551615 --tree {} --macro-limit 65535 judge \
-        --features a,,b --text 1+2 --start=Expr";
+        --features a,,b --text 1+2 --start=Expr --copies=7 --method lane";
     let words = words(rt.alloc(), line)?;
     let found = options(rt.alloc(), words.as_slice())?;
     assert_eq!(rt; found.task.word(), "judge");
@@ -44,7 +45,18 @@ fn each_option_is_read(rt: HostRuntime) -> Result<(), Fail> {
     };
     assert_eq!(rt; (first.as_str(), second.as_str()), ("a", "b"));
     assert_eq!(rt; found.macro_limit, 65_535);
+    assert_eq!(rt; found.method, Method::Lane { copies: 7 });
     assert_eq!(rt; found.limit, 18_446_744_073_709_551_615);
+    Ok(())
+}
+
+#[test]
+fn the_canonical_way_has_no_copies(rt: HostRuntime) -> Result<(), Fail> {
+    let line = "lalrpop_run check --copies 7 --start S --method canonical";
+    let words = words(rt.alloc(), line)?;
+    let found = options(rt.alloc(), words.as_slice())?;
+    assert_eq!(rt; found.task, Task::Check);
+    assert_eq!(rt; found.method, Method::Canonical);
     Ok(())
 }
 

@@ -4,9 +4,23 @@ use Rattle.lalrpop_run.specs.Questions.{question_view}
 use Rattle.lalrpop_run.specs.Replies.{IsGrammarFor, IsTaskReply}
 use Rattle.lalrpop_run.proofs.answering.reply_to.Goals as goal
 
+pub returns-in-Tokens : goal.returns-in-Tokens
+returns-in-Tokens c =
+    let g = c.args.grammar in
+    λ fit.
+    subst (λ (t : Task). IsTaskReply t (question_view c.args.question) g c.args.text.now c.in_ok-reply-in-Tokens.reply)
+    (sym c.in-Tokens.is) (c.in_ok-reply-in-Tokens.ensures (subst (λ (t : Task). IsGrammarFor t g) c.in-Tokens.is fit))
+
+pub returns-in-Check : goal.returns-in-Check
+returns-in-Check c =
+    let g = c.args.grammar in
+    λ fit.
+    subst (λ (t : Task). IsTaskReply t (question_view c.args.question) g c.args.text.now c.in_ok-reply-in-Check.reply)
+    (sym c.in-Check.is) (c.in_ok-reply-in-Check.ensures (subst (λ (t : Task). IsGrammarFor t g) c.in-Check.is fit))
+
 pub returns : goal.returns
 returns c =
     let g = c.args.grammar in
     λ fit.
-    subst (λ (t : Task). IsTaskReply t (question_view c.args.question.now) g c.args.text.now c.in_ok-reply-in-Tokens.reply)
-    (sym c.in-Tokens.is) (c.in_ok-reply-in-Tokens.ensures (subst (λ (t : Task). IsGrammarFor t g) c.in-Tokens.is fit))
+    subst (λ (t : Task). IsTaskReply t (question_view c.args.question) g c.args.text.now c.in_ok-reply-in-Parse.reply)
+    (sym c.in-Parse.is) (c.in_ok-reply-in-Parse.ensures (subst (λ (t : Task). IsGrammarFor t g) c.in-Parse.is fit))

@@ -1,0 +1,22 @@
+use Rattle.std.proofs.Common.{ap, subst, sym}
+use Rattle.lalrpop_lane_method.specs.declared.Method.{Method}
+use Rattle.lalrpop_run_parser.specs.Parsers.{HasStatesBy}
+use Rattle.lalrpop_run.proofs.ParserLemmas.{no_parser_for, parser_for}
+use Rattle.lalrpop_run.specs.Check.{IsCheckReply}
+use Rattle.lalrpop_run.specs.declared.reply.Reply.TheVariants as replies
+use Rattle.lalrpop_run.proofs.checking.states_reply.Goals as goal
+
+pub returns-in-Ok : goal.returns-in-Ok
+returns-in-Ok c = λ q g by prepared read.
+    let v = c.args.prepared.now in
+    let count = c.in-Ok.parser.count in
+    IsCheckReply.parser v count
+    (parser_for q g v prepared c.in-Ok.ensures.lr1 c.in-Ok.ensures.one_tree read)
+    (subst (λ (m : Method). HasStatesBy m v count) (sym by) c.in-Ok.ensures.states)
+    (ap replies.Parser c.state_count.ensures)
+
+pub returns-in_ok-reply-in-Err : goal.returns-in_ok-reply-in-Err
+returns-in_ok-reply-in-Err c = λ q g by prepared read.
+    let told = c.in_ok-reply-in-Err.ensures in
+    IsCheckReply.refused c.in-Err.error
+    (no_parser_for q g c.args.prepared.now prepared c.in-Err.error told.0 c.in-Err.ensures.refused) told.1

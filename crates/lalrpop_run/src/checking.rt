@@ -1,0 +1,59 @@
+//! What `check` replies.
+
+ghost use Rattle.std.specs.Prelude.{◌≡◌, IfOk};
+ghost use Rattle.lalrpop_grammar.specs.Views.{grammar_view};
+ghost use Rattle.lalrpop_grammar.specs.declared.grammar.Grammar.{Grammar as WrittenGrammar};
+ghost use Rattle.lalrpop_norm_expansion.specs.Premises.{IsReadGrammar};
+ghost use Rattle.lalrpop_run.specs.Check.{IsCheckReply};
+ghost use Rattle.lalrpop_run.specs.Parsers.{IsPreparedFor};
+ghost use Rattle.lalrpop_run.specs.Questions.{Question as AskedQuestion, question_view};
+
+use crate::preparing::prepare_for;
+use crate::question::Question;
+use crate::refusals::refusal_reply;
+use crate::reply::Reply;
+use lalrpop_grammar::Grammar;
+use lalrpop_run_options::Method;
+use lalrpop_run_parser::generate;
+use lalrpop_run_prepare::Prepared;
+use std::alloc::{AllocError, Global};
+
+/// The reply to a grammar.
+pub(crate) fn check_reply(
+    alloc: Global,
+    question: Question<'_>,
+    grammar: Grammar,
+) -> Result<Reply<'static>, AllocError>
+    ensures { IfOk result (λ reply. IsReadGrammar (grammar_view grammar)
+        → IsCheckReply (question_view question.entry) grammar reply) }
+{
+    let method = question.method;
+    match prepare_for(alloc, question, grammar) {
+        Ok(prepared) => {
+            let reply = states_reply(alloc, &prepared, method)?;
+            Ok(reply)
+        }
+        Err(error) => {
+            let reply = refusal_reply(error)?;
+            Ok(reply)
+        }
+    }
+}
+
+/// The reply once the grammar is prepared: how many states its parser has, or how many conflicts it has.
+fn states_reply(
+    alloc: Global,
+    prepared: &Prepared,
+    method: Method,
+) -> Result<Reply<'static>, AllocError>
+    ensures { IfOk result (λ reply. (q : AskedQuestion) (g : WrittenGrammar) → q.method ≡ method
+        → IsPreparedFor q g prepared.now → IsReadGrammar (grammar_view g) → IsCheckReply q g reply) }
+{
+    match generate(alloc, prepared, method) {
+        Ok(parser) => Ok(Reply::Parser(parser.state_count())),
+        Err(error) => {
+            let reply = refusal_reply(error)?;
+            Ok(reply)
+        }
+    }
+}

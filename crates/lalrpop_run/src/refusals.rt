@@ -1,0 +1,30 @@
+//! Refusals as replies.
+
+ghost use Rattle.std.specs.Prelude.{◌≡◌, ◌≢◌, ◌↔◌, IfOk, IsTrue};
+
+use crate::reply::Reply;
+use lalrpop_run_refusals::GenerateError;
+use std::alloc::AllocError;
+
+/// The reply that tells the refusal; want of memory is none.
+pub(crate) fn refusal_reply<'t>(error: GenerateError) -> Result<Reply<'t>, AllocError>
+    ensures { IfOk result (λ reply. (error ≢ GenerateError.Memory) × (reply ≡ Reply.Refused error)) }
+{
+    if is_memory(&error) {
+        return Err(AllocError);
+    }
+    Ok(Reply::Refused(error))
+}
+
+/// Whether the refusal is want of memory.
+fn is_memory(error: &GenerateError) -> bool
+    ensures { IsTrue result ↔ (error.now ≡ GenerateError.Memory) }
+{
+    match error {
+        GenerateError::Memory => true,
+        GenerateError::Extern | GenerateError::Recovery | GenerateError::Norm(_) => false,
+        GenerateError::UnknownStart(_) | GenerateError::PrivateStart(_) => false,
+        GenerateError::Barren(_) | GenerateError::Unexplained(_) => false,
+        GenerateError::ConditionLimit => false,
+    }
+}
