@@ -9,7 +9,7 @@ use Rattle.lalrpop_lr1_theory.specs.Spans.{SpannedForest, leaf_at, node_at, none
 use Rattle.lalrpop_lr1_theory.specs.Trees.{reduce, roots, shift}
 use Rattle.lalrpop_lr1_theory.proofs.TreeLemmas.{roots-and}
 use Rattle.lalrpop_lr1_parse.specs.ExpandedViews.{nth_tree, root_children}
-use Rattle.lalrpop_lr1_parse.specs.NamedTrees.{name_forest, named_leaf, named_leaves, named_node, no_trees}
+use Rattle.lalrpop_lr1_parse_trees.specs.NamedTrees.{name_forest, named_leaf, named_leaves, named_node, no_trees}
 use Rattle.lalrpop_lr1_parse.specs.Rows.{AreNumbersOf, part_at}
 use Rattle.lalrpop_lr1_parse.specs.Stacks.{AreStatesOn, EndsByShift, HasChildren, by_shift, no_moves, ◌beside◌}
 use Rattle.lalrpop_lr1_parse.proofs.StackLemmas.{states_on, without-beside}

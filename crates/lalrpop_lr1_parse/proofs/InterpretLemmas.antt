@@ -23,15 +23,15 @@ use Rattle.lalrpop_lr1_parse.specs.Ends.{IsEndOfRun, MakesTree, MayRun, terminal
 use Rattle.lalrpop_lr1_parse.specs.Interpretations.{IsInterpretFaultOf, IsHaltWithin, IsRightFault, IsTreeOfTokens, MayInterpret}
 use Rattle.lalrpop_lr1_parse.specs.Interpretations.{move_limit}
 use Rattle.lalrpop_lr1_parse.specs.Interpretations.{wrong_place}
-use Rattle.lalrpop_lr1_parse.specs.NamedTrees.{name_forest, parse_tree_views}
+use Rattle.lalrpop_lr1_parse_trees.specs.NamedTrees.{name_forest, parse_tree_views}
 use Rattle.lalrpop_lr1_parse.specs.Outcomes.{IsStuckAt, ShiftsAll}
 use Rattle.lalrpop_lr1_parse.specs.declared.action_table.ActionTable.{ActionTable}
 use Rattle.lalrpop_lr1_parse.specs.declared.interpret_fault.InterpretFault.{InterpretFault}
 use Rattle.lalrpop_lr1_parse.specs.declared.interpret_fault.InterpretFault.TheVariants as faults
 use Rattle.lalrpop_lr1_parse.specs.declared.machine.Halt.{Halt}
 use Rattle.lalrpop_lr1_parse.specs.declared.machine.Halt.TheVariants as halts
-use Rattle.lalrpop_lr1_parse.specs.declared.parse_tree.ParseTree.{ParseTree}
-use Rattle.lalrpop_lr1_parse.proofs.NamedLemmas.{named_count, named_long, named_views_long, only_named}
+use Rattle.lalrpop_lr1_parse_trees.specs.declared.parse_tree.ParseTree.{ParseTree}
+use Rattle.lalrpop_lr1_parse_trees.proofs.NamedLemmas.{named_count, named_long, named_views_long, only_named}
 use Rattle.lalrpop_lr1_parse.proofs.ParsingLemmas.{walk_in}
 use Rattle.lalrpop_lr1_parse.proofs.StopLemmas.{end_right, token_right}
 

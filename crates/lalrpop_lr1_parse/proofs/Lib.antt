@@ -1,4 +1,4 @@
-pub mod NamedLemmas
+pub mod NamedStackLemmas
 pub mod NumberLemmas
 pub mod StackLemmas
 pub mod ExamplesOfParses

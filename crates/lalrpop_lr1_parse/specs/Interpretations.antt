@@ -15,7 +15,7 @@ use Rattle.lalrpop_sets.specs.TokensLeft.{token_or}
 use Rattle.lalrpop_lr1_items.specs.Views.{lr_state_view, token_lookahead}
 use Rattle.lalrpop_lr1_items.specs.declared.state.State.{State}
 use Rattle.lalrpop_lr1_items.specs.declared.state_index.StateIndex.{StateIndex}
-use Rattle.lalrpop_lr1_parse.specs.NamedTrees.{name_forest, parse_tree_view}
+use Rattle.lalrpop_lr1_parse_trees.specs.NamedTrees.{name_forest, parse_tree_view}
 use Rattle.lalrpop_lr1_parse.specs.Outcomes.{IsStuckAt, ShiftsAll}
 use Rattle.lalrpop_lr1_parse.specs.Parses.{AreParsable}
 use Rattle.lalrpop_lr1_parse.specs.Tables.{IsTableOf}
@@ -25,7 +25,7 @@ use Rattle.lalrpop_lr1_parse.specs.declared.interpret_fault.InterpretFault.{Inte
 use Rattle.lalrpop_lr1_parse.specs.declared.interpret_fault.InterpretFault.TheVariants as faults
 use Rattle.lalrpop_lr1_parse.specs.declared.machine.Halt.{Halt}
 use Rattle.lalrpop_lr1_parse.specs.declared.machine.Halt.TheVariants as halts
-use Rattle.lalrpop_lr1_parse.specs.declared.parse_tree.ParseTree.{ParseTree}
+use Rattle.lalrpop_lr1_parse_trees.specs.declared.parse_tree.ParseTree.{ParseTree}
 
 -- the greatest number of moves that an interpreter makes
 abbrev pub move_limit : ℕ

@@ -2,10 +2,8 @@ pub mod Ends
 pub mod ExpandedViews
 pub mod Interpretations
 pub mod MadeTables
-pub mod NamedTrees
 pub mod Numbers
 pub mod Outcomes
-pub mod ParseTreeTexts
 pub mod Parses
 pub mod Rows
 pub mod Stacks

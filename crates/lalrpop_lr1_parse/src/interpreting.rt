@@ -15,13 +15,13 @@ ghost use Rattle.lalrpop_lr1_parse.specs.Tables.{IsTableOf};
 use crate::action_table::ActionTable;
 use crate::interpret_fault::{InterpretError, InterpretFault};
 use crate::machine::{Halt, run};
-use crate::parse_tree::ParseTree;
 use crate::parse_tree_stack::ParseTrees;
 use crate::tree_stack::NoTrees;
 use lalrpop_grammar::ScanToken;
 use lalrpop_grammar_repr::TerminalSet;
 use lalrpop_grammar_symbols::{Span, TerminalString};
 use lalrpop_lr1_items::{Lr1State, StateIndex};
+use lalrpop_lr1_parse_trees::ParseTree;
 use lalrpop_sets::Token;
 use std::alloc::{AllocError, Global};
 

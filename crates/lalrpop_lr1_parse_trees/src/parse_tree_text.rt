@@ -2,7 +2,7 @@
 
 ghost use Rattle.std.specs.Prelude.{Some};
 ghost use Rattle.std.specs.Fmt.{WritesOnOk};
-ghost use Rattle.lalrpop_lr1_parse.specs.ParseTreeTexts.{node_text, parse_tree_text, parse_tree_texts, trees_text};
+ghost use Rattle.lalrpop_lr1_parse_trees.specs.ParseTreeTexts.{node_text, parse_tree_text, parse_tree_texts, trees_text};
 
 use crate::parse_tree::ParseTree;
 use lalrpop_grammar_symbols::NonterminalString;

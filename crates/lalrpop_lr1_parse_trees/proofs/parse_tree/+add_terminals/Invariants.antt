@@ -1,7 +1,7 @@
 use Rattle.std.proofs.Common.{◌≡◌, ◌++◌, map, take}
 use Rattle.lalrpop_grammar_symbols.specs.Views.{terminal_view}
-use Rattle.lalrpop_lr1_parse.specs.NamedTrees.{named_leaves, parse_tree_views}
-use Rattle.lalrpop_lr1_parse.proofs.parse_tree.+add_terminals.Given as goal
+use Rattle.lalrpop_lr1_parse_trees.specs.NamedTrees.{named_leaves, parse_tree_views}
+use Rattle.lalrpop_lr1_parse_trees.proofs.parse_tree.+add_terminals.Given as goal
 
 abbrev pub invariant-add_all_terminals-loop-tree : goal.invariant-add_all_terminals-loop-tree
 invariant-add_all_terminals-loop-tree l =

@@ -3,9 +3,9 @@ use Rattle.std.specs.Prelude.{List, [], ◌∷◌, ◌++◌, map}
 use Rattle.lalrpop_grammar_symbols.specs.Symbols.{Terminal, Text}
 use Rattle.lalrpop_grammar_symbols.specs.Views.{terminal_view}
 use Rattle.lalrpop_lr1_theory.specs.Trees.{Forest, leaf, node, none}
-use Rattle.lalrpop_lr1_parse.specs.declared.parse_tree.ParseTree.{ParseTree}
-use Rattle.lalrpop_lr1_parse.specs.declared.parse_tree.ParseTree.TheOpen as layer
-use Rattle.lalrpop_lr1_parse.specs.declared.parse_tree.ParseTree.TheFolds.{fold-ParseTree}
+use Rattle.lalrpop_lr1_parse_trees.specs.declared.parse_tree.ParseTree.{ParseTree}
+use Rattle.lalrpop_lr1_parse_trees.specs.declared.parse_tree.ParseTree.TheOpen as layer
+use Rattle.lalrpop_lr1_parse_trees.specs.declared.parse_tree.ParseTree.TheFolds.{fold-ParseTree}
 
 -- a list of trees: none; a leaf, then the others; a nonterminal over a list of trees, then the others
 pub data NamedForest : Type 0 where

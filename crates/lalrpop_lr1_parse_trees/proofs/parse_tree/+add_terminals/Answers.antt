@@ -1,8 +1,8 @@
 use Rattle.std.proofs.Common.{◌∙◌, ◌++◌, ap, append_assoc, arith, map, sym, take}
 use Rattle.lalrpop_grammar_symbols.specs.Views.{terminal_view}
-use Rattle.lalrpop_lr1_parse.specs.NamedTrees.{named_leaves, parse_tree_view, parse_tree_views}
-use Rattle.lalrpop_lr1_parse.proofs.NamedLemmas.{leaves_more}
-use Rattle.lalrpop_lr1_parse.proofs.parse_tree.+add_terminals.Goals as goal
+use Rattle.lalrpop_lr1_parse_trees.specs.NamedTrees.{named_leaves, parse_tree_view, parse_tree_views}
+use Rattle.lalrpop_lr1_parse_trees.proofs.NamedLemmas.{leaves_more}
+use Rattle.lalrpop_lr1_parse_trees.proofs.parse_tree.+add_terminals.Goals as goal
 
 pub add_all_terminals-loop-tree-preserved : goal.add_all_terminals-loop-tree-preserved
 add_all_terminals-loop-tree-preserved t c =

@@ -2,7 +2,7 @@
 
 ghost use Rattle.std.specs.Prelude.{◌≡◌, ◌++◌, IfOk, OnOk, map};
 ghost use Rattle.lalrpop_grammar_symbols.specs.Views.{terminal_view};
-ghost use Rattle.lalrpop_lr1_parse.specs.NamedTrees.{named_leaves, parse_tree_view, parse_tree_views};
+ghost use Rattle.lalrpop_lr1_parse_trees.specs.NamedTrees.{named_leaves, parse_tree_view, parse_tree_views};
 
 use lalrpop_grammar_symbols::{List, NonterminalString, TerminalString};
 use std::alloc::{AllocError, Global};

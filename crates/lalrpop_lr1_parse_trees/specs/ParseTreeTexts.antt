@@ -3,9 +3,9 @@ use Rattle.std.specs.Prelude.{List, ◌++◌, codes, map}
 use Rattle.lalrpop_grammar_symbols.specs.Symbols.{Text}
 use Rattle.lalrpop_grammar_symbols.specs.Texts.{join_texts, terminal_text}
 use Rattle.lalrpop_grammar_symbols.specs.Views.{terminal_view}
-use Rattle.lalrpop_lr1_parse.specs.declared.parse_tree.ParseTree.{ParseTree}
-use Rattle.lalrpop_lr1_parse.specs.declared.parse_tree.ParseTree.TheOpen as layer
-use Rattle.lalrpop_lr1_parse.specs.declared.parse_tree.ParseTree.TheFolds.{fold-ParseTree}
+use Rattle.lalrpop_lr1_parse_trees.specs.declared.parse_tree.ParseTree.{ParseTree}
+use Rattle.lalrpop_lr1_parse_trees.specs.declared.parse_tree.ParseTree.TheOpen as layer
+use Rattle.lalrpop_lr1_parse_trees.specs.declared.parse_tree.ParseTree.TheFolds.{fold-ParseTree}
 
 -- the texts with commas between them
 abbrev pub trees_text : List Text → Text

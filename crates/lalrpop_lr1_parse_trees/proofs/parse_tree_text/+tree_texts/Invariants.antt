@@ -1,7 +1,7 @@
 use Rattle.std.proofs.Common.{take}
 use Rattle.std.specs.Fmt.{HasWritten, IsPlainFormatter}
-use Rattle.lalrpop_lr1_parse.specs.ParseTreeTexts.{parse_tree_texts, trees_text}
-use Rattle.lalrpop_lr1_parse.proofs.parse_tree_text.+tree_texts.Given as goal
+use Rattle.lalrpop_lr1_parse_trees.specs.ParseTreeTexts.{parse_tree_texts, trees_text}
+use Rattle.lalrpop_lr1_parse_trees.proofs.parse_tree_text.+tree_texts.Given as goal
 
 abbrev pub invariant-write_trees-loop-i : goal.invariant-write_trees-loop-i
 invariant-write_trees-loop-i g l =

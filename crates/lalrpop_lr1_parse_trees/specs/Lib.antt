@@ -1,0 +1,2 @@
+pub mod NamedTrees
+pub mod ParseTreeTexts
