@@ -68,7 +68,8 @@ halt_within table states q tokens limit whole Made halts.Memory e = tt
 
 module _ (grammar : List Production) (s : Text) (ts : TerminalSet) (states : List (State (List ℕ))) (alone : IsStartAlone grammar s)
     (ok : AreCheckedStates grammar s (map (lr_state_view (token_lookahead ts)) states)) (tokens : List ScanToken) where
-  place_right : (w : List Terminal) (at number : ℕ) → IsStuckAt (map (lr_state_view (token_lookahead ts)) states) w at number →
+  place_right : (w : List Terminal) (at number : ℕ) →
+      IsStuckAt (map (lr_state_view (token_lookahead ts)) states) w move_limit at number →
       IsRightParseAnswer (Contains grammar) s w move_limit (wrong_place w at)
   place_right w at number stuck = go (cases_lt at (length w)) (nat_lt at (length w)) refl
     where
@@ -87,8 +88,8 @@ module _ (grammar : List Production) (s : Text) (ts : TerminalSet) (states : Lis
       IsInterpretFaultOf states tokens halt fault → IsRightFault grammar s ts states (map (λ t. t.terminal) tokens) fault
   fault_right whole Made (halts.Stuck at number) (faults.Stuck e) h f =
       let w = map terminal_view (map (λ t. t.terminal) tokens) in
-      let stuck : IsStuckAt (map (lr_state_view (token_lookahead ts)) states) w at number =
-      subst (λ v. IsStuckAt (map (lr_state_view (token_lookahead ts)) states) v at number) (seen_terminals tokens) h in
+      let stuck : IsStuckAt (map (lr_state_view (token_lookahead ts)) states) w move_limit at number =
+      subst (λ v. IsStuckAt (map (lr_state_view (token_lookahead ts)) states) v move_limit at number) (seen_terminals tokens) h in
       record {
         at = at;
         number = number;

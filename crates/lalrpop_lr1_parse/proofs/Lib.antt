@@ -1,11 +1,14 @@
 pub mod NamedStackLemmas
 pub mod NumberLemmas
 pub mod StackLemmas
+pub mod ExamplesOfLimits
 pub mod ExamplesOfParses
 pub mod ExamplesOfStacks
 pub mod ExpandedLemmas
 pub mod InterpretLemmas
+pub mod LimitLemmas
 pub mod MadeTableLemmas
+pub mod MoveCountLemmas
 pub mod ParsingLemmas
 pub mod RowLemmas
 pub mod RunLemmas

@@ -132,7 +132,8 @@ module _ (states : List State) (w : List Terminal) (limit : ℕ) (whole : Bool) 
   }
 
   -- where the state allows no move
-  pub stuck_there : ((v : Move) → Allows (HasEdge states) (Reduces states) n (first (drop at w)) v → ⊥) → IsStuckAt states w at n
+  pub stuck_there : ((v : Move) → Allows (HasEdge states) (Reduces states) n (first (drop at w)) v → ⊥) →
+      IsStuckAt states w limit at n
   stuck_there none_can = record {
     made = f;
     moves = p.moves;
@@ -140,6 +141,7 @@ module _ (states : List State) (w : List Terminal) (limit : ℕ) (whole : Bool) 
     walk = top_walk;
     none_allowed = none_can;
     within = p.within;
+    few = omega (arith, p.left_is);
   }
 
   -- where a parse isn't to be finished, once all tokens are shifted

@@ -222,7 +222,7 @@ module _ (table : ActionTable) (tokens : List ScanToken) (limit : ℕ) (whole : 
 
   -- where nothing is done, the run is stuck
   pub is_stuck : IsActionBefore table n next None → (states : List State) → IsTableOf table states →
-      IsStuckAt states (terminals_of tokens) at n
+      IsStuckAt states (terminals_of tokens) limit at n
   is_stuck a states is =
       stuck_there states (terminals_of tokens) limit whole ns (without_spans p.trees) at left (p.parsing states is) n is_top
       (nothing_says table n (first (drop at (terminals_of tokens))) next p.next_is a states is)

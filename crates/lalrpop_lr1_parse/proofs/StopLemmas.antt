@@ -38,7 +38,7 @@ drop_all (x ∷ w) zero h = absurd (omega arith)
 drop_all (x ∷ w) (suc at) h = drop_all w at (omega arith)
 
 module _ (grammar : List Production) (s : Text) (states : List State) (alone : IsStartAlone grammar s)
-    (ok : AreCheckedStates grammar s states) (w : List Terminal) (at state limit : ℕ) (stuck : IsStuckAt states w at state) where
+    (ok : AreCheckedStates grammar s states) (w : List Terminal) (at state limit : ℕ) (stuck : IsStuckAt states w limit at state) where
   -- a stuck run has shifted the tokens before its place
   shifted : at ≡ length (yield stuck.made)
   shifted =

@@ -54,6 +54,6 @@ abbrev pub IsEndOfRun : List State → Text → List ScanToken → ℕ → Bool 
     Result (Vec ℕ Global) Halt →
     Type 0
 IsEndOfRun states s tokens limit whole Made (Ok numbers) = IsDone states s tokens limit Made numbers.items whole
-IsEndOfRun states s tokens limit whole Made (Err (Stuck at state)) = IsStuckAt states (terminals_of tokens) at state
+IsEndOfRun states s tokens limit whole Made (Err (Stuck at state)) = IsStuckAt states (terminals_of tokens) limit at state
 IsEndOfRun states s tokens limit whole Made (Err Limit) = PassesLimit states (terminals_of tokens) limit
 IsEndOfRun states s tokens limit whole Made (Err Memory) = Unit {0}

@@ -40,7 +40,7 @@ pub record IsRightError (grammar : List Production) (s : Text) (ts : TerminalSet
     (tokens : List TerminalString) (e : InterpretError) : Type 0 where
   pub at : ℕ
   pub number : ℕ
-  pub stuck : IsStuckAt (map (lr_state_view (token_lookahead ts)) states) (map terminal_view tokens) at number
+  pub stuck : IsStuckAt (map (lr_state_view (token_lookahead ts)) states) (map terminal_view tokens) move_limit at number
   pub state_is : slice_get states number ≡ Some e.state.now
   pub token_is : e.token ≡ token_or (slice_get tokens at) true
   pub right : IsRightParseAnswer (Contains grammar) s (map terminal_view tokens) move_limit (wrong_place (map terminal_view tokens) at)

@@ -7,7 +7,9 @@ use Rattle.lalrpop_grammar_repr.specs.declared.terminal_set.TerminalSet.{Termina
 use Rattle.lalrpop_lr1_theory.specs.Answers.{IsRightParseAnswer, over_limit, tree, wrong_end, wrong_token}
 use Rattle.lalrpop_lr1_theory.specs.CheckedStates.{AreCheckedStates, IsStartAlone}
 use Rattle.lalrpop_lr1_theory.specs.Productions.{Production}
+use Rattle.lalrpop_lr1_theory.specs.Runs.{PassesLimit}
 use Rattle.lalrpop_lr1_theory.specs.Spans.{SpannedForest, leaf_spans, without_spans}
+use Rattle.lalrpop_lr1_theory.specs.States.{State as TheoryState}
 use Rattle.lalrpop_lr1_items.specs.Views.{lr_state_view, token_lookahead}
 use Rattle.lalrpop_lr1_items.specs.declared.state.State.{State}
 use Rattle.lalrpop_lr1_parse.specs.Ends.{spans_of, terminals_of, token_views}
@@ -56,6 +58,19 @@ abbrev pub IsRightParseOnto : List Production → Text → List ScanToken → �
     Result (Unit {0}) Stop → Type 0
 IsRightParseOnto grammar s tokens limit Made (Ok done) = MakesRightTree grammar s tokens limit Made
 IsRightParseOnto grammar s tokens limit Made (Err stop) = IsRightStop grammar s tokens limit stop
+
+-- a stop tells the limit where the states make more moves over the tokens, and nowhere else; of want of memory nothing is said
+abbrev pub StopsByLimit : List TheoryState → List ScanToken → ℕ → Stop → Type 0
+StopsByLimit states tokens limit (Token i) = PassesLimit states (terminals_of tokens) limit → ⊥
+StopsByLimit states tokens limit End = PassesLimit states (terminals_of tokens) limit → ⊥
+StopsByLimit states tokens limit Limit = PassesLimit states (terminals_of tokens) limit
+StopsByLimit states tokens limit Memory = Unit {0}
+
+-- The limit is told exactly where the states make more moves over the tokens: each other answer, but for want of memory, comes only
+-- where they make at most so many.
+abbrev pub TellsLimit : {A : Type 0} → List TheoryState → List ScanToken → ℕ → Result A Stop → Type 0
+TellsLimit states tokens limit (Ok made) = PassesLimit states (terminals_of tokens) limit → ⊥
+TellsLimit states tokens limit (Err stop) = StopsByLimit states tokens limit stop
 
 -- what the machine's halt says of so many tokens
 abbrev pub IsStopOf : ℕ → Halt → Stop → Type 0

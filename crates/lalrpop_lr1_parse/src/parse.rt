@@ -8,7 +8,7 @@ ghost use Rattle.lalrpop_lr1_theory.specs.Spans.{none_at};
 ghost use Rattle.lalrpop_lr1_theory.specs.States.{State};
 ghost use Rattle.lalrpop_lr1_items.specs.Views.{lr_state_view, token_lookahead};
 ghost use Rattle.lalrpop_lr1_parse.specs.Ends.{MayRun};
-ghost use Rattle.lalrpop_lr1_parse.specs.Parses.{AreParsable, IsRightParse, IsRightParseOnto, IsStopOf};
+ghost use Rattle.lalrpop_lr1_parse.specs.Parses.{AreParsable, IsRightParse, IsRightParseOnto, IsStopOf, TellsLimit};
 ghost use Rattle.lalrpop_lr1_parse.specs.Tables.{IsTableOf};
 ghost use Rattle.lalrpop_lr1_parse.specs.declared.stop.Stop.TheVariants.{Memory};
 
@@ -50,7 +50,7 @@ impl<'g> ActionTable<'g> {
     /// # Errors
     ///
     /// The first token with which they begin no sentence, or that the end is wrong, or that more than `limit` moves would be made, or
-    /// that memory ran out.
+    /// that memory ran out. `Limit` comes exactly where the states make more than `limit` moves over the tokens.
     pub fn parse_onto<S: TreeStack<'g>>(
         &self,
         alloc: Global,
@@ -63,6 +63,7 @@ impl<'g> ActionTable<'g> {
         ensures right { (grammar : List Production) (s : Text) (states : List State) → IsStartAlone grammar s
             → AreCheckedStates grammar s states → IsTableOf self.now states
             → IsRightParseOnto grammar s tokens.now limit (S.stands stack.new) result }
+        ensures limit { (states : List State) → IsTableOf self.now states → TellsLimit states tokens.now limit result }
         ensures same { S.given stack.new ≡ S.given stack.old }
     {
         match run(alloc, self, tokens, limit, true, stack) {
@@ -72,7 +73,7 @@ impl<'g> ActionTable<'g> {
     }
 
     /// The tree of the tokens, with at most `limit` leaves and nodes; or the first token with which they begin no sentence, or that
-    /// the end is wrong, or that more than `limit` moves would be made.
+    /// the end is wrong, or that more than `limit` moves would be made, exactly where they would.
     pub fn parse(
         &self,
         alloc: Global,
@@ -80,8 +81,9 @@ impl<'g> ActionTable<'g> {
         limit: u64,
     ) -> Result<ExpandedTree<'g>, Stop>
         requires { MayRun self.now }
-        ensures { (grammar : List Production) (s : Text) (states : List State) → IsStartAlone grammar s
+        ensures right { (grammar : List Production) (s : Text) (states : List State) → IsStartAlone grammar s
             → AreCheckedStates grammar s states → IsTableOf self.now states → IsRightParse grammar s tokens.now limit result }
+        ensures limit { (states : List State) → IsTableOf self.now states → TellsLimit states tokens.now limit result }
     {
         let mut stack = ExpandedTrees::new(alloc);
         self.parse_onto(alloc, tokens, limit, &mut stack)?;
@@ -94,7 +96,7 @@ impl<'g> ActionTable<'g> {
 
 /// The tree of the tokens by the states, whose sets of tokens are over these terminals: it has at most `limit` leaves and nodes, and
 /// the tokens' spans at its leaves. Or the first token with which they begin no sentence, or that the end is wrong, or that more than
-/// `limit` moves would be made.
+/// `limit` moves would be made, exactly where they would.
 pub fn parse_limited<'g>(
     alloc: Global,
     states: &[Lr1State<'g>],
@@ -103,9 +105,10 @@ pub fn parse_limited<'g>(
     limit: u64,
 ) -> Result<ExpandedTree<'g>, Stop>
     requires { AreParsable terminals.now states.now }
-    ensures { (grammar : List Production) (s : Text) → IsStartAlone grammar s
+    ensures right { (grammar : List Production) (s : Text) → IsStartAlone grammar s
         → AreCheckedStates grammar s (map (lr_state_view (token_lookahead terminals.now)) states.now)
         → IsRightParse grammar s tokens.now limit result }
+    ensures limit { TellsLimit (map (lr_state_view (token_lookahead terminals.now)) states.now) tokens.now limit result }
 {
     let table = ActionTable::new(alloc, states, terminals)?;
     table.parse(alloc, tokens, limit)

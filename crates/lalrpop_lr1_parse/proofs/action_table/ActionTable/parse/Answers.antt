@@ -5,8 +5,8 @@ use Rattle.lalrpop_lr1_parse.specs.Ends.{terminals_of}
 use Rattle.lalrpop_lr1_parse.proofs.ExpandedLemmas.{only_tree}
 use Rattle.lalrpop_lr1_parse.proofs.action_table.ActionTable.parse.Goals as goal
 
-pub returns : goal.returns
-returns c = λ grammar s states alone ok is.
+pub returns-clause-right : goal.returns-clause-right
+returns-clause-right c = λ grammar s states alone ok is.
     let made = c.in_ok-parse_onto.ensures.right grammar s states alone ok is in
     let w = terminals_of c.args.tokens.now in
     let whole = only_tree c.parse_onto.new.stack.trees.items c.in-Some.ensures.0 c.in-Some.tree made.trees made.stands

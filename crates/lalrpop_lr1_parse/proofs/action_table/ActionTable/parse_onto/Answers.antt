@@ -3,7 +3,8 @@ use Rattle.lalrpop_lr1_theory.specs.Answers.{tree}
 use Rattle.lalrpop_lr1_theory.specs.Spans.{without_spans}
 use Rattle.lalrpop_lr1_theory.proofs.AnswerLemmas.{ends_right}
 use Rattle.lalrpop_lr1_parse.specs.Ends.{terminals_of}
-use Rattle.lalrpop_lr1_parse.specs.Parses.{IsRightParseOnto}
+use Rattle.lalrpop_lr1_parse.specs.Parses.{IsRightParseOnto, TellsLimit}
+use Rattle.lalrpop_lr1_parse.proofs.LimitLemmas.{made_within, stop_by_limit}
 use Rattle.lalrpop_lr1_parse.proofs.StopLemmas.{stop_right}
 use Rattle.lalrpop_lr1_parse.proofs.action_table.ActionTable.parse_onto.Goals as goal
 use Rattle.lalrpop_lr1_parse.proofs.action_table.ActionTable.parse_onto.Goals.{in-Ok, in-Err}
@@ -25,4 +26,18 @@ returns-clause-right g c = λ grammar s states alone ok is.
           subst (IsRightParseOnto grammar s c.args.tokens.now c.args.limit (g.S.TreeStack.stands c.run.new.stack)) (sym w.result-is)
           (stop_right grammar s states alone ok c.args.tokens.now c.args.limit (g.S.TreeStack.stands c.run.new.stack) w.in-Err.halt
           w.stop_of.result (w.in-Err.ensures.ends grammar s states alone ok is) w.stop_of.ensures)
+    ]
+
+pub returns-clause-limit : goal.returns-clause-limit
+returns-clause-limit g c = λ states is.
+    let q = c.requires.checked in
+    elim c.match-run.branch [
+      | in-Ok w ↦
+          subst (TellsLimit states c.args.tokens.now c.args.limit) (sym w.result-is)
+          (made_within c.args.self.now q states is c.args.tokens.now c.args.limit (g.S.TreeStack.stands c.run.new.stack)
+          (w.in-Ok.ensures.ends q.grammar q.start q.states q.alone q.checked q.is_table))
+      | in-Err w ↦
+          subst (TellsLimit states c.args.tokens.now c.args.limit) (sym w.result-is)
+          (stop_by_limit c.args.self.now q states is c.args.tokens.now c.args.limit (g.S.TreeStack.stands c.run.new.stack) w.in-Err.halt
+          w.stop_of.result (w.in-Err.ensures.ends q.grammar q.start q.states q.alone q.checked q.is_table) w.stop_of.ensures)
     ]
