@@ -57,7 +57,8 @@ reduces_nothing n p x r = go n r.state r.at (record { production = p; lookahead 
 passes_no_more : PassesLimit one_shift (one ∷ []) 1 → ⊥
 passes_no_more p = go p.moves p.made p.left p.run p.count
   where
-    no_move_at_end : (n : ℕ) (m : Move) (w : List Terminal) → w ≡ [] → Allows (HasEdge one_shift) (Reduces one_shift) n (first w) m → ⊥
+    no_move_at_end : (n : ℕ) (m : Move) (w : List Terminal) → w ≡ [] →
+        Allows (HasEdge one_shift) (Reduces one_shift) n (first w) m → ⊥
     no_move_at_end n m w e a = at_end m (subst (λ l. Allows (HasEdge one_shift) (Reduces one_shift) n (first l) m) e a)
       where
         at_end : (m : Move) → Allows (HasEdge one_shift) (Reduces one_shift) n None m → ⊥

@@ -1,5 +1,7 @@
--- How many moves runs over tokens make: a longer run goes on where a shorter one ends, and none goes on past where states allow nothing; for what is said of limits.
-use Rattle.std.proofs.Common.{◌≡◌, ℕ, zero, suc, ◌<◌, ◌≤◌, List, [], ◌∷◌, length, refl, ap, subst, arith, Contains, Some, None}
+-- How many moves runs over tokens make: a longer run goes on where a shorter one ends, and none goes on where states allow nothing; for
+-- what is said of limits.
+use Rattle.std.proofs.Common.{◌≡◌, ℕ, zero, suc, ◌<◌, ◌≤◌, List, [], ◌∷◌, length, refl, ap, subst, arith}
+use Rattle.std.proofs.Common.{Contains, Some, None}
 use Rattle.lalrpop_grammar_symbols.specs.Symbols.{Terminal, Text}
 use Rattle.lalrpop_lr1_theory.specs.Automata.{Walk, goes, stands}
 use Rattle.lalrpop_lr1_theory.specs.CheckedStates.{AreCheckedStates, IsStartAlone}
@@ -119,8 +121,8 @@ module _ (E : ℕ → Symbol → ℕ → Type 0) (R : ℕ → Production → Nex
   }
 
 -- where a greater limit is passed, each smaller one is
-pub passes_smaller : (states : List State) (tokens : List Terminal) (limit more : ℕ) → limit ≤ more → PassesLimit states tokens more →
-    PassesLimit states tokens limit
+pub passes_smaller : (states : List State) (tokens : List Terminal) (limit more : ℕ) → limit ≤ more →
+    PassesLimit states tokens more → PassesLimit states tokens limit
 passes_smaller states tokens limit more h p =
     let r = begins_with (HasEdge states) (Reduces states) p.moves (suc limit) none tokens p.made p.left p.run (omega (arith, p.count)) in
     record { moves = r.moves; made = r.made; left = r.left; run = r.run; count = r.many }
@@ -147,7 +149,8 @@ module _ (grammar : List Production) (s : Text) (states : List State) (ok : AreC
       none_passes ms f v r
       (λ k m w a.
       none_can m
-      (subst (λ j. Allows (HasEdge states) (Reduces states) j (first v) m) (walk_one (HasEdge states) ok.cover.one (roots f) k n w walk) a))
+      (subst (λ j. Allows (HasEdge states) (Reduces states) j (first v) m)
+      (walk_one (HasEdge states) ok.cover.one (roots f) k n w walk) a))
       h
 
   -- nor where one accepts
