@@ -17,10 +17,11 @@ use Rattle.lalrpop_lr1_parse.specs.Tables.{IsTableOf}
 use Rattle.lalrpop_lr1_parse.specs.declared.action_table.ActionTable.{ActionTable}
 use Rattle.lalrpop_lr1_theory.specs.Answers.{IsLr1}
 use Rattle.lalrpop_lr1_theory.specs.CheckedStates.{AreCheckedStates, IsStartAlone}
+use Rattle.lalrpop_lr1_theory.specs.States.{State as TheoryState}
 use Rattle.lalrpop_lr1_theory.specs.ValidItems.{NoneBarren}
 use Rattle.lalrpop_norm_expansion.specs.Premises.{IsReadGrammar}
 use Rattle.lalrpop_run_answers.specs.Laws.{OneWrittenTree}
-use Rattle.lalrpop_run_parser.specs.Parsers.{HasConflicts, HasOneTreeEach, HasStatesBy, IsParserTable}
+use Rattle.lalrpop_run_parser.specs.Parsers.{HasConflicts, HasOneTreeEach, HasStatesBy, HasTableBy, IsParserTable}
 use Rattle.lalrpop_run_prepare.specs.PreparedGrammars.{IsPrepared, MayBeParsedFrom, PreparedGrammar}
 use Rattle.lalrpop_run_prepare.proofs.StartLemmas.{start_in_expansion}
 
@@ -64,23 +65,49 @@ module _ (v : PreparedGrammar) (g : Grammar) (start : NonterminalString) (same :
         (handed (λ h n. NoneBarren (Contains (theory_grammar h)) n.0 → TellsNoLr1 h n fault) f m.none_barren);
   }
 
+-- no tokens have two written trees, whatever states the expansion may be parsed with
+pub one_tree_by : (v : PreparedGrammar) (states : List TheoryState)
+    → AreCheckedStates (theory_grammar v.expansion) v.start_name.0 states → OneWrittenTree → IsPrepared finds is_too_deep v
+    → IsReadGrammar (grammar_view v.written) → v.start_name.0 ≡ v.written.prefix ++ v.start → HasOneTreeEach v
+one_tree_by v states checked law p read name =
+    law finds v.session.features.items (grammar_view v.written) v.written.prefix v.start (theory_grammar v.expansion) states
+    p.told.expansion
+    (start_in_expansion finds is_too_deep v.session.features.items v.session.macro_recursion_limit (grammar_view v.written) read
+    p.generable.faultless v.start p.generable.starts)
+    (subst (λ s. AreCheckedStates (theory_grammar v.expansion) s states) name checked)
+
 module _ (v : PreparedGrammar) (built : List (State (List ℕ)))
     (checked : AreCheckedStates (theory_grammar v.expansion) v.start_name.0 (states_over v.expansion.terminals built)) where
+  table_over : (table : ActionTable) (g : Grammar) (given : List (State (List ℕ))) → g ≡ v.expansion → given ≡ built
+      → IsTableOf table (states_over g.terminals given) → IsTableOf table (states_over v.expansion.terminals built)
+  table_over table g given same all made =
+      subst (λ (xs : List (State (List ℕ))). IsTableOf table (states_over v.expansion.terminals xs)) all
+      (subst (λ (h : Grammar). IsTableOf table (states_over h.terminals given)) same made)
+
   pub is_table : (table : ActionTable) (g : Grammar) (given : List (State (List ℕ))) (count : ℕ) → g ≡ v.expansion → given ≡ built
       → IsTableOf table (states_over g.terminals given) → count ≡ length built → IsParserTable v table count
   is_table table g given count same all made many = record {
     states = states_over v.expansion.terminals built;
     checked = checked;
-    table_is = subst (λ (xs : List (State (List ℕ))). IsTableOf table (states_over v.expansion.terminals xs)) all
-        (subst (λ (h : Grammar). IsTableOf table (states_over h.terminals given)) same made);
+    table_is = table_over table g given same all made;
     count_is = many ∙ sym (length-map built _);
+  }
+
+  -- the states that were built are those of the table
+  pub table_built : (method : Method) (start : NonterminalString) (table : ActionTable) (g : Grammar)
+      (given : List (State (List ℕ))) (count : ℕ) → g ≡ v.expansion → start ≡ v.start_name → given ≡ built
+      → AreLr1By method g start built → IsTableOf table (states_over g.terminals given) → count ≡ length built
+      → HasTableBy method v table count
+  table_built method start table g given count same named all by_method made many = record {
+    states_are = record {
+      states = built;
+      by_method = handed v g start same named (λ h n. AreLr1By method h n built) by_method;
+      checked = checked;
+      count_is = many;
+    };
+    table_is = table_over table g given same all made;
   }
 
   pub one_tree_each : OneWrittenTree → IsPrepared finds is_too_deep v → IsReadGrammar (grammar_view v.written)
       → v.start_name.0 ≡ v.written.prefix ++ v.start → HasOneTreeEach v
-  one_tree_each law p read name =
-      law finds v.session.features.items (grammar_view v.written) v.written.prefix v.start (theory_grammar v.expansion)
-      (states_over v.expansion.terminals built) p.told.expansion
-      (start_in_expansion finds is_too_deep v.session.features.items v.session.macro_recursion_limit (grammar_view v.written) read
-      p.generable.faultless v.start p.generable.starts)
-      (subst (λ s. AreCheckedStates (theory_grammar v.expansion) s (states_over v.expansion.terminals built)) name checked)
+  one_tree_each = one_tree_by v (states_over v.expansion.terminals built) checked

@@ -1,3 +1,9 @@
+pub mod CanonicalRunLemmas
+pub mod ExamplesOfLimits
+pub mod FaultLawLemmas
 pub mod GenerateLemmas
-pub mod WrittenStackLemmas
+pub mod LimitLawLemmas
 pub mod ParseLemmas
+pub mod ParserLimitLemmas
+pub mod SameAnswerLemmas
+pub mod WrittenStackLemmas

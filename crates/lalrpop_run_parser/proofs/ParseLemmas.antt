@@ -81,7 +81,7 @@ one_alone (u ∷ rest) t e =
     absurd (omega (arith, e, length-map (rest ++ t ∷ []) tree_view, length-append rest (t ∷ [])))
 
 -- the token at a place
-token_there : (tokens : List Token) (i : ℕ) → i < length tokens → (k : Token) × (slice_get tokens i ≡ Some k)
+pub token_there : (tokens : List Token) (i : ℕ) → i < length tokens → (k : Token) × (slice_get tokens i ≡ Some k)
 token_there [] i h = absurd (omega (arith, h))
 token_there (k ∷ tokens) zero h = (k, refl)
 token_there (k ∷ tokens) (suc i) h = token_there tokens i (omega (arith, h))

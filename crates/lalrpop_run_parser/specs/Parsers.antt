@@ -20,9 +20,10 @@ use Rattle.lalrpop_run_prepare.specs.PreparedGrammars.{PreparedGrammar}
 use Rattle.lalrpop_run_refusals.specs.declared.refusing.GenerateError.{GenerateError}
 use Rattle.lalrpop_run_refusals.specs.declared.refusing.GenerateError.TheVariants as errors
 
--- what is seen of a parser: what it was generated from, and how many states it has
+-- what is seen of a parser: what it was generated from, the table of what its states do, and how many states it has
 pub record ParserView : Type 0 where
   pub prepared : PreparedGrammar
+  pub table : ActionTable
   pub count : ℕ
 
 -- The table is that of states with which the expansion may be parsed from its start, and they are so many.
@@ -39,6 +40,11 @@ pub record HasStatesBy (method : Method) (v : PreparedGrammar) (count : ℕ) : T
   pub by_method : AreLr1By method v.expansion v.start_name states
   pub checked : AreCheckedStates (theory_grammar v.expansion) v.start_name.0 (states_over v.expansion.terminals states)
   pub count_is : count ≡ length states
+
+-- The table is that of states by the method, and they are so many.
+pub record HasTableBy (method : Method) (v : PreparedGrammar) (table : ActionTable) (count : ℕ) : Type 0 where
+  pub states_are : HasStatesBy method v count
+  pub table_is : IsTableOf table (states_over v.expansion.terminals states_are.states)
 
 -- no token list has two written trees that the start admits, spans inside arguments aside
 abbrev pub HasOneTreeEach : PreparedGrammar → Type 0

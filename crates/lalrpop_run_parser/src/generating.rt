@@ -5,7 +5,7 @@ ghost use Rattle.lalrpop_grammar.specs.Views.{grammar_view};
 ghost use Rattle.lalrpop_lr1_build.specs.BuiltStates.{theory_grammar};
 ghost use Rattle.lalrpop_lr1_theory.specs.Answers.{IsLr1};
 ghost use Rattle.lalrpop_norm_expansion.specs.Premises.{IsReadGrammar};
-ghost use Rattle.lalrpop_run_parser.specs.Parsers.{HasOneTreeEach, HasStatesBy, IsGenerateRefusal};
+ghost use Rattle.lalrpop_run_parser.specs.Parsers.{HasOneTreeEach, HasStatesBy, HasTableBy, IsGenerateRefusal};
 
 use crate::parser::Parser;
 use lalrpop_lane::build_lr1_states;
@@ -29,6 +29,7 @@ pub fn generate<'p>(
 ) -> Result<Parser<'p>, GenerateError>
     ensures prepared { IfOk result (λ parser. parser.prepared ≡ prepared.now) }
     ensures states { IfOk result (λ parser. HasStatesBy method prepared.now parser.count) }
+    ensures table { IfOk result (λ parser. HasTableBy method prepared.now parser.table parser.count) }
     ensures lr1 { IfOk result (λ _. IsLr1 (Contains (theory_grammar prepared.now.expansion)) prepared.now.start_name.0) }
     ensures one_tree { IfOk result (λ _. IsReadGrammar (grammar_view prepared.now.written) → HasOneTreeEach prepared.now) }
     ensures refused { IfErr result (IsGenerateRefusal prepared.now) }

@@ -2,6 +2,7 @@
 #![tactic(auto)]
 
 mod generating;
+mod limits;
 mod parse_error;
 mod parser;
 mod parsing;

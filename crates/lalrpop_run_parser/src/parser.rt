@@ -25,14 +25,17 @@ pub struct Parser<'p> {
 
 impl<'p> Model for Parser<'p> {
     ghost use Rattle.std.specs.Coded.{codes};
+    ghost use Rattle.std.specs.Prelude.{[]};
+    ghost use mir.Syntax.{named};
+    ghost use Rattle.lalrpop_lr1_parse.specs.contracts.action_table.ActionTable as tables;
     ghost use Rattle.lalrpop_run_parser.specs.Parsers.{IsParserTable, ParserView};
     ghost use Rattle.lalrpop_run_prepare.specs.contracts.prepared.Prepared as preparations;
 
     ghost Value = { ParserView };
 
-    ghost coded = { Prim.hlevel (codes, preparations.the_row.coded) };
+    ghost coded = { Prim.hlevel (codes, preparations.the_row.coded, (tables.the_row (record { mir = named 0; lft = [] })).coded) };
 
-    ghost view = { λ p. record { prepared = p.prepared.now; count = p.state_count } };
+    ghost view = { λ p. record { prepared = p.prepared.now; table = p.table; count = p.state_count } };
 
     ghost invariant = { λ p. IsParserTable p.prepared.now p.table p.state_count };
 }

@@ -5,8 +5,13 @@ ghost use Rattle.std.specs.Str.{chars};
 ghost use Rattle.lalrpop_grammar.specs.Views.{grammar_view, token_view};
 ghost use Rattle.lalrpop_lexer_scan.specs.Entries.{ScanEntry};
 ghost use Rattle.lalrpop_lexer_scan.specs.Scanning.{IsScannerOf};
+ghost use Rattle.lalrpop_lr1_parse.specs.Tables.{IsTableOf};
+ghost use Rattle.lalrpop_lr1_theory.specs.Runs.{PassesLimit};
+ghost use Rattle.lalrpop_lr1_theory.specs.States.{State};
 ghost use Rattle.lalrpop_norm_expansion.specs.Premises.{IsReadGrammar};
+ghost use Rattle.lalrpop_run_parser.specs.Limits.{TellsLimitWhere, TextPassesLimit};
 ghost use Rattle.lalrpop_run_parser.specs.ParserAnswers.{IsRightForItsText, IsRightForItsTokens, IsWrongAt, TellsStop};
+ghost use Rattle.lalrpop_run_text_answers.specs.TextAnswers.{terminals_of_tokens};
 
 use crate::parse_error::ParseError;
 use crate::parser::Parser;
@@ -54,8 +59,10 @@ impl<'p> Parser<'p> {
         tokens: &[ScanToken<'_>],
         limit: u64,
     ) -> Result<WrittenTree, ParseError>
-        ensures { IsReadGrammar (grammar_view self.now.prepared.written)
+        ensures right { IsReadGrammar (grammar_view self.now.prepared.written)
             → IsRightForItsTokens self.now.prepared (map token_view tokens.now) limit result }
+        ensures limit { (states : List State) → IsTableOf self.now.table states
+            → TellsLimitWhere (PassesLimit states (terminals_of_tokens (map token_view tokens.now)) limit) result }
     {
         // the laws and what is known of the grammar
         forests_correspond();
@@ -81,12 +88,15 @@ impl<'p> Parser<'p> {
     /// # Errors
     ///
     /// `NoToken` before all else: the first byte from which on the text has no token. `Token`, the first with which the tokens begin no
-    /// sentence; `End`, where they all begin one and are none; or `Limit`, where a tree has more leaves and nodes, or where a run over
-    /// the tokens has more moves. Or `Memory`.
+    /// sentence; `End`, where they all begin one and are none; or `Limit`, exactly where every byte of the text has its token and the
+    /// parser's states make more than `limit` moves over the tokens: a tree has more leaves and nodes then. Or `Memory`.
     pub fn parse(&self, alloc: Global, text: &str, limit: u64) -> Result<WrittenTree, ParseError>
-        ensures { IsReadGrammar (grammar_view self.now.prepared.written) → (entries : List ScanEntry)
+        ensures right { IsReadGrammar (grammar_view self.now.prepared.written) → (entries : List ScanEntry)
             → IsScannerOf self.now.prepared.scanner entries
             → IsRightForItsText self.now.prepared entries (chars text.now) limit result }
+        ensures limit { (states : List State) (entries : List ScanEntry) → IsTableOf self.now.table states
+            → IsScannerOf self.now.prepared.scanner entries
+            → TellsLimitWhere (TextPassesLimit states entries (chars text.now) limit) result }
     {
         let tokens = self.scan(alloc, text)?;
         self.parse_tokens(alloc, tokens.as_slice(), limit)

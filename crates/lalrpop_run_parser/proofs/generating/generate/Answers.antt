@@ -1,7 +1,9 @@
-use Rattle.std.proofs.Common.{◌∙◌, ap, length, sym}
+use Rattle.std.proofs.Common.{◌∙◌, ap, length, subst, sym}
 use Rattle.lalrpop_grammar_symbols.specs.declared.names.NonterminalString.{NonterminalString}
 use Rattle.lalrpop_run_parser.proofs.GenerateLemmas.{conflicts_told, is_table, one_tree_each, states_checked, states_counted}
-use Rattle.lalrpop_run_parser.proofs.GenerateLemmas.{states_lr1}
+use Rattle.lalrpop_grammar_repr.specs.declared.grammar.Grammar.{Grammar}
+use Rattle.lalrpop_lane.specs.BuilderAnswers.{AreLr1By}
+use Rattle.lalrpop_run_parser.proofs.GenerateLemmas.{states_lr1, table_built}
 use Rattle.lalrpop_run_parser.proofs.generating.generate.Goals as goal
 
 pub invariant_of-result : goal.invariant_of-result
@@ -23,6 +25,19 @@ returns-in_ok-table-in-Ok-clause-states c =
     c.start_name.ensures.parsed in
     states_counted v c.expansion.result.now c.in_ok-start.start c.expansion.ensures named c.args.method c.in-Ok.states.items
     (length c.as_slice-built.result.now) checked c.in-Ok.ensures.states (ap length c.as_slice-built.ensures.value)
+
+pub returns-in_ok-table-in-Ok-clause-table : goal.returns-in_ok-table-in-Ok-clause-table
+returns-in_ok-table-in-Ok-clause-table c =
+    let v = c.args.prepared.now in
+    let named = c.in_ok-start.ensures ∙ c.start_name.ensures.name in
+    let checked =
+    states_checked v c.expansion.result.now c.in_ok-start.start c.expansion.ensures named c.in-Ok.states.items c.in-Ok.ensures.checked
+    c.start_name.ensures.parsed in
+    table_built v c.in-Ok.states.items checked c.args.method c.in_ok-start.start c.in_ok-table-in-Ok.table c.expansion-in-Ok.result.now
+    c.as_slice-built.result.now (length c.as_slice-built.result.now) c.expansion-in-Ok.ensures named c.as_slice-built.ensures.value
+    (subst (λ (h : Grammar). AreLr1By c.args.method h c.in_ok-start.start c.in-Ok.states.items)
+    (c.expansion.ensures ∙ sym c.expansion-in-Ok.ensures) c.in-Ok.ensures.states) c.in_ok-table-in-Ok.ensures
+    (ap length c.as_slice-built.ensures.value)
 
 pub returns-in_ok-table-in-Ok-clause-lr1 : goal.returns-in_ok-table-in-Ok-clause-lr1
 returns-in_ok-table-in-Ok-clause-lr1 c =

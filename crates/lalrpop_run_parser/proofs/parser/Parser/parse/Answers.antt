@@ -3,20 +3,39 @@ use Rattle.std.proofs.lemmas.Result.{err_from_is_err_and}
 use Rattle.std.specs.Str.{chars}
 use Rattle.lalrpop_grammar.specs.Views.{token_view}
 use Rattle.lalrpop_grammar.specs.declared.token.ScanToken.{ScanToken}
+use Rattle.lalrpop_lr1_theory.specs.Runs.{PassesLimit}
 use Rattle.lalrpop_run_parser.specs.ParserAnswers.{IsRightForItsTokens}
+use Rattle.lalrpop_run_parser.specs.Limits.{TellsLimitWhere}
 use Rattle.lalrpop_run_parser.proofs.ParseLemmas.{text_right, untokened_right}
+use Rattle.lalrpop_run_parser.proofs.ParserLimitLemmas.{text_within, untokened_within}
+use Rattle.lalrpop_run_text_answers.specs.TextAnswers.{terminals_of_tokens}
 use Rattle.lalrpop_run_parser.proofs.parser.Parser.parse.Goals as goal
 
-pub returns-in_err-tokens : goal.returns-in_err-tokens
-returns-in_err-tokens c =
+pub returns-in_err-tokens-clause-right : goal.returns-in_err-tokens-clause-right
+returns-in_err-tokens-clause-right c =
     let p = err_from_is_err_and c.from_residual.result c.from_residual.ensures.1 in
     rw (p.1, p.2) (λ read entries is.
     untokened_right c.args.self.now.prepared entries (chars c.args.text.now) c.args.limit c.in_err-tokens.field-0.0
     (c.in_err-tokens.ensures.no_token entries is))
 
-pub returns : goal.returns
-returns c = λ read entries is.
+pub returns-in_err-tokens-clause-limit : goal.returns-in_err-tokens-clause-limit
+returns-in_err-tokens-clause-limit c =
+    let p = err_from_is_err_and c.from_residual.result c.from_residual.ensures.1 in
+    rw (p.1, p.2) (λ states entries table is.
+    untokened_within states entries (chars c.args.text.now) c.args.limit c.in_err-tokens.field-0.0
+    (c.in_err-tokens.ensures.no_token entries is))
+
+pub returns-clause-right : goal.returns-clause-right
+returns-clause-right c = λ read entries is.
     text_right c.args.self.now.prepared entries (chars c.args.text.now) (map token_view c.in_ok-tokens.tokens.items) c.args.limit
     c.parse_tokens.result (c.in_ok-tokens.ensures.tokens entries is)
     (subst (λ (ts : List ScanToken). IsRightForItsTokens c.args.self.now.prepared (map token_view ts) c.args.limit c.parse_tokens.result)
-    c.as_slice.ensures.value (c.parse_tokens.ensures read))
+    c.as_slice.ensures.value (c.parse_tokens.ensures.right read))
+
+pub returns-clause-limit : goal.returns-clause-limit
+returns-clause-limit c = λ states entries table is.
+    text_within states entries (chars c.args.text.now) c.args.limit (map token_view c.in_ok-tokens.tokens.items) c.parse_tokens.result
+    (c.in_ok-tokens.ensures.tokens entries is)
+    (subst (λ (ts : List ScanToken).
+    TellsLimitWhere (PassesLimit states (terminals_of_tokens (map token_view ts)) c.args.limit) c.parse_tokens.result)
+    c.as_slice.ensures.value (c.parse_tokens.ensures.limit states table))

@@ -4,10 +4,12 @@ use Rattle.lalrpop_grammar_symbols.specs.declared.names.NonterminalString.{Nonte
 use Rattle.lalrpop_grammar.specs.Views.{grammar_view, token_view}
 use Rattle.lalrpop_grammar_repr.specs.declared.grammar.Grammar.{Grammar}
 use Rattle.lalrpop_lr1_build.specs.BuiltStates.{theory_grammar}
+use Rattle.lalrpop_lr1_parse.specs.Tables.{IsTableOf}
 use Rattle.lalrpop_norm_expansion.specs.Premises.{IsReadGrammar}
 use Rattle.lalrpop_run_parser.specs.ParserAnswers.{IsRightForItsTokens}
 use Rattle.lalrpop_run_parser.specs.Parsers.{ParserView}
 use Rattle.lalrpop_run_parser.proofs.ParseLemmas.{may_run, none_stand, right_stop, right_tree}
+use Rattle.lalrpop_run_parser.proofs.ParserLimitLemmas.{stop_within, tree_within}
 use Rattle.lalrpop_run_parser.proofs.parser.Parser.parse_tokens.Goals as goal
 use Rattle.lalrpop_run_prepare.specs.PreparedGrammars.{PreparedGrammar}
 
@@ -21,8 +23,8 @@ parse_onto-requires c = λ k. (
   ),
 )
 
-pub returns-in-Some : goal.returns-in-Some
-returns-in-Some c =
+pub returns-in-Some-clause-right : goal.returns-in-Some-clause-right
+returns-in-Some-clause-right c =
     let v = c.self.inside.prepared.now in
     subst (λ (u : PreparedGrammar). IsReadGrammar (grammar_view u.written)
     → IsRightForItsTokens u (map token_view c.args.tokens.now) c.args.limit (Ok c.in-Some.tree))
@@ -38,8 +40,22 @@ returns-in-Some c =
     c.self.invariant.checked c.self.invariant.table_is)
     c.in-Some.ensures.0 c.in-Some.tree c.in-Some.ensures.1)
 
-pub returns-in-Err : goal.returns-in-Err
-returns-in-Err c =
+pub returns-in-Some-clause-limit : goal.returns-in-Some-clause-limit
+returns-in-Some-clause-limit c = λ states is.
+    tree_within states c.args.tokens.now c.args.limit
+    (c.in-Ok.ensures.limit states (subst (λ (u : ParserView). IsTableOf u.table states) (sym c.self.view_is) is))
+
+pub returns-in-Err-clause-limit : goal.returns-in-Err-clause-limit
+returns-in-Err-clause-limit c = λ states is.
+    let v = c.self.inside.prepared.now in
+    stop_within states c.args.tokens.now c.args.limit (theory_grammar v.expansion) v.start_name.0 c.in-Err.stop c.error_of_stop.result
+    (c.in-Err.ensures.right (theory_grammar v.expansion) v.start_name.0 c.self.invariant.states c.start_name.ensures.parsed.alone
+    c.self.invariant.checked c.self.invariant.table_is)
+    (c.in-Err.ensures.limit states (subst (λ (u : ParserView). IsTableOf u.table states) (sym c.self.view_is) is))
+    c.error_of_stop.ensures
+
+pub returns-in-Err-clause-right : goal.returns-in-Err-clause-right
+returns-in-Err-clause-right c =
     let v = c.self.inside.prepared.now in
     subst (λ (u : PreparedGrammar). IsReadGrammar (grammar_view u.written)
     → IsRightForItsTokens u (map token_view c.args.tokens.now) c.args.limit (Err c.error_of_stop.result))

@@ -1,0 +1,107 @@
+-- Two right answers to one text are one, but for the limit: for the law that a greater limit changes no other answer.
+use Rattle.std.proofs.Common.{◌≡◌, ◌∙◌, ◌<◌, ◌≤◌, ◌⊎◌, inl, inr, ℕ, suc, List, [], ◌++◌}
+use Rattle.std.proofs.Common.{refl, ap, sym, subst, arith}
+use Rattle.std.proofs.Common.{append_assoc, append-nil, drop, take}
+use Rattle.std.specs.Prelude.{Bool, Option, Some, slice_get}
+use Rattle.std.proofs.lemmas.Bool.{cases_lt}
+use Rattle.std.proofs.lemmas.List.{take-append-drop, take-map, take-take}
+use Rattle.lalrpop_grammar_symbols.specs.Symbols.{Text, Terminal}
+use Rattle.lalrpop_grammar.specs.Trees.{Token, Tree}
+use Rattle.lalrpop_grammar.specs.WrittenGrammar.{Grammar}
+use Rattle.lalrpop_grammar_language.specs.Admitting.{AdmitsFrom}
+use Rattle.lalrpop_grammar_language.specs.Sentences.{Begins, IsSentence}
+use Rattle.lalrpop_lexer_scan.specs.Entries.{ScanEntry}
+use Rattle.lalrpop_lexer_scan.proofs.CutLemmas.{never_both, same_place, same_tokens}
+use Rattle.lalrpop_run_text_answers.specs.TextAnswers.{IsFirstWrong, IsRightForText, IsRightForTokens, TextAnswer, terminals_of_tokens}
+
+module _ (finds : Text → Text → Option Bool) (features : List Text) (w : Grammar) (start : Text) where
+  abbrev Starts : List Terminal → Type 0
+  Starts u = Begins finds features w start u
+
+  -- what is shorter begins a sentence too
+  begins_shorter : (u : List Terminal) (n : ℕ) → Starts u → Starts (take n u)
+  begins_shorter u n b = (
+    take n b.0,
+    drop n b.0 ++ b.1,
+    sym (take-map (λ (k : Token). k.terminal) n b.0) ∙ ap (take n) b.2,
+    subst (IsSentence finds features w start)
+        (ap (λ l. l ++ b.1) (sym (take-append-drop n b.0)) ∙ append_assoc (take n b.0) (drop n b.0) b.1) b.3,
+  )
+
+  -- and so do a sentence's own tokens
+  sentence_begins : (tokens : List Token) (n : ℕ) → IsSentence finds features w start tokens →
+      Starts (take n (terminals_of_tokens tokens))
+  sentence_begins tokens n s =
+      begins_shorter (terminals_of_tokens tokens) n
+      (tokens, [], refl, subst (IsSentence finds features w start) (sym (append-nil tokens)) s)
+
+  -- of two first wrong tokens neither comes earlier
+  not_earlier : (tokens : List Token) (at at' : ℕ) (text text' : Text) (a : IsFirstWrong finds features w start tokens at text)
+      (b : IsFirstWrong finds features w start tokens at' text') → a.number < b.number → ⊥
+  not_earlier tokens at at' text text' a b h =
+      let all = terminals_of_tokens tokens in
+      let shorter : take (suc a.number) (take b.number all) ≡ take (suc a.number) all =
+      take-take (suc a.number) b.number all (omega (arith, h)) in
+      a.begins_no_more (subst Starts shorter (begins_shorter (take b.number all) (suc a.number) b.begins))
+
+  one_place : (tokens : List Token) (at at' : ℕ) (text text' : Text) (a : IsFirstWrong finds features w start tokens at text)
+      (b : IsFirstWrong finds features w start tokens at' text') → a.number ≡ b.number
+  one_place tokens at at' text text' a b = go (cases_lt a.number b.number) (cases_lt b.number a.number)
+    where
+      go : (a.number < b.number) ⊎ (b.number ≤ a.number) → (b.number < a.number) ⊎ (a.number ≤ b.number) → a.number ≡ b.number
+      go (inl h) k = absurd (not_earlier tokens at at' text text' a b h)
+      go (inr h) (inl k) = absurd (not_earlier tokens at' at text' text b a k)
+      go (inr h) (inr k) = omega (arith, h, k)
+
+  same_wrong : (tokens : List Token) (at at' : ℕ) (text text' : Text) → IsFirstWrong finds features w start tokens at text →
+      IsFirstWrong finds features w start tokens at' text' → TextAnswer.wrong_token at text ≡ TextAnswer.wrong_token at' text'
+  same_wrong tokens at at' text text' a b =
+      let there : ◌≡◌ {A = Option Token} (Some a.token) (Some b.token) =
+      sym a.there ∙ ap (slice_get tokens) (one_place tokens at at' text text' a b) ∙ b.there in
+      let same : a.token ≡ b.token = cc in
+      let places : at ≡ at' = a.at_is ∙ ap (λ (k : Token). k.span.0) same ∙ sym b.at_is in
+      let texts : text ≡ text' = a.text_is ∙ ap (λ (k : Token). k.text) same ∙ sym b.text_is in
+      cc
+
+  module _ (one_each : (t u : Tree) (tokens : List Token) → AdmitsFrom finds features w start t tokens →
+      AdmitsFrom finds features w start u tokens → t ≡ u) (limit greater : ℕ) where
+    same_for_tokens : (tokens : List Token) (a b : TextAnswer) → IsRightForTokens finds features w start tokens limit a →
+        IsRightForTokens finds features w start tokens greater b → (a ≡ TextAnswer.over_limit → ⊥) →
+        (b ≡ TextAnswer.over_limit → ⊥) → a ≡ b
+    same_for_tokens tokens (TextAnswer.no_token at) b r s n m = absurd r
+    same_for_tokens tokens TextAnswer.over_limit b r s n m = absurd (n refl)
+    same_for_tokens tokens (TextAnswer.written t) (TextAnswer.no_token at) r s n m = absurd s
+    same_for_tokens tokens (TextAnswer.written t) TextAnswer.over_limit r s n m = absurd (m refl)
+    same_for_tokens tokens (TextAnswer.written t) (TextAnswer.written u) r s n m =
+        ap TextAnswer.written (one_each t u tokens r.admitted s.admitted)
+    same_for_tokens tokens (TextAnswer.written t) (TextAnswer.wrong_token at text) r s n m =
+        absurd (s.begins_no_more (sentence_begins tokens (suc s.number) (t, r.admitted)))
+    same_for_tokens tokens (TextAnswer.written t) TextAnswer.early_end r s n m = absurd (s.1 (t, r.admitted))
+    same_for_tokens tokens (TextAnswer.wrong_token at text) (TextAnswer.no_token at') r s n m = absurd s
+    same_for_tokens tokens (TextAnswer.wrong_token at text) TextAnswer.over_limit r s n m = absurd (m refl)
+    same_for_tokens tokens (TextAnswer.wrong_token at text) (TextAnswer.written u) r s n m =
+        absurd (r.begins_no_more (sentence_begins tokens (suc r.number) (u, s.admitted)))
+    same_for_tokens tokens (TextAnswer.wrong_token at text) (TextAnswer.wrong_token at' text') r s n m =
+        same_wrong tokens at at' text text' r s
+    same_for_tokens tokens (TextAnswer.wrong_token at text) TextAnswer.early_end r s n m =
+        absurd (r.begins_no_more (begins_shorter (terminals_of_tokens tokens) (suc r.number) s.0))
+    same_for_tokens tokens TextAnswer.early_end (TextAnswer.no_token at) r s n m = absurd s
+    same_for_tokens tokens TextAnswer.early_end TextAnswer.over_limit r s n m = absurd (m refl)
+    same_for_tokens tokens TextAnswer.early_end (TextAnswer.written u) r s n m = absurd (r.1 (u, s.admitted))
+    same_for_tokens tokens TextAnswer.early_end (TextAnswer.wrong_token at text) r s n m =
+        absurd (s.begins_no_more (begins_shorter (terminals_of_tokens tokens) (suc s.number) r.0))
+    same_for_tokens tokens TextAnswer.early_end TextAnswer.early_end r s n m = refl
+
+    module _ (entries : List ScanEntry) (text : List ℕ) where
+      pub same_for_text : (a b : TextAnswer) → IsRightForText finds features w start entries text limit a →
+          IsRightForText finds features w start entries text greater b → (a ≡ TextAnswer.over_limit → ⊥) →
+          (b ≡ TextAnswer.over_limit → ⊥) → a ≡ b
+      same_for_text a b (IsRightForText.stops at h) (IsRightForText.stops at' k) n m =
+          ap TextAnswer.no_token (same_place entries text at at' h k)
+      same_for_text a b (IsRightForText.stops at h) (IsRightForText.reads tokens c k s) n m =
+          absurd (never_both entries text tokens at k h)
+      same_for_text a b (IsRightForText.reads tokens c h r) (IsRightForText.stops at k) n m =
+          absurd (never_both entries text tokens at h k)
+      same_for_text a b (IsRightForText.reads tokens c h r) (IsRightForText.reads tokens' d k s) n m =
+          same_for_tokens tokens a b r
+          (subst (λ ts. IsRightForTokens finds features w start ts greater b) (same_tokens entries text tokens' tokens k h) s) n m
