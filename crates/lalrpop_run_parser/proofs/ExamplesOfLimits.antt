@@ -1,6 +1,6 @@
 -- What results say of a limit, computed: where it is passed, where it isn't, and what is answered.
 use Rattle.std.proofs.Common.{◌≡◌, [], Err, None, Some, refl}
-use Rattle.lalrpop_run_parser.specs.Limits.{TellsLimitWhere, answer_of}
+use Rattle.lalrpop_run_parser.specs.Limits.{TellsLimitWhere, answer_of_result}
 use Rattle.lalrpop_run_parser.specs.declared.parse_error.ParseError.TheVariants as errors
 use Rattle.lalrpop_run_text_answers.specs.TextAnswers.{TextAnswer}
 
@@ -25,11 +25,11 @@ end_told : TellsLimitWhere ⊥ (Err errors.End)
 end_told p = p
 
 -- the answers that results tell, and the one that tells none
-answers_end : answer_of (Err errors.End) ≡ Some TextAnswer.early_end
+answers_end : answer_of_result (Err errors.End) ≡ Some TextAnswer.early_end
 answers_end = refl
 
-answers_token : answer_of (Err (errors.Token 3 [])) ≡ Some (TextAnswer.wrong_token 3 [])
+answers_token : answer_of_result (Err (errors.Token 3 [])) ≡ Some (TextAnswer.wrong_token 3 [])
 answers_token = refl
 
-answers_nothing : answer_of (Err errors.Memory) ≡ None
+answers_nothing : answer_of_result (Err errors.Memory) ≡ None
 answers_nothing = refl

@@ -11,7 +11,7 @@ use Rattle.lalrpop_lr1_parse.specs.declared.action_table.ActionTable.{ActionTabl
 use Rattle.lalrpop_lr1_parse.proofs.MoveCountLemmas.{passes_smaller}
 use Rattle.lalrpop_norm_expansion.specs.Premises.{IsReadGrammar}
 use Rattle.lalrpop_run_answers.specs.Laws.{OneWrittenTree}
-use Rattle.lalrpop_run_parser.specs.Limits.{KeepsAnswers, TellsLimitWhere, TextPassesLimit, answer_of}
+use Rattle.lalrpop_run_parser.specs.Limits.{KeepsAnswers, TellsLimitWhere, TextPassesLimit, answer_of_result}
 use Rattle.lalrpop_run_parser.specs.ParserAnswers.{TellsResult}
 use Rattle.lalrpop_run_parser.specs.Parsers.{IsParserTable}
 use Rattle.lalrpop_run_parser.specs.declared.parse_error.ParseError.{ParseError}
@@ -25,7 +25,7 @@ same_some : (a b : TextAnswer) → ◌≡◌ {A = Option TextAnswer} (Some a) (S
 same_some a b e = cc
 
 -- what is told of a result is told of its answer
-told_answer : (Right : TextAnswer → Type 0) (result : Result WrittenTree ParseError) (a : TextAnswer) → answer_of result ≡ Some a →
+told_answer : (Right : TextAnswer → Type 0) (result : Result WrittenTree ParseError) (a : TextAnswer) → answer_of_result result ≡ Some a →
     TellsResult Right result → Right a
 told_answer Right (Ok t) a e h = subst Right (same_some (TextAnswer.written (tree_view t)) a e) h
 told_answer Right (Err (errors.NoToken at)) a e h = subst Right (same_some (TextAnswer.no_token at) a e) h
@@ -35,7 +35,7 @@ told_answer Right (Err errors.Limit) a e h = subst Right (same_some TextAnswer.o
 told_answer Right (Err errors.Memory) a e h = let wrong : ⊥ = cc in absurd wrong
 
 -- where the limit is passed, it is what is answered
-passed_told : (P : Type 0) (result : Result WrittenTree ParseError) (a : TextAnswer) → answer_of result ≡ Some a →
+passed_told : (P : Type 0) (result : Result WrittenTree ParseError) (a : TextAnswer) → answer_of_result result ≡ Some a →
     TellsLimitWhere P result → a ≢ TextAnswer.over_limit → P → ⊥
 passed_told P (Ok t) a e h n p = h p
 passed_told P (Err (errors.NoToken at)) a e h n p = h p
@@ -45,7 +45,7 @@ passed_told P (Err errors.Limit) a e h n p = n (sym (same_some TextAnswer.over_l
 passed_told P (Err errors.Memory) a e h n p = let wrong : ⊥ = cc in absurd wrong
 
 -- and where it is answered, it is passed
-told_passed : (P : Type 0) (result : Result WrittenTree ParseError) (a : TextAnswer) → answer_of result ≡ Some a →
+told_passed : (P : Type 0) (result : Result WrittenTree ParseError) (a : TextAnswer) → answer_of_result result ≡ Some a →
     TellsLimitWhere P result → a ≡ TextAnswer.over_limit → P
 told_passed P (Ok t) a e h n = let wrong : ⊥ = cc in absurd wrong
 told_passed P (Err (errors.NoToken at)) a e h n = let wrong : ⊥ = cc in absurd wrong

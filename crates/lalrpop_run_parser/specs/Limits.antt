@@ -44,19 +44,19 @@ pub record IsParseOf (p : ParserView) (text : List ℕ) (limit : ℕ) (result : 
       → TellsLimitWhere (TextPassesLimit states entries text limit) result
 
 -- what is answered; nothing where memory ran out
-abbrev pub answer_of : Result WrittenTree ParseError → Option TextAnswer
-answer_of (Ok t) = Some (TextAnswer.written (tree_view t))
-answer_of (Err (errors.NoToken at)) = Some (TextAnswer.no_token at)
-answer_of (Err (errors.Token at text)) = Some (TextAnswer.wrong_token at text)
-answer_of (Err errors.End) = Some TextAnswer.early_end
-answer_of (Err errors.Limit) = Some TextAnswer.over_limit
-answer_of (Err errors.Memory) = None
+abbrev pub answer_of_result : Result WrittenTree ParseError → Option TextAnswer
+answer_of_result (Ok t) = Some (TextAnswer.written (tree_view t))
+answer_of_result (Err (errors.NoToken at)) = Some (TextAnswer.no_token at)
+answer_of_result (Err (errors.Token at text)) = Some (TextAnswer.wrong_token at text)
+answer_of_result (Err errors.End) = Some TextAnswer.early_end
+answer_of_result (Err errors.Limit) = Some TextAnswer.over_limit
+answer_of_result (Err errors.Memory) = None
 
 -- an answer to a text that isn't the limit is the answer to it under each greater limit
 abbrev pub KeepsAnswers : ParserView → Type 0
 KeepsAnswers p =
     (text : List ℕ) (limit greater : ℕ) (one other : Result WrittenTree ParseError) (a b : TextAnswer) → limit ≤ greater
-    → IsParseOf p text limit one → IsParseOf p text greater other → answer_of one ≡ Some a → answer_of other ≡ Some b
+    → IsParseOf p text limit one → IsParseOf p text greater other → answer_of_result one ≡ Some a → answer_of_result other ≡ Some b
     → a ≢ TextAnswer.over_limit → a ≡ b
 
 -- The place of the fault of tokens that are no sentence: the first token with which they begin none, or the end.
