@@ -37,6 +37,7 @@ use Rattle.lalrpop_run_answers.proofs.BarrenLemmas.{barren_named, named_barren, 
 use Rattle.lalrpop_run_answers.proofs.InlinedTestLemmas.{inlined_decided}
 use Rattle.lalrpop_run_label_laws.specs.ToldExpansions.{AreToldExpansion}
 use Rattle.lalrpop_run_label_laws.proofs.ToldExpansionLemmas.{told_expansion}
+use Rattle.lalrpop_run_answer_laws.proofs.EntryLemmas.{steps_own, steps_sorted}
 use Rattle.lalrpop_run_prepare.specs.PrepareRefusals.{IsPrepareRefusal, IsRefusedExpansion, IsRefusedStart}
 use Rattle.lalrpop_run_prepare.specs.PreparedGrammars.{IsPreparedWhereRead, MayBeParsedFrom, PreparedGrammar}
 use Rattle.lalrpop_run_prepare.proofs.StartLemmas.{start_in_expansion}
@@ -136,6 +137,12 @@ module _ (finds : Text → Text → Option Bool) (deep : Text → Bool) (v : Pre
   prepared_where_read low origins same name terminals parsed i ready sorted normal scans = record {
     name_is = name ∙ ap (λ (s : Text). v.written.prefix ++ s) (sym same);
     terminals = terminals;
+    named = record {
+      under = steps_own i.order made.grammar.nonterminals v.expansion.nonterminals made.grammar.action_fn_defns
+          v.expansion.action_fn_defns i.steps (λ e p j k. ready.named e.0 e.1 p j k);
+      ascending = steps_sorted i.order made.grammar.nonterminals v.expansion.nonterminals made.grammar.action_fn_defns
+          v.expansion.action_fn_defns i.steps sorted;
+    };
     parsed = parsed;
     prepared = λ read.
         let n = normal read in

@@ -1,6 +1,9 @@
 -- What is seen of a prepared grammar, and what it is.
 use Rattle.std.specs.Prelude.{◌≡◌, ◌++◌, Bool, List, Option, Contains}
+use Rattle.std.specs.List.Sorted.{IsStrictlySortedBy}
+use Rattle.std.specs.Map.{keys_of}
 use Rattle.lalrpop_grammar_symbols.specs.Symbols.{Text}
+use Rattle.lalrpop_grammar_symbols.specs.contracts.names.NonterminalStringOrd.TheImpl as names
 use Rattle.lalrpop_grammar_symbols.specs.declared.names.NonterminalString.{NonterminalString}
 use Rattle.lalrpop_grammar.specs.Views.{grammar_view}
 use Rattle.lalrpop_grammar.specs.declared.grammar.Grammar.{Grammar}
@@ -19,6 +22,7 @@ use Rattle.lalrpop_norm_chain.specs.Normalized.{IsNormalized}
 use Rattle.lalrpop_norm_expansion.specs.Premises.{IsReadGrammar}
 use Rattle.lalrpop_norm_lower.specs.declared.lowering.Normalized.{Normalized}
 use Rattle.lalrpop_norm_lower_law.specs.LoweredViews.{lowered_view}
+use Rattle.lalrpop_run_answer_laws.specs.NamedGrammars.{StandUnderNames}
 use Rattle.lalrpop_run_label_laws.specs.ToldExpansions.{AreToldExpansion}
 use Rattle.lalrpop_run_tokens.specs.Refused.{IsGenerable}
 use Rattle.lalrpop_run_tokens.specs.Tokenizers.{scan_entries}
@@ -40,6 +44,11 @@ pub record MayBeParsedFrom (g : repr.Grammar) (start : NonterminalString) : Type
   pub alone : IsStartAlone (theory_grammar g) start.0
   pub none_barren : NoneBarren (Contains (theory_grammar g)) start.0
 
+-- Each production stands under the name of its nonterminal, and names ascend; so productions are found by their names.
+pub record HasNamedProductions (g : repr.Grammar) : Type 0 where
+  pub under : StandUnderNames g.nonterminals
+  pub ascending : IsStrictlySortedBy (names.ghosts).cmp (keys_of g.nonterminals)
+
 -- Nothing is wrong with the grammar, nor with the start. The plain productions are those of its expansion before inlining and after
 -- it, where the action of each tells its label, and the scanner cuts by the tokenizer's entries.
 pub record IsPrepared (finds : Text → Text → Option Bool) (deep : Text → Bool) (v : PreparedGrammar) : Type 0 where
@@ -53,9 +62,11 @@ pub record IsPrepared (finds : Text → Text → Option Bool) (deep : Text → B
   pub told : AreToldExpansion (enabled_grammar finds v.session.features.items (grammar_view v.written)) v.written.prefix
       v.expansion.action_fn_defns v.origins (theory_grammar v.expansion)
 
--- For a grammar as one is read it is prepared. Tables can be made of any, and the start may be parsed from.
+-- For a grammar as one is read it is prepared. Tables can be made of any, its productions are found by their names, and the start may be
+-- parsed from.
 pub record IsPreparedWhereRead (finds : Text → Text → Option Bool) (deep : Text → Bool) (v : PreparedGrammar) : Type 0 where
   pub name_is : v.start_name.0 ≡ v.written.prefix ++ v.start
   pub terminals : HasItsTerminals v.expansion
+  pub named : HasNamedProductions v.expansion
   pub parsed : MayBeParsedFrom v.expansion v.start_name
   pub prepared : IsReadGrammar (grammar_view v.written) → IsPrepared finds deep v

@@ -5,7 +5,7 @@ ghost use Rattle.lalrpop_grammar.specs.Views.{grammar_view};
 ghost use Rattle.lalrpop_judge_search.specs.Search.{finds, is_too_deep};
 ghost use Rattle.lalrpop_lr1_first.specs.NumberedGrammars.{HasItsTerminals};
 ghost use Rattle.lalrpop_norm_expansion.specs.Premises.{IsReadGrammar};
-ghost use Rattle.lalrpop_run_prepare.specs.PreparedGrammars.{IsPrepared, MayBeParsedFrom};
+ghost use Rattle.lalrpop_run_prepare.specs.PreparedGrammars.{HasNamedProductions, IsPrepared, MayBeParsedFrom};
 
 use lalrpop_grammar::{Atom, Grammar, Origin};
 use lalrpop_grammar_repr::{Grammar as LoweredGrammar, Session};
@@ -90,6 +90,7 @@ impl Prepared {
         ensures name { result.now ≡ self.now.start_name }
         ensures prefixed { result.now.0 ≡ self.now.written.prefix ++ self.now.start }
         ensures terminals { HasItsTerminals self.now.expansion }
+        ensures named { HasNamedProductions self.now.expansion }
         ensures parsed { MayBeParsedFrom self.now.expansion self.now.start_name }
     {
         &self.start_name
