@@ -1,0 +1,3 @@
+pub mod KeptTrees
+pub mod TreeSizes
+pub mod PartViews
