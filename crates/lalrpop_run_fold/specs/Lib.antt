@@ -1,0 +1,4 @@
+pub mod PassingRanks
+pub mod Folds
+pub mod FoldedTrees
+pub mod Foldings
