@@ -18,7 +18,7 @@ pub(crate) fn fold_value(alloc: Global, case: &Case) -> Result<Value> {
     let prepared = prepared_grammar(alloc, case)?;
     let tree = given_tree(alloc, case, &prepared)?;
     let admitted = is_admitted(alloc, case, &prepared, &tree)?;
-    match folded(alloc, &prepared, &tree)? {
+    match admitted_tree(alloc, &prepared, &tree)? {
         Some(expanded) if admitted => unfolded_value(alloc, &prepared, &expanded),
         None if !admitted => Ok(Value::Null),
         _ => bail!("the judge doesn't agree"),
@@ -42,7 +42,7 @@ fn is_admitted(
 }
 
 /// The expanded tree, where the tree is admitted.
-fn folded<'p>(
+fn admitted_tree<'p>(
     alloc: Global,
     prepared: &'p Prepared,
     tree: &WrittenTree,
@@ -62,7 +62,7 @@ fn unfolded_value(
 ) -> Result<Value> {
     let tree = unfold(alloc, prepared, expanded)?;
     let count = expanded.node_count();
-    match folded(alloc, prepared, &tree)? {
+    match admitted_tree(alloc, prepared, &tree)? {
         Some(again) if again.node_count() == count => {}
         _ => bail!("another tree when it is folded again"),
     }
