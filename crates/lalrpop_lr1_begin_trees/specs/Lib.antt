@@ -1,0 +1,3 @@
+pub mod DerivedRules
+pub mod BeginForests
+pub mod BeginTables

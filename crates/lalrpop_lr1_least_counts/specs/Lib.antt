@@ -1,0 +1,4 @@
+pub mod NumberedTrees
+pub mod LeastTrees
+pub mod Searches
+pub mod Openings

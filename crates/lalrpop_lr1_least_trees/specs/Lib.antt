@@ -1,0 +1,3 @@
+pub mod LeastForests
+pub mod MoveViews
+pub mod GrammarTrees

@@ -1,0 +1,3 @@
+pub mod MakingLemmas
+pub mod LeastLemmas
+mod ExamplesOfMadeTrees

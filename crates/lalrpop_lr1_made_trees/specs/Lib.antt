@@ -1,0 +1,2 @@
+pub mod SpanNumbers
+pub mod LeastExpanded
