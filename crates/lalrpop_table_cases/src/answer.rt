@@ -6,6 +6,7 @@ use crate::case::{Call, Case};
 use crate::checks::check_text;
 use crate::conflicts::{canonical_conflicts, collapsed_conflicts};
 use crate::firsts::first_text;
+use crate::leasts::{begin_text, empty_text, least_text};
 use crate::onto::onto_text;
 use crate::parses::parse_text;
 use lalrpop_grammar_repr::Grammar;
@@ -66,6 +67,9 @@ fn answer_call(
         Call::Conflicts => Ok(canonical_conflicts(alloc, grammar, start)?),
         Call::CollapsedConflicts => Ok(collapsed_conflicts(alloc, grammar, start)?),
         Call::First => Ok(first_text(alloc, grammar, case.names.as_str())?),
+        Call::Least => Ok(least_text(alloc, grammar, start)?),
+        Call::Empty => Ok(empty_text(alloc, grammar, start)?),
+        Call::Begin => begin_text(alloc, grammar, start, tokens),
     }
 }
 

@@ -52,4 +52,10 @@ pub(crate) enum Call {
     CollapsedConflicts,
     /// The first set of the names.
     First,
+    /// The start's least tree: how many leaves and nodes, and its moves.
+    Least,
+    /// Its least tree without leaves.
+    Empty,
+    /// A tree of it that begins with the first token, and the place of its production at which it does.
+    Begin,
 }

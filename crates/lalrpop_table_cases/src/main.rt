@@ -9,6 +9,7 @@ mod case;
 mod checks;
 mod conflicts;
 mod firsts;
+mod leasts;
 mod onto;
 mod parses;
 
