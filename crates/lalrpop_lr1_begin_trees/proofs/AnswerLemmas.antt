@@ -1,6 +1,6 @@
 -- What the calls on trees that begin with a terminal answer: for their contracts.
 use Rattle.std.proofs.Common.{◌≡◌, ◌∙◌, ℕ, zero, suc, ◌<◌, true, List, [], ◌∷◌, ◌++◌, length, map, take, drop}
-use Rattle.std.proofs.Common.{ap, sym, subst, refl, arith, Option, Some, inl, inr, ⊎_elim}
+use Rattle.std.proofs.Common.{ap, sym, subst, refl, arith, length-append, Option, Some, inl, inr, ⊎_elim}
 use Rattle.std.specs.Prelude.{slice_index_or}
 use Rattle.std.proofs.lemmas.List.{length-map}
 use Rattle.lalrpop_grammar_symbols.specs.Symbols.{Terminal}
@@ -12,16 +12,17 @@ use Rattle.lalrpop_lr1_theory.specs.Productions.{first}
 use Rattle.lalrpop_lr1_theory.specs.Trees.{Forest, IsTreeOf, Move, moves, node, none, roots, ◌and◌}
 use Rattle.lalrpop_lr1_theory.proofs.ListLemmas.{get_contains}
 use Rattle.lalrpop_lr1_theory.proofs.StepLemmas.{some_same}
-use Rattle.lalrpop_lr1_theory.proofs.TreeLemmas.{over-and, roots-and}
+use Rattle.lalrpop_lr1_theory.proofs.TreeLemmas.{length-moves, over-and, roots-and}
 use Rattle.lalrpop_lr1_first.specs.FirstNumbers.{name_count}
 use Rattle.lalrpop_lr1_first.specs.FirstSetsOf.{IsProductionOf}
 use Rattle.lalrpop_lr1_first.specs.NumberedGrammars.{IsNumberTableOf, IsSeenIn, table_productions}
 use Rattle.lalrpop_lr1_first.specs.Numbers.{SpellsSymbols}
 use Rattle.lalrpop_lr1_first.specs.declared.numbered.Numbered.{Numbered}
-use Rattle.lalrpop_lr1_least_counts.specs.LeastTrees.{IsLeastTree}
-use Rattle.lalrpop_lr1_least_counts.specs.NumberedTrees.{Builds, NumberRule, rule_views}
+use Rattle.lalrpop_lr1_least_counts.specs.LeastTrees.{IsLeastTree, capped_count}
+use Rattle.lalrpop_lr1_least_counts.specs.NumberedTrees.{Builds, NumberRule, nothing, reduces, rule_views}
 use Rattle.lalrpop_lr1_least_counts.specs.declared.counts.LeastTree.{LeastTree}
 use Rattle.lalrpop_lr1_least_counts.specs.declared.rule.NumberMove.{NumberMove}
+use Rattle.lalrpop_lr1_least_counts.specs.declared.rule.NumberMove.TheVariants.{Reduce}
 use Rattle.lalrpop_lr1_least_counts.proofs.BuildLemmas.{IsSplit, builds-split}
 use Rattle.lalrpop_lr1_least_trees.specs.GrammarTrees.{number_rules, productions_by, symbols_by}
 use Rattle.lalrpop_lr1_least_trees.specs.MoveViews.{SpellsMoves}
@@ -29,7 +30,7 @@ use Rattle.lalrpop_lr1_least_trees.proofs.GrammarLemmas.{stand_for}
 use Rattle.lalrpop_lr1_least_trees.proofs.LeastLemmas.{grammar_to_table, table_to_grammar}
 use Rattle.lalrpop_lr1_least_trees.proofs.SpellLemmas.{StandFor, spelled_names, spells_once}
 use Rattle.lalrpop_lr1_begin_trees.specs.declared.begin_trees.BeginTrees.{BeginTrees}
-use Rattle.lalrpop_lr1_begin_trees.specs.BeginForests.{HaveBeginMoves, IsBeginRoot, IsBeginTreeOf, IsWanted}
+use Rattle.lalrpop_lr1_begin_trees.specs.BeginForests.{HaveBeginMoves, IsBeginCount, IsBeginRoot, IsBeginTreeOf, IsWanted}
 use Rattle.lalrpop_lr1_begin_trees.specs.BeginTables.{AreBeginTrees, HaveDerivedNames}
 use Rattle.lalrpop_lr1_begin_trees.specs.BeginTables.{derived_production_by, derived_symbol_by}
 use Rattle.lalrpop_lr1_begin_trees.specs.DerivedRules.{IsBeginOf, IsDerived, all_names, begin_side, begin_symbol, empty_symbol}
@@ -61,6 +62,13 @@ spelled_split at (s ∷ ss) ts (x ∷ xs) sp =
       front_spelled = (sp.0, r.front_spelled);
       back_spelled = r.back_spelled;
     }
+
+spelled_as_long : (at : ℕ → Option theory.Symbol) (by : ℕ → Option theory.Production) (ns : List NumberMove) (ms : List Move) →
+    SpellsMoves at by ns ms → length ms ≡ length ns
+spelled_as_long at by [] [] sp = refl
+spelled_as_long at by [] (m ∷ ms) sp = absurd sp
+spelled_as_long at by (n ∷ ns) [] sp = absurd sp
+spelled_as_long at by (n ∷ ns) (m ∷ ms) sp = ap suc (spelled_as_long at by ns ms sp.1)
 
 spelled_long : (at : ℕ → Option theory.Symbol) (ss : List ℕ) (xs : List theory.Symbol) → SpellsSymbols at ss xs → length ss ≡
     length xs
@@ -194,6 +202,25 @@ module _ (it : BeginTrees) (are : AreBeginTrees it) (t : Terminal) (wanted : IsW
 
       side : d.right ≡ begin_side names s.rule.right s.origin.place
       side = ap (λ (x : NumberRule). x.right) begin_of.1.1
+
+      -- so many leaves and nodes has the tree that the entry's moves build
+      pub begin_count : (g : Grammar) → IsNumberTableOf g table → IsBeginCount (IsProductionOf g) n.0 t tree.count
+      begin_count g of =
+          let all = l.built.moves ++ Reduce tree.rule ∷ [] in
+          let whole : B (b ∷ []) all =
+          subst (λ x. B (x ∷ []) all) l.built.left (reduces tree.rule l.built.rule l.built.at l.built.builds nothing) in
+          let r = begin_tree all whole in
+          let long : length (moves r.0) ≡ suc (length l.built.moves) =
+          omega (
+            arith,
+            spelled_as_long (derived_symbol_by table) (derived_production_by table it.derived) all (moves r.0) r.2,
+            length-append l.built.moves (Reduce tree.rule ∷ []),
+          ) in
+          record {
+            tree = r.0;
+            begins = (to_grammar g of r.0 r.1.0, r.1.1);
+            is = ap capped_count (sym (length-moves r.0) ∙ long) ∙ l.built.count;
+          }
 
       abbrev before : List ℕ
       before = map (empty_symbol names) (take s.origin.place s.rule.right)

@@ -1,8 +1,10 @@
--- Trees that begin with a terminal, and what is told of them: by which production and at which place they do, and their moves.
+-- Trees that begin with a terminal, and what is told of them: by which production and at which place they do, how many leaves and
+-- nodes they have, and their moves.
 use Rattle.std.specs.Prelude.{ℕ, List, [], length, ◌≡◌, Option, Some, None}
 use Rattle.lalrpop_grammar_symbols.specs.Symbols.{Text, Terminal}
 use Rattle.lalrpop_lr1_theory.specs.Productions.{Production, Symbol, first, terminal}
-use Rattle.lalrpop_lr1_theory.specs.Trees.{Forest, IsTreeOf, Move, moves, node, none, roots, yield, ◌and◌}
+use Rattle.lalrpop_lr1_theory.specs.Trees.{Forest, IsTreeOf, Move, moves, node, nodes, none, roots, yield, ◌and◌}
+use Rattle.lalrpop_lr1_least_counts.specs.LeastTrees.{capped_count}
 
 -- a tree of the nonterminal whose first leaf is the terminal
 abbrev pub IsBeginTreeOf : (Production → Type 0) → Text → Terminal → Forest → Type 0
@@ -24,6 +26,17 @@ pub record IsBeginRoot (G : Production → Type 0) (A : Text) (t : Terminal) (p 
 abbrev pub HasBeginRoot : (Production → Type 0) → Text → Terminal → Option (Production × ℕ) → Type 0
 HasBeginRoot G A t None = (ts : Forest) → IsBeginTreeOf G A t ts → ⊥
 HasBeginRoot G A t (Some root) = IsBeginRoot G A t root.0 root.1
+
+-- some such tree has so many leaves and nodes, as they are counted
+pub record IsBeginCount (G : Production → Type 0) (A : Text) (t : Terminal) (count : ℕ) : Type 0 where
+  pub tree : Forest
+  pub begins : IsBeginTreeOf G A t tree
+  pub is : capped_count (nodes tree) ≡ count
+
+-- so many, or none where no such tree is there
+abbrev pub CountsBegin : (Production → Type 0) → Text → Terminal → Option ℕ → Type 0
+CountsBegin G A t None = (ts : Forest) → IsBeginTreeOf G A t ts → ⊥
+CountsBegin G A t (Some count) = IsBeginCount G A t count
 
 -- the moves are those of such a tree
 pub record AreBeginMoves (G : Production → Type 0) (A : Text) (t : Terminal) (all : List Move) : Type 0 where

@@ -12,7 +12,7 @@ ghost use Rattle.lalrpop_lr1_least_counts.specs.LeastTrees.{AreLeastMoves};
 ghost use Rattle.lalrpop_lr1_least_counts.specs.NumberedTrees.{rule_views};
 ghost use Rattle.lalrpop_lr1_least_trees.specs.GrammarTrees.{AreLeastTrees, symbols_by};
 ghost use Rattle.lalrpop_lr1_least_trees.specs.MoveViews.{IsNumberedMove, SpellsMoves, tree_move_view};
-ghost use Rattle.lalrpop_lr1_begin_trees.specs.BeginForests.{HasBeginRoot, HaveBeginMoves, IsWanted};
+ghost use Rattle.lalrpop_lr1_begin_trees.specs.BeginForests.{CountsBegin, HasBeginRoot, HaveBeginMoves, IsWanted};
 ghost use Rattle.lalrpop_lr1_begin_trees.specs.BeginTables.{
   AreBeginTrees,
   HasDerivedName,
@@ -175,6 +175,20 @@ impl<'t, 'g> BeginTrees<'t, 'g> {
                 let origin = self.derived.origins[tree.rule];
                 Some((production_at(self.trees.table(), origin.rule), origin.place))
             }
+        }
+    }
+
+    /// How many leaves and nodes the tree has that `moves` builds; the greatest number where they are as many or more. None where no
+    /// tree of the nonterminal begins with the terminal.
+    pub fn count(&self, nonterminal: &NonterminalString) -> Option<usize>
+        requires { AreBeginTrees self.now }
+        ensures { (g : Grammar) (t : Terminal) → IsNumberTableOf g self.now.trees.now.table →
+            IsWanted (symbols_by self.now.trees.now.table) t self.now.wanted →
+            CountsBegin (IsProductionOf g) nonterminal.now.0 t result }
+    {
+        match self.entry(nonterminal) {
+            None => None,
+            Some(tree) => Some(tree.count),
         }
     }
 

@@ -162,6 +162,18 @@ impl<'g> LeastTrees<'g> {
         }
     }
 
+    /// How many leaves and nodes the least tree has, with leaves or without.
+    fn count_of(&self, leaves: bool, name: &NonterminalString) -> Option<usize>
+        requires { AreLeastTrees self.now }
+        ensures { (g : Grammar) → IsNumberTableOf g self.now.table →
+            CountsLeast (IsTreeOfKind (IsProductionOf g) name.now.0 leaves) result }
+    {
+        match self.entry(leaves, name) {
+            None => None,
+            Some(tree) => Some(tree.count),
+        }
+    }
+
     /// How many leaves and nodes the nonterminal's least tree has; the greatest number where they are as many or more. None where
     /// no tree over the productions has it at its root.
     pub fn count(&self, nonterminal: &NonterminalString) -> Option<usize>
@@ -169,10 +181,17 @@ impl<'g> LeastTrees<'g> {
         ensures { (g : Grammar) → IsNumberTableOf g self.now.table →
             CountsLeast (IsTreeOf (IsProductionOf g) nonterminal.now.0) result }
     {
-        match self.entry(true, nonterminal) {
-            None => None,
-            Some(tree) => Some(tree.count),
-        }
+        self.count_of(true, nonterminal)
+    }
+
+    /// How many nodes the nonterminal's least tree without leaves has; the greatest number where they are as many or more. None where
+    /// the nonterminal doesn't derive the empty sentence.
+    pub fn empty_count(&self, nonterminal: &NonterminalString) -> Option<usize>
+        requires { AreLeastTrees self.now }
+        ensures { (g : Grammar) → IsNumberTableOf g self.now.table →
+            CountsLeast (IsTreeOfKind (IsProductionOf g) nonterminal.now.0 false) result }
+    {
+        self.count_of(false, nonterminal)
     }
 
     /// The production at the root of the nonterminal's least tree; none where it has no tree.
