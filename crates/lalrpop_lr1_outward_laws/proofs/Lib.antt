@@ -1,0 +1,4 @@
+pub mod PathLemmas
+pub mod OutwardLemmas
+pub mod WayOutLemmas
+pub mod ExamplesOfWaysOut

@@ -1,0 +1,3 @@
+pub mod PathTrees
+pub mod OutwardMoves
+pub mod Laws
