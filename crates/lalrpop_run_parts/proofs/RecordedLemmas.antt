@@ -20,7 +20,7 @@ use Rattle.lalrpop_norm_labels.specs.Labels.{Inlinings, Label}
 use Rattle.lalrpop_run_written.specs.ActionLabels.{ChoiceInlinings, ChoiceLabel, IsRecordOf, TellEntries, TellsLabel, all_kept}
 use Rattle.lalrpop_run_written.specs.ActionLabels.{kept_count, label_of_entries}
 use Rattle.lalrpop_run_written.proofs.FillLemmas.{symbol_count}
-use Rattle.lalrpop_run_written.proofs.ToldLemmas.{filled_label, inlined_entry, kept_entry, one_record}
+use Rattle.lalrpop_run_written.proofs.ToldLemmas.{entries_for, inlined_entry, kept_entry, one_record, told_count}
 use Rattle.lalrpop_run_parts.specs.KeptTrees.{AreAllKeptBy, AreKeptBy}
 use Rattle.lalrpop_run_parts.specs.PartViews.{TellsAllKept, TellsChildren, TellsKept, shown_part}
 use Rattle.lalrpop_run_parts.specs.declared.tree_part.TreePart.{TreePart}
@@ -252,6 +252,35 @@ module _ (x : Nonterminal) (o : Origin) (count : ℕ) (q : TreePart) where
       let same : k.0 ≡ map shown_part qs.items = children_once o (shown_part q) k.0 (map shown_part qs.items) k.1 h in
       other (sym (length-map qs.items shown_part) ∙ ap length (sym same) ∙ all_stayed count k.0 us k.2)
 
+-- What an action that inlining added is made of: its label is that of another action, filled by its record.
+pub record IsFilled (actions : List ActionFnDefn) (origins : List choices.Origin) (k count : ℕ) (label : ChoiceLabel) : Type 0 where
+  pub record_of : InlineActionFnDefn
+  pub is_record : IsRecordOf actions k record_of
+  pub less : record_of.action.0 < k
+  pub outer : ChoiceLabel
+  pub entries : ChoiceInlinings
+  pub outer_told : TellsLabel actions origins record_of.action.0 (length record_of.symbols) outer
+  pub entries_told : TellEntries actions origins k record_of.symbols count entries
+  pub label_is : label ≡ label_of_entries outer entries
+  pub counted : symbol_count entries ≡ kept_count outer
+
+pub filled_label : (actions : List ActionFnDefn) (origins : List choices.Origin) (k count : ℕ) (label : ChoiceLabel) →
+    TellsLabel actions origins k count label → slice_get origins k ≡ None → IsFilled actions origins k count label
+filled_label actions origins k count label (TellsLabel.given k2 n x o at) e = absurd (cc)
+filled_label actions origins k count label (TellsLabel.made k2 n d i outer entries from at kind less told tell) e =
+    record {
+      record_of = i;
+      is_record = record { definition = d; at = at; kind_is = kind };
+      less = less;
+      outer = outer;
+      entries = entries;
+      outer_told = told;
+      entries_told = tell;
+      label_is = refl;
+      counted = entries_for actions origins k2 i.symbols n entries tell
+          ∙ sym (told_count actions origins i.action.0 (length i.symbols) outer told);
+    }
+
 -- a given action's label is that of its choice
 pub given_label : (actions : List ActionFnDefn) (origins : List choices.Origin) (k count : ℕ) (label : ChoiceLabel) →
     TellsLabel actions origins k count label → (o : choices.Origin) → slice_get origins k ≡ Some o →
@@ -312,6 +341,15 @@ module _ (actions : List ActionFnDefn) (origins : List choices.Origin) (k count 
         (subst (λ l. AreKeptBy l (shown_part q) us) f.label_is h) in
         outer f.outer (subst (λ a. TellsLabel actions origins a (length symbols) f.outer) (ap (λ j. j.action.0) same)
         (subst (λ l. TellsLabel actions origins f.record_of.action.0 (length l) f.outer) symbols_same f.outer_told)) w.0 w.1
+
+    pub has_record : ((i : InlineActionFnDefn) → IsRecordOf actions k i → ⊥) → ⊥
+    has_record without =
+        let f = filled_label actions origins k count label told none in without f.record_of f.is_record
+
+    pub record_below : (i : InlineActionFnDefn) → IsRecordOf actions k i → i.action.0 < k
+    record_below i is =
+        let f = filled_label actions origins k count label told none in
+        subst (λ j. j.action.0 < k) (one_record actions k f.record_of i f.is_record is) f.less
 
 -- of one symbol of a record that was inlined
 pub inlined_kept : {E : Type 0} (actions : List ActionFnDefn) (origins : List choices.Origin) (below : ℕ) (action : ActionFn)

@@ -20,8 +20,8 @@ use Rattle.lalrpop_run_written.specs.ActionLabels.{symbols_after_entry}
 use Rattle.lalrpop_run_written.specs.LabelledTrees.{tree_by_label, trees_by_inlinings}
 use Rattle.lalrpop_run_written.proofs.FrontLemmas.{tree_of_front}
 use Rattle.lalrpop_run_written.proofs.SeenLemmas.{viewed_more}
-use Rattle.lalrpop_run_written.proofs.ToldLemmas.{filled_label, filled_node, given_node, inlined_entry, kept_entry, no_entry, one_record}
-use Rattle.lalrpop_run_written.proofs.ToldLemmas.{parted, told_count}
+use Rattle.lalrpop_run_written.proofs.ToldLemmas.{given_node, inlined_entry, kept_entry, made_node, no_entry, one_record, parted}
+use Rattle.lalrpop_run_written.proofs.ToldLemmas.{told_count}
 
 module _ (actions : List ActionFnDefn) (origins : List choices.Origin) (below : ℕ) where
   -- With these symbols left, and these trees: what was made and what is to be made is the whole.
@@ -156,7 +156,7 @@ module _ (actions : List ActionFnDefn) (origins : List choices.Origin) (k : ℕ)
       IfOk r (λ t. tree_view t ≡ tree_by_label inner (map tree_view trees))) →
       IfOk r (λ t. tree_view t ≡ tree_by_label label (map tree_view children))
   made_tree none i is trees are counted r outer =
-      let n = filled_label actions origins k (length children) label told none in
+      let n = made_node actions origins k (length children) label told none in
       let same : n.record_of ≡ i = one_record actions k n.record_of i n.is_record is in
       let entries_told : TellEntries actions origins k i.symbols (length children) n.entries =
       subst (λ j. TellEntries actions origins k j.symbols (length children) n.entries) same n.entries_told in
@@ -164,6 +164,16 @@ module _ (actions : List ActionFnDefn) (origins : List choices.Origin) (k : ℕ)
       subst (λ c. TellsLabel actions origins i.action.0 c n.outer) (sym counted)
       (subst (λ j. TellsLabel actions origins j.action.0 (length j.symbols) n.outer) same n.outer_told) in
       IfOk-weaker r _ _
-      (λ t h. h ∙ ap (λ l. tree_by_label n.outer l) (are n.entries entries_told)
-      ∙ sym (filled_node actions origins k (length children) label n (map tree_view children)))
+      (λ t h. h ∙ ap (λ l. tree_by_label n.outer l) (are n.entries entries_told) ∙ sym (n.tree_is (map tree_view children)))
       (outer n.outer outer_told)
+
+  -- it has a record, of a smaller action
+  pub has_record : slice_get origins k ≡ None → ((i : InlineActionFnDefn) → IsRecordOf actions k i → ⊥) → ⊥
+  has_record none without =
+      let n = made_node actions origins k (length children) label told none in
+      without n.record_of n.is_record
+
+  pub record_below : slice_get origins k ≡ None → (i : InlineActionFnDefn) → IsRecordOf actions k i → i.action.0 < k
+  record_below none i is =
+      let n = made_node actions origins k (length children) label told none in
+      subst (λ j. j.action.0 < k) (one_record actions k n.record_of i n.is_record is) n.less

@@ -16,7 +16,7 @@ use Rattle.lalrpop_grammar_repr.specs.declared.action.ActionFn.{ActionFn}
 use Rattle.lalrpop_grammar_repr.specs.declared.production.Symbol.{Symbol}
 use Rattle.lalrpop_norm_labels.specs.Labels.{Inlinings}
 use Rattle.lalrpop_run_written.specs.ActionLabels.{ChoiceInlinings, ChoiceLabel, IsRecordOf, TellEntries, TellsLabel, all_kept}
-use Rattle.lalrpop_run_written.specs.ActionLabels.{kept_count, kept_counts, label_of_entries, symbols_after_entry}
+use Rattle.lalrpop_run_written.specs.ActionLabels.{kept_count, kept_counts, symbols_after_entry}
 use Rattle.lalrpop_run_written.specs.LabelledTrees.{tree_by_label, trees_by_inlinings}
 use Rattle.lalrpop_run_written.proofs.FillLemmas.{all_kept_count, filled_count, filled_tree, symbol_count}
 use Rattle.lalrpop_run_written.proofs.FrontLemmas.{kept_trees}
@@ -62,8 +62,8 @@ given_node actions origins k count label (TellsLabel.given k2 n x o at) p e ts c
 given_node actions origins k count label (TellsLabel.made k2 n d i outer entries from at kind less told tell) p e ts c =
     absurd (omega (arith, from, slice_get_within origins k2 p e))
 
--- What an action that inlining added is made of: its label is that of another action, filled by its record.
-pub record IsFilled (actions : List ActionFnDefn) (origins : List choices.Origin) (k count : ℕ) (label : ChoiceLabel) : Type 0 where
+-- What an action that inlining added is made of, and its tree by these parts.
+pub record IsMadeNode (actions : List ActionFnDefn) (origins : List choices.Origin) (k count : ℕ) (label : ChoiceLabel) : Type 0 where
   pub record_of : InlineActionFnDefn
   pub is_record : IsRecordOf actions k record_of
   pub less : record_of.action.0 < k
@@ -71,13 +71,12 @@ pub record IsFilled (actions : List ActionFnDefn) (origins : List choices.Origin
   pub entries : ChoiceInlinings
   pub outer_told : TellsLabel actions origins record_of.action.0 (length record_of.symbols) outer
   pub entries_told : TellEntries actions origins k record_of.symbols count entries
-  pub label_is : label ≡ label_of_entries outer entries
-  pub counted : symbol_count entries ≡ kept_count outer
+  pub tree_is : (ts : List Tree) → tree_by_label label ts ≡ tree_by_label outer (trees_by_inlinings entries ts)
 
-pub filled_label : (actions : List ActionFnDefn) (origins : List choices.Origin) (k count : ℕ) (label : ChoiceLabel) →
-    TellsLabel actions origins k count label → slice_get origins k ≡ None → IsFilled actions origins k count label
-filled_label actions origins k count label (TellsLabel.given k2 n x o at) e = absurd (cc)
-filled_label actions origins k count label (TellsLabel.made k2 n d i outer entries from at kind less told tell) e =
+pub made_node : (actions : List ActionFnDefn) (origins : List choices.Origin) (k count : ℕ) (label : ChoiceLabel) →
+    TellsLabel actions origins k count label → slice_get origins k ≡ None → IsMadeNode actions origins k count label
+made_node actions origins k count label (TellsLabel.given k2 n x o at) e = absurd (cc)
+made_node actions origins k count label (TellsLabel.made k2 n d i outer entries from at kind less told tell) e =
     record {
       record_of = i;
       is_record = record { definition = d; at = at; kind_is = kind };
@@ -86,17 +85,10 @@ filled_label actions origins k count label (TellsLabel.made k2 n d i outer entri
       entries = entries;
       outer_told = told;
       entries_told = tell;
-      label_is = refl;
-      counted = entries_for actions origins k2 i.symbols n entries tell
-          ∙ sym (told_count actions origins i.action.0 (length i.symbols) outer told);
+      tree_is = λ ts. filled_tree outer entries ts
+          (entries_for actions origins k2 i.symbols n entries tell
+          ∙ sym (told_count actions origins i.action.0 (length i.symbols) outer told));
     }
-
--- so its tree is that of the other label over the trees that its record fills in
-pub filled_node : (actions : List ActionFnDefn) (origins : List choices.Origin) (k count : ℕ) (label : ChoiceLabel) →
-    (f : IsFilled actions origins k count label) → (ts : List Tree) →
-    tree_by_label label ts ≡ tree_by_label f.outer (trees_by_inlinings f.entries ts)
-filled_node actions origins k count label f ts =
-    ap (λ l. tree_by_label l ts) f.label_is ∙ filled_tree f.outer f.entries ts f.counted
 
 -- an action has one record
 pub one_record : (actions : List ActionFnDefn) (k : ℕ) (i j : InlineActionFnDefn) → IsRecordOf actions k i → IsRecordOf actions k j →
@@ -108,18 +100,6 @@ one_record actions k i j a b =
   where
     some_one : (c d : ActionFnDefn) → ◌≡◌ {A = Option ActionFnDefn} (Some c) (Some d) → c ≡ d
     some_one c d e = cc
-
--- an action that tells a label, and is none that was given, has a record, of a smaller action
-module _ (actions : List ActionFnDefn) (origins : List choices.Origin) (k count : ℕ) (label : ChoiceLabel)
-    (told : TellsLabel actions origins k count label) (none : slice_get origins k ≡ None) where
-  pub has_record : ((i : InlineActionFnDefn) → IsRecordOf actions k i → ⊥) → ⊥
-  has_record without =
-      let f = filled_label actions origins k count label told none in without f.record_of f.is_record
-
-  pub record_below : (i : InlineActionFnDefn) → IsRecordOf actions k i → i.action.0 < k
-  record_below i is =
-      let f = filled_label actions origins k count label told none in
-      subst (λ j. j.action.0 < k) (one_record actions k f.record_of i f.is_record is) f.less
 
 -- The entries of a record in two parts: that of its first symbol, and the others.
 pub record AreParted (actions : List ActionFnDefn) (origins : List choices.Origin) (below : ℕ) (s : InlinedSymbol)

@@ -8,4 +8,4 @@
 mod choosing;
 mod recorded;
 
-pub use recorded::{record_of, tree_of_action};
+pub use recorded::tree_of_action;

@@ -18,11 +18,8 @@ use lalrpop_grammar_repr::{
 use std::alloc::{AllocError, Global};
 use std::vec::IntoIter;
 
-/// The record of the action: how inlining made it of others, where it did.
-///
-/// `actions` are all actions of the grammar, `action` the number of one. None where there is no such action, or where it is none that
-/// inlining made.
-pub fn record_of(actions: &[ActionFnDefn], action: ActionFn) -> Option<&InlineActionFnDefn>
+/// The record of the action, where it has one.
+fn record_of(actions: &[ActionFnDefn], action: ActionFn) -> Option<&InlineActionFnDefn>
     ensures found { IfSome result (λ found. IsRecordOf actions.now action.0 found.now) }
     ensures none { IfNone result ((other : InlineActionFnDefn) → IsRecordOf actions.now action.0 other → ⊥) }
 {

@@ -5,9 +5,8 @@ use Rattle.std.proofs.lemmas.Option.{slice_get_past, slice_get_read}
 use Rattle.lalrpop_grammar_repr.specs.declared.action.InlinedSymbol.{InlinedSymbol}
 use Rattle.lalrpop_run_written.specs.ActionLabels.{TellEntries, TellsLabel}
 use Rattle.lalrpop_run_parts.specs.PartViews.{AllWithin, LieWithin, TellsAllKept, TellsKept, shown_part}
-use Rattle.lalrpop_run_written.proofs.ToldLemmas.{has_record, record_below}
-use Rattle.lalrpop_run_parts.proofs.RecordedLemmas.{given_kept, inlined_kept, keep_end, keep_stop, keep_turn, kept_symbols}
-use Rattle.lalrpop_run_parts.proofs.RecordedLemmas.{made_kept, made_none}
+use Rattle.lalrpop_run_parts.proofs.RecordedLemmas.{given_kept, has_record, inlined_kept, keep_end, keep_stop, keep_turn, kept_symbols}
+use Rattle.lalrpop_run_parts.proofs.RecordedLemmas.{made_kept, made_none, record_below}
 use Rattle.lalrpop_run_parts.proofs.ShownPartLemmas.{within_joined, within_there, within_within}
 use Rattle.lalrpop_run_parts.proofs.recorded.+recorded.Goals as goal
 use Rattle.lalrpop_run_parts.proofs.recorded.+recorded.Goals.{
@@ -59,12 +58,12 @@ parts_by_action-returns-in_default-record_of-clause-kept t c = λ label told us 
       | parts_by_action-in_default-record_of-via-in-Some-record_of+else-index w ↦
           absurd (omega (
             arith,
-            record_below c.args.actions.now origins c.args.action.0 c.args.count label told none
+            record_below c.args.actions.now origins c.args.action.0 c.args.count label c.args.part told none
                 w.in-Some-record_of.record.now w.in-Some-record_of.ensures.found,
             w.if-index.false,
           ))
       | parts_by_action-in_default-record_of-via-in_default-record_of w ↦
-          absurd (has_record c.args.actions.now origins c.args.action.0 c.args.count label told none
+          absurd (has_record c.args.actions.now origins c.args.action.0 c.args.count label c.args.part told none
           w.in_default-record_of.ensures.none)
     ]
 

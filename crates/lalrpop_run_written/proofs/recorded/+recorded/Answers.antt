@@ -6,8 +6,8 @@ use Rattle.std.proofs.lemmas.Option.{slice_get_past, slice_get_read}
 use Rattle.std.proofs.lemmas.Result.{IfOk-weaker}
 use Rattle.lalrpop_grammar_repr.specs.declared.action.InlinedSymbol.{InlinedSymbol}
 use Rattle.lalrpop_run_written.specs.ActionLabels.{TellEntries}
-use Rattle.lalrpop_run_written.proofs.EntryLemmas.{come_end, come_on, given_tree, inlined_result, made_tree}
-use Rattle.lalrpop_run_written.proofs.ToldLemmas.{has_record, record_below}
+use Rattle.lalrpop_run_written.proofs.EntryLemmas.{come_end, come_on, given_tree, has_record, inlined_result, made_tree}
+use Rattle.lalrpop_run_written.proofs.EntryLemmas.{record_below}
 use Rattle.lalrpop_run_written.proofs.recorded.+recorded.Goals as goal
 use Rattle.lalrpop_run_written.proofs.recorded.+recorded.Goals.{
   tree_of_action-in_default-record_of-via-in-Some-record_of+else-index,
@@ -48,12 +48,12 @@ tree_of_action-returns-in_default-record_of t c = λ label told.
       | tree_of_action-in_default-record_of-via-in-Some-record_of+else-index w ↦
           absurd (omega (
             arith,
-            record_below c.args.actions.now origins c.args.action.0 (length c.args.children.items) label told none
+            record_below c.args.actions.now origins c.args.action.0 label c.args.children.items told none
                 w.in-Some-record_of.record.now w.in-Some-record_of.ensures.found,
             w.if-index.false,
           ))
       | tree_of_action-in_default-record_of-via-in_default-record_of w ↦
-          absurd (has_record c.args.actions.now origins c.args.action.0 (length c.args.children.items) label told none
+          absurd (has_record c.args.actions.now origins c.args.action.0 label c.args.children.items told none
           w.in_default-record_of.ensures.none)
     ]
 
