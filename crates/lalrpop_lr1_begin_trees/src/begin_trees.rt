@@ -97,6 +97,13 @@ impl<'t, 'g> BeginTrees<'t, 'g> {
         })
     }
 
+    /// The least trees of the grammar.
+    pub fn trees(&self) -> &'t LeastTrees<'g>
+        ensures { result.now ≡ self.now.trees.now }
+    {
+        self.trees
+    }
+
     /// The number that stands for the name's trees that begin with the terminal.
     fn begin_number(&self, name: &NonterminalString) -> Option<usize>
         requires { AreBeginTrees self.now }

@@ -1,0 +1,4 @@
+pub mod RestLemmas
+pub mod PlaceLemmas
+pub mod SymbolLemmas
+mod ExamplesOfRestForests

@@ -1,0 +1,2 @@
+pub mod RestForests
+pub mod BeginPlaces
