@@ -1,0 +1,3 @@
+pub mod GraphPaths
+pub mod Graphs
+pub mod PathSearches
