@@ -11,7 +11,8 @@ use Rattle.lalrpop_lr1_graph_paths.specs.declared.paths.GoalPaths.{GoalPaths}
 use Rattle.lalrpop_lr1_graph_paths.specs.GraphPaths.{HasNoPathToGoal, HasPathToGoal, IsPathTo, capped_sum, edge_weight, ends}
 use Rattle.lalrpop_lr1_graph_paths.specs.GraphPaths.{goes_on, path_weight}
 use Rattle.lalrpop_lr1_graph_paths.specs.PathSearches.{BeginsPath, HasNumber, HasPathFrom, IsPathSearch}
-use Rattle.lalrpop_lr1_graph_paths.specs.PathSearches.{IsWaitingFor, IsWeighed, found_weight, path_number_at}
+use Rattle.lalrpop_lr1_graph_paths.specs.PathSearches.{IsWaitingFor, IsWeighed, edge_of_step, found_first_edge}
+use Rattle.lalrpop_lr1_graph_paths.specs.PathSearches.{found_weight, path_number_at}
 use Rattle.lalrpop_lr1_graph_paths.proofs.EntryLemmas.{same_there}
 use Rattle.lalrpop_lr1_graph_paths.proofs.NumberLemmas.{never_both}
 
@@ -33,6 +34,18 @@ pub weight_found : (paths : GoalPaths) (n k : ℕ) → path_number_at paths.tabl
 weight_found paths n k is path at =
     ap (λ o. option_map (λ (p : LightPath). p.weight) (option_and_then (slice_get paths.table.paths.items) o)) is
     ∙ ap (option_map (λ (p : LightPath). p.weight)) at
+
+-- the edge with which a node's path begins
+pub first_edge_none : (paths : GoalPaths) (n : ℕ) → path_number_at paths.table.numbers.items n ≡ None →
+    found_first_edge paths n ≡ None
+first_edge_none paths n is =
+    ap (λ o. option_and_then (λ (p : LightPath). edge_of_step p.step) (option_and_then (slice_get paths.table.paths.items) o)) is
+
+pub first_edge_found : (paths : GoalPaths) (n k : ℕ) → path_number_at paths.table.numbers.items n ≡ Some k → (path : LightPath) →
+    slice_get paths.table.paths.items k ≡ Some path → found_first_edge paths n ≡ edge_of_step path.step
+first_edge_found paths n k is path at =
+    ap (λ o. option_and_then (λ (p : LightPath). edge_of_step p.step) (option_and_then (slice_get paths.table.paths.items) o)) is
+    ∙ ap (option_and_then (λ (p : LightPath). edge_of_step p.step)) at
 
 -- a path from the node begins with some edges, and goes on as the path with the number
 pub record IsOnTheWay (edges : List Edge) (goals : List Goal) (numbers : List (Option ℕ)) (paths : List LightPath) (node : ℕ)

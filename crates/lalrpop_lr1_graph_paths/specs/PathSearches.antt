@@ -89,6 +89,15 @@ abbrev pub found_weight : GoalPaths → ℕ → Option ℕ
 found_weight paths n =
     option_map (λ path. path.weight) (option_and_then (slice_get paths.table.paths.items) (path_number_at paths.table.numbers.items n))
 
+-- the edge with which the path from the node begins; none where it ends at once, and where the node has none
+abbrev pub edge_of_step : PathStep → Option ℕ
+edge_of_step (AtGoal g) = None
+edge_of_step (OverEdge e rest) = Some e
+
+abbrev pub found_first_edge : GoalPaths → ℕ → Option ℕ
+found_first_edge paths n = option_and_then (λ path. edge_of_step path.step)
+    (option_and_then (slice_get paths.table.paths.items) (path_number_at paths.table.numbers.items n))
+
 -- the entry's path ends at once
 pub record IsGoalEntry (goals : List Goal) (entry : Entry) : Type 0 where
   pub number : ℕ

@@ -4,7 +4,14 @@ ghost use Rattle.std.specs.Prelude.{◌≡◌, ◌<◌, ◌⊎◌, IfOk, OnOk, l
 ghost use Rattle.std.specs.BinaryHeap.{heap_items};
 ghost use Rattle.lalrpop_lr1_graph_paths.specs.GraphPaths.{GoalsAreBelow, HasPathIfSome, IsPathIfSome, weight_if_some};
 ghost use Rattle.lalrpop_lr1_graph_paths.specs.Graphs.{IsGraph, entering_lists, graph_edges, graph_node_count};
-ghost use Rattle.lalrpop_lr1_graph_paths.specs.PathSearches.{AreGoalPaths, KeepsPath, PassesPath, found_weight, path_number_at};
+ghost use Rattle.lalrpop_lr1_graph_paths.specs.PathSearches.{
+  AreGoalPaths,
+  KeepsPath,
+  PassesPath,
+  found_first_edge,
+  found_weight,
+  path_number_at,
+};
 
 use crate::graph::{Goal, Graph};
 use crate::path_table::{PathStep, PathTable};
@@ -111,6 +118,18 @@ impl GoalPaths<'_> {
     {
         let number = self.number_of(node)?;
         Some(self.table.paths[number].weight)
+    }
+
+    /// The number of the edge with which the path begins that `path` gives; none where it ends at once, and where there is no path.
+    pub fn first_edge(&self, node: usize) -> Option<usize>
+        requires { AreGoalPaths self.now }
+        ensures { result ≡ found_first_edge self.now node }
+    {
+        let number = self.number_of(node)?;
+        match self.table.paths[number].step {
+            PathStep::AtGoal(_) => None,
+            PathStep::OverEdge { edge, .. } => Some(edge),
+        }
     }
 
     /// A lightest path from the node to a goal; none where there is no path.

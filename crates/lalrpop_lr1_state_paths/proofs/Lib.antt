@@ -1,0 +1,9 @@
+pub mod EdgeLemmas
+pub mod StepLemmas
+pub mod WalkLemmas
+pub mod ForestLemmas
+pub mod SymbolLemmas
+pub mod SearchLemmas
+pub mod TreeLemmas
+pub mod ReachedLemmas
+pub mod ExamplesOfStatePaths

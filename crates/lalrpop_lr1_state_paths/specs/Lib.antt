@@ -1,0 +1,4 @@
+pub mod NumberEdges
+pub mod TurnedGraphs
+pub mod PathForests
+pub mod PathTables
