@@ -1,0 +1,4 @@
+pub mod OutSteps
+pub mod ToldSteps
+pub mod EmptySteps
+pub mod OutGraphs
