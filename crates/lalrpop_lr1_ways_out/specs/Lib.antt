@@ -1,0 +1,3 @@
+pub mod OutSearches
+pub mod StepMoves
+pub mod WantedGoals
