@@ -4,3 +4,4 @@ pub mod EdgeStepLemmas
 pub mod WayLemmas
 pub mod WantedLemmas
 pub mod WantedWayLemmas
+pub mod ExamplesOfWaysFound
