@@ -1,0 +1,20 @@
+-- No terminal comes where the end is next: for the answers of ways out before what comes next.
+use Rattle.std.proofs.Common.{◌≡◌, ℕ, List, [], ◌∷◌, Option, Some, None, refl, ap}
+use Rattle.lalrpop_grammar_symbols.specs.Symbols.{Terminal, Text}
+use Rattle.lalrpop_grammar_repr.specs.declared.grammar.Grammar.{Grammar}
+use Rattle.lalrpop_lr1_theory.specs.Productions.{first}
+use Rattle.lalrpop_lr1_theory.specs.States.{State}
+use Rattle.lalrpop_lr1_theory.specs.Trees.{Move}
+use Rattle.lalrpop_lr1_rest_trees.specs.RestForests.{NoLeaves}
+use Rattle.lalrpop_lr1_out_steps.specs.declared.out_graphs.OutGraphs.{OutGraphs}
+use Rattle.lalrpop_lr1_ways_out.specs.OutSearches.{TellsWayOut}
+use Rattle.lalrpop_lr1_shown_moves.specs.ShownMoves.{ComesNext}
+
+nothing_next : (w : List Terminal) → first w ≡ None → w ≡ []
+nothing_next [] e = refl
+nothing_next (t ∷ w) e = let z : ⊥ = cc in absurd z
+
+pub end_told : (g : Grammar) (s : Text) (states : List State) (ways : OutGraphs) (n : ℕ) (B : Text) (found : Option (List Move)) →
+    TellsWayOut g s states ways n B NoLeaves found → TellsWayOut g s states ways n B (ComesNext None) found
+end_told g s states ways n B None h = λ ms w out next. h ms w out (nothing_next w next)
+end_told g s states ways n B (Some ms) h = record { left = h.left; leads = h.leads; wanted = ap first h.wanted }

@@ -1,0 +1,11 @@
+//! The moves of whole trees in which a state makes a move that it allows: what conflicts are shown by.
+//!
+//! In front of all of them stand the moves along the state's path. Then comes the reduction or the shift, and what leads out from there to a
+//! whole tree. `ShownMoves` in `specs/` says which moves show one.
+#![tactic(auto)]
+
+mod next_out;
+mod shown;
+
+pub use next_out::NextOut;
+pub use shown::{with_reduction, with_shift};
