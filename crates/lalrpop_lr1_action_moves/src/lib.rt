@@ -1,0 +1,8 @@
+//! The moves of a whole sentence in which a state does an action: one of the two that a conflict is of.
+//!
+//! `ActionMoves` in `specs/` says which moves show an action.
+#![tactic(auto)]
+
+mod action;
+
+pub use action::action_moves;
