@@ -19,8 +19,12 @@ use lalrpop_lr1_least_trees::{LeastTrees, TreeMove};
 use lalrpop_lr1_parse::ExpandedTree;
 use std::alloc::{AllocError, Global};
 
-/// The only tree that the moves build.
-pub(crate) fn only_tree<'g>(
+/// The only tree that the moves build. Its leaves are numbered from a number on: the leaf with the number n has the span n..n+1.
+///
+/// # Errors
+///
+/// Memory is refused. It is where a leaf's number could be past the greatest one.
+pub fn only_tree<'g>(
     alloc: Global,
     moves: &[TreeMove<'g>],
     from: usize,

@@ -8,5 +8,5 @@ mod least;
 mod making;
 
 pub use begin::begin_tree;
-pub use least::{empty_tree, least_tree};
+pub use least::{empty_tree, least_tree, only_tree};
 pub use making::made_trees;

@@ -1,0 +1,4 @@
+pub mod StartLemmas
+pub mod CertificateLemmas
+pub mod ShownLemmas
+pub mod SlotLemmas

@@ -1,0 +1,4 @@
+pub mod ConflictCertificates
+pub mod ShownStates
+pub mod MadeCertificates
+pub mod Slots

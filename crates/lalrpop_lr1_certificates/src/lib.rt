@@ -1,0 +1,12 @@
+//! Certificates of the conflicts of canonical states: for each conflict two whole sentences that agree up to one place, where one needs the
+//! reduction and the other the other action.
+//!
+//! `ConflictCertificates` in `specs/` says which certificates are those of a conflict.
+#![tactic(auto)]
+
+mod all;
+mod one;
+mod shown;
+mod slots;
+
+pub use all::certificates;

@@ -1,0 +1,2 @@
+pub mod StandingConflicts
+pub mod Laws
