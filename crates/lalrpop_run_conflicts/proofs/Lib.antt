@@ -1,0 +1,2 @@
+pub mod ConflictLineLemmas
+pub mod UnfoldedLemmas

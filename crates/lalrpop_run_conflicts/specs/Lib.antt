@@ -1,0 +1,2 @@
+pub mod WrittenConflicts
+pub mod ConflictTexts

@@ -1,0 +1,8 @@
+//! Certificates of the conflicts for which a prepared grammar has no parser.
+//!
+//! `Witnesses` in `specs/` says which they are.
+#![tactic(auto)]
+
+mod witnessing;
+
+pub use witnessing::{witness, witnesses};
