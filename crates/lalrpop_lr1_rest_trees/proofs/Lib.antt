@@ -1,4 +1,5 @@
 pub mod RestLemmas
 pub mod PlaceLemmas
 pub mod SymbolLemmas
+pub mod OtherLemmas
 mod ExamplesOfRestForests

@@ -165,7 +165,7 @@ module _ (G : Production → Type 0) where
     }
 
     -- no trees begin with the terminal where none do at the first symbol, and none behind it
-    no_begins : HasNoRest G (x ∷ []) (BeginsWith t) ⊎ HasNoRest G ss AnyLeaves →
+    pub no_begins : HasNoRest G (x ∷ []) (BeginsWith t) ⊎ HasNoRest G ss AnyLeaves →
         HasNoRest G (x ∷ []) NoLeaves ⊎ HasNoRest G ss (BeginsWith t) → HasNoRest G (x ∷ ss) (BeginsWith t)
     no_begins no_here no_later ts o e w =
         let a = apart (x ∷ []) ss (BeginsWith t) ts o e w in

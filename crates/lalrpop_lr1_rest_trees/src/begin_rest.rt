@@ -1,6 +1,6 @@
 //! Trees of several symbols that begin with a terminal.
 
-ghost use Rattle.std.specs.Prelude.{◌<◌, IfOk, IfSome, length, map, option_map};
+ghost use Rattle.std.specs.Prelude.{◌<◌, IfOk, IfSome, IsTrue, length, map, option_map};
 ghost use Rattle.lalrpop_grammar_symbols.specs.Views.{terminal_view};
 ghost use Rattle.lalrpop_grammar_repr.specs.declared.grammar.Grammar.{Grammar};
 ghost use Rattle.lalrpop_lr1_items.specs.Views.{production_symbol_view};
@@ -11,16 +11,27 @@ ghost use Rattle.lalrpop_lr1_least_trees.specs.MoveViews.{tree_move_view};
 ghost use Rattle.lalrpop_lr1_begin_trees.specs.BeginForests.{IsWanted};
 ghost use Rattle.lalrpop_lr1_begin_trees.specs.BeginTables.{AreBeginTrees};
 ghost use Rattle.lalrpop_lr1_rest_trees.specs.BeginPlaces.{HasBeginPlace};
-ghost use Rattle.lalrpop_lr1_rest_trees.specs.RestForests.{BeginsWith, CountsRest, HaveRestMoves};
+ghost use Rattle.lalrpop_lr1_rest_trees.specs.RestForests.{BeginsWith, CountsRest, HasNoRest, HaveRestMoves};
 
 use crate::begin_place::{BeginPlace, counts_beside, place_before};
 use crate::rest::{empty_rest_moves, rest_moves};
-use crate::symbol::{begin_symbol_count, begin_symbol_moves, symbol_count};
+use crate::symbol::{begin_symbol_count, begin_symbol_moves, is_same_terminal, symbol_count};
 use lalrpop_grammar_repr::Symbol;
 use lalrpop_grammar_symbols::TerminalString;
 use lalrpop_lr1_begin_trees::BeginTrees;
 use lalrpop_lr1_least_trees::TreeMove;
 use std::alloc::{AllocError, Global};
+
+/// Whether the first symbol is another terminal, with which all trees of the symbols begin.
+fn begins_otherwise(terminal: &TerminalString, symbols: &[Symbol]) -> bool
+    ensures { IsTrue result → (g : Grammar) →
+        HasNoRest (IsProductionOf g) (map production_symbol_view symbols.now) (BeginsWith (terminal_view terminal.now)) }
+{
+    let Some(Symbol::Terminal(own)) = symbols.first() else {
+        return false;
+    };
+    !is_same_terminal(own, terminal)
+}
 
 /// The place at which light trees of the symbols begin with the terminal, the lightest of all such places.
 fn begin_place(
@@ -34,6 +45,9 @@ fn begin_place(
     ensures place { (g : Grammar) → IsNumberTableOf g begins.now.trees.now.table →
         HasBeginPlace (IsProductionOf g) (map production_symbol_view symbols.now) (terminal_view terminal.now) 0 result }
 {
+    if begins_otherwise(terminal, symbols) {
+        return None;
+    }
     let trees = begins.trees();
     let mut behind = Some(0);
     let mut found = None;

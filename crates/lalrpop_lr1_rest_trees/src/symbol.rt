@@ -20,7 +20,7 @@ use lalrpop_lr1_least_trees::{LeastTrees, TreeMove};
 use std::alloc::{AllocError, Global};
 
 /// Whether the terminals are one.
-fn is_same_terminal(terminal: &TerminalString, other: &TerminalString) -> bool
+pub(crate) fn is_same_terminal(terminal: &TerminalString, other: &TerminalString) -> bool
     ensures { IsTrue result ↔ (terminal.now ≡ other.now) }
 {
     terminal == other
