@@ -1,5 +1,6 @@
 //! A case of the table.
 
+use crate::line::Line;
 use anyhow::{Result, bail};
 use serde::Deserialize;
 use serde_json::Value;
@@ -35,7 +36,11 @@ pub(crate) struct Case {
     #[serde(default)]
     pub(crate) fault: String,
     /// What the program has to write.
+    #[serde(default)]
     pub(crate) output: String,
+    /// What the lines have to be like that it writes, where these stand in place of the output: of conflicts not all is fixed.
+    #[serde(default)]
+    pub(crate) lines: Vec<Line>,
     /// The status that it has to end with.
     pub(crate) status: u8,
 }

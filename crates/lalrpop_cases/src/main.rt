@@ -5,6 +5,7 @@
 #![tactic(auto)]
 
 mod case;
+mod line;
 mod outcome;
 mod runs;
 mod tally;

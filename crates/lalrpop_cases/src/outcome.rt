@@ -1,8 +1,9 @@
 //! One run of the program over readers and a writer in memory.
 
-ghost use Rattle.std.specs.Prelude.{◌≡◌, ◌↔◌, IfSome, IsTrue, string_bytes};
+ghost use Rattle.std.specs.Prelude.{◌≡◌, ◌↔◌, [], IfSome, IsTrue, string_bytes};
 
 use crate::case::Case;
+use crate::line::fit;
 use anyhow::Result;
 use lalrpop_grammar_streams::Watched;
 use lalrpop_run::{Answer, Options, OptionsError, ReadError, answer, options, read_grammar, run};
@@ -27,13 +28,24 @@ pub(crate) struct Outcome {
 }
 
 impl Outcome {
+    /// Whether the case wants this text.
+    fn has_wanted_text(&self, case: &Case) -> bool
+        ensures { case.now.lines.items ≡ [] → (IsTrue result ↔ (string_bytes self.now.text ≡ string_bytes case.now.output)) }
+    {
+        if case.lines.is_empty() {
+            self.text.as_str() == case.output.as_str()
+        } else {
+            fit(case.lines.as_slice(), self.text.as_str())
+        }
+    }
+
     /// Whether the case wants this outcome of its run.
     pub(crate) fn is_wanted(&self, case: &Case) -> bool
-        ensures { IsTrue result ↔ ((string_bytes self.now.text ≡ string_bytes case.now.output)
+        ensures { case.now.lines.items ≡ [] → (IsTrue result ↔ ((string_bytes self.now.text ≡ string_bytes case.now.output)
             × (self.now.status ≡ case.now.status)
-            × (string_bytes self.now.fault ≡ string_bytes case.now.fault)) }
+            × (string_bytes self.now.fault ≡ string_bytes case.now.fault))) }
     {
-        self.text.as_str() == case.output.as_str()
+        self.has_wanted_text(case)
             && self.status == case.status
             && self.fault.as_str() == case.fault.as_str()
     }

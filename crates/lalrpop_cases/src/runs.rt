@@ -38,6 +38,9 @@ fn is_right<R: Alloc<A = Global> + Print>(rt: &R, case: &Case) -> Result<bool> {
 fn tell(rt: &impl Print, case: &Case, outcome: &Outcome) -> Result<()> {
     println!(rt; "{} {}", case.name, case.shows)?;
     println!(rt; "  wanted {:?} {} {}", case.output, case.status, case.fault)?;
+    for line in &case.lines {
+        println!(rt; "  line   {line:?}")?;
+    }
     println!(rt;
         "  got    {:?} {} {}",
         outcome.text, outcome.status, outcome.fault

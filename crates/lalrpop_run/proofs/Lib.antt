@@ -1,3 +1,1 @@
-pub mod ParserLemmas
 pub mod ReadLemmas
-pub mod TokenLineLemmas

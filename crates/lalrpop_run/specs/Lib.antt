@@ -1,10 +1,2 @@
-pub mod Check
-pub mod Inputs
-pub mod Judge
-pub mod Parsers
-pub mod Questions
 pub mod Replies
-pub mod ReplyTexts
 pub mod Runs
-pub mod Tokens
-pub mod Parse

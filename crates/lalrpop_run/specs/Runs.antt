@@ -1,24 +1,13 @@
 -- The main theorem: what a run writes, and its status.
-use Rattle.std.specs.Prelude.{◌≡◌, ◌⊎◌, ℕ, Bool, true, false, List, Option, Ok, string_bytes}
+use Rattle.std.specs.Prelude.{◌≡◌, ◌⊎◌, ℕ, Bool, true, false, List, Option, Ok}
 use Rattle.lalrpop_grammar.specs.declared.grammar.Grammar.{Grammar}
 use Rattle.lalrpop_grammar_streams.specs.Streams.{ReadsAll, Writes}
-use Rattle.lalrpop_run.specs.Questions.{Question, reads_grammar, reads_text}
+use Rattle.lalrpop_run_questions.specs.Questions.{Question, reads_grammar, reads_text}
 use Rattle.lalrpop_run.specs.Replies.{GivesGrammar, IsRunReply}
-use Rattle.lalrpop_run.specs.ReplyTexts.{reply_text, reply_status, memory_text, fault_line}
-use Rattle.lalrpop_run.specs.declared.reply.Answer.{Answer}
-use Rattle.lalrpop_run.specs.declared.reply.Reply.{Reply}
-use Rattle.lalrpop_run.specs.declared.reply.Reply.TheVariants as replies
-
--- what is to be written, and the status
-pub record Output : Type 0 where
-  pub text : List ℕ
-  pub status : ℕ
-
-abbrev pub answer_view : Answer → Output
-answer_view answer = record { text = string_bytes answer.text; status = answer.status }
-
-abbrev pub reply_output : Reply → Output
-reply_output reply = record { text = reply_text reply; status = reply_status reply }
+use Rattle.lalrpop_run_replies.specs.Outputs.{Output, reply_output}
+use Rattle.lalrpop_run_replies.specs.ReplyTexts.{memory_text, fault_line}
+use Rattle.lalrpop_run_replies.specs.declared.reply.Reply.{Reply}
+use Rattle.lalrpop_run_replies.specs.declared.reply.Reply.TheVariants as replies
 
 abbrev pub out_of_memory : Output
 out_of_memory = record { text = memory_text; status = 5 }

@@ -2,19 +2,7 @@
 #![tactic(auto)]
 
 mod answering;
-mod checking;
-mod input;
-mod json_value;
-mod judging;
-mod parsing;
-mod preparing;
-mod putting;
-mod question;
-mod refusals;
-mod reply;
 mod running;
-mod texts;
-mod tokens;
 mod words;
 
 pub use answering::answer;
@@ -27,6 +15,6 @@ pub use lalrpop_run_options::{Method, Options, OptionsError, Task, options};
 pub use lalrpop_run_parser::{ParseError, Parser, generate};
 pub use lalrpop_run_prepare::{Prepared, prepare};
 pub use lalrpop_run_refusals::GenerateError;
-pub use reply::{Answer, Reply};
+pub use lalrpop_run_replies::{Answer, Reply};
 pub use running::run;
 pub use words::run_words;

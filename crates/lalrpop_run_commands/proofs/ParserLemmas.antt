@@ -1,5 +1,5 @@
 -- What was prepared for a question, and its parser, in the question's words; for `check`, `tokens` and `parse`.
-use Rattle.std.proofs.Common.{◌≡◌, ◌≢◌, ℕ, List, Contains, refl, subst, sym}
+use Rattle.std.proofs.Common.{◌≡◌, ℕ, List, Contains, subst, sym}
 use Rattle.std.specs.Str.{chars}
 use Rattle.lalrpop_grammar_symbols.specs.Symbols.{Text}
 use Rattle.lalrpop_grammar.specs.declared.grammar.Grammar.{Grammar}
@@ -14,18 +14,16 @@ use Rattle.lalrpop_lr1_theory.specs.Answers.{IsLr1}
 use Rattle.lalrpop_norm_chain.specs.Normalized.{IsNormalized}
 use Rattle.lalrpop_norm_expansion.specs.Premises.{IsReadGrammar}
 use Rattle.lalrpop_norm_lower_law.specs.LoweredViews.{lowered_view}
-use Rattle.lalrpop_run_parser.specs.Parsers.{HasOneTreeEach, IsGenerateRefusal}
+use Rattle.lalrpop_run_parser.specs.Parsers.{HasOneTreeEach}
 use Rattle.lalrpop_run_prepare.specs.PreparedGrammars.{PreparedGrammar}
-use Rattle.lalrpop_run_refusals.specs.declared.refusing.GenerateError.{GenerateError}
-use Rattle.lalrpop_run_refusals.specs.declared.refusing.GenerateError.TheVariants as errors
 use Rattle.lalrpop_run_tokens.specs.Refused.{IsGenerable}
 use Rattle.lalrpop_run_tokens.specs.Tokenizers.{scan_entries}
 use Rattle.lalrpop_run_text_answers.specs.TextAnswers.{IsRightForText}
-use Rattle.lalrpop_run.specs.Parse.{IsAnswerTold, IsParseReply, TellsTextAnswer}
-use Rattle.lalrpop_run.specs.Parsers.{HasNoParser, HasParser, IsPreparedFor}
-use Rattle.lalrpop_run.specs.Questions.{Question}
-use Rattle.lalrpop_run.specs.Tokens.{IsScanReply, IsTokensReply}
-use Rattle.lalrpop_run.specs.declared.reply.Reply.{Reply}
+use Rattle.lalrpop_run_commands.specs.Parse.{IsAnswerTold, IsParseReply, TellsTextAnswer}
+use Rattle.lalrpop_run_commands.specs.Parsers.{HasParser, IsPreparedFor}
+use Rattle.lalrpop_run_questions.specs.Questions.{Question}
+use Rattle.lalrpop_run_commands.specs.Tokens.{IsScanReply, IsTokensReply}
+use Rattle.lalrpop_run_replies.specs.declared.reply.Reply.{Reply}
 
 module _ (q : Question) (g : Grammar) (v : PreparedGrammar) (h : IsPreparedFor q g v) where
   -- what is known under what was prepared is known under the question
@@ -47,17 +45,6 @@ module _ (q : Question) (g : Grammar) (v : PreparedGrammar) (h : IsPreparedFor q
         → AdmitsFrom finds fs (grammar_view w) s u tokens → t ≡ u)
         (one_tree (subst (λ (w : Grammar). IsReadGrammar (grammar_view w)) (sym h.written_is) read));
   }
-
-  pub no_parser_for : (error : GenerateError) → error ≢ errors.Memory → IsGenerateRefusal v error → HasNoParser q g error
-  no_parser_for (errors.Unexplained count) told stands = HasNoParser.conflicting v count h stands refl
-  no_parser_for errors.Memory told stands = absurd (told refl)
-  no_parser_for errors.Extern told stands = absurd stands
-  no_parser_for errors.Recovery told stands = absurd stands
-  no_parser_for (errors.Norm fault) told stands = absurd stands
-  no_parser_for (errors.UnknownStart name) told stands = absurd stands
-  no_parser_for (errors.PrivateStart name) told stands = absurd stands
-  no_parser_for (errors.Barren name) told stands = absurd stands
-  no_parser_for errors.ConditionLimit told stands = absurd stands
 
   pub scanned : HasParser q g v → (text : Text) (reply : Reply)
       → ((entries : List ScanEntry) → IsScannerOf v.scanner entries → IsScanReply entries text reply) → IsTokensReply q g text reply

@@ -10,13 +10,12 @@ use Rattle.lalrpop_lexer_scan.specs.Entries.{ScanEntry}
 use Rattle.lalrpop_norm_chain.specs.Normalized.{IsNormalized}
 use Rattle.lalrpop_norm_chain.specs.Lowered.{LoweredGrammar}
 use Rattle.lalrpop_run_prepare.specs.PreparedGrammars.{PreparedGrammar}
-use Rattle.lalrpop_run_refusals.specs.declared.refusing.GenerateError.{GenerateError}
 use Rattle.lalrpop_run_text_answers.specs.TextAnswers.{IsRightForText, TextAnswer}
 use Rattle.lalrpop_run_tokens.specs.Tokenizers.{scan_entries}
-use Rattle.lalrpop_run.specs.Parsers.{HasNoParser, HasParser, IsTakenFor}
-use Rattle.lalrpop_run.specs.Questions.{Question}
-use Rattle.lalrpop_run.specs.declared.reply.Reply.{Reply}
-use Rattle.lalrpop_run.specs.declared.reply.Reply.TheVariants as replies
+use Rattle.lalrpop_run_commands.specs.Parsers.{HasParser, IsNoParserReply, IsTakenFor}
+use Rattle.lalrpop_run_questions.specs.Questions.{Question}
+use Rattle.lalrpop_run_replies.specs.declared.reply.Reply.{Reply}
+use Rattle.lalrpop_run_replies.specs.declared.reply.Reply.TheVariants as replies
 
 -- the reply tells the answer to a text, under this limit
 abbrev pub TellsTextAnswer : ℕ → TextAnswer → Reply → Type 0
@@ -42,7 +41,7 @@ pub record IsSentenceReply (q : Question) (g : Grammar) (entries : List ScanEntr
 -- Why there is no parser, each reason only where no earlier one stands; else the right answer to the text, by the entries of the
 -- normalized grammar.
 pub data IsParseReply (q : Question) (g : Grammar) (text : Text) (reply : Reply) : Type 0 where
-  refused : (error : GenerateError) → HasNoParser q g error → reply ≡ replies.Refused error → IsParseReply q g text reply
+  no_parser : IsNoParserReply q g reply → IsParseReply q g text reply
   parsed : (v : PreparedGrammar) (lowered : LoweredGrammar) → HasParser q g v → IsTakenFor q (grammar_view g)
       → IsNormalized finds q.features (grammar_view g) lowered → IsSentenceReply q g (scan_entries lowered.entries) text reply
       → IsParseReply q g text reply

@@ -1,20 +1,26 @@
 -- Which grammars have a parser for a question, and why the others have none.
-use Rattle.std.specs.Prelude.{◌≡◌, ◌≢◌, ℕ, List, Contains}
+use Rattle.std.specs.Prelude.{◌≡◌, ◌≢◌, ℕ, List, Contains, Vec}
+use Rattle.std.specs.Global.{Global}
 use Rattle.lalrpop_grammar.specs.declared.grammar.Grammar.{Grammar}
 use Rattle.lalrpop_grammar.specs.Trees.{Token, Tree}
 use Rattle.lalrpop_grammar.specs.Views.{grammar_view}
 use Rattle.lalrpop_grammar.specs.WrittenGrammar as written
 use Rattle.lalrpop_grammar_language.specs.Admitting.{AdmitsFrom}
+use Rattle.lalrpop_judge_certificates.specs.declared.certificate.Certificate.{Certificate}
 use Rattle.lalrpop_judge_search.specs.Search.{finds, is_too_deep}
 use Rattle.lalrpop_lr1_build.specs.BuiltStates.{theory_grammar}
 use Rattle.lalrpop_lr1_theory.specs.Answers.{IsLr1}
+use Rattle.lalrpop_run_conflicts.specs.WrittenConflicts.{AreWrittenConflicts}
+use Rattle.lalrpop_run_conflicts.specs.declared.written_conflict.WrittenConflict.{WrittenConflict}
 use Rattle.lalrpop_run_parser.specs.Parsers.{HasConflicts}
 use Rattle.lalrpop_run_prepare.specs.PreparedGrammars.{IsPrepared, PreparedGrammar}
 use Rattle.lalrpop_run_prepare.specs.PrepareRefusals.{IsPrepareRefusal}
 use Rattle.lalrpop_run_refusals.specs.declared.refusing.GenerateError.{GenerateError}
 use Rattle.lalrpop_run_refusals.specs.declared.refusing.GenerateError.TheVariants as errors
 use Rattle.lalrpop_run_tokens.specs.Refused.{IsGenerable}
-use Rattle.lalrpop_run.specs.Questions.{Question}
+use Rattle.lalrpop_run_questions.specs.Questions.{Question}
+use Rattle.lalrpop_run_replies.specs.declared.reply.Reply.{Reply}
+use Rattle.lalrpop_run_replies.specs.declared.reply.Reply.TheVariants as replies
 
 -- The grammar is refused for this under the question's features, limit and start, before its states are built.
 abbrev pub IsRefusedFor : Question → written.Grammar → GenerateError → Type 0
@@ -32,12 +38,15 @@ pub record IsPreparedFor (q : Question) (g : Grammar) (v : PreparedGrammar) : Ty
   pub start_is : v.start ≡ q.start
   pub prepared : IsPrepared finds is_too_deep v
 
--- Why the grammar has no parser for the question: it is refused; or its expansion isn't LR(1), and the canonical states of that have
--- so many conflicts. That memory ran out is no such reason.
-pub data HasNoParser (q : Question) (g : Grammar) (error : GenerateError) : Type 0 where
-  refused : error ≢ errors.Memory → IsRefusedFor q (grammar_view g) error → HasNoParser q g error
-  conflicting : (v : PreparedGrammar) (count : ℕ) → IsPreparedFor q g v → HasConflicts v count → error ≡ errors.Unexplained count
-      → HasNoParser q g error
+-- The reply tells why the grammar has no parser for the question: it is refused; or its expansion isn't LR(1), and for each conflict of the
+-- canonical states of that, in their order, a certificate of it is told, its trees unfolded to written ones. That memory ran out is no such
+-- reason.
+pub data IsNoParserReply (q : Question) (g : Grammar) (reply : Reply) : Type 0 where
+  refused : (error : GenerateError) → error ≢ errors.Memory → IsRefusedFor q (grammar_view g) error → reply ≡ replies.Refused error
+      → IsNoParserReply q g reply
+  conflicting : (v : PreparedGrammar) (certificates : List Certificate) (shown : Vec WrittenConflict Global) → IsPreparedFor q g v
+      → HasConflicts v certificates → AreWrittenConflicts v certificates shown.items → reply ≡ replies.Conflicts shown
+      → IsNoParserReply q g reply
 
 -- no tokens have two written trees that the start admits, spans inside arguments aside
 abbrev pub IsUnambiguousFor : Question → written.Grammar → Type 0

@@ -12,12 +12,11 @@ use Rattle.lalrpop_lexer_scan.specs.Tokens.{AreTokensOf, FillTheText, NoTokenAt}
 use Rattle.lalrpop_norm_chain.specs.Lowered.{LoweredGrammar}
 use Rattle.lalrpop_norm_chain.specs.Normalized.{IsNormalized}
 use Rattle.lalrpop_run_prepare.specs.PreparedGrammars.{PreparedGrammar}
-use Rattle.lalrpop_run_refusals.specs.declared.refusing.GenerateError.{GenerateError}
 use Rattle.lalrpop_run_tokens.specs.Tokenizers.{scan_entries}
-use Rattle.lalrpop_run.specs.Parsers.{HasNoParser, HasParser, IsTakenFor}
-use Rattle.lalrpop_run.specs.Questions.{Question}
-use Rattle.lalrpop_run.specs.declared.reply.Reply.{Reply}
-use Rattle.lalrpop_run.specs.declared.reply.Reply.TheVariants as replies
+use Rattle.lalrpop_run_commands.specs.Parsers.{HasParser, IsNoParserReply, IsTakenFor}
+use Rattle.lalrpop_run_questions.specs.Questions.{Question}
+use Rattle.lalrpop_run_replies.specs.declared.reply.Reply.{Reply}
+use Rattle.lalrpop_run_replies.specs.declared.reply.Reply.TheVariants as replies
 
 -- The tokens of the text, which fill it with the skipped pieces.
 pub record AreAllTokens (entries : List ScanEntry) (text : Text) (tokens : List ScanToken) : Type 0 where
@@ -33,7 +32,7 @@ pub data IsScanReply (entries : List ScanEntry) (text : Text) (reply : Reply) : 
 -- Why there is no parser, each reason only where no earlier one stands; else the scan of the text by the entries of the normalized
 -- grammar.
 pub data IsTokensReply (q : Question) (g : Grammar) (text : Text) (reply : Reply) : Type 0 where
-  refused : (error : GenerateError) → HasNoParser q g error → reply ≡ replies.Refused error → IsTokensReply q g text reply
+  no_parser : IsNoParserReply q g reply → IsTokensReply q g text reply
   scanned : (v : PreparedGrammar) (lowered : LoweredGrammar) → HasParser q g v → IsTakenFor q (grammar_view g)
       → IsNormalized finds q.features (grammar_view g) lowered → IsScanReply (scan_entries lowered.entries) text reply
       → IsTokensReply q g text reply

@@ -4,22 +4,26 @@ ghost use Rattle.std.specs.Prelude.{◌≡◌, IfOk};
 ghost use Rattle.lalrpop_grammar.specs.Views.{grammar_view};
 ghost use Rattle.lalrpop_grammar.specs.declared.grammar.Grammar.{Grammar as WrittenGrammar};
 ghost use Rattle.lalrpop_norm_expansion.specs.Premises.{IsReadGrammar};
-ghost use Rattle.lalrpop_run.specs.Check.{IsCheckReply};
-ghost use Rattle.lalrpop_run.specs.Parsers.{IsPreparedFor};
-ghost use Rattle.lalrpop_run.specs.Questions.{Question as AskedQuestion, question_view};
+ghost use Rattle.lalrpop_run_commands.specs.Check.{IsCheckReply};
+ghost use Rattle.lalrpop_run_commands.specs.Parsers.{IsPreparedFor};
+ghost use Rattle.lalrpop_run_questions.specs.Questions.{Question as AskedQuestion, question_view};
 
+use crate::conflicts::conflicts_reply;
 use crate::preparing::prepare_for;
-use crate::question::Question;
-use crate::refusals::refusal_reply;
-use crate::reply::Reply;
 use lalrpop_grammar::Grammar;
 use lalrpop_run_options::Method;
 use lalrpop_run_parser::generate;
 use lalrpop_run_prepare::Prepared;
+use lalrpop_run_questions::Question;
+use lalrpop_run_replies::{Reply, refusal_reply};
 use std::alloc::{AllocError, Global};
 
-/// The reply to a grammar.
-pub(crate) fn check_reply(
+/// What `check` replies to a grammar: how many states its parser has, or why it has none.
+///
+/// # Errors
+///
+/// Memory is refused.
+pub fn check_reply(
     alloc: Global,
     question: Question<'_>,
     grammar: Grammar,
@@ -40,7 +44,7 @@ pub(crate) fn check_reply(
     }
 }
 
-/// The reply once the grammar is prepared: how many states its parser has, or how many conflicts it has.
+/// The reply once the grammar is prepared: how many states its parser has, or its conflicts.
 fn states_reply(
     alloc: Global,
     prepared: &Prepared,
@@ -52,7 +56,7 @@ fn states_reply(
     match generate(alloc, prepared, method) {
         Ok(parser) => Ok(Reply::Parser(parser.state_count())),
         Err(error) => {
-            let reply = refusal_reply(error)?;
+            let reply = conflicts_reply(alloc, prepared, error)?;
             Ok(reply)
         }
     }

@@ -1,18 +1,21 @@
 //! What `judge` replies.
 
 ghost use Rattle.std.specs.Prelude.{◌≡◌, IfOk, Ok, Some};
-ghost use Rattle.lalrpop_run.specs.Judge.{GivesTree, IsJudgeReply};
-ghost use Rattle.lalrpop_run.specs.Questions.{question_view};
+ghost use Rattle.lalrpop_run_commands.specs.Judge.{GivesTree, IsJudgeReply};
+ghost use Rattle.lalrpop_run_questions.specs.Questions.{question_view};
 
-use crate::input::{Input, tree_input};
-use crate::question::Question;
-use crate::reply::Reply;
 use lalrpop_grammar::{Grammar, WrittenTree};
 use lalrpop_judge::{JudgeError, judge_tree};
+use lalrpop_run_questions::{Input, Question, tree_input};
+use lalrpop_run_replies::Reply;
 use std::alloc::{AllocError, Global};
 
-/// The reply to a grammar.
-pub(crate) fn judge_reply(
+/// What `judge` replies to a grammar: whether it admits the question's tree.
+///
+/// # Errors
+///
+/// Memory is refused.
+pub fn judge_reply(
     alloc: Global,
     question: &Question<'_>,
     grammar: &Grammar,

@@ -7,22 +7,26 @@ ghost use Rattle.lalrpop_grammar.specs.declared.grammar.Grammar.{Grammar as Writ
 ghost use Rattle.lalrpop_lexer_scan.specs.Entries.{ScanEntry};
 ghost use Rattle.lalrpop_lexer_scan.specs.Scanning.{IsScannerOf};
 ghost use Rattle.lalrpop_norm_expansion.specs.Premises.{IsReadGrammar};
-ghost use Rattle.lalrpop_run.specs.Parse.{IsAnswerTold, IsParseReply};
-ghost use Rattle.lalrpop_run.specs.Parsers.{IsPreparedFor};
-ghost use Rattle.lalrpop_run.specs.Questions.{Question as AskedQuestion, question_view};
+ghost use Rattle.lalrpop_run_commands.specs.Parse.{IsAnswerTold, IsParseReply};
+ghost use Rattle.lalrpop_run_commands.specs.Parsers.{IsPreparedFor};
+ghost use Rattle.lalrpop_run_questions.specs.Questions.{Question as AskedQuestion, question_view};
 
+use crate::conflicts::conflicts_reply;
 use crate::preparing::prepare_for;
-use crate::question::Question;
-use crate::refusals::refusal_reply;
-use crate::reply::Reply;
 use lalrpop_grammar::Grammar;
 use lalrpop_run_options::Method;
 use lalrpop_run_parser::{ParseError, Parser, generate};
 use lalrpop_run_prepare::Prepared;
+use lalrpop_run_questions::Question;
+use lalrpop_run_replies::{Reply, refusal_reply};
 use std::alloc::{AllocError, Global};
 
-/// The reply to a grammar and a text.
-pub(crate) fn parse_reply(
+/// What `parse` replies to a grammar and a text: the tree of the text, where it has none, or why the grammar has no parser.
+///
+/// # Errors
+///
+/// Memory is refused.
+pub fn parse_reply(
     alloc: Global,
     question: Question<'_>,
     grammar: Grammar,
@@ -45,7 +49,7 @@ pub(crate) fn parse_reply(
     }
 }
 
-/// The reply once the grammar is prepared: what its parser answers to the text, or how many conflicts the grammar has.
+/// The reply once the grammar is prepared: what its parser answers to the text, or the conflicts of the grammar.
 fn text_reply(
     alloc: Global,
     prepared: &Prepared,
@@ -62,7 +66,7 @@ fn text_reply(
             Ok(reply)
         }
         Err(error) => {
-            let reply = refusal_reply(error)?;
+            let reply = conflicts_reply(alloc, prepared, error)?;
             Ok(reply)
         }
     }

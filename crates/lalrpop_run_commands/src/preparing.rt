@@ -3,12 +3,12 @@
 ghost use Rattle.std.specs.Prelude.{IfErr, IfOk};
 ghost use Rattle.lalrpop_grammar.specs.Views.{grammar_view};
 ghost use Rattle.lalrpop_norm_expansion.specs.Premises.{IsReadGrammar};
-ghost use Rattle.lalrpop_run.specs.Parsers.{IsPreparedFor, IsRefusedFor};
-ghost use Rattle.lalrpop_run.specs.Questions.{question_view};
+ghost use Rattle.lalrpop_run_commands.specs.Parsers.{IsPreparedFor, IsRefusedFor};
+ghost use Rattle.lalrpop_run_questions.specs.Questions.{question_view};
 
-use crate::question::Question;
 use lalrpop_grammar::Grammar;
 use lalrpop_run_prepare::{Prepared, prepare};
+use lalrpop_run_questions::Question;
 use lalrpop_run_refusals::GenerateError;
 use std::alloc::Global;
 
@@ -17,7 +17,7 @@ pub(crate) fn prepare_for(
     alloc: Global,
     question: Question<'_>,
     grammar: Grammar,
-) -> Result<Prepared, GenerateError>
+) -> Result<Prepared, GenerateError<'static>>
     ensures prepared { IfOk result (λ prepared. IsReadGrammar (grammar_view grammar)
         → IsPreparedFor (question_view question.entry) grammar prepared) }
     ensures refused { IfErr result (λ error. IsReadGrammar (grammar_view grammar)

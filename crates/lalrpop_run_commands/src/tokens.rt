@@ -6,23 +6,27 @@ ghost use Rattle.lalrpop_grammar.specs.declared.grammar.Grammar.{Grammar as Writ
 ghost use Rattle.lalrpop_lexer_scan.specs.Entries.{ScanEntry};
 ghost use Rattle.lalrpop_lexer_scan.specs.Scanning.{IsScannerOf};
 ghost use Rattle.lalrpop_norm_expansion.specs.Premises.{IsReadGrammar};
-ghost use Rattle.lalrpop_run.specs.Parsers.{IsPreparedFor};
-ghost use Rattle.lalrpop_run.specs.Questions.{Question as AskedQuestion, question_view};
-ghost use Rattle.lalrpop_run.specs.Tokens.{IsScanReply, IsTokensReply};
+ghost use Rattle.lalrpop_run_commands.specs.Parsers.{IsPreparedFor};
+ghost use Rattle.lalrpop_run_questions.specs.Questions.{Question as AskedQuestion, question_view};
+ghost use Rattle.lalrpop_run_commands.specs.Tokens.{IsScanReply, IsTokensReply};
 
+use crate::conflicts::conflicts_reply;
 use crate::preparing::prepare_for;
-use crate::question::Question;
-use crate::refusals::refusal_reply;
-use crate::reply::Reply;
 use lalrpop_grammar::Grammar;
 use lalrpop_lexer_scan::ScanError;
 use lalrpop_run_options::Method;
 use lalrpop_run_parser::{Parser, generate};
 use lalrpop_run_prepare::Prepared;
+use lalrpop_run_questions::Question;
+use lalrpop_run_replies::{Reply, refusal_reply};
 use std::alloc::{AllocError, Global};
 
-/// The reply to a grammar and a text.
-pub(crate) fn tokens_reply<'t>(
+/// What `tokens` replies to a grammar and a text: the tokens, where they end, or why the grammar has no parser.
+///
+/// # Errors
+///
+/// Memory is refused.
+pub fn tokens_reply<'t>(
     alloc: Global,
     question: Question<'_>,
     grammar: Grammar,
@@ -44,7 +48,7 @@ pub(crate) fn tokens_reply<'t>(
     }
 }
 
-/// The reply once the grammar is prepared: what the scan of the text tells, or how many conflicts the grammar has.
+/// The reply once the grammar is prepared: what the scan of the text tells, or the conflicts of the grammar.
 fn text_reply<'t>(
     alloc: Global,
     prepared: &Prepared,
@@ -60,7 +64,7 @@ fn text_reply<'t>(
             Ok(reply)
         }
         Err(error) => {
-            let reply = refusal_reply(error)?;
+            let reply = conflicts_reply(alloc, prepared, error)?;
             Ok(reply)
         }
     }

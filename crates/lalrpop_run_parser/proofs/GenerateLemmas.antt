@@ -4,6 +4,7 @@ use Rattle.std.proofs.lemmas.List.{length-map}
 use Rattle.lalrpop_grammar_symbols.specs.declared.names.NonterminalString.{NonterminalString}
 use Rattle.lalrpop_grammar.specs.Views.{grammar_view}
 use Rattle.lalrpop_grammar_repr.specs.declared.grammar.Grammar.{Grammar}
+use Rattle.lalrpop_judge_certificates.specs.declared.certificate.Certificate.{Certificate}
 use Rattle.lalrpop_judge_search.specs.Search.{finds, is_too_deep}
 use Rattle.lalrpop_lane.specs.BuilderAnswers.{AreLr1By}
 use Rattle.lalrpop_lane_method.specs.declared.Method.{Method}
@@ -24,6 +25,7 @@ use Rattle.lalrpop_run_answers.specs.Laws.{OneWrittenTree}
 use Rattle.lalrpop_run_parser.specs.Parsers.{HasConflicts, HasOneTreeEach, HasStatesBy, HasTableBy, IsParserTable}
 use Rattle.lalrpop_run_prepare.specs.PreparedGrammars.{IsPrepared, MayBeParsedFrom, PreparedGrammar}
 use Rattle.lalrpop_run_prepare.proofs.StartLemmas.{start_in_expansion}
+use Rattle.lalrpop_run_witness.specs.Witnesses.{AreItsConflicts, AreWitnessesOf}
 
 -- what is said of the productions and the start that were handed on is said of the prepared ones
 module _ (v : PreparedGrammar) (g : Grammar) (start : NonterminalString) (same : g ≡ v.expansion) (named : start ≡ v.start_name) where
@@ -53,14 +55,20 @@ module _ (v : PreparedGrammar) (g : Grammar) (start : NonterminalString) (same :
     count_is = many;
   }
 
-  pub conflicts_told : (fault : TableFault (List ℕ)) (error : TableConstructionError (List ℕ)) (count : ℕ)
-      → fault ≡ faults.Conflicts error → count ≡ length error.conflicts.items → IsCanonicalFault g start fault
+  -- the conflicts that are told are those of the expansion
+  pub conflicts_stand : (fault : TableFault (List ℕ)) (error : TableConstructionError (List ℕ))
+      → fault ≡ faults.Conflicts error → IsCanonicalFault g start fault → AreItsConflicts v error
+  conflicts_stand fault error is stands =
+      subst (IsCanonicalFault v.expansion v.start_name) is (handed (λ h n. IsCanonicalFault h n fault) stands)
+
+  pub conflicts_told : (fault : TableFault (List ℕ)) (error : TableConstructionError (List ℕ)) (certificates : List Certificate)
+      → fault ≡ faults.Conflicts error → AreWitnessesOf v error certificates → IsCanonicalFault g start fault
       → (NoneBarren (Contains (theory_grammar g)) start.0 → TellsNoLr1 g start fault)
-      → MayBeParsedFrom v.expansion v.start_name → HasConflicts v count
-  conflicts_told fault error count is many stands f m = record {
+      → MayBeParsedFrom v.expansion v.start_name → HasConflicts v certificates
+  conflicts_told fault error certificates is shown stands f m = record {
     error = error;
-    canonical = subst (IsCanonicalFault v.expansion v.start_name) is (handed (λ h n. IsCanonicalFault h n fault) stands);
-    count_is = many;
+    canonical = conflicts_stand fault error is stands;
+    shown = shown;
     no_lr1 = subst (TellsNoLr1 v.expansion v.start_name) is
         (handed (λ h n. NoneBarren (Contains (theory_grammar h)) n.0 → TellsNoLr1 h n fault) f m.none_barren);
   }

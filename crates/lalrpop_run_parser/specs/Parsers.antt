@@ -3,6 +3,7 @@ use Rattle.std.specs.Prelude.{ℕ, ◌≡◌, List, Contains, length}
 use Rattle.lalrpop_grammar.specs.Trees.{Token, Tree}
 use Rattle.lalrpop_grammar.specs.Views.{grammar_view}
 use Rattle.lalrpop_grammar_language.specs.Admitting.{AdmitsFrom}
+use Rattle.lalrpop_judge_certificates.specs.declared.certificate.Certificate.{Certificate}
 use Rattle.lalrpop_judge_search.specs.Search.{finds}
 use Rattle.lalrpop_lane.specs.BuilderAnswers.{AreLr1By}
 use Rattle.lalrpop_lane_method.specs.declared.Method.{Method}
@@ -19,6 +20,7 @@ use Rattle.lalrpop_lr1_theory.specs.States.{State}
 use Rattle.lalrpop_run_prepare.specs.PreparedGrammars.{PreparedGrammar}
 use Rattle.lalrpop_run_refusals.specs.declared.refusing.GenerateError.{GenerateError}
 use Rattle.lalrpop_run_refusals.specs.declared.refusing.GenerateError.TheVariants as errors
+use Rattle.lalrpop_run_witness.specs.Witnesses.{AreWitnessesOf}
 
 -- what is seen of a parser: what it was generated from, the table of what its states do, and how many states it has
 pub record ParserView : Type 0 where
@@ -53,15 +55,15 @@ HasOneTreeEach v =
     → AdmitsFrom finds v.session.features.items (grammar_view v.written) v.start t tokens
     → AdmitsFrom finds v.session.features.items (grammar_view v.written) v.start u tokens → t ≡ u
 
--- The canonical states of the expansion have so many conflicts, at least one.
-pub record HasConflicts (v : PreparedGrammar) (count : ℕ) : Type 0 where
+-- The canonical states of the expansion have conflicts, at least one, and these are certificates of them, in their order.
+pub record HasConflicts (v : PreparedGrammar) (certificates : List Certificate) : Type 0 where
   pub error : TableConstructionError (List ℕ)
   pub canonical : IsCanonicalFault v.expansion v.start_name (faults.Conflicts error)
-  pub count_is : count ≡ length error.conflicts.items
+  pub shown : AreWitnessesOf v error certificates
   pub no_lr1 : IsLr1 (Contains (theory_grammar v.expansion)) v.start_name.0 → ⊥
 
--- It isn't LR(1), and that is told by the number of conflicts; or memory ran out.
+-- It isn't LR(1), and certificates show that; or memory ran out.
 abbrev pub IsGenerateRefusal : PreparedGrammar → GenerateError → Type 0
-IsGenerateRefusal v (errors.Unexplained count) = HasConflicts v count
+IsGenerateRefusal v (errors.Conflicts certificates) = HasConflicts v certificates.items
 IsGenerateRefusal v errors.Memory = Unit {0}
 IsGenerateRefusal v _ = ⊥

@@ -15,18 +15,20 @@ use lalrpop_lr1_parse::ActionTable;
 use lalrpop_run_answers::one_written_tree;
 use lalrpop_run_prepare::Prepared;
 use lalrpop_run_refusals::GenerateError;
+use lalrpop_run_witness::witnesses;
 use std::alloc::Global;
 
 /// The parser of the grammar for its start, by LR(1) states.
 ///
 /// # Errors
 ///
-/// `Unexplained` where the grammar's expansion isn't LR(1), with the number of conflicts of its canonical states; or `Memory`.
+/// `Conflicts` where the grammar's expansion isn't LR(1), with a certificate for each conflict of its canonical states, in their order; or
+/// `Memory`.
 pub fn generate<'p>(
     alloc: Global,
     prepared: &'p Prepared,
     method: Method,
-) -> Result<Parser<'p>, GenerateError>
+) -> Result<Parser<'p>, GenerateError<'p>>
     ensures prepared { IfOk result (λ parser. parser.prepared ≡ prepared.now) }
     ensures states { IfOk result (λ parser. HasStatesBy method prepared.now parser.count) }
     ensures table { IfOk result (λ parser. HasTableBy method prepared.now parser.table parser.count) }
@@ -49,7 +51,8 @@ pub fn generate<'p>(
             })
         }
         Err(TableFault::Conflicts(error)) => {
-            Err(GenerateError::Unexplained(error.conflicts.as_slice().len()))
+            let certificates = witnesses(alloc, prepared, &error)?;
+            Err(GenerateError::Conflicts(certificates))
         }
         Err(TableFault::Memory) => Err(GenerateError::Memory),
     }

@@ -1,4 +1,4 @@
-//! From a prepared grammar to its parser, or to the number of conflicts for which it has none; and from a text to its tokens and its written tree.
+//! From a prepared grammar to its parser, or to certificates of the conflicts for which it has none; and from a text to its tokens and its written tree.
 #![tactic(auto)]
 
 mod generating;

@@ -36,7 +36,7 @@ fn inline_reached(
     lowered: &Grammar,
     start: &Atom,
     whole: Span,
-) -> Result<Grammar, GenerateError>
+) -> Result<Grammar, GenerateError<'static>>
     requires { IsReadyForTables lowered.now }
     ensures inlined { IfOk result (IsInlinedGrammar lowered.now) }
     ensures none { IfOk result (λ _. NoneBarren (Contains (theory_grammar lowered.now)) start.now) }
@@ -59,7 +59,7 @@ fn refuse_unread(
     expansion: &Grammar,
     start_name: &NonterminalString,
     whole: Span,
-) -> Result<(), GenerateError>
+) -> Result<(), GenerateError<'static>>
     requires { HasItsTerminals expansion.now }
     ensures passed { IfOk result (λ _. MayBeParsedFrom expansion.now start_name.now) }
     ensures refused { IfErr result (λ error. (error ≡ GenerateError.Memory) ⊎ (MayBeParsedFrom expansion.now start_name.now → ⊥)) }
@@ -84,7 +84,7 @@ pub(crate) fn expand(
     prefix: &Atom,
     start: &Atom,
     whole: Span,
-) -> Result<(Grammar, NonterminalString), GenerateError>
+) -> Result<(Grammar, NonterminalString), GenerateError<'static>>
     requires { IsReadyForTables lowered.now }
     ensures name { IfOk result (λ made. made.1.0 ≡ prefix.now ++ start.now) }
     ensures inlined { IfOk result (λ made. IsInlinedGrammar lowered.now made.0) }

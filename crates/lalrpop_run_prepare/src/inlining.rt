@@ -37,7 +37,7 @@ fn with_place(error: NormError, whole: Span) -> NormError
 }
 
 /// Why the rules aren't inlined, as it is told.
-fn inline_refusal(fault: InlineFault, whole: Span) -> GenerateError
+fn inline_refusal(fault: InlineFault, whole: Span) -> GenerateError<'static>
     ensures { result ≡ inline_refusal_at whole fault }
 {
     match fault {
@@ -51,7 +51,7 @@ pub(crate) fn inline_rules(
     alloc: Global,
     lowered: &Grammar,
     whole: Span,
-) -> Result<Grammar, GenerateError>
+) -> Result<Grammar, GenerateError<'static>>
     requires { IsReadyForTables lowered.now }
     ensures inlined { IfOk result (IsInlinedGrammar lowered.now) }
     ensures refused { IfErr result (IsRefusedInlining whole lowered.now) }

@@ -58,7 +58,7 @@ pub fn prepare(
     grammar: Grammar,
     start: &Atom,
     session: Session,
-) -> Result<Prepared, GenerateError>
+) -> Result<Prepared, GenerateError<'static>>
     ensures written { IfOk result (λ prepared. prepared.written ≡ grammar) }
     ensures session { IfOk result (λ prepared. prepared.session ≡ session) }
     ensures start { IfOk result (λ prepared. prepared.start ≡ start.now) }

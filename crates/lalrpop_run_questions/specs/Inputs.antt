@@ -5,8 +5,8 @@ use Rattle.serde_json.specs.Read.{read}
 use Rattle.serde_json.specs.View.{view}
 use Rattle.serde_json.specs.declared.value.Value.{Value}
 use Rattle.lalrpop_json_values.specs.declared.fault.Fault.{Fault}
-use Rattle.lalrpop_run.specs.declared.input.Input.{Input}
-use Rattle.lalrpop_run.specs.declared.input.Input.TheVariants as inputs
+use Rattle.lalrpop_run_questions.specs.declared.input.Input.{Input}
+use Rattle.lalrpop_run_questions.specs.declared.input.Input.TheVariants as inputs
 
 -- the bytes are a text, and the text is JSON for this value
 abbrev pub IsJsonOf : List ℕ → Data → Type 0

@@ -5,7 +5,7 @@ use Rattle.lalrpop_lane_method.specs.declared.Method.{Method}
 use Rattle.lalrpop_run_options.specs.declared.settings.Options.{Options}
 use Rattle.lalrpop_run_options.specs.declared.task.Task.{Task}
 use Rattle.lalrpop_run_options.specs.declared.task.Task.TheVariants as tasks
-use Rattle.lalrpop_run.specs.declared.question.Question as words
+use Rattle.lalrpop_run_questions.specs.declared.question.Question as words
 
 pub record Question : Type 0 where
   pub task : Task

@@ -3,7 +3,7 @@
 ghost use Rattle.std.specs.Prelude.{IfOk};
 ghost use Rattle.lalrpop_json_grammar.specs.Grammars.{grammar_at};
 ghost use Rattle.lalrpop_json_grammar.specs.ReadTrees.{tree_at};
-ghost use Rattle.lalrpop_run.specs.Inputs.{IsInput, IsInputFor};
+ghost use Rattle.lalrpop_run_questions.specs.Inputs.{IsInput, IsInputFor};
 ghost use Rattle.serde_json.specs.View.{view};
 
 use crate::json_value::{value_of, value_of_text};
@@ -14,7 +14,7 @@ use std::alloc::{AllocError, Global};
 
 /// What bytes are read as.
 #[derive(Drop)]
-pub(crate) enum Input<T> {
+pub enum Input<T> {
     /// What their value gives.
     Value(T),
     /// They are no JSON.
@@ -24,7 +24,11 @@ pub(crate) enum Input<T> {
 }
 
 /// The tree that a text gives.
-pub(crate) fn tree_input(alloc: Global, text: &str) -> Result<Input<WrittenTree>, AllocError>
+///
+/// # Errors
+///
+/// Memory is refused.
+pub fn tree_input(alloc: Global, text: &str) -> Result<Input<WrittenTree>, AllocError>
     ensures { IfOk result (IsInput tree_at text.now) }
 {
     match value_of_text(alloc, text)? {
@@ -48,7 +52,11 @@ fn tree_of_value(alloc: Global, value: &Value) -> Result<Input<WrittenTree>, All
 }
 
 /// The grammar that bytes give.
-pub(crate) fn grammar_input(alloc: Global, bytes: &[u8]) -> Result<Input<Grammar>, AllocError>
+///
+/// # Errors
+///
+/// Memory is refused.
+pub fn grammar_input(alloc: Global, bytes: &[u8]) -> Result<Input<Grammar>, AllocError>
     ensures { IfOk result (IsInput grammar_at bytes.now) }
 {
     match value_of(alloc, bytes)? {

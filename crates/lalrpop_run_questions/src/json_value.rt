@@ -1,7 +1,7 @@
 //! Bytes and texts as JSON.
 
 ghost use Rattle.std.specs.Prelude.{IfOk};
-ghost use Rattle.lalrpop_run.specs.Inputs.{SpelledBy};
+ghost use Rattle.lalrpop_run_questions.specs.Inputs.{SpelledBy};
 
 use serde_json::Value;
 use std::alloc::{AllocError, Global};

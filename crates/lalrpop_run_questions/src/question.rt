@@ -1,30 +1,36 @@
 //! What the words ask of a grammar.
 
 ghost use Rattle.std.specs.Prelude.{◌≡◌, IfOk, map, string_bytes};
-ghost use Rattle.lalrpop_run.specs.Questions.{question_of, question_view, reads_grammar, reads_text};
+ghost use Rattle.lalrpop_run_questions.specs.Questions.{question_of, question_view, reads_grammar, reads_text};
 
 use lalrpop_grammar::Atom;
 use lalrpop_grammar_repr::Session;
 use lalrpop_run_options::{Method, Options, Task};
 use std::alloc::{AllocError, Global};
 
-/// What the words ask: the task, the rule to start from, the features with the limit of macros, how states are built, how many moves a parse may make, and the tree's
-/// JSON, where one was given.
+/// What the words ask.
 #[derive(Drop)]
-pub(crate) struct Question<'a> {
-    pub(crate) task: Task,
-    pub(crate) start: Atom,
-    pub(crate) session: Session,
-    pub(crate) method: Method,
-    pub(crate) limit: u64,
-    pub(crate) tree: Option<&'a str>,
+pub struct Question<'a> {
+    /// The task.
+    pub task: Task,
+    /// The rule to start from.
+    pub start: Atom,
+    /// The features that are on, and how deep macros may call macros.
+    pub session: Session,
+    /// How states are built.
+    pub method: Method,
+    /// How many moves a parse may make.
+    pub limit: u64,
+    /// The tree's JSON, where one was given.
+    pub tree: Option<&'a str>,
 }
 
 /// The question that the words put.
-pub(crate) fn question_of<'a>(
-    alloc: Global,
-    options: &'a Options,
-) -> Result<Question<'a>, AllocError>
+///
+/// # Errors
+///
+/// Memory is refused.
+pub fn question_of<'a>(alloc: Global, options: &'a Options) -> Result<Question<'a>, AllocError>
     ensures { IfOk result (λ q. question_view q ≡ question_of options.entry.now) }
 {
     let start = Atom::new(alloc, options.start.as_str())?;
@@ -54,7 +60,7 @@ fn atoms(alloc: Global, texts: &[String]) -> Result<Vec<Atom>, AllocError>
 }
 
 /// Whether the grammar is read: `judge` has no use for it where no tree was given.
-pub(crate) fn reads_grammar(options: &Options) -> bool
+pub fn reads_grammar(options: &Options) -> bool
     ensures { result ≡ reads_grammar (question_of options.now) }
 {
     match options.task {
@@ -64,7 +70,7 @@ pub(crate) fn reads_grammar(options: &Options) -> bool
 }
 
 /// Whether the text is read: `judge` and `check` have no use for it.
-pub(crate) fn reads_text(options: &Options) -> bool
+pub fn reads_text(options: &Options) -> bool
     ensures { result ≡ reads_text (question_of options.now) }
 {
     match options.task {

@@ -1,5 +1,5 @@
 -- What the program says of each refusal.
-use Rattle.std.specs.Prelude.{ℕ, ◌++◌, codes, decimal}
+use Rattle.std.specs.Prelude.{ℕ, ◌++◌, codes, decimal, length}
 use Rattle.lalrpop_grammar_symbols.specs.Symbols.{Text, TextSpan}
 use Rattle.lalrpop_grammar_symbols.specs.Views.{span_view}
 use Rattle.lalrpop_grammar_repr.specs.NormErrorTexts.{norm_error_text}
@@ -49,7 +49,7 @@ refusal_text (errors.Norm error) = fault_head (fault_number error.kind) (span_vi
 refusal_text (errors.UnknownStart name) = codes "unknown start: " ++ name
 refusal_text (errors.PrivateStart name) = codes "private start: " ++ name
 refusal_text (errors.Barren name) = codes "barren nonterminal: " ++ name
-refusal_text (errors.Unexplained conflicts) = codes "conflicts: " ++ decimal conflicts
+refusal_text (errors.Conflicts certificates) = codes "conflicts: " ++ decimal (length certificates.items)
 refusal_text errors.ConditionLimit = codes "condition limit"
 refusal_text errors.Memory = codes "out of memory"
 

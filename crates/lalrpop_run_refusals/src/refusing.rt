@@ -5,14 +5,15 @@ ghost use Rattle.lalrpop_run_refusals.specs.Refusals.{fault_number, refusal_for,
 
 use lalrpop_grammar_repr::{NormError, NormErrorKind, NormFault};
 use lalrpop_grammar_symbols::Atom;
+use lalrpop_judge_certificates::Certificate;
 use std::alloc::{AllocError, AllocFailed};
 use std::error::Error;
-use std::fmt::{self, Display, Formatter, Write};
+use std::fmt::{self, Debug, Display, Formatter, Write};
 
 /// Why a grammar is refused. What is refused for an earlier one of these isn't looked at for a later one; want of memory may come
 /// in the place of any.
-#[derive(Debug, PartialEq, Eq, Drop)]
-pub enum GenerateError {
+#[derive(Drop)]
+pub enum GenerateError<'p> {
     /// It has an `extern` block.
     Extern,
     /// An enabled alternative has `!`, the symbol of error recovery.
@@ -25,8 +26,8 @@ pub enum GenerateError {
     PrivateStart(Atom),
     /// The start reaches this nonterminal, and no finite sentence comes from it.
     Barren(Atom),
-    /// It isn't LR(1): the canonical states have so many conflicts.
-    Unexplained(usize),
+    /// It isn't LR(1): a certificate for each conflict of its canonical states, in their order.
+    Conflicts(Vec<Certificate<'p>>),
     /// The search for a condition's pattern gave up for the pattern's size. It comes in the place of a later fault of the
     /// normalizer.
     ConditionLimit,
@@ -34,9 +35,9 @@ pub enum GenerateError {
     Memory,
 }
 
-/// Prints the line that the program writes for the refusal, without a line feed. A fault is told by its number, the bytes from
-/// which to which it stands, and its message.
-impl Display for GenerateError {
+/// Prints the line that the program writes first for the refusal, without a line feed. A fault is told by its number, the bytes from
+/// which to which it stands, and its message; conflicts by how many there are.
+impl Display for GenerateError<'_> {
     ghost output = { λ error. Some (refusal_text error) };
 
     fn fmt<W: Write>(&self, f: &mut Formatter<W>) -> fmt::Result {
@@ -53,14 +54,23 @@ impl Display for GenerateError {
             GenerateError::UnknownStart(name) => write!(f, "unknown start: {name}"),
             GenerateError::PrivateStart(name) => write!(f, "private start: {name}"),
             GenerateError::Barren(name) => write!(f, "barren nonterminal: {name}"),
-            GenerateError::Unexplained(conflicts) => write!(f, "conflicts: {conflicts}"),
+            GenerateError::Conflicts(certificates) => {
+                write!(f, "conflicts: {}", certificates.len())
+            }
             GenerateError::ConditionLimit => f.write_str("condition limit"),
             GenerateError::Memory => f.write_str("out of memory"),
         }
     }
 }
 
-impl Error for GenerateError {}
+/// The same line.
+impl Debug for GenerateError<'_> {
+    fn fmt<W: Write>(&self, f: &mut Formatter<W>) -> fmt::Result {
+        write!(f, "{self}")
+    }
+}
+
+impl Error for GenerateError<'_> {}
 
 /// The number of a kind of fault.
 fn number_of(kind: &NormErrorKind) -> u8
@@ -94,10 +104,10 @@ fn number_of(kind: &NormErrorKind) -> u8
     }
 }
 
-impl From<NormFault> for GenerateError {
+impl From<NormFault> for GenerateError<'_> {
     ghost from_gives = { λ fault error. error ≡ refusal_for fault };
 
-    fn from(fault: NormFault) -> GenerateError {
+    fn from(fault: NormFault) -> Self {
         match fault {
             NormFault::Norm(error) => GenerateError::Norm(error),
             NormFault::ConditionLimit => GenerateError::ConditionLimit,
@@ -106,22 +116,22 @@ impl From<NormFault> for GenerateError {
     }
 }
 
-impl From<AllocError> for GenerateError {
+impl From<AllocError> for GenerateError<'_> {
     ghost use Rattle.lalrpop_run_refusals.specs.declared.refusing.GenerateError.TheVariants.{Memory};
 
     ghost from_gives = { λ _ error. error ≡ Memory };
 
-    fn from(_: AllocError) -> GenerateError {
+    fn from(_: AllocError) -> Self {
         GenerateError::Memory
     }
 }
 
-impl<T: Drop> From<AllocFailed<T>> for GenerateError {
+impl<T: Drop> From<AllocFailed<T>> for GenerateError<'_> {
     ghost use Rattle.lalrpop_run_refusals.specs.declared.refusing.GenerateError.TheVariants.{Memory};
 
     ghost from_gives = { λ _ error. error ≡ Memory };
 
-    fn from(_: AllocFailed<T>) -> GenerateError {
+    fn from(_: AllocFailed<T>) -> Self {
         GenerateError::Memory
     }
 }

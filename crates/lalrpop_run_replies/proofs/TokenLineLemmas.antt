@@ -4,7 +4,7 @@ use Rattle.std.proofs.Common.{append_assoc, take, get_or, length}
 use Rattle.std.proofs.lemmas.List.{take_more}
 use Rattle.lalrpop_grammar.specs.declared.token.ScanToken.{ScanToken}
 use Rattle.lalrpop_grammar.specs.Views.{token_view}
-use Rattle.lalrpop_run.specs.ReplyTexts.{line, token_text, tokens_text}
+use Rattle.lalrpop_run_replies.specs.ReplyTexts.{line, token_text, tokens_text}
 
 -- one line behind the others
 lines-behind : (ts : List ScanToken) (t : ScanToken) → tokens_text ts ++ line (token_text (token_view t)) ≡ tokens_text (ts ++ t ∷ [])

@@ -7,11 +7,12 @@ use Rattle.lalrpop_grammar.specs.declared.token.ScanToken.{ScanToken}
 use Rattle.lalrpop_grammar.specs.Trees.{Token}
 use Rattle.lalrpop_grammar.specs.Views.{token_view, tree_view}
 use Rattle.lalrpop_json_grammar.specs.Printing.{tree_text}
+use Rattle.lalrpop_run_conflicts.specs.ConflictTexts.{conflicts_text}
 use Rattle.lalrpop_run_refusals.specs.Refusals.{refusal_text}
 use Rattle.lalrpop_run_refusals.specs.declared.refusing.GenerateError.{GenerateError}
 use Rattle.lalrpop_run_refusals.specs.declared.refusing.GenerateError.TheVariants as errors
-use Rattle.lalrpop_run.specs.declared.reply.Reply.{Reply}
-use Rattle.lalrpop_run.specs.declared.reply.Reply.TheVariants as replies
+use Rattle.lalrpop_run_replies.specs.declared.reply.Reply.{Reply}
+use Rattle.lalrpop_run_replies.specs.declared.reply.Reply.TheVariants as replies
 
 abbrev pub line : List ℕ → List ℕ
 line text = text ++ 10 ∷ []
@@ -35,6 +36,7 @@ reply_text (replies.TreeFault fault) = line (codes "tree value: " ++ fault_text 
 reply_text replies.ConditionLimit = line (codes "condition limit")
 reply_text replies.NotUtf8 = line (codes "text isn't UTF-8")
 reply_text (replies.Refused error) = line (refusal_text error)
+reply_text (replies.Conflicts conflicts) = conflicts_text conflicts.items
 reply_text (replies.Parser states) = line (codes "parser with " ++ decimal states ++ codes " states")
 reply_text (replies.Tokens tokens) = tokens_text tokens.items
 reply_text (replies.NoToken at) = line (codes "no token at byte " ++ decimal at)
@@ -50,7 +52,7 @@ refusal_status (errors.Norm fault) = 3
 refusal_status (errors.UnknownStart name) = 3
 refusal_status (errors.PrivateStart name) = 3
 refusal_status (errors.Barren name) = 3
-refusal_status (errors.Unexplained conflicts) = 3
+refusal_status (errors.Conflicts certificates) = 3
 refusal_status errors.ConditionLimit = 3
 refusal_status errors.Memory = 5
 
@@ -64,6 +66,7 @@ reply_status (replies.TreeFault fault) = 4
 reply_status replies.ConditionLimit = 3
 reply_status replies.NotUtf8 = 4
 reply_status (replies.Refused error) = refusal_status error
+reply_status (replies.Conflicts conflicts) = 3
 reply_status (replies.Parser states) = 0
 reply_status (replies.Tokens tokens) = 0
 reply_status (replies.NoToken at) = 1

@@ -1,15 +1,19 @@
 //! Replies as answers: texts with the status that the program ends with.
 
 ghost use Rattle.std.specs.Prelude.{◌≡◌, IfOk};
-ghost use Rattle.lalrpop_run.specs.ReplyTexts.{refusal_status as status_of_refusal, reply_status};
-ghost use Rattle.lalrpop_run.specs.Runs.{answer_view, reply_output};
+ghost use Rattle.lalrpop_run_replies.specs.ReplyTexts.{refusal_status as status_of_refusal, reply_status};
+ghost use Rattle.lalrpop_run_replies.specs.Outputs.{answer_view, reply_output};
 
 use crate::reply::{Answer, Reply};
 use lalrpop_run_refusals::GenerateError;
 use std::alloc::{AllocError, Global};
 
 /// The answer that says it.
-pub(crate) fn put(alloc: Global, reply: Reply<'_>) -> Result<Answer, AllocError>
+///
+/// # Errors
+///
+/// Memory is refused.
+pub fn put(alloc: Global, reply: Reply<'_>) -> Result<Answer, AllocError>
     ensures { IfOk result (λ answer. answer_view answer ≡ reply_output reply.entry) }
 {
     let answer = answer_to(alloc, &reply)?;
@@ -36,6 +40,7 @@ fn status(reply: &Reply<'_>) -> u8
         Reply::WrongToken(_, _) | Reply::EarlyEnd => 1,
         Reply::OverLimit(_) => 2,
         Reply::ConditionLimit => 3,
+        Reply::Conflicts(_) => 3,
         Reply::Refused(error) => refusal_status(error),
         Reply::WantsTree | Reply::NotJson | Reply::NotUtf8 => 4,
         Reply::GrammarFault(_) | Reply::TreeFault(_) => 4,
@@ -43,13 +48,13 @@ fn status(reply: &Reply<'_>) -> u8
 }
 
 /// The exit status of a refusal.
-fn refusal_status(error: &GenerateError) -> u8
+fn refusal_status(error: &GenerateError<'_>) -> u8
     ensures { result ≡ status_of_refusal error.now }
 {
     match error {
         GenerateError::Extern | GenerateError::Recovery | GenerateError::Norm(_) => 3,
         GenerateError::UnknownStart(_) | GenerateError::PrivateStart(_) => 3,
-        GenerateError::Barren(_) | GenerateError::Unexplained(_) => 3,
+        GenerateError::Barren(_) | GenerateError::Conflicts(_) => 3,
         GenerateError::ConditionLimit => 3,
         GenerateError::Memory => 5,
     }

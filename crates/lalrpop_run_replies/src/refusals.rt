@@ -6,9 +6,13 @@ use crate::reply::Reply;
 use lalrpop_run_refusals::GenerateError;
 use std::alloc::AllocError;
 
-/// The reply that tells the refusal; want of memory is none.
-pub(crate) fn refusal_reply<'t>(error: GenerateError) -> Result<Reply<'t>, AllocError>
-    ensures { IfOk result (λ reply. (error ≢ GenerateError.Memory) × (reply ≡ Reply.Refused error)) }
+/// The reply that tells the refusal.
+///
+/// # Errors
+///
+/// The refusal is want of memory.
+pub fn refusal_reply<'t>(error: GenerateError<'static>) -> Result<Reply<'t>, AllocError>
+    ensures { IfOk result (λ reply. (error.entry ≢ GenerateError.Memory) × (reply ≡ Reply.Refused error.entry)) }
 {
     if is_memory(&error) {
         return Err(AllocError);
@@ -17,14 +21,14 @@ pub(crate) fn refusal_reply<'t>(error: GenerateError) -> Result<Reply<'t>, Alloc
 }
 
 /// Whether the refusal is want of memory.
-fn is_memory(error: &GenerateError) -> bool
+fn is_memory(error: &GenerateError<'_>) -> bool
     ensures { IsTrue result ↔ (error.now ≡ GenerateError.Memory) }
 {
     match error {
         GenerateError::Memory => true,
         GenerateError::Extern | GenerateError::Recovery | GenerateError::Norm(_) => false,
         GenerateError::UnknownStart(_) | GenerateError::PrivateStart(_) => false,
-        GenerateError::Barren(_) | GenerateError::Unexplained(_) => false,
+        GenerateError::Barren(_) | GenerateError::Conflicts(_) => false,
         GenerateError::ConditionLimit => false,
     }
 }

@@ -2,6 +2,7 @@
 
 use lalrpop_grammar::{Atom, ScanToken, WrittenTree};
 use lalrpop_json_grammar::Fault;
+use lalrpop_run_conflicts::WrittenConflict;
 use lalrpop_run_refusals::GenerateError;
 
 /// What the program has to say, before it is put into words.
@@ -22,7 +23,9 @@ pub enum Reply<'t> {
     /// The text reader's bytes are no text.
     NotUtf8,
     /// Why the grammar is refused.
-    Refused(GenerateError),
+    Refused(GenerateError<'static>),
+    /// The conflicts for which the grammar has no parser.
+    Conflicts(Vec<WrittenConflict>),
     /// The grammar has a parser, of so many states.
     Parser(usize),
     /// The tokens of the text.

@@ -3,11 +3,12 @@
 ghost use Rattle.std.specs.Prelude.{Some};
 ghost use Rattle.std.specs.Fmt.{WritesOnOk};
 ghost use Rattle.lalrpop_grammar.specs.Views.{token_view};
-ghost use Rattle.lalrpop_run.specs.ReplyTexts.{reply_text, line, token_text, tokens_text};
+ghost use Rattle.lalrpop_run_replies.specs.ReplyTexts.{reply_text, line, token_text, tokens_text};
 
 use crate::reply::Reply;
 use lalrpop_grammar::ScanToken;
 use lalrpop_json_grammar::{JsonText, TreeText};
+use lalrpop_run_conflicts::write_conflicts;
 use std::fmt::{self, Display, Formatter, Write};
 
 /// Prints what the program writes for the reply: each line ends with a line feed.
@@ -25,6 +26,7 @@ impl Display for Reply<'_> {
             Reply::ConditionLimit => f.write_str("condition limit\n"),
             Reply::NotUtf8 => f.write_str("text isn't UTF-8\n"),
             Reply::Refused(error) => writeln!(f, "{error}"),
+            Reply::Conflicts(conflicts) => write_conflicts(conflicts.as_slice(), f),
             Reply::Parser(states) => writeln!(f, "parser with {states} states"),
             Reply::Tokens(tokens) => write_tokens(tokens.as_slice(), f),
             Reply::NoToken(at) => writeln!(f, "no token at byte {at}"),

@@ -27,7 +27,7 @@ pub(crate) fn refuse_uncarried(
     alloc: Global,
     features: &[Atom],
     grammar: &Grammar,
-) -> Result<(), GenerateError>
+) -> Result<(), GenerateError<'static>>
     ensures carried { IfOk result (λ _. (finds : Text → Text → Option Bool)
         → IsCarried finds features.now (grammar_view grammar.now)) }
     ensures refused { IfErr result (λ error. (error ≡ GenerateError.Memory) ⊎ ((finds : Text → Text → Option Bool)

@@ -32,7 +32,7 @@ pub fn normalize_for_start(
     session: &Session,
     start: &Atom,
     grammar: Grammar,
-) -> Result<(Normalized, Dfa), GenerateError>
+) -> Result<(Normalized, Dfa), GenerateError<'static>>
     ensures made { IfOk result (λ made. IsReadGrammar (grammar_view grammar)
         → IsNormalizedFor finds is_too_deep session.now.features.items session.now.macro_recursion_limit start.now
         (grammar_view grammar) made.0 made.1) }

@@ -30,7 +30,7 @@ pub(crate) fn find_start(
 }
 
 /// Refuses a name that can be no start, then one that no public rule has.
-pub(crate) fn refuse_start(found: Start, start: &Atom) -> Result<(), GenerateError>
+pub(crate) fn refuse_start(found: Start, start: &Atom) -> Result<(), GenerateError<'static>>
     ensures public { IfOk result (λ _. is_public_start found ≡ true) }
     ensures refused { IfErr result (λ error. (error ≡ GenerateError.Memory)
         ⊎ IsStartRefusal (is_known found) (is_public_start found) start.now error) }

@@ -30,7 +30,7 @@ pub fn tokenizer(
     session: &Session,
     start: &Atom,
     grammar: Grammar,
-) -> Result<Scanner, GenerateError>
+) -> Result<Scanner, GenerateError<'static>>
     ensures made { IfOk result (λ scanner. IsReadGrammar (grammar_view grammar)
         → IsTokenizer finds is_too_deep session.now.features.items session.now.macro_recursion_limit start.now
         (grammar_view grammar) scanner) }

@@ -1,8 +1,8 @@
 use Rattle.std.proofs.Common.{refl}
-use Rattle.lalrpop_run.specs.Check.{IsCheckReply}
-use Rattle.lalrpop_run.specs.Parsers.{HasNoParser}
-use Rattle.lalrpop_run.specs.Questions.{question_view}
-use Rattle.lalrpop_run.proofs.checking.check_reply.Goals as goal
+use Rattle.lalrpop_run_commands.specs.Check.{IsCheckReply}
+use Rattle.lalrpop_run_commands.specs.Parsers.{IsNoParserReply}
+use Rattle.lalrpop_run_questions.specs.Questions.{question_view}
+use Rattle.lalrpop_run_commands.proofs.checking.check_reply.Goals as goal
 
 pub returns-in_ok-reply-in-Ok : goal.returns-in_ok-reply-in-Ok
 returns-in_ok-reply-in-Ok c = λ read.
@@ -11,4 +11,4 @@ returns-in_ok-reply-in-Ok c = λ read.
 pub returns-in_ok-reply-in-Err : goal.returns-in_ok-reply-in-Err
 returns-in_ok-reply-in-Err c = λ read.
     let told = c.in_ok-reply-in-Err.ensures in
-    IsCheckReply.refused c.in-Err.error (HasNoParser.refused told.0 (c.in-Err.ensures.refused read)) told.1
+    IsCheckReply.no_parser (IsNoParserReply.refused c.in-Err.error told.0 (c.in-Err.ensures.refused read) told.1)

@@ -1,10 +1,10 @@
 use Rattle.std.proofs.Common.{ap, subst, sym}
 use Rattle.lalrpop_lane_method.specs.declared.Method.{Method}
 use Rattle.lalrpop_run_parser.specs.Parsers.{HasStatesBy}
-use Rattle.lalrpop_run.proofs.ParserLemmas.{no_parser_for, parser_for}
-use Rattle.lalrpop_run.specs.Check.{IsCheckReply}
-use Rattle.lalrpop_run.specs.declared.reply.Reply.TheVariants as replies
-use Rattle.lalrpop_run.proofs.checking.states_reply.Goals as goal
+use Rattle.lalrpop_run_commands.proofs.ParserLemmas.{parser_for}
+use Rattle.lalrpop_run_commands.specs.Check.{IsCheckReply}
+use Rattle.lalrpop_run_replies.specs.declared.reply.Reply.TheVariants as replies
+use Rattle.lalrpop_run_commands.proofs.checking.states_reply.Goals as goal
 
 pub returns-in-Ok : goal.returns-in-Ok
 returns-in-Ok c = λ q g by prepared read.
@@ -16,7 +16,4 @@ returns-in-Ok c = λ q g by prepared read.
     (ap replies.Parser c.state_count.ensures)
 
 pub returns-in_ok-reply-in-Err : goal.returns-in_ok-reply-in-Err
-returns-in_ok-reply-in-Err c = λ q g by prepared read.
-    let told = c.in_ok-reply-in-Err.ensures in
-    IsCheckReply.refused c.in-Err.error
-    (no_parser_for q g c.args.prepared.now prepared c.in-Err.error told.0 c.in-Err.ensures.refused) told.1
+returns-in_ok-reply-in-Err c = λ q g by prepared read. IsCheckReply.no_parser (c.in_ok-reply-in-Err.ensures q g prepared read)

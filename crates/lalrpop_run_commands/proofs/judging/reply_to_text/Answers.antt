@@ -1,10 +1,10 @@
 use Rattle.std.proofs.Common.{refl, subst}
 use Rattle.lalrpop_grammar.specs.declared.tree.WrittenTree.{WrittenTree}
 use Rattle.lalrpop_json_grammar.specs.ReadTrees.{tree_at}
-use Rattle.lalrpop_run.specs.Inputs.{IsInput}
-use Rattle.lalrpop_run.specs.Judge.{IsJudgeReply}
-use Rattle.lalrpop_run.specs.declared.input.Input.{Input}
-use Rattle.lalrpop_run.proofs.judging.reply_to_text.Goals as goal
+use Rattle.lalrpop_run_questions.specs.Inputs.{IsInput}
+use Rattle.lalrpop_run_commands.specs.Judge.{IsJudgeReply}
+use Rattle.lalrpop_run_questions.specs.declared.input.Input.{Input}
+use Rattle.lalrpop_run_commands.proofs.judging.reply_to_text.Goals as goal
 
 pub returns-in_ok-reply-in-Value : goal.returns-in_ok-reply-in-Value
 returns-in_ok-reply-in-Value c = λ given. c.in_ok-reply-in-Value.ensures

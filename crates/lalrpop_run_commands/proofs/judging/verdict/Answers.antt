@@ -6,8 +6,8 @@ use Rattle.lalrpop_grammar_language.specs.Admitting.{AdmitsFrom}
 use Rattle.lalrpop_grammar_language.specs.Enabled.{enabled_grammar}
 use Rattle.lalrpop_judge.specs.Faults.{HasSearch}
 use Rattle.lalrpop_judge_search.specs.Search.{finds}
-use Rattle.lalrpop_run.specs.Judge.{IsJudgeReply}
-use Rattle.lalrpop_run.proofs.judging.verdict.Goals as goal
+use Rattle.lalrpop_run_commands.specs.Judge.{IsJudgeReply}
+use Rattle.lalrpop_run_commands.proofs.judging.verdict.Goals as goal
 
 pub returns-in-Ok : goal.returns-in-Ok
 returns-in-Ok c =

@@ -5,9 +5,9 @@ use Rattle.lalrpop_lexer_scan.specs.Entries.{ScanEntry}
 use Rattle.lalrpop_lexer_scan.specs.Scanning.{IsScannerOf}
 use Rattle.lalrpop_norm_expansion.specs.Premises.{IsReadGrammar}
 use Rattle.lalrpop_run_prepare.specs.PreparedGrammars.{PreparedGrammar}
-use Rattle.lalrpop_run.proofs.ParserLemmas.{no_parser_for, parser_for, sentence}
-use Rattle.lalrpop_run.specs.Parse.{IsAnswerTold, IsParseReply}
-use Rattle.lalrpop_run.proofs.parsing.text_reply.Goals as goal
+use Rattle.lalrpop_run_commands.proofs.ParserLemmas.{parser_for, sentence}
+use Rattle.lalrpop_run_commands.specs.Parse.{IsAnswerTold, IsParseReply}
+use Rattle.lalrpop_run_commands.proofs.parsing.text_reply.Goals as goal
 
 pub returns-in_ok-reply-in-Ok : goal.returns-in_ok-reply-in-Ok
 returns-in_ok-reply-in-Ok c = λ q g same prepared read.
@@ -19,7 +19,4 @@ returns-in_ok-reply-in-Ok c = λ q g same prepared read.
     c.in_ok-reply-in-Ok.ensures)
 
 pub returns-in_ok-reply-in-Err : goal.returns-in_ok-reply-in-Err
-returns-in_ok-reply-in-Err c = λ q g same prepared read.
-    let told = c.in_ok-reply-in-Err.ensures in
-    IsParseReply.refused c.in-Err.error
-    (no_parser_for q g c.args.prepared.now prepared c.in-Err.error told.0 c.in-Err.ensures.refused) told.1
+returns-in_ok-reply-in-Err c = λ q g same prepared read. IsParseReply.no_parser (c.in_ok-reply-in-Err.ensures q g prepared read)

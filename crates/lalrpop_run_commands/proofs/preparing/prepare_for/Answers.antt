@@ -4,7 +4,7 @@ use Rattle.lalrpop_grammar.specs.declared.grammar.Grammar.{Grammar}
 use Rattle.lalrpop_grammar.specs.Views.{grammar_view}
 use Rattle.lalrpop_grammar_repr.specs.declared.session.Session.{Session}
 use Rattle.lalrpop_norm_expansion.specs.Premises.{IsReadGrammar}
-use Rattle.lalrpop_run.proofs.preparing.prepare_for.Goals as goal
+use Rattle.lalrpop_run_commands.proofs.preparing.prepare_for.Goals as goal
 
 pub returns-clause-prepared : goal.returns-clause-prepared
 returns-clause-prepared c = λ read.

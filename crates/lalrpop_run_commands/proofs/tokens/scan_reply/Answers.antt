@@ -1,6 +1,6 @@
 use Rattle.std.proofs.Common.{refl}
-use Rattle.lalrpop_run.specs.Tokens.{IsScanReply}
-use Rattle.lalrpop_run.proofs.tokens.scan_reply.Goals as goal
+use Rattle.lalrpop_run_commands.specs.Tokens.{IsScanReply}
+use Rattle.lalrpop_run_commands.proofs.tokens.scan_reply.Goals as goal
 
 pub returns-in-Ok : goal.returns-in-Ok
 returns-in-Ok c = λ entries is. IsScanReply.tokens c.in-Ok.tokens

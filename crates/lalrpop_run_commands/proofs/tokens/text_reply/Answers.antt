@@ -1,9 +1,9 @@
 use Rattle.std.proofs.Common.{subst, sym}
 use Rattle.lalrpop_lexer_scan.specs.Scanning.{IsScannerOf}
 use Rattle.lalrpop_run_prepare.specs.PreparedGrammars.{PreparedGrammar}
-use Rattle.lalrpop_run.proofs.ParserLemmas.{no_parser_for, parser_for, scanned}
-use Rattle.lalrpop_run.specs.Tokens.{IsTokensReply}
-use Rattle.lalrpop_run.proofs.tokens.text_reply.Goals as goal
+use Rattle.lalrpop_run_commands.proofs.ParserLemmas.{parser_for, scanned}
+use Rattle.lalrpop_run_commands.specs.Tokens.{IsTokensReply}
+use Rattle.lalrpop_run_commands.proofs.tokens.text_reply.Goals as goal
 
 pub returns-in_ok-reply-in-Ok : goal.returns-in_ok-reply-in-Ok
 returns-in_ok-reply-in-Ok c = λ q g prepared read.
@@ -14,7 +14,4 @@ returns-in_ok-reply-in-Ok c = λ q g prepared read.
     (subst (λ (w : PreparedGrammar). IsScannerOf w.scanner entries) (sym c.in-Ok.ensures.prepared) is))
 
 pub returns-in_ok-reply-in-Err : goal.returns-in_ok-reply-in-Err
-returns-in_ok-reply-in-Err c = λ q g prepared read.
-    let told = c.in_ok-reply-in-Err.ensures in
-    IsTokensReply.refused c.in-Err.error
-    (no_parser_for q g c.args.prepared.now prepared c.in-Err.error told.0 c.in-Err.ensures.refused) told.1
+returns-in_ok-reply-in-Err c = λ q g prepared read. IsTokensReply.no_parser (c.in_ok-reply-in-Err.ensures q g prepared read)

@@ -1,5 +1,5 @@
 use Rattle.std.proofs.Common.{◌≡◌, true, false, refl}
-use Rattle.lalrpop_run.proofs.refusals.refusal_reply.Goals as goal
+use Rattle.lalrpop_run_replies.proofs.refusals.refusal_reply.Goals as goal
 
 pub returns : goal.returns
 returns c = (

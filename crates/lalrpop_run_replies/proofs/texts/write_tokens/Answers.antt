@@ -1,9 +1,9 @@
 use Rattle.std.proofs.Common.{◌++◌, ap, ◌∙◌, rules, arith, take}
 use Rattle.std.proofs.Output.{has_written_append, has_written_of_eq}
 use Rattle.lalrpop_grammar.specs.Views.{token_view}
-use Rattle.lalrpop_run.specs.ReplyTexts.{line, token_text, tokens_text}
-use Rattle.lalrpop_run.proofs.TokenLineLemmas.{lines-more}
-use Rattle.lalrpop_run.proofs.texts.write_tokens.Goals as goal
+use Rattle.lalrpop_run_replies.specs.ReplyTexts.{line, token_text, tokens_text}
+use Rattle.lalrpop_run_replies.proofs.TokenLineLemmas.{lines-more}
+use Rattle.lalrpop_run_replies.proofs.texts.write_tokens.Goals as goal
 
 pub loop-token-preserved : goal.loop-token-preserved
 loop-token-preserved g c plain =

@@ -1,7 +1,7 @@
 use Rattle.std.proofs.Common.{take}
 use Rattle.std.specs.Fmt.{HasWritten, IsPlainFormatter}
-use Rattle.lalrpop_run.specs.ReplyTexts.{tokens_text}
-use Rattle.lalrpop_run.proofs.texts.write_tokens.Given as goal
+use Rattle.lalrpop_run_replies.specs.ReplyTexts.{tokens_text}
+use Rattle.lalrpop_run_replies.proofs.texts.write_tokens.Given as goal
 
 abbrev pub invariant-loop-token : goal.invariant-loop-token
 invariant-loop-token g l =

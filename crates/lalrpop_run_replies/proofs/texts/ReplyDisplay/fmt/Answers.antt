@@ -1,8 +1,8 @@
 use Rattle.std.proofs.Common.{◌≡◌, ◌∙◌, ◌++◌, ◌∷◌, [], ℕ, List, ap, append_assoc, codes, subst, sym}
 use Rattle.std.specs.Prelude.{decimal}
 use Rattle.std.specs.Fmt.{HasWritten}
-use Rattle.lalrpop_run.specs.ReplyTexts.{reply_text}
-use Rattle.lalrpop_run.proofs.texts.ReplyDisplay.fmt.Goals as goal
+use Rattle.lalrpop_run_replies.specs.ReplyTexts.{reply_text}
+use Rattle.lalrpop_run_replies.proofs.texts.ReplyDisplay.fmt.Goals as goal
 
 pub returns-in-OverLimit-clause-writes : goal.returns-in-OverLimit-clause-writes
 returns-in-OverLimit-clause-writes g c = λ plain ok.

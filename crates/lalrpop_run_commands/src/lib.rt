@@ -1,0 +1,16 @@
+//! What the program's commands reply to a grammar that was read.
+//!
+//! In `specs/`, `Judge`, `Tokens`, `Check` and `Parse` have the replies of each command, and `Parsers` which grammars have a parser.
+#![tactic(auto)]
+
+mod checking;
+mod conflicts;
+mod judging;
+mod parsing;
+mod preparing;
+mod tokens;
+
+pub use checking::check_reply;
+pub use judging::judge_reply;
+pub use parsing::parse_reply;
+pub use tokens::tokens_reply;

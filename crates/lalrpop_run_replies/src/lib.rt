@@ -1,0 +1,13 @@
+//! What the program has to say: replies, their texts, and the statuses that it ends with.
+//!
+//! `ReplyTexts` in `specs/` has the text and the status of each reply.
+#![tactic(auto)]
+
+mod putting;
+mod refusals;
+mod reply;
+mod texts;
+
+pub use putting::put;
+pub use refusals::refusal_reply;
+pub use reply::{Answer, Reply};
