@@ -1,2 +1,4 @@
+pub mod DropLemmas
+pub mod TakingApartLemmas
 pub mod TreeLemmas
 pub mod WalkLemmas

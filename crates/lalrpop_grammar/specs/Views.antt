@@ -1,6 +1,5 @@
 -- What definitions see of the program's grammars, trees and tokens.
 use Rattle.std.specs.Prelude.{Bool, true, false, List, [], ◌∷◌, Option, Some, None, option_map, map}
-use Rattle.std.specs.Borrow.{Bor}
 use Rattle.lalrpop_grammar_symbols.specs.Symbols.{Text, TextSpan}
 use Rattle.lalrpop_grammar_symbols.specs.Views.{span_view, literal_view, terminal_view, symbol_view, without_marks}
 use Rattle.lalrpop_grammar_symbols.specs.declared.span.Span.{Span}

@@ -12,6 +12,16 @@ children (Tree.group ts) = ts
 children (Tree.terminal token) = Trees.none
 children Tree.look = Trees.none
 
+-- the elements of a list
+abbrev pub elements : Tree → Option Trees
+elements (Tree.list ts) = Some ts
+elements (Tree.rule n args place ts) = None
+elements Tree.opt_none = None
+elements (Tree.opt_some t) = None
+elements (Tree.group ts) = None
+elements (Tree.terminal token) = None
+elements Tree.look = None
+
 -- the token of a leaf
 abbrev pub token_at : Tree → Option Token
 token_at (Tree.terminal token) = Some token

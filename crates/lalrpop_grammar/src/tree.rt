@@ -1,14 +1,18 @@
 //! Parse trees in terms of the written grammar.
 
-ghost use Rattle.std.specs.Prelude.{◌≡◌, IfOk};
+ghost use Rattle.std.specs.Prelude.{◌≡◌, IfOk, map, option_map};
+ghost use Rattle.lalrpop_grammar.specs.Trees.{trees};
+ghost use Rattle.lalrpop_grammar.specs.Views.{tree_view};
+ghost use Rattle.lalrpop_grammar.specs.Walks.{elements};
 
 use lalrpop_grammar_symbols::{
     Atom, Boxed, List, NonterminalString, Span, Symbol, TerminalString, clone_symbols,
 };
 use std::alloc::{AllocError, Global};
+use std::mem;
 
 /// A parse tree over the written grammar.
-#[derive(Debug, PartialEq, Eq, Drop)]
+#[derive(Debug, PartialEq, Eq)]
 pub enum WrittenTree {
     /// A rule, by one of its alternatives.
     Rule {
@@ -40,7 +44,93 @@ pub enum WrittenTree {
     Look,
 }
 
+impl Drop for WrittenTree {
+    /// Takes the tree apart by a loop, without memory of its own: a tree may be deeper than the stack has room for. What is
+    /// still to be dropped is kept in the place of the first tree below.
+    fn drop(mut self) {
+        let mut kept: Option<Vec<WrittenTree>> = None;
+        loop {
+            let below = match self {
+                WrittenTree::Rule {
+                    rule: _rule,
+                    args: _args,
+                    place: _,
+                    children,
+                } => Some(children.into_vec()),
+                WrittenTree::List(trees) => Some(trees.into_vec()),
+                WrittenTree::Opt(inside) => match inside {
+                    Some(tree) => {
+                        self = tree.into_inner();
+                        continue;
+                    }
+                    None => None,
+                },
+                WrittenTree::Group(trees) => Some(trees.into_vec()),
+                WrittenTree::Terminal {
+                    terminal: _terminal,
+                    text: _text,
+                    span: _,
+                } => None,
+                WrittenTree::Look => None,
+            };
+            if let Some(mut trees) = below {
+                if trees.is_empty() {
+                    trees.destroy_empty();
+                } else {
+                    match kept {
+                        Some(others) => {
+                            let others = WrittenTree::Group(List::from_vec(others));
+                            self = mem::replace(&mut trees[0], others);
+                            kept = Some(trees);
+                            continue;
+                        }
+                        None => kept = Some(trees),
+                    }
+                }
+            }
+            let Some(mut trees) = kept else {
+                return;
+            };
+            let Some(next) = trees.pop() else {
+                trees.destroy_empty();
+                return;
+            };
+            self = next;
+            // else what is kept would be a chain of such lists, turned round for each of them
+            kept = if trees.is_empty() {
+                trees.destroy_empty();
+                None
+            } else {
+                Some(trees)
+            };
+        }
+    }
+}
+
 impl WrittenTree {
+    /// The elements, where it is a list.
+    pub fn into_elements(self) -> Option<List<WrittenTree>>
+        ensures { option_map (λ list. trees (map tree_view list)) result ≡ elements (tree_view self) }
+    {
+        match self {
+            WrittenTree::List(trees) => Some(trees),
+            WrittenTree::Rule {
+                rule: _,
+                args: _,
+                place: _,
+                children: _,
+            } => None,
+            WrittenTree::Opt(_) => None,
+            WrittenTree::Group(_) => None,
+            WrittenTree::Terminal {
+                terminal: _,
+                text: _,
+                span: _,
+            } => None,
+            WrittenTree::Look => None,
+        }
+    }
+
     /// A copy that equals it.
     #[cycle(try_clone_trees)]
     pub fn try_clone(&self, alloc: Global) -> Result<WrittenTree, AllocError>

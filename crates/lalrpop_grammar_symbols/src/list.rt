@@ -67,6 +67,11 @@ impl<T> List<T> {
     {
         self.items.is_empty()
     }
+
+    /// What gives the list its memory.
+    pub fn allocator(&self) -> Global {
+        *self.items.allocator()
+    }
 }
 
 impl<T: Drop> List<T> {

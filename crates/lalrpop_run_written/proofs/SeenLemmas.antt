@@ -1,5 +1,5 @@
 -- The program's written trees as they are seen, one form at a time: for the code that makes them.
-use Rattle.std.proofs.Common.{◌≡◌, ℕ, List, [], ◌∷◌, ◌++◌, Option, Some, None, refl, ap, sym, ◌∙◌, arith, length, map}
+use Rattle.std.proofs.Common.{◌≡◌, ℕ, List, [], ◌∷◌, ◌++◌, Some, None, refl, ap, sym, ◌∙◌, arith, length, map}
 use Rattle.lalrpop_grammar_symbols.specs.Views.{span_view, symbol_view, terminal_view, without_marks}
 use Rattle.lalrpop_grammar_symbols.specs.Symbols.{Text}
 use Rattle.lalrpop_grammar_symbols.specs.declared.names.NonterminalString.{NonterminalString}
@@ -8,6 +8,7 @@ use Rattle.lalrpop_grammar_symbols.specs.declared.symbol.Symbol.{Symbol}
 use Rattle.lalrpop_grammar_symbols.specs.declared.terminal.TerminalString.{TerminalString}
 use Rattle.lalrpop_grammar.specs.Trees.{Tree, Trees, trees}
 use Rattle.lalrpop_grammar.specs.Views.{tree_step, tree_view}
+use Rattle.lalrpop_grammar.specs.Walks.{elements}
 use Rattle.lalrpop_grammar.specs.declared.tree.WrittenTree.{WrittenTree, fold-roll-WrittenTree}
 use Rattle.lalrpop_grammar.specs.declared.tree.WrittenTree.TheVariants as variant
 use Rattle.lalrpop_grammar.specs.declared.tree.WrittenTree.TheOpen as layer
@@ -47,23 +48,34 @@ pub viewed_more : (ts : List WrittenTree) (t : WrittenTree) → map tree_view (t
 viewed_more [] t = refl
 viewed_more (u ∷ ts) t = ap (λ l. tree_view u ∷ l) (viewed_more ts t)
 
+append_elements : (v u : Tree) (ts : Trees) → Some ts ≡ elements v → Tree.list (join_trees ts (Trees.more u Trees.none)) ≡ append_tree v u
+append_elements (Tree.list us) u ts e = let same : ts ≡ us = cc in ap (λ l. Tree.list (join_trees l (Trees.more u Trees.none))) same
+append_elements (Tree.rule n args place us) u ts e = let no : ⊥ = cc in absurd no
+append_elements Tree.opt_none u ts e = let no : ⊥ = cc in absurd no
+append_elements (Tree.opt_some t) u ts e = let no : ⊥ = cc in absurd no
+append_elements (Tree.group us) u ts e = let no : ⊥ = cc in absurd no
+append_elements (Tree.terminal token) u ts e = let no : ⊥ = cc in absurd no
+append_elements Tree.look u ts e = let no : ⊥ = cc in absurd no
+
+append_none : (v u : Tree) → None ≡ elements v → Tree.opt_none ≡ append_tree v u
+append_none (Tree.list us) u e = let no : ⊥ = cc in absurd no
+append_none (Tree.rule n args place us) u e = refl
+append_none Tree.opt_none u e = refl
+append_none (Tree.opt_some t) u e = refl
+append_none (Tree.group us) u e = refl
+append_none (Tree.terminal token) u e = refl
+append_none Tree.look u e = refl
+
 -- the list with one more element
-pub of_longer : (ts : List WrittenTree) (t : WrittenTree) →
-    tree_view (variant.List (ts ++ t ∷ [])) ≡ append_tree (tree_view (variant.List ts)) (tree_view t)
-of_longer ts t =
+pub of_longer : (l : WrittenTree) (ts : List WrittenTree) (t : WrittenTree) → Some (trees (map tree_view ts)) ≡ elements (tree_view l) →
+    tree_view (variant.List (ts ++ t ∷ [])) ≡ append_tree (tree_view l) (tree_view t)
+of_longer l ts t e =
     of_list (ts ++ t ∷ []) ∙ ap Tree.list (ap trees (viewed_more ts t) ∙ trees_joined (map tree_view ts) (tree_view t))
-    ∙ ap (λ u. append_tree u (tree_view t)) (sym (of_list ts))
+    ∙ append_elements (tree_view l) (tree_view t) (trees (map tree_view ts)) e
 
 -- what is no list has no longer one
-pub of_no_list : (l : WrittenTree) (v u : Tree) → tree_view l ≡ v → append_tree v u ≡ Tree.opt_none →
-    tree_view (variant.Opt None) ≡ append_tree (tree_view l) u
-of_no_list l v u e h = of_none ∙ sym (ap (λ t. append_tree t u) e ∙ h)
-
--- an option is no list
-pub of_option : (l : WrittenTree) (o : Option WrittenTree) (u : Tree) → l ≡ variant.Opt o →
-    tree_view (variant.Opt None) ≡ append_tree (tree_view l) u
-of_option l None u e = of_no_list l Tree.opt_none u (ap tree_view e ∙ of_none) refl
-of_option l (Some t) u e = of_no_list l (Tree.opt_some (tree_view t)) u (ap tree_view e ∙ of_some t) refl
+pub of_no_list : (l : WrittenTree) (u : Tree) → None ≡ elements (tree_view l) → tree_view (variant.Opt None) ≡ append_tree (tree_view l) u
+of_no_list l u e = of_none ∙ append_none (tree_view l) u e
 
 -- the first two of some trees
 pub of_two : (l t : WrittenTree) (rest : List WrittenTree) (ts : List WrittenTree) → ts ≡ l ∷ t ∷ rest →

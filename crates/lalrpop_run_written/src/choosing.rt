@@ -23,25 +23,12 @@ fn first_of(children: Vec<WrittenTree>) -> WrittenTree
 fn longer_list(list: WrittenTree, element: WrittenTree) -> Result<WrittenTree, AllocError>
     ensures { IfOk result (λ longer. tree_view longer ≡ append_tree (tree_view list) (tree_view element)) }
 {
-    match list {
-        WrittenTree::List(mut trees) => {
+    match list.into_elements() {
+        Some(mut trees) => {
             trees.push(element)?;
             Ok(WrittenTree::List(trees))
         }
-        WrittenTree::Rule {
-            rule: _,
-            args: _,
-            place: _,
-            children: _,
-        } => Ok(WrittenTree::Opt(None)),
-        WrittenTree::Opt(_) => Ok(WrittenTree::Opt(None)),
-        WrittenTree::Group(_) => Ok(WrittenTree::Opt(None)),
-        WrittenTree::Terminal {
-            terminal: _,
-            text: _,
-            span: _,
-        } => Ok(WrittenTree::Opt(None)),
-        WrittenTree::Look => Ok(WrittenTree::Opt(None)),
+        None => Ok(WrittenTree::Opt(None)),
     }
 }
 
