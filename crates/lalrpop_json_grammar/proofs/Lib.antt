@@ -1,4 +1,5 @@
 pub mod GrammarLemmas
 pub mod PrintingLemmas
+pub mod RowLemmas
 pub mod TreeLemmas
 pub mod TreeNestingLemmas

@@ -1,5 +1,6 @@
 pub mod Grammars
 pub mod Laws
+pub mod PrintedRows
 pub mod Printing
 pub mod ReadTrees
 pub mod Readable
