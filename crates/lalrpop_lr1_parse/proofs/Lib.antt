@@ -1,3 +1,4 @@
+pub mod DropLemmas
 pub mod NamedStackLemmas
 pub mod NumberLemmas
 pub mod StackLemmas

@@ -10,6 +10,7 @@ ghost use Rattle.lalrpop_lr1_parse.specs.ExpandedViews.{expanded_view, expanded_
 use lalrpop_grammar_repr::Production;
 use lalrpop_grammar_symbols::{Span, TerminalString};
 use std::alloc::{AllocError, Global};
+use std::mem;
 
 /// What stands at the root of a tree.
 #[derive(Drop)]
@@ -20,12 +21,50 @@ pub(crate) enum TreeLabel<'g> {
     Node(&'g Production),
 }
 
+/// Lets a label go.
+fn drop_label(_label: TreeLabel<'_>) {}
+
 /// A tree over productions. Contracts see it as a tree of the tables' theory, with spans at its leaves.
-#[derive(Drop)]
 pub struct ExpandedTree<'g> {
     pub(crate) label: TreeLabel<'g>,
     // Those of a node; a leaf has none.
     pub(crate) children: Vec<ExpandedTree<'g>>,
+}
+
+impl<'g> Drop for ExpandedTree<'g> {
+    /// Takes the tree apart by a loop, without memory of its own: a tree may be deeper than the stack has room for. What is
+    /// still to be dropped is kept in the place of the first tree below.
+    fn drop(mut self) {
+        let mut kept = Vec::new(*self.children.allocator());
+        loop {
+            let ExpandedTree { label, children } = self;
+            let mut trees = children;
+            if trees.is_empty() {
+                drop_label(label);
+                trees.destroy_empty();
+            } else if kept.is_empty() {
+                drop_label(label);
+                // else what is kept would be a chain of such lists, turned round for each of them
+                kept.destroy_empty();
+                kept = trees;
+            } else {
+                let others = ExpandedTree {
+                    label,
+                    children: kept,
+                };
+                self = mem::replace(&mut trees[0], others);
+                kept = trees;
+                continue;
+            }
+            match kept.pop() {
+                Some(next) => self = next,
+                None => {
+                    kept.destroy_empty();
+                    return;
+                }
+            }
+        }
+    }
 }
 
 impl<'g> ExpandedTree<'g> {
