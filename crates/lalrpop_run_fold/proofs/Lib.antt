@@ -5,4 +5,6 @@ pub mod MeasureLemmas
 pub mod SearchLemmas
 pub mod NamedProductionLemmas
 pub mod UnfoldLemmas
+pub mod PostOrderLemmas
+pub mod BuildingLemmas
 pub mod WholeFoldLemmas

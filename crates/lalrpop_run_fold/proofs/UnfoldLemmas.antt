@@ -1,5 +1,5 @@
 -- Trees over productions from their roots down, and the written trees that are shown of them; for unfolding.
-use Rattle.std.proofs.Common.{◌≡◌, ◌∙◌, ◌+◌, ◌<◌, ◌≤◌, ℕ, zero, suc, List, [], ◌∷◌, ◌++◌, length, refl, ap, ap₂, sym, arith, subst, map, take}
+use Rattle.std.proofs.Common.{◌≡◌, ◌∙◌, ◌<◌, ℕ, zero, suc, List, [], ◌∷◌, length, refl, ap, ap₂, sym, arith, subst, map}
 use Rattle.std.specs.Prelude.{None, Option, Some, flat_map}
 use Rattle.std.proofs.lemmas.List.{append-nil}
 use Rattle.std.proofs.lemmas.Grind.{flat_map-append}
@@ -11,7 +11,7 @@ use Rattle.lalrpop_lr1_parse.specs.declared.expanded_tree.ExpandedTree.{Expanded
 use Rattle.lalrpop_lr1_parse.proofs.ExpandedLemmas.{views_long}
 use Rattle.lalrpop_lr1_theory.specs.Productions.{Production}
 use Rattle.lalrpop_lr1_theory.specs.Spans.{SpannedForest, leaf_at, node_at, none_at, without_spans}
-use Rattle.lalrpop_lr1_theory.specs.Trees.{AreOver, nodes, roots}
+use Rattle.lalrpop_lr1_theory.specs.Trees.{AreOver, roots}
 use Rattle.lalrpop_run_written.specs.ActionLabels.{ChoiceLabel, kept_count}
 use Rattle.lalrpop_run_written.specs.LabelledTrees.{IsPart, shown_trees, tree_by_label}
 use Rattle.lalrpop_run_written.proofs.PartLemmas.{part_of_part, part_same, parts_joined, tree_leaves}
@@ -26,7 +26,7 @@ IsAlone v = length (roots (without_spans v)) ≡ 1
 pub alone : (t : ExpandedTree) → IsAlone (expanded_view t)
 alone t = views_long (t ∷ [])
 
-no_more : (ts : SpannedForest) → length (roots (without_spans ts)) ≡ 0 → ts ≡ none_at
+pub no_more : (ts : SpannedForest) → length (roots (without_spans ts)) ≡ 0 → ts ≡ none_at
 no_more none_at e = refl
 no_more (leaf_at t span ts) e = absurd (omega (arith, e))
 no_more (node_at p cs ts) e = absurd (omega (arith, e))
@@ -70,72 +70,6 @@ has_child (leaf_at t span ts) zero less e = some_none (leaf_at t span none_at) (
 has_child (leaf_at t span ts) (suc n) less e = has_child ts n (omega (arith, less)) e
 has_child (node_at p cs ts) zero less e = some_none (node_at p cs none_at) (sym e)
 has_child (node_at p cs ts) (suc n) less e = has_child ts n (omega (arith, less)) e
-
--- and it is smaller than the tree
-child_nodes : (cs w : SpannedForest) (n : ℕ) → nth_tree cs n ≡ Some w → nodes (without_spans w) ≤ nodes (without_spans cs)
-child_nodes none_at w n e = absurd (some_none w e)
-child_nodes (leaf_at t span ts) w zero e =
-    let same : leaf_at t span none_at ≡ w = some_same (leaf_at t span none_at) w e in
-    omega (arith, ap (λ f. nodes (without_spans f)) same)
-child_nodes (leaf_at t span ts) w (suc n) e = omega (arith, child_nodes ts w n e)
-child_nodes (node_at p cs ts) w zero e =
-    let same : node_at p cs none_at ≡ w = some_same (node_at p cs none_at) w e in
-    omega (arith, ap (λ f. nodes (without_spans f)) same)
-child_nodes (node_at p cs ts) w (suc n) e = omega (arith, child_nodes ts w n e)
-
-children_nodes : (v : SpannedForest) → nodes (without_spans (root_children v)) ≤ nodes (without_spans v)
-children_nodes none_at = omega arith
-children_nodes (leaf_at t span ts) = omega arith
-children_nodes (node_at p cs ts) = omega arith
-
-node_nodes : (v w : SpannedForest) (n : ℕ) → nth_tree (root_children v) n ≡ Some w → nodes (without_spans w) < nodes (without_spans v)
-node_nodes none_at w n e = absurd (some_none w e)
-node_nodes (leaf_at t span ts) w n e = absurd (some_none w e)
-node_nodes (node_at p cs ts) w n e = omega (arith, child_nodes cs w n e)
-
-pub child_less : (v w : SpannedForest) (n : ℕ) → nth_tree (root_children v) n ≡ Some w →
-    nodes (without_spans w) < nodes (without_spans v)
-child_less v w n e = node_nodes v w n e
-
-take_next : {A : Type 0} (n : ℕ) (x : A) (xs : List A) → take (suc n + 1) (x ∷ xs) ≡ x ∷ take (n + 1) xs
-take_next n x xs = ap (λ k. take k (x ∷ xs)) (let same : suc n + 1 ≡ suc (n + 1) = omega arith in same)
-
-take_one : {A : Type 0} (x : A) (xs : List A) → take (0 + 1) (x ∷ xs) ≡ x ∷ []
-take_one x xs = refl
-
--- what is shown of a child is the next of what is shown of all
-pub child_shown : (label_of : ℕ → ChoiceLabel) (cs w : SpannedForest) (n : ℕ) → nth_tree cs n ≡ Some w →
-    take (n + 1) (shown_trees label_of cs) ≡ take n (shown_trees label_of cs) ++ shown_trees label_of w
-child_shown label_of none_at w n e = absurd (some_none w e)
-child_shown label_of (leaf_at t span ts) w zero e =
-    take_one (Tree.terminal (leaf_token t span)) (shown_trees label_of ts)
-    ∙ ap (λ f. shown_trees label_of f) (some_same (leaf_at t span none_at) w e)
-child_shown label_of (leaf_at t span ts) w (suc n) e =
-    take_next n (Tree.terminal (leaf_token t span)) (shown_trees label_of ts)
-    ∙ ap (λ l. Tree.terminal (leaf_token t span) ∷ l) (child_shown label_of ts w n e)
-child_shown label_of (node_at p cs ts) w zero e =
-    take_one (tree_by_label (label_of p.action) (shown_trees label_of cs)) (shown_trees label_of ts)
-    ∙ ap (λ f. shown_trees label_of f) (some_same (node_at p cs none_at) w e)
-child_shown label_of (node_at p cs ts) w (suc n) e =
-    take_next n (tree_by_label (label_of p.action) (shown_trees label_of cs)) (shown_trees label_of ts)
-    ∙ ap (λ l. tree_by_label (label_of p.action) (shown_trees label_of cs) ∷ l) (child_shown label_of ts w n e)
-
--- what holds over all holds over a child
-pub child_over : (G : Production → Type 0) (cs w : SpannedForest) (n : ℕ) → nth_tree cs n ≡ Some w →
-    AreOver G (without_spans cs) → AreOver G (without_spans w)
-child_over G none_at w n e h = absurd (some_none w e)
-child_over G (leaf_at t span ts) w zero e h =
-    subst (λ f. AreOver G (without_spans f)) (some_same (leaf_at t span none_at) w e) tt
-child_over G (leaf_at t span ts) w (suc n) e h = child_over G ts w n e h
-child_over G (node_at p cs ts) w zero e h =
-    subst (λ f. AreOver G (without_spans f)) (some_same (node_at p cs none_at) w e) (h.0, h.1, h.2, tt)
-child_over G (node_at p cs ts) w (suc n) e h = child_over G ts w n e h.3
-
-pub children_over : (G : Production → Type 0) (v : SpannedForest) → AreOver G (without_spans v) →
-    AreOver G (without_spans (root_children v))
-children_over G none_at h = tt
-children_over G (leaf_at t span ts) h = tt
-children_over G (node_at p cs ts) h = h.2
 
 -- what is shown of trees shows its leaves already
 pub shown_already : (label_of : ℕ → ChoiceLabel) (ts : SpannedForest) →

@@ -2,3 +2,4 @@ pub mod PassingRanks
 pub mod Folds
 pub mod FoldedTrees
 pub mod Foldings
+pub mod PostOrders

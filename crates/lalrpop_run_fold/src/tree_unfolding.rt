@@ -14,6 +14,7 @@ ghost use Rattle.lalrpop_run_written.specs.ActionLabels.{ChoiceLabel, TellsLabel
 ghost use Rattle.lalrpop_run_written.specs.LabelledTrees.{shown_trees};
 ghost use Rattle.lalrpop_run_fold.specs.Foldings.{IsUnfolded};
 
+use crate::post_order::post_order;
 use lalrpop_grammar::{Atom, Origin, WrittenTree};
 use lalrpop_grammar_repr::ActionFnDefn;
 use lalrpop_grammar_symbols::{Span, TerminalLiteral, TerminalString};
@@ -51,8 +52,34 @@ fn written_leaf(
     })
 }
 
+/// The written tree of the tree over productions with these actions, of which the given ones stand for these written choices, over those
+/// of its children.
+fn written_root(
+    alloc: Global,
+    actions: &[ActionFnDefn],
+    origins: &[Origin],
+    tree: TreeRef<'_, '_>,
+    children: Vec<WrittenTree>,
+) -> Result<WrittenTree, AllocError>
+    ensures { (label_of : ℕ → ChoiceLabel)
+        → AreOver (λ p. TellsLabel actions.now origins.now p.action (length p.right) (label_of p.action))
+        (without_spans (expanded_view tree.entry.tree.now))
+        → map tree_view children.items ≡ shown_trees label_of (root_children (expanded_view tree.entry.tree.now))
+        → IfOk result (λ made. tree_view made ∷ [] ≡ shown_trees label_of (expanded_view tree.entry.tree.now)) }
+{
+    match tree.production() {
+        Some(production) => tree_of_action(alloc, actions, origins, production.action, children),
+        None => match tree.terminal() {
+            Some(terminal) => match tree.span() {
+                Some(span) => written_leaf(alloc, terminal, span),
+                None => unreachable!(),
+            },
+            None => unreachable!(),
+        },
+    }
+}
+
 /// The written tree of the tree over productions with these actions, of which the given ones stand for these written choices.
-#[cycle(unfolding)]
 fn written_tree(
     alloc: Global,
     actions: &[ActionFnDefn],
@@ -64,42 +91,18 @@ fn written_tree(
         (without_spans (expanded_view tree.entry.tree.now))
         → IfOk result (λ made. tree_view made ∷ [] ≡ shown_trees label_of (expanded_view tree.entry.tree.now)) }
 {
-    match tree.production() {
-        Some(production) => {
-            let children = written_children(alloc, actions, origins, tree)?;
-            tree_of_action(alloc, actions, origins, production.action, children)
-        }
-        None => match tree.terminal() {
-            Some(terminal) => match tree.span() {
-                Some(span) => written_leaf(alloc, terminal, span),
-                None => unreachable!(),
-            },
-            None => unreachable!(),
-        },
+    // the written trees whose parents are still to come: a tree may be deeper than the stack has room for
+    let mut made = Vec::new(alloc);
+    let order = post_order(alloc, tree)?;
+    for next in &order {
+        let children = made.split_off(made.len() - next.len())?;
+        let written = written_root(alloc, actions, origins, *next, children)?;
+        made.push(written)?;
     }
-}
-
-/// The written trees of the tree's children.
-#[cycle(unfolding)]
-fn written_children(
-    alloc: Global,
-    actions: &[ActionFnDefn],
-    origins: &[Origin],
-    tree: TreeRef<'_, '_>,
-) -> Result<Vec<WrittenTree>, AllocError>
-    ensures { (label_of : ℕ → ChoiceLabel)
-        → AreOver (λ p. TellsLabel actions.now origins.now p.action (length p.right) (label_of p.action))
-        (without_spans (root_children (expanded_view tree.entry.tree.now)))
-        → IfOk result (λ made. map tree_view made.items ≡ shown_trees label_of (root_children (expanded_view tree.entry.tree.now))) }
-{
-    let mut children = Vec::new(alloc);
-    for place in 0..tree.len() {
-        match tree.child(place) {
-            Some(child) => children.push(written_tree(alloc, actions, origins, child)?)?,
-            None => unreachable!(),
-        }
+    match made.pop() {
+        Some(written) => Ok(written),
+        None => unreachable!(),
     }
-    Ok(children)
 }
 
 /// The written tree that the tree over productions stands for, from the start of the prepared grammar: its leaves have their spans, and as
