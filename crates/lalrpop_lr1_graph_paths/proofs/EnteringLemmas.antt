@@ -1,98 +1,125 @@
--- Edges put where they lead to, one after the other: for the lists of entering edges.
-use Rattle.std.proofs.Common.{◌≡◌, ◌≢◌, ◌∙◌, ℕ, zero, suc, ◌+◌, ◌<◌, ◌≤◌, List, [], ◌∷◌, ◌++◌, length, set, get_or}
-use Rattle.std.proofs.Common.{Some, Contains, ⊎_elim, refl, sym, ap, subst, arith, slice_get, Vec, Global}
-use Rattle.std.specs.Prelude.{slice_index_or}
-use Rattle.std.proofs.lemmas.Bool.{cases_lt}
-use Rattle.std.proofs.lemmas.List.{get_or-set_other, get_or-set_same}
-use Rattle.std.proofs.lemmas.List.Elements.{Contains-append_left, Contains-push, Contains-push_cases}
-use Rattle.std.proofs.lemmas.Option.{slice_get_within}
+-- Edges put where they lead to, one after the other, and which they are then: for the lists of entering edges.
+use Rattle.std.proofs.Common.{◌≡◌, ◌≢◌, ◌∙◌, ℕ, zero, suc, ◌+◌, List, [], ◌∷◌, ◌++◌, length, Bool, true, false, nat_eq}
+use Rattle.std.proofs.Common.{Some, Contains, ◌⊎◌, inl, inr, ⊎_elim, refl, sym, ap, subst, arith, slice_get}
+use Rattle.std.proofs.Common.{Vec, Global}
+use Rattle.std.proofs.lemmas.Bool.{eqb-true}
+use Rattle.std.proofs.lemmas.Bool.Decides.{eqb_tells}
+use Rattle.std.specs.HashMap.{HashMap, IsEmpty}
+use Rattle.std.specs.Map.{lookup}
 use Rattle.lalrpop_lr1_graph_paths.specs.declared.graph.Edge.{Edge}
-use Rattle.lalrpop_lr1_graph_paths.specs.Graphs.{AreEntering, EntersNode, entering_lists}
-use Rattle.lalrpop_lr1_graph_paths.proofs.EntryLemmas.{same_there}
-use Rattle.lalrpop_lr1_graph_paths.proofs.NumberLemmas.{same_or_not}
+use Rattle.lalrpop_lr1_graph_paths.specs.Graphs.{AddsEntering, EntersNode, edges_at, entering_from, listed_numbers, number_if}
+use Rattle.lalrpop_lr1_graph_paths.proofs.HeapLemmas.{first_or_other, first_there, others_there}
 
-pub lists_long : (lists : List (Vec ℕ Global)) → length (entering_lists lists) ≡ length lists
-lists_long [] = refl
-lists_long (x ∷ lists) = ap suc (lists_long lists)
+pub is_node : (m n : ℕ) → nat_eq m n ≡ true → m ≡ n
+is_node m n is = eqb-true m n is
 
-list_set : (lists : List (Vec ℕ Global)) (n : ℕ) (v : Vec ℕ Global) →
-    entering_lists (set lists n v) ≡ set (entering_lists lists) n v.items
-list_set [] n v = refl
-list_set (x ∷ lists) zero v = refl
-list_set (x ∷ lists) (suc n) v = ap (λ l. x.items ∷ l) (list_set lists n v)
+pub is_no_node : (m n : ℕ) → nat_eq m n ≡ false → m ≢ n
+is_no_node m n is = ⊎_elim (λ yes. let first = yes.0 in let no : ⊥ = cc in absurd no) (λ no. no.1) (eqb_tells m n)
 
-pub list_read : (lists : List (Vec ℕ Global)) (n : ℕ) (v : Vec ℕ Global) → n < length lists → v ≡ get_or lists n v →
-    slice_index_or (entering_lists lists) n [] ≡ v.items
-list_read [] n v h e = absurd (omega arith)
-list_read (x ∷ lists) zero v h e = ap (λ (w : Vec ℕ Global). w.items) (sym e)
-list_read (x ∷ lists) (suc n) v h e = list_read lists n v (omega arith) e
+itself : (n : ℕ) → nat_eq n n ≡ true
+itself n = ⊎_elim (λ yes. yes.0) (λ no. absurd (no.1 refl)) (eqb_tells n n)
 
-set_long : (lists : List (List ℕ)) (n : ℕ) (l : List ℕ) → length (set lists n l) ≡ length lists
-set_long [] n l = refl
-set_long (x ∷ lists) zero l = refl
-set_long (x ∷ lists) (suc n) l = ap suc (set_long lists n l)
+other_node : (m n : ℕ) → m ≢ n → nat_eq m n ≡ false
+other_node m n differ = ⊎_elim (λ yes. absurd (differ yes.1)) (λ no. no.0) (eqb_tells m n)
 
--- a number that is pushed onto one of the lists
-pub list_pushed : (lists : List (Vec ℕ Global)) (n : ℕ) (was now : Vec ℕ Global) (e : ℕ) → n < length lists → was ≡ get_or lists n was →
-    now.items ≡ was.items ++ e ∷ [] →
-    entering_lists (set lists n now) ≡ set (entering_lists lists) n (slice_index_or (entering_lists lists) n [] ++ e ∷ [])
-list_pushed lists n was now e h is items =
-    list_set lists n now
-    ∙ ap (set (entering_lists lists) n) (items ∙ ap (λ l. l ++ e ∷ []) (sym (list_read lists n was h is)))
+with_behind : (test : Bool) (k : ℕ) (ks js : List ℕ) → number_if test k (ks ++ js) ≡ number_if test k ks ++ js
+with_behind true k ks js = refl
+with_behind false k ks js = refl
 
--- the first edges are where they lead to
-pub record AreFirstEntering (nodes : ℕ) (edges : List Edge) (count : ℕ) (entering : List (List ℕ)) : Type 0 where
-  pub long : length entering ≡ nodes
-  pub all : (e : ℕ) (edge : Edge) → e < count → slice_get edges e ≡ Some edge → Contains (slice_index_or entering edge.to []) e
-  pub only : (n e : ℕ) → Contains (slice_index_or entering n []) e → EntersNode edges e n
+nothing_behind : (ks : List ℕ) → ks ++ [] ≡ ks
+nothing_behind [] = refl
+nothing_behind (k ∷ ks) = ap (λ l. k ∷ l) (nothing_behind ks)
 
-module _ (nodes : ℕ) (edges : List Edge) where
-  pub entering_starts : (entering : List (List ℕ)) → length entering ≡ nodes → ((n : ℕ) → slice_index_or entering n [] ≡ []) →
-      AreFirstEntering nodes edges 0 entering
-  entering_starts entering long empty = record {
-    long = long;
-    all = λ e edge h at. absurd (omega (arith, h));
-    only = λ n e c. let d = subst (λ l. Contains l e) (empty n) c in absurd (omega (arith, d.1));
-  }
+-- those that lead to a node, with one more edge behind the others
+entering_pushed : (k : ℕ) (edges : List Edge) (edge : Edge) (n : ℕ) →
+    entering_from k (edges ++ edge ∷ []) n ≡ entering_from k edges n ++ number_if (nat_eq edge.to n) (k + length edges) []
+entering_pushed k [] edge n = let same : k ≡ k + 0 = omega arith in ap (λ j. number_if (nat_eq edge.to n) j []) same
+entering_pushed k (x ∷ edges) edge n =
+    let same : suc k + length edges ≡ k + suc (length edges) = omega arith in
+    ap (number_if (nat_eq x.to n) k)
+    (entering_pushed (suc k) edges edge n
+    ∙ ap (λ j. entering_from (suc k) edges n ++ number_if (nat_eq edge.to n) j []) same)
+    ∙ with_behind (nat_eq x.to n) k (entering_from (suc k) edges n) (number_if (nat_eq edge.to n) (k + suc (length edges)) [])
 
-  pub entering_more : (count : ℕ) (edge : Edge) (old new : List (List ℕ)) → slice_get edges count ≡ Some edge →
-      edge.to < length old → new ≡ set old edge.to (slice_index_or old edge.to [] ++ count ∷ []) →
-      AreFirstEntering nodes edges count old → AreFirstEntering nodes edges (count + 1) new
-  entering_more count edge old new at within is first = record {
-    long = ap length is ∙ set_long old edge.to (slice_index_or old edge.to [] ++ count ∷ []) ∙ first.long;
-    all = λ e other h there. ⊎_elim (λ l. kept other.to e (first.all e other l there))
-        (λ l. let s : e ≡ count = omega (arith, h, l) in
-        let same = same_there edges count edge other at (ap (slice_get edges) (sym s) ∙ there) in
-        subst (λ m. Contains (slice_index_or new m []) e) (ap (λ (x : Edge). x.to) same)
-        (subst (λ l. Contains l e) (sym here) (subst (λ j. Contains (slice_index_or old edge.to [] ++ count ∷ []) j) (sym s)
-        (Contains-push (slice_index_or old edge.to []) count))))
-        (cases_lt e count);
-    only = λ n e c. ⊎_elim
-        (λ s. ⊎_elim (λ d. first.only n e (subst (λ m. Contains (slice_index_or old m []) e) (sym s) d))
-        (λ k. record { edge = edge; at = ap (slice_get edges) (sym k) ∙ at; to_it = sym s })
-        (Contains-push_cases (slice_index_or old edge.to []) count e
-        (subst (λ l. Contains l e) here (subst (λ m. Contains (slice_index_or new m []) e) s c))))
-        (λ d. first.only n e (subst (λ l. Contains l e) (other_list n d) c)) (same_or_not n edge.to);
-  }
-    where
-      here : slice_index_or new edge.to [] ≡ slice_index_or old edge.to [] ++ count ∷ []
-      here = ap (λ l. slice_index_or l edge.to []) is
-          ∙ get_or-set_same old edge.to (slice_index_or old edge.to [] ++ count ∷ []) [] within
+first_pushed : (edges : List Edge) (edge : Edge) (n : ℕ) →
+    entering_from 0 (edges ++ edge ∷ []) n ≡ entering_from 0 edges n ++ number_if (nat_eq edge.to n) (length edges) []
+first_pushed edges edge n =
+    let same : 0 + length edges ≡ length edges = omega arith in
+    entering_pushed 0 edges edge n ∙ ap (λ j. entering_from 0 edges n ++ number_if (nat_eq edge.to n) j []) same
 
-      other_list : (n : ℕ) → n ≢ edge.to → slice_index_or new n [] ≡ slice_index_or old n []
-      other_list n d = ap (λ l. slice_index_or l n []) is
-          ∙ get_or-set_other old edge.to n (slice_index_or old edge.to [] ++ count ∷ []) [] d
+-- the lists keep the edges up to here
+abbrev pub AreFirstEntering : List Edge → (ℕ → List ℕ) → Type 0
+AreFirstEntering edges lists = (n : ℕ) → lists n ≡ entering_from 0 edges n
 
-      kept : (n e : ℕ) → Contains (slice_index_or old n []) e → Contains (slice_index_or new n []) e
-      kept n e c = ⊎_elim
-          (λ s. subst (λ m. Contains (slice_index_or new m []) e) (sym s) (subst (λ l. Contains l e) (sym here)
-          (Contains-append_left (slice_index_or old edge.to []) (count ∷ []) e (subst (λ m. Contains (slice_index_or old m []) e) s c))))
-          (λ d. subst (λ l. Contains l e) (sym (other_list n d)) c) (same_or_not n edge.to)
+pub none_entered : {S : Type 0} (lists : HashMap ℕ (Vec ℕ Global) S) → IsEmpty lists → AreFirstEntering [] (edges_at lists)
+none_entered lists empty n = ap (λ es. listed_numbers (lookup (nat_eq n) es)) empty
 
-  pub entering_ends : (count : ℕ) (entering : List (List ℕ)) → length edges ≤ count → AreFirstEntering nodes edges count entering →
-      AreEntering nodes edges entering
-  entering_ends count entering h first = record {
-    count = first.long;
-    all = λ e edge at. first.all e edge (omega (arith, h, slice_get_within edges e edge at)) at;
-    only = first.only;
-  }
+pub entering_more : (edges : List Edge) (edge : Edge) (number : ℕ) (old new : ℕ → List ℕ) → number ≡ length edges →
+    AddsEntering edge.to number old new → AreFirstEntering edges old → AreFirstEntering (edges ++ edge ∷ []) new
+entering_more edges edge number old new is adds are n = ⊎_elim
+    (λ yes. ap new (sym yes.1) ∙ adds.here
+    ∙ ap (λ l. l ++ number ∷ []) (ap old yes.1 ∙ are n)
+    ∙ ap (λ j. entering_from 0 edges n ++ j ∷ []) is
+    ∙ ap (λ t. entering_from 0 edges n ++ number_if t (length edges) []) (sym yes.0)
+    ∙ sym (first_pushed edges edge n))
+    (λ no. adds.others n (λ e. no.1 (sym e)) ∙ are n
+    ∙ sym (nothing_behind (entering_from 0 edges n))
+    ∙ ap (λ t. entering_from 0 edges n ++ number_if t (length edges) []) (sym no.0)
+    ∙ sym (first_pushed edges edge n))
+    (eqb_tells edge.to n)
+
+with_there : (test : Bool) (k : ℕ) (ks : List ℕ) (j : ℕ) → Contains ks j → Contains (number_if test k ks) j
+with_there true k ks j c = others_there k j ks c
+with_there false k ks j c = c
+
+with_from : (test : Bool) (k : ℕ) (ks : List ℕ) (j : ℕ) → Contains (number_if test k ks) j → ((test ≡ true) × (k ≡ j)) ⊎ Contains ks j
+with_from true k ks j c = ⊎_elim (λ e. inl (refl, e)) (λ d. inr d) (first_or_other k j ks c)
+with_from false k ks j c = inr c
+
+-- each edge is kept for the node to which it leads
+entering_all : (k : ℕ) (edges : List Edge) (e : ℕ) (edge : Edge) → slice_get edges e ≡ Some edge →
+    Contains (entering_from k edges edge.to) (k + e)
+entering_all k [] e edge at = let no : ⊥ = cc in absurd no
+entering_all k (x ∷ edges) zero edge at =
+    let same : x ≡ edge = cc in
+    let here : k ≡ k + 0 = omega arith in
+    subst (λ j. Contains (number_if (nat_eq x.to edge.to) k (entering_from (suc k) edges edge.to)) j) here
+    (subst (λ t. Contains (number_if t k (entering_from (suc k) edges edge.to)) k)
+    (sym (itself edge.to) ∙ ap (λ (y : Edge). nat_eq y.to edge.to) (sym same))
+    (first_there k (entering_from (suc k) edges edge.to)))
+entering_all k (x ∷ edges) (suc e) edge at =
+    let there : suc k + e ≡ k + suc e = omega arith in
+    with_there (nat_eq x.to edge.to) k (entering_from (suc k) edges edge.to) (k + suc e)
+    (subst (λ j. Contains (entering_from (suc k) edges edge.to) j) there (entering_all (suc k) edges e edge at))
+
+record IsEnteringAt (k : ℕ) (edges : List Edge) (n j : ℕ) : Type 0 where
+  e : ℕ
+  is : j ≡ k + e
+  enters : EntersNode edges e n
+
+-- and no others are
+entering_only : (k : ℕ) (edges : List Edge) (n j : ℕ) → Contains (entering_from k edges n) j → IsEnteringAt k edges n j
+entering_only k [] n j c = absurd (omega (arith, c.1))
+entering_only k (x ∷ edges) n j c = ⊎_elim
+    (λ here. record { e = 0; is = omega (arith, here.1); enters = record { edge = x; at = refl; to_it = is_node x.to n here.0 } })
+    (λ d. let more = entering_only (suc k) edges n j d in record {
+      e = suc more.e;
+      is = omega (arith, more.is);
+      enters = record { edge = more.enters.edge; at = more.enters.at; to_it = more.enters.to_it };
+    })
+    (with_from (nat_eq x.to n) k (entering_from (suc k) edges n) j c)
+
+-- for each node there are the edges that lead to it, and no others
+pub record AreEntering (edges : List Edge) (entering : ℕ → List ℕ) : Type 0 where
+  pub all : (e : ℕ) (edge : Edge) → slice_get edges e ≡ Some edge → Contains (entering edge.to) e
+  pub only : (n e : ℕ) → Contains (entering n) e → EntersNode edges e n
+
+pub are_entering : (edges : List Edge) (lists : ℕ → List ℕ) → AreFirstEntering edges lists → AreEntering edges lists
+are_entering edges lists are = record {
+  all = λ e edge at. let same : 0 + e ≡ e = omega arith in
+      subst (λ l. Contains l e) (sym (are edge.to))
+      (subst (λ j. Contains (entering_from 0 edges edge.to) j) same (entering_all 0 edges e edge at));
+  only = λ n e c. let found = entering_only 0 edges n e (subst (λ l. Contains l e) (are n) c) in
+      let same : found.e ≡ e = omega (arith, found.is) in
+      subst (λ j. EntersNode edges j n) same found.enters;
+}

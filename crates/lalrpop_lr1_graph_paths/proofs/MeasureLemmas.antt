@@ -1,15 +1,25 @@
--- Why the search ends: a node without a path gets one, or an entry is done with.
-use Rattle.std.proofs.Common.{◌≡◌, ℕ, zero, suc, ◌+◌, ◌<◌, List, [], ◌∷◌, length, Option, Some, None, set, arith}
-use Rattle.std.specs.Prelude.{slice_index_or}
-use Rattle.lalrpop_lr1_graph_paths.specs.PathSearches.{path_number_at, search_left}
+-- Why the search ends: the edges to a node that gets a path are done with, and so is each entry.
+use Rattle.std.proofs.Common.{◌≡◌, ◌∙◌, ℕ, suc, ◌+◌, List, [], ◌∷◌, length, Option, None, Bool, true, false, nat_eq}
+use Rattle.std.proofs.Common.{ap, arith, refl}
+use Rattle.lalrpop_lr1_graph_paths.specs.declared.graph.Edge.{Edge}
+use Rattle.lalrpop_lr1_graph_paths.specs.Graphs.{entering_from, number_if}
+use Rattle.lalrpop_lr1_graph_paths.specs.PathSearches.{AddsNumber, left_by, search_left}
+use Rattle.lalrpop_lr1_graph_paths.proofs.EnteringLemmas.{is_node, is_no_node}
 
-pub work_done : (entering : List (List ℕ)) (numbers : List (Option ℕ)) (n k : ℕ) → n < length entering → n < length numbers →
-    path_number_at numbers n ≡ None →
-    search_left entering (set numbers n (Some k)) + suc (length (slice_index_or entering n [])) ≡ search_left entering numbers
-work_done [] numbers n k h l e = absurd (omega arith)
-work_done (es ∷ entering) [] n k h l e = absurd (omega arith)
-work_done (es ∷ entering) (None ∷ numbers) zero k h l e = omega arith
-work_done (es ∷ entering) (Some j ∷ numbers) zero k h l e = let w : ⊥ = cc in absurd w
-work_done (es ∷ entering) (None ∷ numbers) (suc n) k h l e =
-    omega (arith, work_done entering numbers n k (omega arith) (omega arith) e)
-work_done (es ∷ entering) (Some j ∷ numbers) (suc n) k h l e = work_done entering numbers n k (omega arith) (omega arith) e
+module _ (old new : ℕ → Option ℕ) (n k : ℕ) (fresh : old n ≡ None) (adds : AddsNumber old new n k) where
+  one_done : (m : ℕ) (test : Bool) → nat_eq m n ≡ test → (j : ℕ) (js : List ℕ) →
+      left_by (new m) + length (number_if test j js) ≡ left_by (old m) + length js
+  one_done m true is j js =
+      let same = is_node m n is in
+      let was = ap left_by (ap old same ∙ fresh) in
+      let now = ap left_by (ap new same ∙ adds.here) in
+      omega (arith, was, now)
+  one_done m false is j js = let kept = ap left_by (adds.others m (is_no_node m n is)) in omega (arith, kept)
+
+  pub work_done : (from : ℕ) (edges : List Edge) →
+      search_left edges new + length (entering_from from edges n) ≡ search_left edges old
+  work_done from [] = refl
+  work_done from (edge ∷ edges) =
+      let more = work_done (suc from) edges in
+      let one = one_done edge.to (nat_eq edge.to n) refl from (entering_from (suc from) edges n) in
+      omega (arith, more, one)

@@ -12,7 +12,7 @@ use Rattle.lalrpop_lr1_graph_paths.specs.GraphPaths.{HasNoPathToGoal, HasPathToG
 use Rattle.lalrpop_lr1_graph_paths.specs.GraphPaths.{goes_on, path_weight}
 use Rattle.lalrpop_lr1_graph_paths.specs.PathSearches.{BeginsPath, HasNumber, HasPathFrom, IsPathSearch}
 use Rattle.lalrpop_lr1_graph_paths.specs.PathSearches.{IsWaitingFor, IsWeighed, edge_of_step, found_first_edge}
-use Rattle.lalrpop_lr1_graph_paths.specs.PathSearches.{found_weight, path_number_at}
+use Rattle.lalrpop_lr1_graph_paths.specs.PathSearches.{found_weight, path_numbers}
 use Rattle.lalrpop_lr1_graph_paths.proofs.EntryLemmas.{same_there}
 use Rattle.lalrpop_lr1_graph_paths.proofs.NumberLemmas.{never_both}
 
@@ -25,30 +25,30 @@ nothing_behind [] = refl
 nothing_behind (x ∷ es) = ap (λ l. x ∷ l) (nothing_behind es)
 
 -- the weight that was found for a node
-pub weight_none : (paths : GoalPaths) (n : ℕ) → path_number_at paths.table.numbers.items n ≡ None → found_weight paths n ≡ None
+pub weight_none : (paths : GoalPaths) (n : ℕ) → path_numbers paths.table n ≡ None → found_weight paths n ≡ None
 weight_none paths n is =
     ap (λ o. option_map (λ (p : LightPath). p.weight) (option_and_then (slice_get paths.table.paths.items) o)) is
 
-pub weight_found : (paths : GoalPaths) (n k : ℕ) → path_number_at paths.table.numbers.items n ≡ Some k → (path : LightPath) →
+pub weight_found : (paths : GoalPaths) (n k : ℕ) → path_numbers paths.table n ≡ Some k → (path : LightPath) →
     slice_get paths.table.paths.items k ≡ Some path → found_weight paths n ≡ Some path.weight
 weight_found paths n k is path at =
     ap (λ o. option_map (λ (p : LightPath). p.weight) (option_and_then (slice_get paths.table.paths.items) o)) is
     ∙ ap (option_map (λ (p : LightPath). p.weight)) at
 
 -- the edge with which a node's path begins
-pub first_edge_none : (paths : GoalPaths) (n : ℕ) → path_number_at paths.table.numbers.items n ≡ None →
+pub first_edge_none : (paths : GoalPaths) (n : ℕ) → path_numbers paths.table n ≡ None →
     found_first_edge paths n ≡ None
 first_edge_none paths n is =
     ap (λ o. option_and_then (λ (p : LightPath). edge_of_step p.step) (option_and_then (slice_get paths.table.paths.items) o)) is
 
-pub first_edge_found : (paths : GoalPaths) (n k : ℕ) → path_number_at paths.table.numbers.items n ≡ Some k → (path : LightPath) →
+pub first_edge_found : (paths : GoalPaths) (n k : ℕ) → path_numbers paths.table n ≡ Some k → (path : LightPath) →
     slice_get paths.table.paths.items k ≡ Some path → found_first_edge paths n ≡ edge_of_step path.step
 first_edge_found paths n k is path at =
     ap (λ o. option_and_then (λ (p : LightPath). edge_of_step p.step) (option_and_then (slice_get paths.table.paths.items) o)) is
     ∙ ap (option_and_then (λ (p : LightPath). edge_of_step p.step)) at
 
 -- a path from the node begins with some edges, and goes on as the path with the number
-pub record IsOnTheWay (edges : List Edge) (goals : List Goal) (numbers : List (Option ℕ)) (paths : List LightPath) (node : ℕ)
+pub record IsOnTheWay (edges : List Edge) (goals : List Goal) (numbers : ℕ → Option ℕ) (paths : List LightPath) (node : ℕ)
     (weight : ℕ) (es : List ℕ) (k : ℕ) : Type 0 where
   pub now : ℕ
   pub from_now : HasPathFrom edges goals numbers paths now k
@@ -56,7 +56,7 @@ pub record IsOnTheWay (edges : List Edge) (goals : List Goal) (numbers : List (O
   pub weighs : (rest : List ℕ) (g : ℕ) → path_weight edges goals rest g ≡ from_now.path.weight →
       path_weight edges goals (es ++ rest) g ≡ weight
 
-module _ (edges : List Edge) (goals : List Goal) (numbers : List (Option ℕ)) (paths : List LightPath)
+module _ (edges : List Edge) (goals : List Goal) (numbers : ℕ → Option ℕ) (paths : List LightPath)
     (search : IsPathSearch edges goals numbers paths []) where
   none_waits : (n : ℕ) → HasNumber numbers n ⊎ IsWaitingFor [] n → HasNumber numbers n
   none_waits n (inl h) = h
@@ -68,10 +68,10 @@ module _ (edges : List Edge) (goals : List Goal) (numbers : List (Option ℕ)) (
   has_number n es g (goes_on node e edge fs h at is path) =
       subst (λ m. HasNumber numbers m) is (none_waits edge.from (search.edges_met e edge at (has_number edge.to fs h path)))
 
-  pub no_path : (n : ℕ) → path_number_at numbers n ≡ None → HasNoPathToGoal edges goals n
-  no_path n none = λ es g path. let h = has_number n es g path in never_both (path_number_at numbers n) h.number none h.is
+  pub no_path : (n : ℕ) → numbers n ≡ None → HasNoPathToGoal edges goals n
+  no_path n none = λ es g path. let h = has_number n es g path in never_both (numbers n) h.number none h.is
 
-  pub way_starts : (n k : ℕ) (is : path_number_at numbers n ≡ Some k) →
+  pub way_starts : (n k : ℕ) (is : numbers n ≡ Some k) →
       IsOnTheWay edges goals numbers paths n (search.found n k is).path.weight [] k
   way_starts n k is = record { now = n; from_now = search.found n k is; whole = λ rest g path. path; weighs = λ rest g e. e }
 
@@ -115,14 +115,14 @@ module _ (edges : List Edge) (goals : List Goal) (numbers : List (Option ℕ)) (
         )
 
   -- each path that was found is one
-  pub path_there : (bound n k : ℕ) → k < bound → path_number_at numbers n ≡ Some k → HasPathToGoal edges goals n
+  pub path_there : (bound n k : ℕ) → k < bound → numbers n ≡ Some k → HasPathToGoal edges goals n
   path_there zero n k h is = absurd (omega arith)
   path_there (suc bound) n k h is =
       let p = search.found n k is in
       begins_there bound n k h p.path.step p.begins (λ m j l i. path_there bound m j l i)
     where
       begins_there : (bound n k : ℕ) → k < suc bound → (step : PathStep) → BeginsPath edges goals numbers n k step →
-          ((m j : ℕ) → j < bound → path_number_at numbers m ≡ Some j → HasPathToGoal edges goals m) → HasPathToGoal edges goals n
+          ((m j : ℕ) → j < bound → numbers m ≡ Some j → HasPathToGoal edges goals m) → HasPathToGoal edges goals n
       begins_there bound n k h (AtGoal g) b below =
           record { edges_of = []; goal = g; is = ends n g b.goal b.at b.node }
       begins_there bound n k h (OverEdge e rest) b below =

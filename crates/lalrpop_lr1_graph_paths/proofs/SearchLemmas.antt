@@ -1,7 +1,6 @@
 -- The search for paths, entry after entry: for its loop.
-use Rattle.std.proofs.Common.{◌≡◌, ◌∙◌, ℕ, zero, suc, ◌<◌, ◌≤◌, List, [], ◌∷◌, ◌++◌, length, Contains, IsPermutation}
-use Rattle.std.proofs.Common.{Option, Some, None, set, ◌⊎◌, inl, inr, ⊎_elim, refl, sym, ap, subst, arith, slice_get, length-append}
-use Rattle.std.specs.Prelude.{slice_index_or}
+use Rattle.std.proofs.Common.{◌≡◌, ◌∙◌, ℕ, zero, suc, ◌≤◌, List, [], ◌∷◌, ◌++◌, length, Contains, IsPermutation}
+use Rattle.std.proofs.Common.{Option, Some, None, ◌⊎◌, inl, inr, ⊎_elim, refl, sym, ap, subst, arith, slice_get, length-append}
 use Rattle.std.proofs.lemmas.List.Sorted.{Contains-permutation, IsPermutation-sym}
 use Rattle.std.specs.declared.cmp.Reverse.{Reverse}
 use Rattle.lalrpop_lr1_graph_paths.specs.declared.graph.Edge.{Edge}
@@ -10,13 +9,12 @@ use Rattle.lalrpop_lr1_graph_paths.specs.declared.path_table.LightPath.{LightPat
 use Rattle.lalrpop_lr1_graph_paths.specs.declared.path_table.PathStep.{PathStep}
 use Rattle.lalrpop_lr1_graph_paths.specs.declared.path_table.PathStep.TheVariants.{AtGoal, OverEdge}
 use Rattle.lalrpop_lr1_graph_paths.specs.declared.waiting.Entry.{Entry}
-use Rattle.lalrpop_lr1_graph_paths.specs.GraphPaths.{EdgesAreBelow, GoalsAreBelow}
-use Rattle.lalrpop_lr1_graph_paths.specs.Graphs.{AreEntering}
-use Rattle.lalrpop_lr1_graph_paths.specs.PathSearches.{AddsEdges, AreGoalEntries, BeginsPath, HasNumber, HasPathFrom}
-use Rattle.lalrpop_lr1_graph_paths.specs.PathSearches.{IsEdgeEntry, IsPathSearch, IsWeighed, IsWaitingFor, path_number_at}
+use Rattle.lalrpop_lr1_graph_paths.specs.PathSearches.{AddsEdges, AddsNumber, AreGoalEntries, BeginsPath, HasNumber, HasPathFrom}
+use Rattle.lalrpop_lr1_graph_paths.specs.PathSearches.{IsEdgeEntry, IsPathSearch, IsWeighed, IsWaitingFor}
+use Rattle.lalrpop_lr1_graph_paths.proofs.EnteringLemmas.{AreEntering}
 use Rattle.lalrpop_lr1_graph_paths.proofs.EntryLemmas.{same_there, still_waits}
 use Rattle.lalrpop_lr1_graph_paths.proofs.HeapLemmas.{first_or_other, first_there, others_there}
-use Rattle.lalrpop_lr1_graph_paths.proofs.NumberLemmas.{never_both, number_from, number_here, number_kept}
+use Rattle.lalrpop_lr1_graph_paths.proofs.NumberLemmas.{never_both, number_from, number_kept}
 
 -- a path that was pushed is there, and the others are where they were
 last_there : (paths : List LightPath) (path : LightPath) → slice_get (paths ++ path ∷ []) (length paths) ≡ Some path
@@ -30,17 +28,9 @@ others_stay (y ∷ paths) path zero x e = e
 others_stay (y ∷ paths) path (suc k) x e = others_stay paths path k x e
 
 module _ (edges : List Edge) (goals : List Goal) where
-  -- a path begins at a node of the graph
-  pub begins_below : (nodes : ℕ) → EdgesAreBelow nodes edges → GoalsAreBelow nodes goals → (numbers : List (Option ℕ))
-      (n bound : ℕ) (step : PathStep) → BeginsPath edges goals numbers n bound step → n < nodes
-  begins_below nodes edges_below goals_below numbers n bound (AtGoal g) b =
-      let h = goals_below g b.goal b.at in omega (arith, h, b.node)
-  begins_below nodes edges_below goals_below numbers n bound (OverEdge e rest) b =
-      let h = edges_below e b.edge b.at in omega (arith, h.0, b.from_it)
-
   -- where more nodes have paths, a path can begin as before
-  begins_still : (old new : List (Option ℕ)) (low high : ℕ) → low ≤ high →
-      ((m j : ℕ) → path_number_at old m ≡ Some j → path_number_at new m ≡ Some j) → (n : ℕ) (step : PathStep) →
+  begins_still : (old new : ℕ → Option ℕ) (low high : ℕ) → low ≤ high →
+      ((m j : ℕ) → old m ≡ Some j → new m ≡ Some j) → (n : ℕ) (step : PathStep) →
       BeginsPath edges goals old n low step → BeginsPath edges goals new n high step
   begins_still old new low high h kept n (AtGoal g) b = b
   begins_still old new low high h kept n (OverEdge e rest) b = record {
@@ -61,20 +51,20 @@ module _ (edges : List Edge) (goals : List Goal) where
     is = w.is;
   }
 
-  pub search_starts : (numbers : List (Option ℕ)) (paths : List LightPath) (waiting : List (Reverse Entry)) →
-      ((n : ℕ) → path_number_at numbers n ≡ None) → AreGoalEntries goals waiting → IsPathSearch edges goals numbers paths waiting
+  pub search_starts : (numbers : ℕ → Option ℕ) (paths : List LightPath) (waiting : List (Reverse Entry)) →
+      ((n : ℕ) → numbers n ≡ None) → AreGoalEntries goals waiting → IsPathSearch edges goals numbers paths waiting
   search_starts numbers paths waiting none are = record {
-    found = λ n k is. absurd (never_both (path_number_at numbers n) k (none n) is);
+    found = λ n k is. absurd (never_both (numbers n) k (none n) is);
     waits = λ entry c. let is = are.only entry c in
         subst (λ s. BeginsPath edges goals numbers entry.0.node (length paths) s) (sym is.step) is.ends_at;
     waits_weighed = λ entry c. let is = are.only entry c in
         subst (λ s. IsWeighed edges goals paths entry.0.path.weight s) (sym is.step) is.weight;
     goals_met = λ g goal at. inr (are.all g goal at);
-    edges_met = λ e edge at has. absurd (never_both (path_number_at numbers edge.to) has.number (none edge.to) has.is);
+    edges_met = λ e edge at has. absurd (never_both (numbers edge.to) has.number (none edge.to) has.is);
   }
 
   -- the order of the entries is nothing to the search
-  pub search_reordered : (numbers : List (Option ℕ)) (paths : List LightPath) (old new : List (Reverse Entry)) →
+  pub search_reordered : (numbers : ℕ → Option ℕ) (paths : List LightPath) (old new : List (Reverse Entry)) →
       IsPermutation old new → IsPathSearch edges goals numbers paths old → IsPathSearch edges goals numbers paths new
   search_reordered numbers paths old new moved search = record {
     found = search.found;
@@ -98,7 +88,7 @@ module _ (edges : List Edge) (goals : List Goal) where
       (λ c. inr (record { entry = w.entry; has = c; node = w.node })) (first_or_other entry w.entry waiting w.has)
 
   -- an entry whose node has a path is let go
-  pub search_passes : (numbers : List (Option ℕ)) (paths : List LightPath) (entry : Reverse Entry)
+  pub search_passes : (numbers : ℕ → Option ℕ) (paths : List LightPath) (entry : Reverse Entry)
       (waiting : List (Reverse Entry)) → IsPathSearch edges goals numbers paths (entry ∷ waiting) → HasNumber numbers entry.0.node →
       IsPathSearch edges goals numbers paths waiting
   search_passes numbers paths entry waiting search has = record {
@@ -113,17 +103,14 @@ module _ (edges : List Edge) (goals : List Goal) where
       met n w = ⊎_elim (λ e. inl (subst (λ m. HasNumber numbers m) e has)) (λ c. inr c) (waits_first entry waiting n w)
 
   -- an entry's path becomes its node's
-  module _ (nodes : ℕ) (entering : List (List ℕ)) (are : AreEntering nodes edges entering) (old new : List (Option ℕ))
+  module _ (entering : ℕ → List ℕ) (are : AreEntering edges entering) (old new : ℕ → Option ℕ)
       (paths more : List LightPath) (entry : Reverse Entry) (waited waiting : List (Reverse Entry))
-      (search : IsPathSearch edges goals old paths (entry ∷ waited)) (fresh : path_number_at old entry.0.node ≡ None)
-      (within : entry.0.node < length old) (numbers_are : new ≡ set old entry.0.node (Some (length paths)))
+      (search : IsPathSearch edges goals old paths (entry ∷ waited)) (fresh : old entry.0.node ≡ None)
+      (number : AddsNumber old new entry.0.node (length paths))
       (paths_are : more ≡ paths ++ entry.0.path ∷ [])
-      (adds : AddsEdges edges (slice_index_or entering entry.0.node []) (length paths) entry.0.path.weight waited waiting) where
-    kept : (m j : ℕ) → path_number_at old m ≡ Some j → path_number_at new m ≡ Some j
-    kept m j is = ap (λ l. path_number_at l m) numbers_are ∙ number_kept old entry.0.node (length paths) fresh within m j is
-
-    here : path_number_at new entry.0.node ≡ Some (length paths)
-    here = ap (λ l. path_number_at l entry.0.node) numbers_are ∙ number_here old entry.0.node (length paths) fresh within
+      (adds : AddsEdges edges (entering entry.0.node) (length paths) entry.0.path.weight waited waiting) where
+    kept : (m j : ℕ) → old m ≡ Some j → new m ≡ Some j
+    kept m j is = number_kept old new entry.0.node (length paths) fresh number m j is
 
     longer : length more ≡ suc (length paths)
     longer = omega (arith, ap length paths_are, length-append paths (entry.0.path ∷ []))
@@ -132,7 +119,7 @@ module _ (edges : List Edge) (goals : List Goal) where
     still weight step w = subst (λ l. IsWeighed edges goals l weight step) (sym paths_are)
         (weighed_still paths entry.0.path weight step w)
 
-    found : (n k : ℕ) → path_number_at new n ≡ Some k → HasPathFrom edges goals new more n k
+    found : (n k : ℕ) → new n ≡ Some k → HasPathFrom edges goals new more n k
     found n k is = ⊎_elim
         (λ e. subst (λ m. HasPathFrom edges goals new more m k) (sym e.0) (subst (λ j. HasPathFrom edges goals new more entry.0.node j)
         (sym e.1) (record {
@@ -148,10 +135,10 @@ module _ (edges : List Edge) (goals : List Goal) where
           begins = begins_still old new k k (omega arith) kept n p.path.step p.begins;
           weighed = still p.path.weight p.path.step p.weighed;
         })
-        (number_from old entry.0.node (length paths) fresh within n k (sym (ap (λ l. path_number_at l n) numbers_are) ∙ is))
+        (number_from old new entry.0.node (length paths) fresh number n k is)
 
     weighs_here : (other : Entry) →
-        IsEdgeEntry edges (slice_index_or entering entry.0.node []) (length paths) entry.0.path.weight other →
+        IsEdgeEntry edges (entering entry.0.node) (length paths) entry.0.path.weight other →
         IsWeighed edges goals more other.path.weight other.path.step
     weighs_here other is = subst (λ s. IsWeighed edges goals more other.path.weight s) (sym is.step) (record {
       path = entry.0.path;
@@ -160,7 +147,7 @@ module _ (edges : List Edge) (goals : List Goal) where
     })
 
     goes_here : (other : Entry) →
-        IsEdgeEntry edges (slice_index_or entering entry.0.node []) (length paths) entry.0.path.weight other →
+        IsEdgeEntry edges (entering entry.0.node) (length paths) entry.0.path.weight other →
         BeginsPath edges goals new other.node (length more) other.path.step
     goes_here other is =
         let enters = are.only entry.0.node is.number is.has in
@@ -170,13 +157,13 @@ module _ (edges : List Edge) (goals : List Goal) where
           edge = is.edge;
           at = is.at;
           from_it = is.from_it;
-          is = ap (path_number_at new) to_it ∙ here;
+          is = ap new to_it ∙ number.here;
           earlier = omega (arith, longer);
         })
 
     met : (n : ℕ) → HasNumber old n ⊎ IsWaitingFor (entry ∷ waited) n → HasNumber new n ⊎ IsWaitingFor waiting n
     met n (inl h) = inl (record { number = h.number; is = kept n h.number h.is })
-    met n (inr w) = ⊎_elim (λ e. inl (record { number = length paths; is = ap (path_number_at new) (sym e) ∙ here }))
+    met n (inr w) = ⊎_elim (λ e. inl (record { number = length paths; is = ap new (sym e) ∙ number.here }))
         (λ c. inr (still_waits waited waiting adds.kept n c)) (waits_first entry waited n w)
 
     pub search_keeps : IsPathSearch edges goals new more waiting
@@ -191,8 +178,7 @@ module _ (edges : List Edge) (goals : List Goal) where
           (λ is. weighs_here other.0 is) (adds.only other c);
       goals_met = λ g goal at. met goal.node (search.goals_met g goal at);
       edges_met = λ e edge at has. ⊎_elim
-          (λ h. inr (adds.added e edge (subst (λ m. Contains (slice_index_or entering m []) e) h.0 (are.all e edge at)) at))
+          (λ h. inr (adds.added e edge (subst (λ m. Contains (entering m) e) h.0 (are.all e edge at)) at))
           (λ was. met edge.from (search.edges_met e edge at (record { number = has.number; is = was })))
-          (number_from old entry.0.node (length paths) fresh within edge.to has.number
-          (sym (ap (λ l. path_number_at l edge.to) numbers_are) ∙ has.is));
+          (number_from old new entry.0.node (length paths) fresh number edge.to has.number has.is);
     }

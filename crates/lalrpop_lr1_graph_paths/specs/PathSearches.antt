@@ -1,6 +1,6 @@
 -- The search for paths: which it has found, which wait to be looked at, and what is still to be done.
-use Rattle.std.specs.Prelude.{ℕ, suc, ◌+◌, ◌<◌, List, [], ◌∷◌, ◌++◌, length, ◌≡◌, ◌⊎◌, Option, Some, None, Contains, set}
-use Rattle.std.specs.Prelude.{slice_get, slice_index_or}
+use Rattle.std.specs.Prelude.{ℕ, ◌+◌, ◌<◌, List, [], ◌∷◌, ◌++◌, length, ◌≡◌, ◌≢◌, ◌⊎◌, Option, Some, None, Contains, nat_eq, slice_get}
+use Rattle.std.specs.HashMap.{get}
 use Rattle.std.specs.Option.{option_and_then, option_map}
 use Rattle.std.specs.declared.cmp.Reverse.{Reverse}
 use Rattle.lalrpop_lr1_graph_paths.specs.declared.graph.Edge.{Edge}
@@ -14,13 +14,19 @@ use Rattle.lalrpop_lr1_graph_paths.specs.declared.paths.GoalPaths.{GoalPaths}
 use Rattle.lalrpop_lr1_graph_paths.specs.GraphPaths.{capped_sum, edge_weight, goal_weight}
 use Rattle.lalrpop_lr1_graph_paths.specs.Graphs.{graph_edges}
 
--- the node has a path, and it has this number
-abbrev pub path_number_at : List (Option ℕ) → ℕ → Option ℕ
-path_number_at numbers n = slice_index_or numbers n None
+-- the number of the path that a node has
+abbrev pub path_numbers : PathTable → ℕ → Option ℕ
+path_numbers table n = get nat_eq table.numbers n
 
-pub record HasNumber (numbers : List (Option ℕ)) (n : ℕ) : Type 0 where
+-- the node has a path
+pub record HasNumber (numbers : ℕ → Option ℕ) (n : ℕ) : Type 0 where
   pub number : ℕ
-  pub is : path_number_at numbers n ≡ Some number
+  pub is : numbers n ≡ Some number
+
+-- the path with the number became the node's, and the other nodes keep theirs
+pub record AddsNumber (old new : ℕ → Option ℕ) (n k : ℕ) : Type 0 where
+  pub here : new n ≡ Some k
+  pub others : (m : ℕ) → m ≢ n → new m ≡ old m
 
 -- the goal with the number is at the node
 pub record EndsAtGoal (goals : List Goal) (n g : ℕ) : Type 0 where
@@ -29,15 +35,15 @@ pub record EndsAtGoal (goals : List Goal) (n g : ℕ) : Type 0 where
   pub node : goal.node ≡ n
 
 -- the edge with the number leads from the node to one whose path has this number, below a bound
-pub record GoesOver (edges : List Edge) (numbers : List (Option ℕ)) (n bound e rest : ℕ) : Type 0 where
+pub record GoesOver (edges : List Edge) (numbers : ℕ → Option ℕ) (n bound e rest : ℕ) : Type 0 where
   pub edge : Edge
   pub at : slice_get edges e ≡ Some edge
   pub from_it : edge.from ≡ n
-  pub is : path_number_at numbers edge.to ≡ Some rest
+  pub is : numbers edge.to ≡ Some rest
   pub earlier : rest < bound
 
 -- a path from the node can begin so
-abbrev pub BeginsPath : List Edge → List Goal → List (Option ℕ) → ℕ → ℕ → PathStep → Type 0
+abbrev pub BeginsPath : List Edge → List Goal → (ℕ → Option ℕ) → ℕ → ℕ → PathStep → Type 0
 BeginsPath edges goals numbers n bound (AtGoal g) = EndsAtGoal goals n g
 BeginsPath edges goals numbers n bound (OverEdge e rest) = GoesOver edges numbers n bound e rest
 
@@ -52,7 +58,7 @@ IsWeighed edges goals paths weight (AtGoal g) = weight ≡ goal_weight (slice_ge
 IsWeighed edges goals paths weight (OverEdge e rest) = WeighsMore edges paths weight e rest
 
 -- the path with the number begins at the node
-pub record HasPathFrom (edges : List Edge) (goals : List Goal) (numbers : List (Option ℕ)) (paths : List LightPath) (n k : ℕ) :
+pub record HasPathFrom (edges : List Edge) (goals : List Goal) (numbers : ℕ → Option ℕ) (paths : List LightPath) (n k : ℕ) :
     Type 0 where
   pub path : LightPath
   pub at : slice_get paths k ≡ Some path
@@ -67,9 +73,9 @@ pub record IsWaitingFor (waiting : List (Reverse Entry)) (n : ℕ) : Type 0 wher
 
 -- The search: paths that were found or wait begin rightly; and each node at a goal, or from which an edge leads to one that has a path,
 -- has a path or an entry.
-pub record IsPathSearch (edges : List Edge) (goals : List Goal) (numbers : List (Option ℕ)) (paths : List LightPath)
+pub record IsPathSearch (edges : List Edge) (goals : List Goal) (numbers : ℕ → Option ℕ) (paths : List LightPath)
     (waiting : List (Reverse Entry)) : Type 0 where
-  pub found : (n k : ℕ) → path_number_at numbers n ≡ Some k → HasPathFrom edges goals numbers paths n k
+  pub found : (n k : ℕ) → numbers n ≡ Some k → HasPathFrom edges goals numbers paths n k
   pub waits : (entry : Reverse Entry) → Contains waiting entry →
       BeginsPath edges goals numbers entry.0.node (length paths) entry.0.path.step
   pub waits_weighed : (entry : Reverse Entry) → Contains waiting entry →
@@ -82,12 +88,12 @@ pub record IsPathSearch (edges : List Edge) (goals : List Goal) (numbers : List 
 -- the search's end: nothing waits
 abbrev pub AreGoalPaths : GoalPaths → Type 0
 AreGoalPaths paths =
-    IsPathSearch (graph_edges paths.graph.now) paths.goals.now paths.table.numbers.items paths.table.paths.items []
+    IsPathSearch (graph_edges paths.graph.now) paths.goals.now (path_numbers paths.table) paths.table.paths.items []
 
 -- what the path from the node weighs; none where it has none
 abbrev pub found_weight : GoalPaths → ℕ → Option ℕ
 found_weight paths n =
-    option_map (λ path. path.weight) (option_and_then (slice_get paths.table.paths.items) (path_number_at paths.table.numbers.items n))
+    option_map (λ path. path.weight) (option_and_then (slice_get paths.table.paths.items) (path_numbers paths.table n))
 
 -- the edge with which the path from the node begins; none where it ends at once, and where the node has none
 abbrev pub edge_of_step : PathStep → Option ℕ
@@ -96,7 +102,7 @@ edge_of_step (OverEdge e rest) = Some e
 
 abbrev pub found_first_edge : GoalPaths → ℕ → Option ℕ
 found_first_edge paths n = option_and_then (λ path. edge_of_step path.step)
-    (option_and_then (slice_get paths.table.paths.items) (path_number_at paths.table.numbers.items n))
+    (option_and_then (slice_get paths.table.paths.items) (path_numbers paths.table n))
 
 -- the entry's path ends at once
 pub record IsGoalEntry (goals : List Goal) (entry : Entry) : Type 0 where
@@ -128,22 +134,24 @@ pub record AddsEdges (edges : List Edge) (entering : List ℕ) (rest rest_weight
   pub count : length new ≡ length old + length entering
 
 -- the entry's path became its node's, and entries for the edges that lead to the node were added
-pub record KeepsPath (edges : List Edge) (entering : List (List ℕ)) (entry : Entry) (old new : PathTable)
+pub record KeepsPath (edges : List Edge) (entering : ℕ → List ℕ) (entry : Entry) (old new : PathTable)
     (waited waiting : List (Reverse Entry)) : Type 0 where
-  pub fresh : path_number_at old.numbers.items entry.node ≡ None
-  pub numbers : new.numbers.items ≡ set old.numbers.items entry.node (Some (length old.paths.items))
+  pub fresh : path_numbers old entry.node ≡ None
+  pub number : AddsNumber (path_numbers old) (path_numbers new) entry.node (length old.paths.items)
   pub paths : new.paths.items ≡ old.paths.items ++ entry.path ∷ []
-  pub adds : AddsEdges edges (slice_index_or entering entry.node []) (length old.paths.items) entry.path.weight waited waiting
+  pub adds : AddsEdges edges (entering entry.node) (length old.paths.items) entry.path.weight waited waiting
 
 -- the entry's node has a path already
 pub record PassesPath (entry : Entry) (old new : PathTable) (waited waiting : List (Reverse Entry)) : Type 0 where
-  pub there : HasNumber old.numbers.items entry.node
+  pub there : HasNumber (path_numbers old) entry.node
   pub same : new ≡ old
   pub waiting_same : waiting ≡ waited
 
--- how much is still to be done: for each node without a path itself, and the edges that lead to it
-abbrev pub search_left : List (List ℕ) → List (Option ℕ) → ℕ
+-- how much is still to be done: one for each edge that leads to a node without a path
+abbrev pub left_by : Option ℕ → ℕ
+left_by None = 1
+left_by (Some k) = 0
+
+abbrev pub search_left : List Edge → (ℕ → Option ℕ) → ℕ
 search_left [] numbers = 0
-search_left (es ∷ entering) [] = 0
-search_left (es ∷ entering) (None ∷ numbers) = suc (length es) + search_left entering numbers
-search_left (es ∷ entering) (Some k ∷ numbers) = search_left entering numbers
+search_left (edge ∷ edges) numbers = left_by (numbers edge.to) + search_left edges numbers

@@ -1,10 +1,11 @@
 //! Directed graphs whose edges have weights.
 
-ghost use Rattle.std.specs.Prelude.{◌≡◌, ℕ, [], IfOk, length, slice_index_or};
-ghost use Rattle.lalrpop_lr1_graph_paths.specs.Graphs.{AreEntering, IsGraph, entering_lists, graph_edges, graph_node_count};
+ghost use Rattle.std.specs.Prelude.{◌≡◌, ℕ, IfOk, OnOk};
+ghost use Rattle.lalrpop_lr1_graph_paths.specs.Graphs.{AddsEntering, IsGraph, edges_at, entering_from, graph_edges, graph_node_count};
 ghost use Rattle.lalrpop_lr1_graph_paths.specs.GraphPaths.{EdgesAreBelow};
 
 use std::alloc::{AllocError, Global};
+use std::collections::HashMap;
 
 /// An edge: it leads from a node to a node.
 #[derive(Clone, Copy)]
@@ -26,39 +27,43 @@ pub struct Goal {
     pub weight: u64,
 }
 
-/// A directed graph. Its nodes are the numbers below a count.
+/// A directed graph. Its nodes are the numbers below a count; those from which no edge leads, and to which none does, take no memory.
 #[derive(Drop)]
 pub struct Graph {
+    // How many nodes there are.
+    pub(crate) nodes: usize,
     // The edges.
     pub(crate) edges: Vec<Edge>,
-    // For each node the numbers of the edges that lead to it.
-    pub(crate) entering: Vec<Vec<usize>>,
+    // For each node to which edges lead, their numbers.
+    pub(crate) entering: HashMap<usize, Vec<usize>>,
 }
 
-/// As many empty lists.
-fn empty_lists(alloc: Global, count: usize) -> Result<Vec<Vec<usize>>, AllocError>
-    ensures count { IfOk result (λ lists. length lists.items ≡ count) }
-    ensures empty { IfOk result (λ lists. (k : ℕ) → slice_index_or (entering_lists lists.items) k [] ≡ []) }
-{
-    let mut lists = Vec::new(alloc);
-    for _ in 0..count {
-        lists.push(Vec::new(alloc))?;
-    }
-    Ok(lists)
-}
-
-/// For each node below the count, the numbers of the edges that lead to it.
-fn entering_edges(
+/// Adds the edge to those that lead to the node.
+fn add_entering(
     alloc: Global,
-    nodes: usize,
-    edges: &[Edge],
-) -> Result<Vec<Vec<usize>>, AllocError>
-    requires { EdgesAreBelow nodes edges.now }
-    ensures { IfOk result (λ lists. AreEntering nodes edges.now (entering_lists lists.items)) }
+    lists: &mut HashMap<usize, Vec<usize>>,
+    node: usize,
+    number: usize,
+) -> Result<(), AllocError>
+    ensures { OnOk result (AddsEntering node number (edges_at lists.old) (edges_at lists.new)) }
 {
-    let mut lists = empty_lists(alloc, nodes)?;
+    if let Some(list) = lists.get_mut(&node) {
+        list.push(number)?;
+        return Ok(());
+    }
+    let mut list = Vec::new(alloc);
+    list.push(number)?;
+    lists.insert(node, list)?;
+    Ok(())
+}
+
+/// For each node to which edges lead, their numbers.
+fn entering_edges(alloc: Global, edges: &[Edge]) -> Result<HashMap<usize, Vec<usize>>, AllocError>
+    ensures { IfOk result (λ lists. (n : ℕ) → edges_at lists n ≡ entering_from 0 edges.now n) }
+{
+    let mut lists = HashMap::new(alloc);
     for number in 0..edges.len() {
-        lists[edges[number].to].push(number)?;
+        add_entering(alloc, &mut lists, edges[number].to, number)?;
     }
     Ok(lists)
 }
@@ -75,15 +80,29 @@ impl Graph {
         ensures edges { IfOk result (λ graph. graph_edges graph ≡ edges.items) }
         ensures nodes { IfOk result (λ graph. graph_node_count graph ≡ nodes) }
     {
-        let entering = entering_edges(alloc, nodes, edges.as_slice())?;
-        Ok(Graph { edges, entering })
+        let entering = entering_edges(alloc, edges.as_slice())?;
+        Ok(Graph {
+            nodes,
+            edges,
+            entering,
+        })
+    }
+
+    /// The numbers of the edges that lead to the node.
+    pub(crate) fn entering(&self, node: usize) -> &[usize]
+        ensures { result.now ≡ edges_at self.now.entering node }
+    {
+        match self.entering.get(&node) {
+            Some(list) => list.as_slice(),
+            None => &[],
+        }
     }
 
     /// How many nodes it has.
     pub fn node_count(&self) -> usize
         ensures { result ≡ graph_node_count self.now }
     {
-        self.entering.len()
+        self.nodes
     }
 
     /// Its edges.

@@ -1,8 +1,10 @@
 //! The paths that a search has found.
 
-ghost use Rattle.std.specs.Prelude.{◌≡◌, ℕ, None, IfOk, length, slice_index_or};
+ghost use Rattle.std.specs.Prelude.{◌≡◌, ◌∷◌, ◌++◌, [], ℕ, None, OnOk, length};
+ghost use Rattle.lalrpop_lr1_graph_paths.specs.PathSearches.{AddsNumber, path_numbers};
 
 use std::alloc::{AllocError, Global};
+use std::collections::HashMap;
 
 /// How a path begins.
 #[derive(Clone, Copy, PartialEq, Eq, PartialOrd, Ord)]
@@ -30,26 +32,38 @@ pub(crate) struct LightPath {
 /// Lightest paths, no more than one from each node.
 #[derive(Drop)]
 pub(crate) struct PathTable {
-    // For each node the number of the path from it.
-    pub(crate) numbers: Vec<Option<usize>>,
+    // For each node from which a path was found, its number.
+    pub(crate) numbers: HashMap<usize, usize>,
     // The paths, in the order in which they were found. So a path's rest has a smaller number than the path.
     pub(crate) paths: Vec<LightPath>,
 }
 
 impl PathTable {
-    /// The table in which none of so many nodes has a path.
-    pub(crate) fn new(alloc: Global, nodes: usize) -> Result<PathTable, AllocError>
-        ensures count { IfOk result (λ table. length table.numbers.items ≡ nodes) }
-        ensures none { IfOk result (λ table. (n : ℕ) → slice_index_or table.numbers.items n None ≡ None) }
-        ensures empty { IfOk result (λ table. length table.paths.items ≡ 0) }
+    /// The table in which no node has a path.
+    pub(crate) fn new(alloc: Global) -> PathTable
+        ensures none { (n : ℕ) → path_numbers result n ≡ None }
+        ensures empty { length result.paths.items ≡ 0 }
     {
-        let mut numbers = Vec::new(alloc);
-        for _ in 0..nodes {
-            numbers.push(None)?;
-        }
-        Ok(PathTable {
-            numbers,
+        PathTable {
+            numbers: HashMap::new(alloc),
             paths: Vec::new(alloc),
-        })
+        }
+    }
+
+    /// The number of the path from the node; none where it has none.
+    pub(crate) fn number_of(&self, node: usize) -> Option<usize>
+        ensures { result ≡ path_numbers self.now node }
+    {
+        self.numbers.get(&node).copied()
+    }
+
+    /// Keeps the path as its node's, which had none.
+    pub(crate) fn keep(&mut self, node: usize, path: LightPath) -> Result<(), AllocError>
+        ensures number { OnOk result (AddsNumber (path_numbers self.old) (path_numbers self.new) node (length self.old.paths.items)) }
+        ensures paths { OnOk result (self.new.paths.items ≡ self.old.paths.items ++ path ∷ []) }
+    {
+        self.numbers.insert(node, self.paths.len())?;
+        self.paths.push(path)?;
+        Ok(())
     }
 }

@@ -1,16 +1,16 @@
 //! Light paths of a graph.
 
-ghost use Rattle.std.specs.Prelude.{◌≡◌, ◌<◌, ◌⊎◌, IfOk, OnOk, length};
+ghost use Rattle.std.specs.Prelude.{◌≡◌, ◌⊎◌, IfOk, OnOk};
 ghost use Rattle.std.specs.BinaryHeap.{heap_items};
 ghost use Rattle.lalrpop_lr1_graph_paths.specs.GraphPaths.{GoalsAreBelow, HasPathIfSome, IsPathIfSome, weight_if_some};
-ghost use Rattle.lalrpop_lr1_graph_paths.specs.Graphs.{IsGraph, entering_lists, graph_edges, graph_node_count};
+ghost use Rattle.lalrpop_lr1_graph_paths.specs.Graphs.{IsGraph, edges_at, graph_edges, graph_node_count};
 ghost use Rattle.lalrpop_lr1_graph_paths.specs.PathSearches.{
   AreGoalPaths,
   KeepsPath,
   PassesPath,
   found_first_edge,
   found_weight,
-  path_number_at,
+  path_numbers,
 };
 
 use crate::graph::{Goal, Graph};
@@ -50,23 +50,20 @@ fn settle(
     waiting: &mut BinaryHeap<Reverse<Entry>>,
     entry: Entry,
 ) -> Result<(), AllocError>
-    requires node { entry.node < length table.old.numbers.items }
-    requires count { length table.old.numbers.items ≡ graph_node_count graph.now }
-    requires graph { IsGraph graph.now }
+    requires { IsGraph graph.now }
     ensures { OnOk result (PassesPath entry table.old table.new (heap_items waiting.old) (heap_items waiting.new)
-        ⊎ KeepsPath (graph_edges graph.now) (entering_lists graph.now.entering.items) entry table.old table.new
+        ⊎ KeepsPath (graph_edges graph.now) (edges_at graph.now.entering) entry table.old table.new
         (heap_items waiting.old) (heap_items waiting.new)) }
 {
-    if table.numbers[entry.node].is_some() {
+    if table.number_of(entry.node).is_some() {
         return Ok(());
     }
     let number = table.paths.len();
-    table.numbers[entry.node] = Some(number);
-    table.paths.push(entry.path)?;
+    table.keep(entry.node, entry.path)?;
     push_edges(
         waiting,
         graph.edges.as_slice(),
-        graph.entering[entry.node].as_slice(),
+        graph.entering(entry.node),
         number,
         entry.path.weight,
     )
@@ -89,7 +86,7 @@ impl Graph {
         ensures graph { IfOk result (λ paths. paths.graph.now ≡ self.now) }
         ensures goals { IfOk result (λ paths. paths.goals.now ≡ goals.now) }
     {
-        let mut table = PathTable::new(alloc, self.node_count())?;
+        let mut table = PathTable::new(alloc);
         let mut waiting = goal_entries(alloc, goals)?;
         while let Some(Reverse(entry)) = waiting.pop() {
             settle(self, &mut table, &mut waiting, entry)?;
@@ -105,9 +102,9 @@ impl Graph {
 impl GoalPaths<'_> {
     /// The number of the path from the node; none where there is no path.
     fn number_of(&self, node: usize) -> Option<usize>
-        ensures { result ≡ path_number_at self.now.table.numbers.items node }
+        ensures { result ≡ path_numbers self.now.table node }
     {
-        *self.table.numbers.get(node)?
+        self.table.number_of(node)
     }
 
     /// How much the path weighs that `path` gives; none where there is no path.

@@ -14,7 +14,7 @@ use Rattle.lalrpop_lr1_graph_paths.specs.declared.paths.GoalPaths.{GoalPaths}
 use Rattle.lalrpop_lr1_graph_paths.specs.GraphPaths.{EdgesAreBelow}
 use Rattle.lalrpop_lr1_graph_paths.specs.Graphs.{graph_edges}
 use Rattle.lalrpop_lr1_graph_paths.specs.PathSearches.{AreGoalPaths, BeginsPath, HasNumber, IsWaitingFor}
-use Rattle.lalrpop_lr1_graph_paths.specs.PathSearches.{edge_of_step, found_first_edge, path_number_at}
+use Rattle.lalrpop_lr1_graph_paths.specs.PathSearches.{edge_of_step, found_first_edge, path_numbers}
 use Rattle.lalrpop_lr1_graph_paths.proofs.PathLemmas.{first_edge_found, first_edge_none}
 use Rattle.lalrpop_lr1_state_paths.specs.declared.path_edges.NumberEdge.{NumberEdge}
 use Rattle.lalrpop_lr1_state_paths.specs.NumberEdges.{AreBetweenStates}
@@ -74,12 +74,12 @@ goal_there states h = go (nat_lt 0 states) refl
 
 module _ (edges : List NumberEdge) (states : ℕ) (paths : GoalPaths) (search : AreGoalPaths paths)
     (ends : map edge_ends (graph_edges paths.graph.now) ≡ map turned_ends edges) (goals : paths.goals.now ≡ start_goals states) where
-  abbrev numbers : List (Option ℕ)
-  numbers = paths.table.numbers.items
+  abbrev numbers : ℕ → Option ℕ
+  numbers = path_numbers paths.table
 
   -- the number of a state's path, 0 where it has none
   abbrev pub rank_of : ℕ → ℕ
-  rank_of n = unwrap_or (path_number_at numbers n) 0
+  rank_of n = unwrap_or (numbers n) 0
 
   -- the last edge of a state's path: it leads to the state, from one whose path has a smaller number
   pub record IsSearchedEdge (n : ℕ) (edge : NumberEdge) : Type 0 where
@@ -87,12 +87,12 @@ module _ (edges : List NumberEdge) (states : ℕ) (paths : GoalPaths) (search : 
     pub at : slice_get edges place ≡ Some edge
     pub target : edge.target ≡ n
     pub number : ℕ
-    pub number_is : path_number_at numbers n ≡ Some number
+    pub number_is : numbers n ≡ Some number
     pub rest : ℕ
-    pub rest_is : path_number_at numbers edge.source ≡ Some rest
+    pub rest_is : numbers edge.source ≡ Some rest
     pub falls : rest < number
 
-  over_edge : (n k : ℕ) → path_number_at numbers n ≡ Some k → (path_step : PathStep) →
+  over_edge : (n k : ℕ) → numbers n ≡ Some k → (path_step : PathStep) →
       BeginsPath (graph_edges paths.graph.now) paths.goals.now numbers n k path_step →
       (edge : NumberEdge) → option_and_then (slice_get edges) (edge_of_step path_step) ≡ Some edge → IsSearchedEdge n edge
   over_edge n k is (AtGoal g) begins edge e = let w : ⊥ = cc in absurd w
@@ -109,15 +109,15 @@ module _ (edges : List NumberEdge) (states : ℕ) (paths : GoalPaths) (search : 
         number = k;
         number_is = is;
         rest = rest;
-        rest_is = ap (path_number_at numbers) (sym to) ∙ begins.is;
+        rest_is = ap numbers (sym to) ∙ begins.is;
         falls = begins.earlier;
       }
 
   pub searched_edge : (n : ℕ) (edge : NumberEdge) → last_edge_of edges paths n ≡ Some edge → IsSearchedEdge n edge
   searched_edge zero edge e = let w : ⊥ = cc in absurd w
-  searched_edge (suc n) edge e = go (path_number_at numbers (suc n)) refl
+  searched_edge (suc n) edge e = go (numbers (suc n)) refl
     where
-      go : (o : Option ℕ) → path_number_at numbers (suc n) ≡ o → IsSearchedEdge (suc n) edge
+      go : (o : Option ℕ) → numbers (suc n) ≡ o → IsSearchedEdge (suc n) edge
       go None f =
           let z : None ≡ Some edge = sym (ap (option_and_then (slice_get edges)) (first_edge_none paths (suc n) f)) ∙ e in
           let w : ⊥ = cc in absurd w

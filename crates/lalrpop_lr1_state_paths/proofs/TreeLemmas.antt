@@ -22,7 +22,7 @@ use Rattle.lalrpop_lr1_first.specs.Tables.{symbol_or}
 use Rattle.lalrpop_lr1_first.specs.declared.numbered.Numbered.{Numbered}
 use Rattle.lalrpop_lr1_first.proofs.TableLemmas.{long_map}
 use Rattle.lalrpop_lr1_graph_paths.specs.Graphs.{graph_edges}
-use Rattle.lalrpop_lr1_graph_paths.specs.PathSearches.{AreGoalPaths, HasNumber, path_number_at}
+use Rattle.lalrpop_lr1_graph_paths.specs.PathSearches.{AreGoalPaths, HasNumber, path_numbers}
 use Rattle.lalrpop_lr1_graph_paths.specs.declared.paths.GoalPaths.{GoalPaths}
 use Rattle.lalrpop_lr1_least_trees.specs.GrammarTrees.{AreLeastTrees, symbols_by}
 use Rattle.lalrpop_lr1_state_paths.specs.declared.path_edges.NumberEdge.{NumberEdge}
@@ -55,7 +55,7 @@ module _ {L : Type 0} (it : StatePaths) (trees : AreLeastTrees it.trees.now) (al
   at = symbols_by it.trees.now.table
 
   abbrev HasPath : ℕ → Type 0
-  HasPath = HasNumber paths.table.numbers.items
+  HasPath = HasNumber (path_numbers paths.table)
 
   -- what stands at a state was found
   found_at : (n : ℕ) (edge : NumberEdge) → last_edge_at it.steps.items n ≡ Some edge → last_edge_of edges paths n ≡ Some edge
@@ -141,14 +141,14 @@ module _ {L : Type 0} (it : StatePaths) (trees : AreLeastTrees it.trees.now) (al
         (led.0 ++ x ∷ [], goes x n led.1 (edge_led it.trees.now.table it.steps.items n edge x here i.number))
 
     -- by induction on the number of a state's path
-    led_by_number : (bound n k : ℕ) → k < bound → path_number_at paths.table.numbers.items n ≡ Some k → IsLed n
+    led_by_number : (bound n k : ℕ) → k < bound → path_numbers paths.table n ≡ Some k → IsLed n
     led_by_number zero n k h is = absurd (omega (arith, h))
     led_by_number (suc bound) n k h is =
         go (first_or_edge edges (length all) paths search ends goals n (record { number = k; is = is }))
         (λ m j l i. led_by_number bound m j l i)
       where
         go : (n ≡ 0) ⊎ ((edge : NumberEdge) × (last_edge_of edges paths n ≡ Some edge)) →
-            ((m j : ℕ) → j < bound → path_number_at paths.table.numbers.items m ≡ Some j → IsLed m) → IsLed n
+            ((m j : ℕ) → j < bound → path_numbers paths.table m ≡ Some j → IsLed m) → IsLed n
         go (inl e) before = subst IsLed (sym e) ([], stands)
         go (inr last) before =
             let s = searched_edge edges (length all) paths search ends goals n last.0 last.1 in

@@ -1,13 +1,14 @@
 use Rattle.std.proofs.Common.{◌∙◌, Some, ap, arith, length, refl, subst, sym}
 use Rattle.std.proofs.lemmas.Option.{slice_get_read, slice_get_within}
 use Rattle.lalrpop_lr1_graph_paths.specs.Graphs.{graph_edges}
+use Rattle.lalrpop_lr1_graph_paths.specs.PathSearches.{path_numbers}
 use Rattle.lalrpop_lr1_graph_paths.proofs.PathLemmas.{IsOnTheWay, no_path, way_ends, way_goes_on, way_starts, weight_found, weight_none}
 use Rattle.lalrpop_lr1_graph_paths.proofs.paths.GoalPaths.path.Goals as goal
 
 pub returns-in_default-clause-path : goal.returns-in_default-clause-path
 returns-in_default-clause-path c =
     let self = c.args.self.now in
-    no_path (graph_edges self.graph.now) self.goals.now self.table.numbers.items self.table.paths.items c.requires c.args.node
+    no_path (graph_edges self.graph.now) self.goals.now (path_numbers self.table) self.table.paths.items c.requires c.args.node
     (sym c.in_default.ensures)
 
 pub returns-in_default-clause-weight : goal.returns-in_default-clause-weight
@@ -19,9 +20,9 @@ loop-goal-init c =
     let found = c.requires.found c.args.node c.in-Some.first (sym c.in-Some.ensures) in (
       found.path.weight,
       weight_found self c.args.node c.in-Some.first (sym c.in-Some.ensures) found.path found.at,
-      subst (λ es. IsOnTheWay (graph_edges self.graph.now) self.goals.now self.table.numbers.items self.table.paths.items c.args.node
+      subst (λ es. IsOnTheWay (graph_edges self.graph.now) self.goals.now (path_numbers self.table) self.table.paths.items c.args.node
           found.path.weight es c.in-Some.first) (sym c.new-edges.ensures.items)
-          (way_starts (graph_edges self.graph.now) self.goals.now self.table.numbers.items self.table.paths.items c.requires c.args.node
+          (way_starts (graph_edges self.graph.now) self.goals.now (path_numbers self.table) self.table.paths.items c.requires c.args.node
           c.in-Some.first (sym c.in-Some.ensures)),
     )
 
@@ -41,7 +42,7 @@ returns-in-AtGoal c =
     let path = c.index.result.now in
     let at = slice_get_read paths (length paths) k path refl (slice_get_within paths k way.from_now.path way.from_now.at)
     c.index.ensures in
-    let end = way_ends (graph_edges self.graph.now) self.goals.now self.table.numbers.items paths c.requires c.args.node weight
+    let end = way_ends (graph_edges self.graph.now) self.goals.now (path_numbers self.table) paths c.requires c.args.node weight
     c.loop-goal.edges.items k way path at c.in-AtGoal.goal c.in-AtGoal.is in
     record { path = end.0; weight = ap Some end.1 ∙ sym c.loop-goal.invariant.1 }
 
@@ -55,7 +56,7 @@ loop-goal-smaller c =
     let path = c.index.result.now in
     let at = slice_get_read paths (length paths) k path refl (slice_get_within paths k way.from_now.path way.from_now.at)
     c.index.ensures in
-    (way_goes_on (graph_edges self.graph.now) self.goals.now self.table.numbers.items paths c.requires c.args.node weight
+    (way_goes_on (graph_edges self.graph.now) self.goals.now (path_numbers self.table) paths c.requires c.args.node weight
     c.loop-goal.edges.items k way path at c.in-OverEdge.edge c.in-OverEdge.rest c.in-OverEdge.is).1
 
 pub loop-goal-preserved : goal.loop-goal-preserved
@@ -70,8 +71,8 @@ loop-goal-preserved c =
     c.index.ensures in (
       weight,
       c.loop-goal.invariant.1,
-      subst (λ es. IsOnTheWay (graph_edges self.graph.now) self.goals.now self.table.numbers.items paths c.args.node weight es
+      subst (λ es. IsOnTheWay (graph_edges self.graph.now) self.goals.now (path_numbers self.table) paths c.args.node weight es
           c.in-OverEdge.rest) (sym c.in_ok-push-in-OverEdge.ensures.items)
-          (way_goes_on (graph_edges self.graph.now) self.goals.now self.table.numbers.items paths c.requires c.args.node weight
+          (way_goes_on (graph_edges self.graph.now) self.goals.now (path_numbers self.table) paths c.requires c.args.node weight
           c.loop-goal.edges.items k way path at c.in-OverEdge.edge c.in-OverEdge.rest c.in-OverEdge.is).0,
     )

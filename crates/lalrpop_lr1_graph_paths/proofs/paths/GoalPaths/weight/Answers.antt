@@ -2,6 +2,7 @@ use Rattle.std.proofs.Common.{◌+◌, ◌∙◌, arith, length, refl, subst, sy
 use Rattle.std.proofs.lemmas.Option.{slice_get_read, slice_get_within}
 use Rattle.lalrpop_lr1_graph_paths.specs.GraphPaths.{HasPathIfSome}
 use Rattle.lalrpop_lr1_graph_paths.specs.Graphs.{graph_edges}
+use Rattle.lalrpop_lr1_graph_paths.specs.PathSearches.{path_numbers}
 use Rattle.lalrpop_lr1_graph_paths.proofs.PathLemmas.{no_path, path_there, weight_found, weight_none}
 use Rattle.lalrpop_lr1_graph_paths.proofs.paths.GoalPaths.weight.Goals as goal
 
@@ -9,7 +10,7 @@ pub returns-in_err-number-clause-path : goal.returns-in_err-number-clause-path
 returns-in_err-number-clause-path c =
     let self = c.args.self.now in
     subst (λ o. HasPathIfSome (graph_edges self.graph.now) self.goals.now c.args.node o) (sym c.from_residual.ensures)
-    (no_path (graph_edges self.graph.now) self.goals.now self.table.numbers.items self.table.paths.items c.requires c.args.node
+    (no_path (graph_edges self.graph.now) self.goals.now (path_numbers self.table) self.table.paths.items c.requires c.args.node
     (sym c.in_err-number.ensures))
 
 pub returns-in_err-number-clause-weight : goal.returns-in_err-number-clause-weight
@@ -25,7 +26,7 @@ index-requires c =
 pub returns-clause-path : goal.returns-clause-path
 returns-clause-path c =
     let self = c.args.self.now in
-    path_there (graph_edges self.graph.now) self.goals.now self.table.numbers.items self.table.paths.items c.requires
+    path_there (graph_edges self.graph.now) self.goals.now (path_numbers self.table) self.table.paths.items c.requires
     (c.in_ok-number.number + 1) c.args.node c.in_ok-number.number (omega arith) (sym c.in_ok-number.ensures)
 
 pub returns-clause-weight : goal.returns-clause-weight
