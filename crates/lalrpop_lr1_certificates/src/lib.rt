@@ -6,6 +6,7 @@
 
 mod all;
 mod one;
+mod room;
 mod shown;
 mod slots;
 

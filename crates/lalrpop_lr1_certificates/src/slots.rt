@@ -9,6 +9,7 @@ ghost use Rattle.lalrpop_lr1_certificates.specs.ShownStates.{AreShownConflicts, 
 ghost use Rattle.lalrpop_lr1_certificates.specs.Slots.{AreFilledBefore, AreFilledBelow, AreLeastTokens, AreCertificateSlots, IsFilled, StayFilled};
 
 use crate::one::certificate_before;
+use crate::room::ask_for_room;
 use crate::shown::ShownConflicts;
 use lalrpop_judge_certificates::Certificate;
 use lalrpop_lr1_shown_moves::NextOut;
@@ -17,7 +18,7 @@ use lalrpop_sets::TokenRef;
 use std::alloc::{AllocError, Global};
 
 /// Whether two tokens are one.
-fn is_same_token(a: TokenRef<'_>, b: TokenRef<'_>) -> bool
+pub(crate) fn is_same_token(a: TokenRef<'_>, b: TokenRef<'_>) -> bool
     ensures { IsTrue result ↔ (token_seen a.entry ≡ token_seen b.entry) }
 {
     match a {
@@ -161,6 +162,7 @@ pub(crate) fn all_certificates<'g>(
 {
     let found = shown.least_tokens(alloc)?;
     let tokens = found.as_slice();
+    ask_for_room(alloc, shown, any, tokens)?;
     let mut slots = empty_slots(alloc, shown)?;
     for number in 0..tokens.len() {
         let token = tokens[number];

@@ -37,4 +37,22 @@ impl<'x, 'w, 't, 'g> NextOut<'x, 'w, 't, 'g> {
             NextOut::Terminal(out) => out.moves(alloc, state, nonterminal),
         }
     }
+
+    /// How many moves `moves` gives; the greatest number where they are as many or more. None where no way leads out.
+    ///
+    /// # Errors
+    ///
+    /// Memory is refused.
+    pub fn count(
+        &self,
+        state: usize,
+        nonterminal: &NonterminalString,
+    ) -> Result<Option<u64>, AllocError>
+        requires { IsNextOut self.now }
+    {
+        match self {
+            NextOut::End(out) => out.count(state, nonterminal),
+            NextOut::Terminal(out) => out.count(state, nonterminal),
+        }
+    }
 }

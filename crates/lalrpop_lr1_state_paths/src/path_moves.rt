@@ -11,6 +11,7 @@ ghost use Rattle.lalrpop_lr1_least_trees.specs.MoveViews.{tree_move_view};
 ghost use Rattle.lalrpop_lr1_state_paths.specs.PathForests.{HaveForestMoves};
 ghost use Rattle.lalrpop_lr1_state_paths.specs.PathTables.{HasSymbol, HaveSymbols};
 
+use crate::turned::symbol_weight;
 use lalrpop_lr1_least_trees::{LeastTrees, TreeMove, terminal_at};
 use std::alloc::{AllocError, Global};
 
@@ -57,4 +58,15 @@ pub(crate) fn forest_moves<'g>(
         }
     }
     Ok(Some(moves))
+}
+
+/// How many moves these are; the greatest number where they are as many or more, and where a symbol has no tree.
+pub(crate) fn forest_count(trees: &LeastTrees<'_>, symbols: &[usize]) -> u64
+    requires { AreLeastTrees trees.now }
+{
+    let mut count = 0u64;
+    for symbol in symbols {
+        count = count.saturating_add(symbol_weight(trees, *symbol));
+    }
+    count
 }

@@ -22,7 +22,7 @@ ghost use Rattle.lalrpop_lr1_state_paths.specs.PathTables.{
 };
 
 use crate::path_edges::{NumberEdge, path_edges};
-use crate::path_moves::forest_moves;
+use crate::path_moves::{forest_count, forest_moves};
 use crate::turned::{last_edges, start_goal, turned_graph};
 use lalrpop_lr1_items::State;
 use lalrpop_lr1_least_trees::{LeastTrees, TreeMove};
@@ -130,5 +130,17 @@ impl<'t, 'g> StatePaths<'t, 'g> {
         let symbols = self.path_symbols(alloc, state)?;
         let moves = forest_moves(alloc, self.trees, symbols.as_slice())?;
         Ok(moves)
+    }
+
+    /// How many moves `moves` gives for the state; the greatest number where they are as many or more, and where it gives none.
+    ///
+    /// # Errors
+    ///
+    /// Memory is refused.
+    pub fn count(&self, alloc: Global, state: usize) -> Result<u64, AllocError>
+        requires { AreStatePaths self.now }
+    {
+        let symbols = self.path_symbols(alloc, state)?;
+        Ok(forest_count(self.trees, symbols.as_slice()))
     }
 }

@@ -14,7 +14,7 @@ use lalrpop_lr1_least_trees::LeastTrees;
 use std::alloc::{AllocError, Global};
 
 /// How much an edge by the symbol weighs: as much as its least tree has leaves and nodes, and the greatest number where it has no tree.
-fn symbol_weight(trees: &LeastTrees<'_>, symbol: usize) -> u64
+pub(crate) fn symbol_weight(trees: &LeastTrees<'_>, symbol: usize) -> u64
     requires { AreLeastTrees trees.now }
 {
     let names = trees.table().names();

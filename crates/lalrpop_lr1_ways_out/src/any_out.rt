@@ -100,4 +100,22 @@ impl<'w, 't, 'g> AnyOut<'w, 't, 'g> {
             Ok(None)
         }
     }
+
+    /// How many moves `moves` gives; the greatest number where they are as many or more. None where no way leads out.
+    ///
+    /// # Errors
+    ///
+    /// Memory is refused.
+    pub fn count(
+        &self,
+        state: usize,
+        nonterminal: &NonterminalString,
+    ) -> Result<Option<u64>, AllocError>
+        requires { IsAnyOut self.now }
+    {
+        let Some(node) = node_of(self.ways.paths(), state, nonterminal)? else {
+            return Ok(None);
+        };
+        Ok(self.found.weight(node))
+    }
 }

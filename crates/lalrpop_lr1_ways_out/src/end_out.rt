@@ -70,4 +70,22 @@ impl<'w, 't, 'g> EndOut<'w, 't, 'g> {
             Ok(None)
         }
     }
+
+    /// How many moves `moves` gives; the greatest number where they are as many or more. None where no way leads out.
+    ///
+    /// # Errors
+    ///
+    /// Memory is refused.
+    pub fn count(
+        &self,
+        state: usize,
+        nonterminal: &NonterminalString,
+    ) -> Result<Option<u64>, AllocError>
+        requires { IsEndOut self.now }
+    {
+        let Some(node) = node_of(self.ways.paths(), state, nonterminal)? else {
+            return Ok(None);
+        };
+        Ok(self.found.weight(node))
+    }
 }
