@@ -90,8 +90,8 @@ pub(crate) fn begun_names(
 {
     let mut marks = no_marks(alloc, table.names().len())?;
     mark_name(table, start, &mut marks);
-    close(clauses, &mut marks);
-    Ok(marks)
+    let closed = close(alloc, clauses, marks)?;
+    Ok(closed)
 }
 
 /// The names that the items bring which have moved.
@@ -108,6 +108,6 @@ pub(crate) fn brought_names(
 {
     let mut marks = no_marks(alloc, table.names().len())?;
     mark_names_behind(table, items, &mut marks);
-    close(clauses, &mut marks);
-    Ok(marks)
+    let closed = close(alloc, clauses, marks)?;
+    Ok(closed)
 }

@@ -1,3 +1,4 @@
 pub mod ClauseLemmas
+pub mod FollowLemmas
 pub mod NameLemmas
 pub mod RuleLemmas

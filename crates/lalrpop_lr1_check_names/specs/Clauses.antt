@@ -1,14 +1,10 @@
 -- What follows from marks by clauses: for least sets of names.
 use Rattle.std.specs.Prelude.{ℕ, ◌<◌, ◌≡◌, Bool, true, false, List, Some, Contains, get_or, slice_get}
-use Rattle.std.specs.List.{list_all}
 use Rattle.lalrpop_lr1_check_names.specs.declared.clauses.Clause.{Clause}
 
--- whether the number is marked, and whether all are
+-- whether the number is marked
 abbrev pub has_mark : List Bool → ℕ → Bool
 has_mark marks n = get_or marks n false
-
-abbrev pub have_marks : List Bool → List ℕ → Bool
-have_marks marks ns = list_all (λ n. has_mark marks n) ns
 
 abbrev pub IsMarked : List Bool → ℕ → Type 0
 IsMarked marks n = has_mark marks n ≡ true

@@ -1,4 +1,4 @@
 pub mod Clauses
-pub mod ClauseSteps
+pub mod ClauseRules
 pub mod RuleClauses
 pub mod NameMarks

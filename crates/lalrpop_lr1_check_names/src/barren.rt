@@ -36,9 +36,9 @@ pub fn productive_names(alloc: Global, table: &Numbered<'_>) -> Result<Vec<bool>
     ensures { IfOk result (λ marks. AreProductive table.now marks.items) }
 {
     let clauses = tree_clauses(alloc, table)?;
-    let mut marks = no_marks(alloc, table.names().len())?;
-    close(clauses.as_slice(), &mut marks);
-    Ok(marks)
+    let marks = no_marks(alloc, table.names().len())?;
+    let closed = close(alloc, clauses.as_slice(), marks)?;
+    Ok(closed)
 }
 
 /// Sets one mark.
@@ -67,8 +67,8 @@ pub fn reached_names(
     let clauses = reach_clauses(alloc, table)?;
     let mut marks = no_marks(alloc, table.names().len())?;
     set_mark(&mut marks, start);
-    close(clauses.as_slice(), &mut marks);
-    Ok(marks)
+    let closed = close(alloc, clauses.as_slice(), marks)?;
+    Ok(closed)
 }
 
 /// Whether the names are one.

@@ -1,8 +1,13 @@
 //! What follows from marks by clauses.
 
-ghost use Rattle.std.specs.Prelude.{◌≡◌, ◌<◌, ◌↔◌, ◌&&◌, ◌||◌, ℕ, IsFalse, IsTrue, length, map, not, set, true};
-ghost use Rattle.lalrpop_lr1_check_names.specs.Clauses.{ClausesAreWithin, Follows, IsMarked, clause_view, has_mark, have_marks};
-ghost use Rattle.lalrpop_lr1_check_names.specs.ClauseSteps.{SweepLeadsTo};
+ghost use Rattle.std.specs.Prelude.{◌≡◌, ◌<◌, ◌↔◌, ◌++◌, ◌∷◌, [], ℕ, IfOk, OnOk, length, map};
+ghost use Rattle.std.specs.Option.{is_some};
+ghost use Rattle.lalrpop_lr1_least_counts.specs.NumberedTrees.{rule_view, rule_views};
+ghost use Rattle.lalrpop_lr1_check_names.specs.Clauses.{ClausesAreWithin, Follows, IsMarked, clause_view, has_mark};
+ghost use Rattle.lalrpop_lr1_check_names.specs.ClauseRules.{marked_rules, rule_of_clause, seed_rule};
+
+use lalrpop_lr1_least_counts::{LeastTree, Rule, least_trees};
+use std::alloc::{AllocError, Global};
 
 /// A clause over numbers: where all that it needs is marked, what it gives is marked too.
 #[derive(Drop)]
@@ -24,67 +29,75 @@ pub fn is_marked(marks: &[bool], number: usize) -> bool
     }
 }
 
-/// Whether all of the numbers are marked.
-fn are_marked(marks: &[bool], numbers: &[usize]) -> bool
-    ensures { result ≡ have_marks marks.now numbers.now }
+/// The clause as a rule for trees: what it gives has one where all that it needs have.
+fn rule_by_clause(alloc: Global, clause: &Clause) -> Result<Rule, AllocError>
+    ensures { IfOk result (λ rule. rule_view rule ≡ rule_of_clause clause.now) }
 {
-    for number in numbers {
-        if !is_marked(marks, *number) {
-            return false;
+    let right = Vec::from_slice(alloc, clause.needs.as_slice())?;
+    Ok(Rule {
+        left: clause.gives,
+        right,
+    })
+}
+
+/// The clauses as rules for trees.
+fn clause_rules(alloc: Global, clauses: &[Clause]) -> Result<Vec<Rule>, AllocError>
+    ensures { IfOk result (λ rules. rule_views rules.items ≡ map rule_of_clause clauses.now) }
+{
+    let mut rules = Vec::new(alloc);
+    for clause in clauses {
+        rules.push(rule_by_clause(alloc, clause)?)?;
+    }
+    Ok(rules)
+}
+
+/// Adds a rule without symbols for the number.
+fn add_seed(alloc: Global, number: usize, rules: &mut Vec<Rule>) -> Result<(), AllocError>
+    ensures { OnOk result (rule_views rules.new.items ≡ rule_views rules.old.items ++ seed_rule number ∷ []) }
+{
+    rules.push(Rule {
+        left: number,
+        right: Vec::new(alloc),
+    })?;
+    Ok(())
+}
+
+/// Adds a rule without symbols for each number that is marked.
+fn add_seeds(alloc: Global, marks: &[bool], rules: &mut Vec<Rule>) -> Result<(), AllocError>
+    ensures { OnOk result (rule_views rules.new.items ≡ rule_views rules.old.items ++ marked_rules marks.now (length marks.now)) }
+{
+    for number in 0..marks.len() {
+        if is_marked(marks, number) {
+            add_seed(alloc, number, rules)?;
         }
     }
-    true
+    Ok(())
 }
 
-/// Whether the clause gives a number that isn't marked yet.
-fn gives_more(clause: &Clause, marks: &[bool]) -> bool
-    ensures { result ≡ (not (has_mark marks.now clause.now.gives) && have_marks marks.now clause.now.needs.items) }
+/// The numbers that have trees, as marks.
+fn marks_of(alloc: Global, table: &[Option<LeastTree>]) -> Result<Vec<bool>, AllocError>
+    ensures { IfOk result (λ marks. marks.items ≡ map is_some table.now) }
 {
-    !is_marked(marks, clause.gives) && are_marked(marks, clause.needs.as_slice())
-}
-
-/// Marks what the clause gives, where that is more, and says whether it is.
-fn apply(clause: &Clause, marks: &mut Vec<bool>) -> bool
-    requires { clause.now.gives < length marks.old.items }
-    ensures came { result ≡ (not (has_mark marks.old.items clause.now.gives) && have_marks marks.old.items clause.now.needs.items) }
-    ensures marked { IsTrue result → marks.new.items ≡ set marks.old.items clause.now.gives true }
-    ensures same { IsFalse result → marks.new.items ≡ marks.old.items }
-{
-    if !gives_more(clause, marks.as_slice()) {
-        return false;
+    let mut marks = Vec::new(alloc);
+    for entry in table {
+        marks.push(entry.is_some())?;
     }
-    marks[clause.gives] = true;
-    true
+    Ok(marks)
 }
 
-/// Whether one of the two is so.
-fn either(one: bool, other: bool) -> bool
-    ensures { result ≡ (one || other) }
+/// The marks with all that follows from them. A clause is looked at again only where something that it needs came.
+///
+/// # Errors
+///
+/// Memory is refused.
+pub fn close(alloc: Global, clauses: &[Clause], marks: Vec<bool>) -> Result<Vec<bool>, AllocError>
+    requires { ClausesAreWithin (length marks.items) clauses.now }
+    ensures count { IfOk result (λ closed. length closed.items ≡ length marks.items) }
+    ensures follows { IfOk result (λ closed. (n : ℕ) → IsMarked closed.items n ↔ Follows (map clause_view clauses.now) marks.items n) }
 {
-    one || other
-}
-
-/// Marks what each clause gives, where all that it needs is marked, one after another, and says whether something came.
-fn sweep(clauses: &[Clause], marks: &mut Vec<bool>) -> bool
-    requires { ClausesAreWithin (length marks.old.items) clauses.now }
-    ensures { SweepLeadsTo clauses.now (length clauses.now) marks.old.items marks.new.items result }
-{
-    let mut changed = false;
-    for clause in clauses {
-        let came = apply(clause, marks);
-        changed = either(came, changed);
-    }
-    changed
-}
-
-/// Marks all that follows from what is marked.
-pub fn close(clauses: &[Clause], marks: &mut Vec<bool>)
-    requires { ClausesAreWithin (length marks.old.items) clauses.now }
-    ensures count { length marks.new.items ≡ length marks.old.items }
-    ensures follows { (n : ℕ) → IsMarked marks.new.items n ↔ Follows (map clause_view clauses.now) marks.old.items n }
-{
-    let mut changed = true;
-    while changed {
-        changed = sweep(clauses, marks);
-    }
+    let mut rules = clause_rules(alloc, clauses)?;
+    add_seeds(alloc, marks.as_slice(), &mut rules)?;
+    let table = least_trees(alloc, marks.len(), rules.as_slice(), false)?;
+    let closed = marks_of(alloc, table.as_slice())?;
+    Ok(closed)
 }

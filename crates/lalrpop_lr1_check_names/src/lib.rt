@@ -2,7 +2,8 @@
 //!
 //! Both are least sets of names. In `specs/`, `Clauses` has such sets by numbers: what follows from marks by clauses. `RuleClauses`
 //! says which clauses a grammar's rules make, `NameMarks` what marks say of names. Other parts of the test that need a least set of
-//! names make their own `Clause`s and `close` their marks.
+//! names make their own `Clause`s and `close` their marks. Clauses are followed as rules for trees are (`ClauseRules`): a number follows
+//! where it has a tree.
 #![tactic(auto)]
 
 mod barren;

@@ -27,4 +27,4 @@ returns c =
     closed_marks t c.requires.table first (λ A. A ≡ start.0)
     (start_marks t c.requires.table first start
     (gained_marks none first (λ s. slice_get (table_names t) s ≡ Some start) c.in_ok-marks.ensures.empty c.mark_name.ensures))
-    c.args.clauses.now c.requires.clauses c.close.new.marks.items c.close.ensures.follows
+    c.args.clauses.now c.requires.clauses c.in_ok-closed.closed.items c.in_ok-closed.ensures.follows

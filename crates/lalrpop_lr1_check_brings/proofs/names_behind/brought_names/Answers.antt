@@ -28,4 +28,4 @@ returns c =
     closed_marks t c.requires.table first (IsNameBehindDot (IsMovedItem (HasSeenItem items)))
     (behind_marks t c.requires.table first items
     (gained_marks none first (IsMarkOfSome (IsNumberBehind t) items) c.in_ok-marks.ensures.empty c.mark_names_behind.ensures))
-    c.args.clauses.now c.requires.clauses c.close.new.marks.items c.close.ensures.follows
+    c.args.clauses.now c.requires.clauses c.in_ok-closed.closed.items c.in_ok-closed.ensures.follows

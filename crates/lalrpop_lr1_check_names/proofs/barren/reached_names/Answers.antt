@@ -32,7 +32,7 @@ returns-clause-count c =
     let none = c.in_ok-marks.marks.items in
     omega (
       arith,
-      c.close.ensures.count,
+      c.in_ok-closed.ensures.count,
       ap length c.set_mark.ensures,
       set_long none c.args.start,
       c.in_ok-marks.ensures.count,
@@ -53,10 +53,10 @@ returns-clause-reached c =
     λ n m. only_set none start n c.in_ok-marks.ensures.empty (subst (λ l. IsMarked l n) c.set_mark.ensures m) in
     λ S start_is s A e. (
       λ m. led_reached t is first start S start_is marked only
-          (subst (λ cs. Follows cs first s) eq ((c.close.ensures.follows s).0 m)) A e,
+          (subst (λ cs. Follows cs first s) eq ((c.in_ok-closed.ensures.follows s).0 m)) A e,
       λ r.
           let l = reached_led t is first start S start_is marked only r in
           let here = one_number t is l.0 s A l.1 e in
-          (c.close.ensures.follows s).1 (subst (λ cs. Follows cs first s) (sym eq)
+          (c.in_ok-closed.ensures.follows s).1 (subst (λ cs. Follows cs first s) (sym eq)
           (subst (Follows (flat_map (reach_of_rule t) t.rules.items) first) here l.2)),
     )
