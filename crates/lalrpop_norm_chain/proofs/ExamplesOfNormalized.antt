@@ -7,6 +7,11 @@ use Rattle.std.specs.Prelude.{Option, Some, None, IsSomeAnd, codes, length, flat
 use Rattle.std.proofs.lemmas.Bool.{true≢false}
 use Rattle.lalrpop_grammar_symbols.specs.Texts.{escape_byte}
 use Rattle.lalrpop_grammar_symbols.specs.Symbols.{Text, TextSpan, Closed, Closeds, Terminal}
+use Rattle.lalrpop_grammar_symbols.specs.Views.{terminal_view}
+use Rattle.lalrpop_grammar_symbols.specs.contracts.terminal.TerminalStringOrd.TheImpl as terminal_order
+use Rattle.lalrpop_grammar_symbols.specs.declared.terminal.TerminalLiteral.TheVariants as literal
+use Rattle.lalrpop_grammar_symbols.specs.declared.terminal.TerminalString.{TerminalString}
+use Rattle.lalrpop_grammar_symbols.specs.declared.terminal.TerminalString.TheVariants as terminal
 use Rattle.lalrpop_grammar.specs.WrittenGrammar.{Action, Origin, EntryMapping, InternEntry, Grammar, Ty, WrittenItem, ConditionTest}
 use Rattle.lalrpop_grammar_language.specs.Among.{Among}
 use Rattle.lalrpop_grammar_language.specs.Enabled.{Choice, EnabledGrammar, EnabledRule, IsRule, enabled_grammar}
@@ -15,14 +20,16 @@ use Rattle.lalrpop_grammar_language.specs.Expansion.{GrammarSymbol, Nonterminal,
 use Rattle.lalrpop_grammar_language.proofs.WrittenTreeLemmas.{here, lit, alt, rule_of, grammar, finds, of_macro, macro_of, on_K}
 use Rattle.lalrpop_norm_expansion.proofs.ExpansionListLemmas.{is_all, reached-in, all-of}
 use Rattle.lalrpop_norm_expansion.proofs.AmongLemmas.{flat_map_among}
-use Rattle.lalrpop_grammar_repr.specs.Maps.{at_name}
+use Rattle.lalrpop_grammar_repr.specs.Maps.{at_name, at_terminal}
+use Rattle.lalrpop_grammar_types.specs.TypeReprs.{named_type}
+use Rattle.lalrpop_grammar_types.specs.declared.type_repr.TypeRepr.{TypeRepr}
 use Rattle.lalrpop_grammar_types.specs.declared.type_repr.TypeRepr.TheFolds.{fold-roll-TypeRepr}
 use Rattle.lalrpop_grammar_types.specs.declared.type_repr.TypeRepr.TheOpen as layer
 use Rattle.lalrpop_grammar_types.specs.declared.type_repr.TypeRepr.TheVariants as types
 use Rattle.lalrpop_norm_expansion.specs.Keys.{leveled_key_text, IsNaming}
 use Rattle.lalrpop_norm_expansion.specs.Productions.{NamedProduction, AreProductions, StandsForLabel}
 use Rattle.lalrpop_norm_expansion.specs.Inlined.{IsInlined}
-use Rattle.lalrpop_norm_expansion.specs.Types.{GroundType, IsGrounded}
+use Rattle.lalrpop_norm_expansion.specs.Types.{GroundType, IsGrounded, text_type}
 use Rattle.lalrpop_norm_expansion.proofs.NamingListLemmas.{name_by, naming-is}
 use Rattle.lalrpop_norm_expansion.proofs.ProductionListLemmas.{listed, is_production, productions_of}
 use Rattle.lalrpop_norm_expansion.proofs.RowListLemmas.{expansion_productions}
@@ -32,14 +39,19 @@ use Rattle.lalrpop_lexer_pattern.specs.Wins.{HasNoTie}
 use Rattle.lalrpop_norm_entries.specs.Entries.{tokenizer_entries}
 use Rattle.lalrpop_norm_entries.specs.Patterns.{entry_patterns, entry_precedences}
 use Rattle.lalrpop_norm_types.specs.GroundViews.{type_repr_view, ground_step, ground_nominal_step}
+use Rattle.lalrpop_norm_types.specs.TerminalTypes.{AreTerminalTypes}
 use Rattle.lalrpop_norm_types.specs.TypeFaults.{nonterminal_of}
+use Rattle.lalrpop_norm_types.proofs.GroundLemmas.{view-nominal, view-ref}
 use Rattle.lalrpop_norm_lower.specs.Definitions.{definition_of}
+use Rattle.lalrpop_norm_lower.proofs.OrderLemmas.{equal_terminals}
+use Rattle.lalrpop_norm_lower.proofs.PutLemmas.{found_among}
 use Rattle.lalrpop_norm_chain.specs.UsedLiterals.{IsUsedLiteral, AreUsedLiterals, AreFullExpansionEntries}
 use Rattle.lalrpop_norm_chain.specs.Actions.{ChoiceDoes}
 use Rattle.lalrpop_norm_chain.specs.Spans.{HasOwnSpan, IsRuleSpan, IsWrittenSpan, StandsByChoice}
 use Rattle.lalrpop_norm_chain.specs.Lowered.{LoweredGrammar, HasDefinition, IsTerminalOf}
 use Rattle.lalrpop_norm_chain.specs.PremiseLaws.{HasFreePrefix, AreInOrder}
 use Rattle.lalrpop_norm_chain.specs.Normalized.{IsNormalized, HasExpansionTypes, HasWrittenActions, HasWrittenSpans}
+use Rattle.lalrpop_norm_chain.proofs.ExamplesOfSpans.{group_at_grammar_refused, group_made, grouped, the_group}
 
 -- S: u8 = "a", where S is public
 abbrev one : Grammar
@@ -68,6 +80,13 @@ a = Terminal.quoted (codes "a")
 abbrev name_of : Nonterminal → Text
 name_of = name_by (leveled_key_text g) (codes "__") []
 
+-- `&'input str`
+abbrev terminal_a : TerminalString
+terminal_a = terminal.Literal (literal.Quoted (codes "a"))
+
+abbrev text_reference : TypeRepr
+text_reference = types.Ref (Some (codes "'input")) false (named_type (codes "str"))
+
 abbrev lowered : LoweredGrammar
 lowered = record {
   prefix = codes "__";
@@ -84,6 +103,7 @@ lowered = record {
   inlined = [];
   terminals = a ∷ [];
   types = (nonterminal_of (codes "S"), types.Opaque (codes "u8")) ∷ (nonterminal_of (codes "__S"), types.Opaque (codes "u8")) ∷ [];
+  terminal_types = (terminal_a, text_reference) ∷ [];
   lalr = false;
   entries = record { precedence = 3; literal = a; mapping = EntryMapping.terminal a } ∷ [];
 }
@@ -276,6 +296,36 @@ expansion_types = record {
             ≡ at_name (nonterminal_of (name_of (Nonterminal.closed (Closed.call (codes "S") Closeds.none l)))) lowered.types)
             (ap first_loosest d) refl) e
 
+is_text : type_repr_view text_reference ≡ text_type
+is_text =
+    view-ref (Some (codes "'input")) false (named_type (codes "str"))
+    ∙ ap (λ t. GroundType.ref (Some (codes "'input")) false t) (view-nominal (codes "str") [])
+
+-- the terminal that is seen so
+only_a : (t : TerminalString) → a ≡ terminal_view t → terminal_a ≡ t
+only_a (terminal.Literal (literal.Quoted k)) e =
+    let same : codes "a" ≡ k = cc in ap (λ x. terminal.Literal (literal.Quoted x)) same
+only_a (terminal.Literal (literal.Regex k)) e = absurd (let wrong : ⊥ = cc in wrong)
+only_a (terminal.Bare n) e = absurd (let wrong : ⊥ = cc in wrong)
+only_a terminal.Error e = absurd (let wrong : ⊥ = cc in wrong)
+
+terminal_types : AreTerminalTypes lowered.terminals lowered.terminal_types
+terminal_types = record { typed = typed_each; only = only_typed }
+  where
+    typed_each : (t : TerminalString) → Among lowered.terminals (terminal_view t)
+        → IsSomeAnd (at_terminal t lowered.terminal_types) (λ u. type_repr_view u ≡ text_type)
+    typed_each t (inl e) =
+        subst (λ x. IsSomeAnd (at_terminal x lowered.terminal_types) (λ u. type_repr_view u ≡ text_type)) (only_a t e) is_text
+    typed_each t (inr i) = absurd i
+
+    only_typed : (t : TerminalString) (u : TypeRepr) → at_terminal t lowered.terminal_types ≡ Some u
+        → Among lowered.terminals (terminal_view t)
+    only_typed t u e = go (found_among (terminal_order.ghosts).cmp equal_terminals lowered.terminal_types t u e)
+      where
+        go : Among lowered.terminal_types (t, u) → Among lowered.terminals (terminal_view t)
+        go (inl same) = inl (ap (λ (x : TerminalString × TypeRepr). terminal_view x.0) same)
+        go (inr i) = absurd i
+
 -- what its actions do
 
 abbrev written_code : Action
@@ -366,7 +416,7 @@ here_alone n own (inl e) = ap (λ (x : Text × TextSpan). x.1) e
 here_alone n own (inr (inl e)) = ap (λ (x : Text × TextSpan). x.1) e
 here_alone n own (inr (inr m)) = absurd m
 
-spans : HasWrittenSpans [] one g name_of lowered
+spans : HasWrittenSpans finds [] one g name_of lowered
 spans = record { each = refl; stands = stands; each_place = refl; places = places }
   where
     told : (p : NamedProduction) → Among lowered.productions p → (o : Origin) → slice_get lowered.origins p.action ≡ Some o →
@@ -396,12 +446,13 @@ spans = record { each = refl; stands = stands; each_place = refl; places = place
         subst (λ (x : TextSpan). StandsByChoice [] one x label.choice k) (here_alone p.nonterminal own j)
         (subst (λ (x : TextSpan). StandsByChoice [] one here label.choice x) u.1 (told p u.0 label.choice t.origin_is))
 
-    places : (x : Nonterminal) (own : TextSpan) → InExpansion g x → Among lowered.places (name_of x, own) → HasOwnSpan [] one x own
-    places x own i j = subst (HasOwnSpan [] one x) (here_alone (name_of x) own j) (go (no_other x i))
+    places : (x : Nonterminal) (own : TextSpan) → InExpansion g x → Among lowered.places (name_of x, own)
+        → HasOwnSpan finds [] one x own
+    places x own i j = subst (HasOwnSpan finds [] one x) (here_alone (name_of x) own j) (go (no_other x i))
       where
-        go : (Nonterminal.start (codes "S") ≡ x) ⊎ (Nonterminal.closed s ≡ x) → HasOwnSpan [] one x here
-        go (inl e) = subst (λ (y : Nonterminal). HasOwnSpan [] one y here) e rule_stands
-        go (inr e) = subst (λ (y : Nonterminal). HasOwnSpan [] one y here) e rule_stands
+        go : (Nonterminal.start (codes "S") ≡ x) ⊎ (Nonterminal.closed s ≡ x) → HasOwnSpan finds [] one x here
+        go (inl e) = subst (λ (y : Nonterminal). HasOwnSpan finds [] one y here) e rule_stands
+        go (inr e) = subst (λ (y : Nonterminal). HasOwnSpan finds [] one y here) e rule_stands
 
 -- the literals of the expansion, the tokenizer's entries
 
@@ -497,6 +548,7 @@ normalized = record {
   inlined = inlined;
   terminals = terminals;
   types = expansion_types;
+  terminal_types = terminal_types;
   lalr = refl;
   entries = entries;
   none_refused = refl;
@@ -516,6 +568,17 @@ few_definitions_refused v one_there two h = let same = h.actions.no_other in ome
 -- nor where the rule is inlined, whatever its name is
 inlined_refused : (v : LoweredGrammar) (h : IsNormalized finds [] one v) → Among v.inlined (h.name_of (Nonterminal.closed s)) → ⊥
 inlined_refused v h m = (inlined (Nonterminal.closed s) in_rule).1 ((h.inlined (Nonterminal.closed s) in_rule).0 m)
+
+-- nor where a group stands elsewhere than at its own symbol
+group_elsewhere_refused : (v : LoweredGrammar) (h : IsNormalized finds [] grouped v) →
+    Among v.places (h.name_of (Nonterminal.closed the_group), here) → ⊥
+group_elsewhere_refused v h m = group_at_grammar_refused (h.spans.places (Nonterminal.closed the_group) here group_made m)
+
+-- nor where its terminal has no type
+untyped_refused : (v : LoweredGrammar) → Among v.terminals a → v.terminal_types ≡ [] → IsNormalized finds [] one v → ⊥
+untyped_refused v there none h =
+    subst (λ (es : List (TerminalString × TypeRepr)). IsSomeAnd (at_terminal terminal_a es) (λ u. type_repr_view u ≡ text_type)) none
+    (h.terminal_types.typed terminal_a there)
 
 -- nor with an entry too few
 no_entry_refused : (v : LoweredGrammar) → v.entries ≡ [] → IsNormalized finds [] one v → ⊥

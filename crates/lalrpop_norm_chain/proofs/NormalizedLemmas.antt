@@ -25,6 +25,9 @@ use Rattle.lalrpop_norm_pass_laws.proofs.KeyRuleLemmas.{in_keys}
 use Rattle.lalrpop_norm_level_laws.specs.LevelLaws.{nonterminal_by_level}
 use Rattle.lalrpop_norm_level_laws.proofs.LevelExpansionLemmas.{call_of, well_in}
 use Rattle.lalrpop_norm_level_laws.proofs.WellLeveledLemmas.{IsWell}
+use Rattle.lalrpop_norm_key_place_law.specs.KeyPlaces.{IsKeyPlace, IsShapeKey, IsWrittenKeyPlace}
+use Rattle.lalrpop_norm_key_place_law.proofs.MadeKeyLemmas.{placed_made}
+use Rattle.lalrpop_norm_key_place_law.proofs.WrittenKeyLemmas.{key_place_written}
 use Rattle.lalrpop_norm_chain.specs.PremiseLaws.{leveled_part, resolved_part}
 use Rattle.lalrpop_norm_chain.specs.Spans.{HasOwnSpan, IsAddedOrigin, IsMadeFrom, IsRuleSpan, IsWrittenSpan, StandsByChoice}
 use Rattle.lalrpop_norm_chain.specs.Lowered.{IsAlternativeSpan, IsStartSpan}
@@ -175,6 +178,36 @@ module _ (finds : Text → Text → Option Bool) (features : List Text) (w : Gra
             (leveled_rule_stands features w c.front.read level_of c.front.levels.are_names q u.0 level a u.1.among u.1.has_level
             (name ∙ ap (λ (m : Text). level_name level_of m level) (sym u.2))))
 
+    -- a repeat, a group or a lookaround stays one under the names of levels
+    shape_leveled : (x : Closed) → IsShapeKey x → IsShapeKey (by_level_names level_of x)
+    shape_leveled (Closed.repeat op x) h = tt
+    shape_leveled (Closed.group xs) h = tt
+    shape_leveled Closed.lookahead h = tt
+    shape_leveled Closed.lookbehind h = tt
+    shape_leveled (Closed.terminal t) h = absurd h
+    shape_leveled (Closed.call n args level) h = absurd h
+    shape_leveled (Closed.choose x) h = absurd h
+    shape_leveled (Closed.name m n x) h = absurd h
+    shape_leveled Closed.faulty h = absurd h
+
+    -- its rule stands where it is met
+    key_place : (x : Closed) → IsShapeKey x → (r : Rule) → InExpansion written (Nonterminal.closed x)
+        → Among (rules_of c.checked.items) r → name_of (Nonterminal.closed x) ≡ r.name → IsWrittenKeyPlace finds features w x r.span
+    key_place x shape r i j e =
+        let y = by_level_names level_of x in
+        let k = in_keys leveled expanded_one key_of c.front.macros.keys c.front.macros.expansion y
+        ((same_leveled finds features w c.leveled c.expanded c.front).there (Nonterminal.closed x) i) in
+        let met = c.front.macros.key_spans y r (shape_leveled x shape) k
+        (subst (λ (rs : List Rule). Among rs r) rules_checked j) (sym e ∙ (chain.key_name finds features w v c) y k) in
+        let u = key_place_written finds features w level_of c.front.read (levelable finds features w c.leveled c.expanded c.front) y
+        r.span (shape_leveled x shape)
+        (subst (λ (g : Grammar). IsKeyPlace (grammar_between finds g) y r.span) c.front.levels.value met) in
+        let there = placed_made written u.0 r.span u.2 in
+        let same : Nonterminal.closed u.0 ≡ Nonterminal.closed x =
+        (same_leveled finds features w c.leveled c.expanded c.front).apart (Nonterminal.closed u.0) (Nonterminal.closed x) there i
+        (ap Nonterminal.closed (sym u.1)) in
+        subst (λ (z : Closed). IsWrittenKeyPlace finds features w z r.span) (let d : u.0 ≡ x = cc in d) u.2
+
     -- what a start leads to
     start_rule : (n : Text) → InExpansion written (Nonterminal.start n) → (r : EnabledRule)
         × (name_of (Nonterminal.closed (Closed.call n Closeds.none (loosest r))) ≡ n)
@@ -228,12 +261,23 @@ module _ (finds : Text → Text → Option Bool) (features : List Text) (w : Gra
         let place : own ≡ q.0.span = c.lowered.rule_places q.0 own q.1 (subst (λ (m : Text). Among v.places (m, own)) name j) in
         subst (λ (s : TextSpan). IsRuleSpan features w n s) (sym place) (call_place n args level q.0 i q.1 name)
 
-    places : (x : Nonterminal) (own : TextSpan) → InExpansion written x → Among v.places (name_of x, own) → HasOwnSpan features w x own
+    -- where the name of a repeat, a group or a lookaround stands, it is met
+    met_at : (x : Closed) → IsShapeKey x → (own : TextSpan) → InExpansion written (Nonterminal.closed x)
+        → Among v.places (name_of (Nonterminal.closed x), own) → IsWrittenKeyPlace finds features w x own
+    met_at x shape own i j =
+        let u = (chain.has_rule finds features w v c) x i in
+        let q = (chain.written_rule_of finds features w v c) u.name u.rule u.is_rule in
+        let name : name_of (Nonterminal.closed x) ≡ q.0.name = (chain.name_is finds features w v c) x u ∙ sym q.2 in
+        let place : own ≡ q.0.span = c.lowered.rule_places q.0 own q.1 (subst (λ (m : Text). Among v.places (m, own)) name j) in
+        subst (λ (s : TextSpan). IsWrittenKeyPlace finds features w x s) (sym place) (key_place x shape q.0 i q.1 name)
+
+    places : (x : Nonterminal) (own : TextSpan) → InExpansion written x → Among v.places (name_of x, own)
+        → HasOwnSpan finds features w x own
     places (Nonterminal.closed (Closed.call n args level)) own i j = place_of n args level own i j
-    places (Nonterminal.closed (Closed.repeat op x)) own i j = tt
-    places (Nonterminal.closed (Closed.group xs)) own i j = tt
-    places (Nonterminal.closed Closed.lookahead) own i j = tt
-    places (Nonterminal.closed Closed.lookbehind) own i j = tt
+    places (Nonterminal.closed (Closed.repeat op x)) own i j = met_at (Closed.repeat op x) tt own i j
+    places (Nonterminal.closed (Closed.group xs)) own i j = met_at (Closed.group xs) tt own i j
+    places (Nonterminal.closed Closed.lookahead) own i j = met_at Closed.lookahead tt own i j
+    places (Nonterminal.closed Closed.lookbehind) own i j = met_at Closed.lookbehind tt own i j
     places (Nonterminal.closed (Closed.terminal t)) own i j = tt
     places (Nonterminal.closed (Closed.choose x)) own i j = tt
     places (Nonterminal.closed (Closed.name m n x)) own i j = tt
@@ -280,6 +324,7 @@ module _ (finds : Text → Text → Option Bool) (features : List Text) (w : Gra
       inlined = (chain.inlined_alike finds features w v c);
       terminals = c.lowered.terminals;
       types = (chain.types_are finds features w v c);
+      terminal_types = c.lowered.terminal_types;
       lalr = c.lowered.lalr ∙ ap (has_attr (codes "LALR")) (chain.attributes_are finds features w v c);
       entries = (chain.entries_full finds features w v c);
       none_refused = ap first_refused entries_here ∙ c.tokens.are_checked.none_refused;

@@ -14,6 +14,7 @@ use Rattle.lalrpop_norm_back_laws.specs.KeyTypes.{DeclareKeyTypes}
 use Rattle.lalrpop_norm_name_laws.specs.NameFaults.{HasRightNames}
 use Rattle.lalrpop_norm_level_laws.specs.LevelFaults.{HasRightLevels}
 use Rattle.lalrpop_norm_levels.specs.LevelExpansions.{IsLevelExpansion}
+use Rattle.lalrpop_norm_key_place_law.specs.KeyPlaces.{IsKeyPlace, IsShapeKey}
 use Rattle.lalrpop_norm_entries.specs.Blocks.{block_groups}
 use Rattle.lalrpop_norm_entries.specs.Checked.{IsTokenChecked}
 use Rattle.lalrpop_norm_entries.specs.Places.{FirstPlaces}
@@ -37,7 +38,10 @@ pub record IsMacroResult (finds : Text → Text → Option Bool) (g made : Gramm
   pub rule_spans : (n : Text) (args : Closeds) (q : Rule) → Among keys (Closed.call n args None) → Among (rules_of made.items) q
       → q.name ≡ key_of (Closed.call n args None)
       → (r : Rule) × Among (rules_of g.items) r × (r.name ≡ n) × (q.span ≡ r.span)
-  -- and so does each of its alternatives; others stand where their rule does
+  -- that of a repeat, a group or a lookaround stands where this is met
+  pub key_spans : (x : Closed) (q : Rule) → IsShapeKey x → Among keys x → Among (rules_of made.items) q → q.name ≡ key_of x
+      → IsKeyPlace (grammar_between finds g) x q.span
+  -- alternatives of a rule or of an instance stand where they do before; others stand where their rule does
   pub alternative_spans : (q : Rule) (b : Alternative) → Among (rules_of made.items) q → Among q.alternatives b
       → IsMadeFrom (rules_of g.items) q b ⊎ (b.span ≡ q.span) × IsAddedOrigin b.origin
   pub span : made.span ≡ g.span

@@ -1,7 +1,8 @@
-pub mod PremiseLaws
-pub mod UsedLiterals
 pub mod Actions
-pub mod Spans
-pub mod Lowered
 pub mod Chains
+pub mod Lowered
 pub mod Normalized
+pub mod PassedOn
+pub mod PremiseLaws
+pub mod Spans
+pub mod UsedLiterals

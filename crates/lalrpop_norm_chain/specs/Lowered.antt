@@ -4,6 +4,7 @@ use Rattle.std.specs.Prelude.{◌≡◌, ◌⊎◌, ◌↔◌, true, Bool, List,
 use Rattle.std.specs.Prelude.{codes, length, map, slice_get}
 use Rattle.lalrpop_grammar_symbols.specs.Symbols.{Text, TextSpan, Terminal, Closed, Closeds}
 use Rattle.lalrpop_grammar_symbols.specs.declared.names.NonterminalString.{NonterminalString}
+use Rattle.lalrpop_grammar_symbols.specs.declared.terminal.TerminalString.{TerminalString}
 use Rattle.lalrpop_grammar.specs.WrittenGrammar.{Action, Alternative, EntryMapping, InternEntry, Origin, Grammar, Rule, rules_of}
 use Rattle.lalrpop_grammar_language.specs.Among.{Among}
 use Rattle.lalrpop_grammar_language.specs.Enabled.{Choice, EnabledGrammar, EnabledRule, has_attr}
@@ -12,13 +13,14 @@ use Rattle.lalrpop_grammar_repr.specs.Maps.{at_name}
 use Rattle.lalrpop_grammar_repr.specs.declared.action.ActionFnDefn.{ActionFnDefn}
 use Rattle.lalrpop_grammar_types.specs.declared.type_repr.TypeRepr.{TypeRepr}
 use Rattle.lalrpop_norm_expansion.specs.Productions.{NamedProduction, AreProductions}
+use Rattle.lalrpop_norm_types.specs.TerminalTypes.{AreTerminalTypes}
 use Rattle.lalrpop_norm_types.specs.TypeFaults.{nonterminal_of}
 use Rattle.lalrpop_norm_lower.specs.Definitions.{definition_of}
 use Rattle.lalrpop_norm_chain.specs.PremiseLaws.{entries_of_items}
 
 -- A lowered grammar: its productions, each with where it stands too, the origins and the definitions of their actions, the names of
 -- its nonterminals, each with where it stands too, of its starts beside those of their rules, and of what is inlined, its terminals,
--- its types by name, whether LALR is asked for, and the tokenizer's entries.
+-- the types of its nonterminals and of its terminals, whether LALR is asked for, and the tokenizer's entries.
 pub record LoweredGrammar : Type 0 where
   pub prefix : Text
   pub productions : List NamedProduction
@@ -31,6 +33,7 @@ pub record LoweredGrammar : Type 0 where
   pub inlined : List Text
   pub terminals : List Terminal
   pub types : List (NonterminalString × TypeRepr)
+  pub terminal_types : List (TerminalString × TypeRepr)
   pub lalr : Bool
   pub entries : List InternEntry
 
@@ -108,7 +111,8 @@ pub record IsLoweredFrom (g : Grammar) (h : EnabledGrammar) (inferred : List (No
   pub inlined : (r : EnabledRule) → Among h.rules r → Among v.inlined r.name ↔ (r.inlined ≡ true)
   pub no_start_inlined : (n : Text) → InExpansion h (Nonterminal.start n) → Among v.inlined (start_name v.prefix n) → ⊥
   pub terminals : (t : Terminal) → Among v.terminals t ↔ IsTerminalOf v t
-  -- the types are those that were inferred, and a start's is its rule's
+  -- each terminal has a text's type, and the types of nonterminals are those that were inferred; a start's is its rule's
+  pub terminal_types : AreTerminalTypes v.terminals v.terminal_types
   pub rule_types : (r : EnabledRule) → Among h.rules r
       → at_name (nonterminal_of r.name) v.types ≡ at_name (nonterminal_of r.name) inferred
   pub start_types : (n : Text) → InExpansion h (Nonterminal.start n)

@@ -17,6 +17,7 @@ use Rattle.lalrpop_norm_expansion.specs.Types.{GroundType, IsGrounded}
 use Rattle.lalrpop_norm_entries.specs.Blocks.{block_groups}
 use Rattle.lalrpop_norm_entries.specs.Patterns.{first_refused, entry_patterns, entry_precedences}
 use Rattle.lalrpop_norm_types.specs.GroundViews.{type_repr_view}
+use Rattle.lalrpop_norm_types.specs.TerminalTypes.{AreTerminalTypes}
 use Rattle.lalrpop_norm_types.specs.TypeFaults.{nonterminal_of}
 use Rattle.lalrpop_norm_chain.specs.UsedLiterals.{AreFullExpansionEntries}
 use Rattle.lalrpop_norm_chain.specs.Actions.{ChoiceDoes}
@@ -42,15 +43,16 @@ pub record HasWrittenActions (g : EnabledGrammar) (name_of : Nonterminal → Tex
   pub no_other : length v.definitions ≡ length v.origins
 
 -- Each production stands somewhere, that of a written alternative where the alternative does, another one where its nonterminal does.
--- Each nonterminal stands somewhere, that of a rule where the rule does.
-pub record HasWrittenSpans (features : List Text) (w : Grammar) (g : EnabledGrammar) (name_of : Nonterminal → Text)
-    (v : LoweredGrammar) : Type 0 where
+-- Each nonterminal stands somewhere, that of a rule where the rule does, and that of a repeat, a group or a lookaround where it is met.
+pub record HasWrittenSpans (finds : Text → Text → Option Bool) (features : List Text) (w : Grammar) (g : EnabledGrammar)
+    (name_of : Nonterminal → Text) (v : LoweredGrammar) : Type 0 where
   pub each : map (λ e. e.0) v.spans ≡ v.productions
   pub stands : (p : NamedProduction) (label : WrittenLabel) (side : RightSide) (s own : TextSpan) → Among v.spans (p, s)
       → StandsForLabel g name_of v.origins p label side → Among v.places (p.nonterminal, own)
       → StandsByChoice features w own label.choice s
   pub each_place : map (λ e. e.0) v.places ≡ v.nonterminals
-  pub places : (x : Nonterminal) (own : TextSpan) → InExpansion g x → Among v.places (name_of x, own) → HasOwnSpan features w x own
+  pub places : (x : Nonterminal) (own : TextSpan) → InExpansion g x → Among v.places (name_of x, own)
+      → HasOwnSpan finds features w x own
 
 -- The lowered grammar is the written one's, with what the features leave of it.
 pub record IsNormalized (finds : Text → Text → Option Bool) (features : List Text) (w : Grammar) (v : LoweredGrammar) : Type 0 where
@@ -61,7 +63,7 @@ pub record IsNormalized (finds : Text → Text → Option Bool) (features : List
   -- one production, origin and action for each written choice
   pub productions : AreProductions (enabled_grammar finds features w) name_of v.productions v.origins
   pub actions : HasWrittenActions (enabled_grammar finds features w) name_of v
-  pub spans : HasWrittenSpans features w (enabled_grammar finds features w) name_of v
+  pub spans : HasWrittenSpans finds features w (enabled_grammar finds features w) name_of v
   pub nonterminals : (n : Text) → Among v.nonterminals n
       ↔ ((x : Nonterminal) × InExpansion (enabled_grammar finds features w) x × (name_of x ≡ n))
   -- a start for each public rule that is no macro, and none on a right side
@@ -73,6 +75,8 @@ pub record IsNormalized (finds : Text → Text → Option Bool) (features : List
       → Among v.inlined (name_of x) ↔ IsInlined (enabled_grammar finds features w) x
   pub terminals : (t : Terminal) → Among v.terminals t ↔ IsTerminalOf v t
   pub types : HasExpansionTypes (enabled_grammar finds features w) name_of v.types
+  -- each terminal has the type `&'input str`, and nothing else has one
+  pub terminal_types : AreTerminalTypes v.terminals v.terminal_types
   pub lalr : v.lalr ≡ has_attr (codes "LALR") w.attributes
   -- the tokenizer's entries, none of which is refused, and no two tie
   pub entries : AreFullExpansionEntries (enabled_grammar finds features w) (block_groups w.items) v.entries

@@ -1,10 +1,11 @@
 -- Where the productions and the nonterminals of an expansion stand; for what a normalized grammar is.
-use Rattle.std.specs.Prelude.{ℕ, ◌≡◌, true, List, []}
+use Rattle.std.specs.Prelude.{ℕ, ◌≡◌, Bool, true, List, [], Option}
 use Rattle.lalrpop_grammar_symbols.specs.Symbols.{Argument, Text, TextSpan, Closed}
 use Rattle.lalrpop_grammar.specs.WrittenGrammar.{Alternative, Grammar, Origin, Rule, rules_of}
 use Rattle.lalrpop_grammar_language.specs.Among.{Among}
 use Rattle.lalrpop_grammar_language.specs.Enabled.{at_places, is_active}
 use Rattle.lalrpop_grammar_language.specs.Expansion.{Nonterminal, origin_with}
+use Rattle.lalrpop_norm_key_place_law.specs.KeyPlaces.{IsWrittenKeyPlace}
 
 -- The rule stands there; it is enabled.
 pub record IsRuleSpan (features : List Text) (w : Grammar) (n : Text) (p : TextSpan) : Type 0 where
@@ -39,19 +40,19 @@ StandsByChoice features w own Origin.opt_some p = p ≡ own
 StandsByChoice features w own Origin.group p = p ≡ own
 StandsByChoice features w own Origin.look p = p ≡ own
 
--- Where a nonterminal stands: a start, a level and an instance where their rule does. Of repeats, groups and lookarounds nothing is
--- said.
-abbrev pub HasOwnSpan : List Text → Grammar → Nonterminal → TextSpan → Type 0
-HasOwnSpan features w (Nonterminal.start n) p = IsRuleSpan features w n p
-HasOwnSpan features w (Nonterminal.closed (Closed.call n args level)) p = IsRuleSpan features w n p
-HasOwnSpan features w (Nonterminal.closed (Closed.repeat op x)) p = Unit {0}
-HasOwnSpan features w (Nonterminal.closed (Closed.group xs)) p = Unit {0}
-HasOwnSpan features w (Nonterminal.closed Closed.lookahead) p = Unit {0}
-HasOwnSpan features w (Nonterminal.closed Closed.lookbehind) p = Unit {0}
-HasOwnSpan features w (Nonterminal.closed (Closed.terminal t)) p = Unit {0}
-HasOwnSpan features w (Nonterminal.closed (Closed.choose x)) p = Unit {0}
-HasOwnSpan features w (Nonterminal.closed (Closed.name m n x)) p = Unit {0}
-HasOwnSpan features w (Nonterminal.closed Closed.faulty) p = Unit {0}
+-- Where a nonterminal stands: a start, a level and an instance where their rule does; a repeat, a group and a lookaround where it is met,
+-- at its own symbol, or at the parameter's where it comes by one.
+abbrev pub HasOwnSpan : (Text → Text → Option Bool) → List Text → Grammar → Nonterminal → TextSpan → Type 0
+HasOwnSpan finds features w (Nonterminal.start n) p = IsRuleSpan features w n p
+HasOwnSpan finds features w (Nonterminal.closed (Closed.call n args level)) p = IsRuleSpan features w n p
+HasOwnSpan finds features w (Nonterminal.closed (Closed.repeat op x)) p = IsWrittenKeyPlace finds features w (Closed.repeat op x) p
+HasOwnSpan finds features w (Nonterminal.closed (Closed.group xs)) p = IsWrittenKeyPlace finds features w (Closed.group xs) p
+HasOwnSpan finds features w (Nonterminal.closed Closed.lookahead) p = IsWrittenKeyPlace finds features w Closed.lookahead p
+HasOwnSpan finds features w (Nonterminal.closed Closed.lookbehind) p = IsWrittenKeyPlace finds features w Closed.lookbehind p
+HasOwnSpan finds features w (Nonterminal.closed (Closed.terminal t)) p = Unit {0}
+HasOwnSpan finds features w (Nonterminal.closed (Closed.choose x)) p = Unit {0}
+HasOwnSpan finds features w (Nonterminal.closed (Closed.name m n x)) p = Unit {0}
+HasOwnSpan finds features w (Nonterminal.closed Closed.faulty) p = Unit {0}
 
 -- what the pass over macros makes of alternatives
 

@@ -32,7 +32,7 @@ use Rattle.lalrpop_norm_level_laws.proofs.LeveledRuleLemmas.{rule_of_key, rules_
 use Rattle.lalrpop_norm_level_laws.proofs.RenameLemmas.{NamesAreThere, rename_listed_alike}
 use Rattle.lalrpop_norm_level_laws.proofs.ResolvedLevelLemmas.{alike_scope}
 use Rattle.lalrpop_norm_level_laws.proofs.RightLevelLemmas.{has_loosest, rank_of, allowed_present, tighter_present}
-use Rattle.lalrpop_norm_keys.specs.Arity.{arity_fault_of, arity_fault, arity_faults_at, arity_faults_in, arity_faults}
+use Rattle.lalrpop_norm_chain.specs.PassedOn.{arity_fault_of, arity_fault, arity_faults_at, arity_faults_in, arity_faults}
 use Rattle.lalrpop_norm_chain.proofs.SourceLemmas.{leveled_source}
 use Rattle.lalrpop_norm_chain.proofs.ActiveLemmas.{zip_front}
 use Rattle.lalrpop_norm_chain.proofs.SubsymbolLemmas.{listed_subsymbols_resolved}

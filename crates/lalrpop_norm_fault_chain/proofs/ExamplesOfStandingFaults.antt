@@ -26,8 +26,8 @@ use Rattle.lalrpop_grammar_language.specs.Expansion.{Nonterminal, InExpansion}
 use Rattle.lalrpop_grammar_repr.specs.declared.norm_error.NormErrorKind.{NormErrorKind}
 use Rattle.lalrpop_norm_expansion.proofs.ExpansionListLemmas.{calls_at, calls_from, listed-chain, roots, chain-listed, root-listed}
 use Rattle.lalrpop_norm_expansion.proofs.ExpansionListLemmas.{reached-in, all-of}
-use Rattle.lalrpop_norm_keys.specs.Arity.{arity_faults}
-use Rattle.lalrpop_norm_keys.specs.MacroFaults.{ConditionError}
+use Rattle.lalrpop_norm_chain.specs.PassedOn.{arity_faults}
+use Rattle.lalrpop_norm_chain.specs.PassedOn.{ConditionError}
 use Rattle.lalrpop_norm_fault_chain.specs.MadeConditions.{HasConditionWhere, HasWrongCondition, IsMade}
 use Rattle.lalrpop_grammar_language.specs.Levels.{Rank, ranked_choices}
 use Rattle.std.specs.Fmt.{digits}

@@ -28,13 +28,13 @@ use Rattle.lalrpop_norm_level_laws.specs.LevelFaults.{LevelFault, level_faults, 
 use Rattle.lalrpop_norm_level_laws.specs.LevelLaws.{IsLevelable}
 use Rattle.lalrpop_norm_level_laws.proofs.LevelFitLemmas.{flat_written}
 use Rattle.lalrpop_norm_level_faults.specs.LevelErrors.{told_fault, first_fault, error_view, ToldFault}
-use Rattle.lalrpop_norm_levels.specs.LevelExpansions.{IsLevelFault}
+use Rattle.lalrpop_norm_chain.specs.PassedOn.{IsLevelFault}
 use Rattle.lalrpop_norm_back_laws.proofs.ChainLemmas.{same_deep_calls}
 use Rattle.lalrpop_norm_checks.specs.Faults.{HasNoCheckFault}
-use Rattle.lalrpop_norm_keys.specs.Arity.{arity_faults, TellsArity}
-use Rattle.lalrpop_norm_keys.specs.FoundCalls.{TellsOfMadeCall}
-use Rattle.lalrpop_norm_keys.specs.MacroFaults.{ConditionError, condition_error, IsQuotedLiteral, IsUnreadOf, IsConditionError}
-use Rattle.lalrpop_norm_keys.specs.MacroFaults.{TellsOfAlternative}
+use Rattle.lalrpop_norm_chain.specs.PassedOn.{arity_faults, TellsArity}
+use Rattle.lalrpop_norm_chain.specs.PassedOn.{TellsOfMadeCall}
+use Rattle.lalrpop_norm_chain.specs.PassedOn.{ConditionError, condition_error, IsQuotedLiteral, IsUnreadOf, IsConditionError}
+use Rattle.lalrpop_norm_chain.specs.PassedOn.{TellsOfAlternative}
 use Rattle.lalrpop_norm_entries.specs.Checked.{IsTokenChecked}
 use Rattle.lalrpop_norm_entries.specs.Faults.{TokenStands, IsTokenFault}
 use Rattle.lalrpop_norm_entries.specs.Places.{FirstPlaces}

@@ -16,11 +16,11 @@ use Rattle.lalrpop_norm_expansion.specs.Depth.{IsTooDeep}
 use Rattle.lalrpop_norm_expansion.specs.Premises.{IsReadGrammar}
 use Rattle.lalrpop_norm_name_laws.specs.NameFaults.{HasRightNames}
 use Rattle.lalrpop_norm_level_laws.specs.LevelFaults.{HasRightLevels}
-use Rattle.lalrpop_norm_levels.specs.LevelExpansions.{IsLevelExpansion, IsLevelFault}
+use Rattle.lalrpop_norm_chain.specs.PassedOn.{IsLevelExpansion, IsLevelFault}
 use Rattle.lalrpop_norm_checks.specs.Faults.{HasNoCheckFault}
-use Rattle.lalrpop_norm_keys.specs.Arity.{arity_faults, TellsArity}
-use Rattle.lalrpop_norm_keys.specs.FoundCalls.{TellsOfMadeCall}
-use Rattle.lalrpop_norm_keys.specs.MacroFaults.{ConditionError}
+use Rattle.lalrpop_norm_chain.specs.PassedOn.{arity_faults, TellsArity}
+use Rattle.lalrpop_norm_chain.specs.PassedOn.{TellsOfMadeCall}
+use Rattle.lalrpop_norm_chain.specs.PassedOn.{ConditionError}
 use Rattle.lalrpop_norm_place_law.specs.CallPlaces.{IsPlaceBelow}
 use Rattle.lalrpop_norm_entries.specs.Checked.{IsTokenChecked}
 use Rattle.lalrpop_norm_entries.specs.Faults.{IsTokenFault}

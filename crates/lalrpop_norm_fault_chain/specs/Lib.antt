@@ -1,5 +1,6 @@
+pub mod FaultLaws
 pub mod MadeConditions
+pub mod PassedOn
+pub mod StandingFaults
 pub mod TokenFaults
 pub mod WrittenTypeFaults
-pub mod StandingFaults
-pub mod FaultLaws

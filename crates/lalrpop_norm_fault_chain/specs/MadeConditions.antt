@@ -9,7 +9,7 @@ use Rattle.lalrpop_grammar_language.specs.Closing.{parameter_value}
 use Rattle.lalrpop_grammar_language.specs.Admitting.{bind, rank_level}
 use Rattle.lalrpop_grammar_language.specs.Expansion.{Nonterminal, IsRoot}
 use Rattle.lalrpop_norm_expansion.specs.Depth.{HasCallChain}
-use Rattle.lalrpop_norm_keys.specs.MacroFaults.{ConditionError, IsConditionError}
+use Rattle.lalrpop_norm_chain.specs.PassedOn.{ConditionError, IsConditionError}
 
 -- the call is made: it is a rule that is no macro, at one of its levels, or a chain of calls leads to it
 abbrev pub IsMade : EnabledGrammar → Closed → Type 0

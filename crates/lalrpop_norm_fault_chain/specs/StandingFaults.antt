@@ -13,8 +13,8 @@ use Rattle.lalrpop_norm_name_laws.specs.NameFaults.{IsDuplicate, NameFault, name
 use Rattle.lalrpop_norm_level_laws.specs.LevelFaults.{level_faults}
 use Rattle.lalrpop_norm_level_faults.specs.LevelErrors.{told_fault}
 use Rattle.lalrpop_norm_checks.specs.Faults.{CheckStands, HasNoCheckFault}
-use Rattle.lalrpop_norm_keys.specs.Arity.{arity_faults}
-use Rattle.lalrpop_norm_keys.specs.MacroFaults.{ConditionError, condition_error}
+use Rattle.lalrpop_norm_chain.specs.PassedOn.{arity_faults}
+use Rattle.lalrpop_norm_chain.specs.PassedOn.{ConditionError, condition_error}
 use Rattle.lalrpop_norm_place_law.specs.WrittenPlaces.{IsWrittenPlace}
 use Rattle.lalrpop_norm_fault_chain.specs.MadeConditions.{HasWrongCondition}
 use Rattle.lalrpop_norm_fault_chain.specs.TokenFaults.{enabled_places, TokenStandsAt}

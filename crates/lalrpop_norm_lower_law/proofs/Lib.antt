@@ -1,5 +1,6 @@
 pub mod EntryLemmas
-pub mod MadeLemmas
-pub mod LoweredLemmas
-pub mod PremiseLemmas
 pub mod ExamplesOfViews
+pub mod LoweredLemmas
+pub mod MadeLemmas
+pub mod PassedOnLemmas
+pub mod PremiseLemmas

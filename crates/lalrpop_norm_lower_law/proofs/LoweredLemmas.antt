@@ -9,6 +9,7 @@ use Rattle.lalrpop_grammar_symbols.specs.Symbols.{Text, TextSpan, Terminal}
 use Rattle.lalrpop_grammar_symbols.specs.Views.{span_view, terminal_view}
 use Rattle.lalrpop_grammar_symbols.specs.contracts.names.NonterminalStringOrd.TheImpl as names
 use Rattle.lalrpop_grammar_symbols.specs.declared.names.NonterminalString.{NonterminalString}
+use Rattle.lalrpop_grammar_symbols.specs.declared.terminal.TerminalString.{TerminalString}
 use Rattle.lalrpop_grammar.specs.Views.{grammar_view, intern_entry_view, origin_view}
 use Rattle.lalrpop_grammar.specs.WrittenGrammar.{Action, Alternative, Grammar, InternEntry, Origin, Rule, rules_of}
 use Rattle.lalrpop_grammar.specs.declared.grammar.Grammar as program
@@ -28,9 +29,9 @@ use Rattle.lalrpop_norm_expansion.specs.Productions.{NamedProduction, StandsForL
 use Rattle.lalrpop_norm_expansion.specs.Rows.{Row}
 use Rattle.lalrpop_norm_expansion.proofs.AmongLemmas.{among_flat_map, among_parts, among_right, flat_map_among, map_among}
 use Rattle.lalrpop_norm_expansion.proofs.LevelLemmas.{keeps}
-use Rattle.lalrpop_norm_level_laws.proofs.LevelOrderLemmas.{one_rule}
-use Rattle.lalrpop_norm_types.specs.TerminalTypes.{terminals_of_alternatives, terminals_of_items, terminals_of_rules}
-use Rattle.lalrpop_norm_types.specs.TerminalTypes.{terminals_of_symbols}
+use Rattle.lalrpop_norm_chain.proofs.PassedOnLemmas.{one_rule}
+use Rattle.lalrpop_norm_types.specs.TerminalTypes.{AreTerminalTypes, grammar_terminals, terminals_of_alternatives, terminals_of_items}
+use Rattle.lalrpop_norm_types.specs.TerminalTypes.{terminals_of_rules, terminals_of_symbols}
 use Rattle.lalrpop_norm_types.specs.TypeFaults.{nonterminal_of}
 use Rattle.lalrpop_norm_lower.specs.Lowered.{IsLowerable, IsLowered, IsLoweredAlternative, IsLoweredName}
 use Rattle.lalrpop_norm_lower.specs.Lowered.{IsLoweredRule, IsLoweredStart, KeepsTheRest, says_inline, start_of}
@@ -241,6 +242,15 @@ module _ (finds : Text → Text → Option Bool) (g : program.Grammar) (types : 
       (among_right (terminals_of_rules rs) (terminals_of_items w.items) t there))))
 
   -- types
+
+  terminals_typed : AreTerminalTypes v.terminals v.terminal_types
+  terminals_typed =
+      subst (λ (table : List (TerminalString × TypeRepr)). AreTerminalTypes v.terminals table) (sym m.types_are.terminals) (record {
+        typed = λ t i.
+            let u = among_map terminal_view made.grammar.terminals.all (terminal_view t) i in
+            l.terminals.typed t (subst (Among (grammar_terminals w)) u.2 ((m.terminals.members u.0).0 u.1));
+        only = λ t u e. map_among terminal_view made.grammar.terminals.all t ((m.terminals.members t).1 (l.terminals.only t u e));
+      })
 
   rule_type : (r : Rule) → Among rs r
       → at_name (nonterminal_of r.name) v.types ≡ at_name (nonterminal_of r.name) types.nonterminal_types
@@ -550,6 +560,7 @@ module _ (finds : Text → Text → Option Bool) (g : program.Grammar) (types : 
     inlined = λ r i. rule_inlined r i;
     no_start_inlined = λ n i a. no_start n i a;
     terminals = λ t. (λ i. terminal_used t i, λ a. used_terminal t a);
+    terminal_types = terminals_typed;
     rule_types = λ r i. between_type r i;
     start_types = λ n i. start_type n i;
     lalr = k.algorithm ∙ lalr_is g.attributes;

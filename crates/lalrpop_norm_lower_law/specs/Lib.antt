@@ -1,2 +1,3 @@
-pub mod LoweredViews
 pub mod LoweredChains
+pub mod LoweredViews
+pub mod PassedOn

@@ -7,8 +7,8 @@ use Rattle.lalrpop_grammar.specs.declared.grammar.Grammar as program
 use Rattle.lalrpop_grammar_repr.specs.declared.types.Types.{Types}
 use Rattle.lalrpop_norm_expansion.specs.Between.{grammar_between}
 use Rattle.lalrpop_norm_checks.specs.Faults.{HasNoCheckFault}
-use Rattle.lalrpop_norm_entries.specs.Checked.{IsTokenChecked}
-use Rattle.lalrpop_norm_entries.specs.Places.{FirstPlaces}
+use Rattle.lalrpop_norm_chain.specs.PassedOn.{IsTokenChecked}
+use Rattle.lalrpop_norm_chain.specs.PassedOn.{FirstPlaces}
 use Rattle.lalrpop_norm_types.specs.TerminalTypes.{HasTerminalTypes}
 use Rattle.lalrpop_norm_types.specs.TypeFaults.{HasRuleTypes}
 use Rattle.lalrpop_norm_lower.specs.Lowered.{IsLowerable, IsLowered, KeepsTheRest}

@@ -55,6 +55,7 @@ lowered_view made = record {
   inlined = names_marked_inline made.grammar.nonterminals;
   terminals = map terminal_view made.grammar.terminals.all;
   types = made.grammar.types.nonterminal_types;
+  terminal_types = made.grammar.types.terminal_types;
   lalr = made.grammar.algorithm.lalr;
   entries = map intern_entry_view made.entries;
 }

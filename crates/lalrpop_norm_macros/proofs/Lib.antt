@@ -1,8 +1,10 @@
-pub mod PlaceLemmas
-pub mod TableLemmas
 pub mod ConditionLemmas
-pub mod FaultLemmas
-pub mod SpanLemmas
-pub mod ResultLemmas
-pub mod FindingLemmas
 pub mod ExamplesOfMacroFaults
+pub mod FaultLemmas
+pub mod FindingLemmas
+pub mod KeySpanLemmas
+pub mod PassedOnLemmas
+pub mod PlaceLemmas
+pub mod ResultLemmas
+pub mod SpanLemmas
+pub mod TableLemmas

@@ -11,10 +11,10 @@ use Rattle.lalrpop_norm_expansion.specs.Rounds.{AreCallsToDepth}
 use Rattle.lalrpop_norm_expansion.proofs.ExpansionListLemmas.{rule_there}
 use Rattle.lalrpop_norm_pass_laws.specs.KeyTables.{IsKeyTable}
 use Rattle.lalrpop_norm_pass_laws.proofs.KeyTableLemmas.{table_expansion}
-use Rattle.lalrpop_norm_chain.specs.Chains.{IsMacroResult}
-use Rattle.lalrpop_norm_chain.specs.PremiseLaws.{entries_of_items}
-use Rattle.lalrpop_norm_chain.specs.Spans.{IsAddedOrigin, IsMadeFrom}
-use Rattle.lalrpop_norm_entries.specs.Blocks.{block_groups}
+use Rattle.lalrpop_norm_fault_chain.specs.PassedOn.{IsMacroResult}
+use Rattle.lalrpop_norm_fault_chain.specs.PassedOn.{entries_of_items}
+use Rattle.lalrpop_norm_fault_chain.specs.PassedOn.{IsAddedOrigin, IsKeyPlace, IsMadeFrom, IsShapeKey}
+use Rattle.lalrpop_norm_fault_chain.specs.PassedOn.{block_groups}
 use Rattle.lalrpop_norm_key_table.specs.Tables.{HasEachOnce}
 use Rattle.lalrpop_norm_keys.specs.Arity.{arity_faults}
 use Rattle.lalrpop_norm_keys.specs.FoundCalls.{TellsOfMadeCall}
@@ -30,7 +30,8 @@ use Rattle.lalrpop_norm_key_rules.proofs.FinishedGrammarLemmas.{rule_of_some}
 use Rattle.lalrpop_norm_key_rules.proofs.FinishedLemmas.{finished_name, rules_of_made}
 use Rattle.lalrpop_norm_macros.specs.MacroPass.{IsMacroFault, IsReadyForMacros}
 use Rattle.lalrpop_norm_macros.proofs.FaultLemmas.{told_condition}
-use Rattle.lalrpop_norm_macros.proofs.SpanLemmas.{finished_stands}
+use Rattle.lalrpop_norm_macros.proofs.KeySpanLemmas.{ArePlacedFrom, rules_placed}
+use Rattle.lalrpop_norm_macros.proofs.SpanLemmas.{finished_place, finished_stands}
 
 -- what lies beside rules
 
@@ -90,8 +91,8 @@ module _ (finds : Text → Text → Option Bool) (w : Grammar) where
   keys_found keys k = record { calls = k.calls; depth = k.depth; found = k.found; table = k.table }
 
   module _ (ready : IsReadyForMacros finds w) (keys : List Closed) (right : HasRightKeys finds [] w keys) (once : HasEachOnce keys)
-      (f : Closed → Text) (names : AreKeyNames g keys f) (places : ℕ → TextSpan) (made : List Rule)
-      (done : AreFinishedRules finds w f places keys made) where
+      (f : Closed → Text) (names : AreKeyNames g keys f) (places : ℕ → TextSpan) (placed : ArePlacedFrom g places 0 keys)
+      (made : List Rule) (done : AreFinishedRules finds w f places keys made) where
     abbrev expanded : Grammar
     expanded = grammar_with_rules w made
 
@@ -113,6 +114,20 @@ module _ (finds : Text → Text → Option Bool) (w : Grammar) where
         let name : q.name ≡ f u.1 = (finished_name g (rules_of w.items) f keys u.1 (places u.0) q u.3).0 in
         let same : u.1 ≡ Closed.call n args None = names.apart u.1 (Closed.call n args None) u.2 k (sym name ∙ e) in
         span_of_called n args u.0 q (subst (λ x. Done u.0 x q) same u.3)
+
+    -- that of a repeat, a group or a lookaround stands where this is met
+    abbrev Placed : ℕ → Closed → Rule → Type 0
+    Placed i x r = Done i x r × (IsShapeKey x → IsKeyPlace g x (places i))
+
+    span_of_shape : (x : Closed) (q : Rule) → IsShapeKey x → Among keys x → Among (rules_of expanded.items) q → q.name ≡ f x
+        → IsKeyPlace g x q.span
+    span_of_shape x q shape k i e =
+        let u = rule_of_some Placed f (λ j y r m. (finished_name g (rules_of w.items) f keys y (places j) r m.0).0) 0 keys made
+        (rules_placed g places Done 0 keys made done placed) q (subst (λ rs. Among rs q) (rules_of_made w.items made) i) in
+        let name : q.name ≡ f u.1 = (finished_name g (rules_of w.items) f keys u.1 (places u.0) q u.3.0).0 in
+        let same : u.1 ≡ x = names.apart u.1 x u.2 k (sym name ∙ e) in
+        let done_so = subst (λ y. Placed u.0 y q) same u.3 in
+        subst (IsKeyPlace g x) (sym (finished_place g (rules_of w.items) f keys x (places u.0) q shape done_so.0)) (done_so.1 shape)
 
     -- and so does each of its alternatives
     stands_before : (q : Rule) (b : Alternative) → Among (rules_of expanded.items) q → Among q.alternatives b
@@ -138,6 +153,7 @@ module _ (finds : Text → Text → Option Bool) (w : Grammar) where
           naming = expansion_named g h f keys w.prefix names expansion ready.prefix;
           named = λ x i. refl;
           rule_spans = span_of_rule;
+          key_spans = span_of_shape;
           alternative_spans = stands_before;
           span = refl;
           prefix = refl;
@@ -148,23 +164,24 @@ module _ (finds : Text → Text → Option Bool) (w : Grammar) where
 
   -- the rules that are written under names of keys
   pub written_result : IsReadyForMacros finds w → (keys : List Closed) → HasRightKeys finds [] w keys → HasEachOnce keys
-      → (names : List Text) → HoldKeyNames g keys names → (places : ℕ → TextSpan) (made : List Rule)
-      → AreRulesUnderNames finds [] w keys names places made → IsMacroResult finds w (grammar_with_rules w made)
-  written_result ready keys right once names (f, is, are) places made under =
-      macro_result ready keys right once f are places made (under right f (sym is))
+      → (names : List Text) → HoldKeyNames g keys names → (places : ℕ → TextSpan) → ArePlacedFrom g places 0 keys
+      → (made : List Rule) → AreRulesUnderNames finds [] w keys names places made → IsMacroResult finds w (grammar_with_rules w made)
+  written_result ready keys right once names (f, is, are) places placed made under =
+      macro_result ready keys right once f are places placed made (under right f (sym is))
 
   -- the same of what is answered, by a table under no features
   pub written_ok : {T E : Type 0} (view : T → List Rule) (answer : Result T E) (features : List Text) → features ≡ []
       → (keys : List Closed) → HasEachOnce keys → (names given : List Text) → given ≡ names
       → (IsNameable g → HasFoundKeys g keys → HoldKeyNames g keys names) → (places : ℕ → TextSpan)
+      → (HasRightKeys finds [] w keys → ArePlacedFrom g places 0 keys)
       → IfOk answer (λ made. AreRulesUnderNames finds features w keys given places (view made))
       → IfOk answer (λ made. IsReadyForMacros finds w → HasRightKeys finds [] w keys
       → IsMacroResult finds w (grammar_with_rules w (view made)))
-  written_ok view (Ok made) features none keys once names given same hold places under = λ ready right.
-      written_result ready keys right once names (hold ready.nameable (keys_found keys right)) places (view made)
+  written_ok view (Ok made) features none keys once names given same hold places placed under = λ ready right.
+      written_result ready keys right once names (hold ready.nameable (keys_found keys right)) places (placed right) (view made)
       (subst (λ l. AreRulesUnderNames finds [] w keys l places (view made)) same
       (subst (λ fs. AreRulesUnderNames finds fs w keys given places (view made)) none under))
-  written_ok view (Err e) features none keys once names given same hold places under = under
+  written_ok view (Err e) features none keys once names given same hold places placed under = under
 
   -- and of what is told
   pub told_of_keys : {T : Type 0} (deep : Text → Bool) (answer : Result T NormFault) (features : List Text) → features ≡ []

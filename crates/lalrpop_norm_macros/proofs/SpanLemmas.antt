@@ -1,4 +1,4 @@
--- Alternatives of rules of keys stand where those that they are made of do; for the pass.
+-- Rules of keys stand at their places, and their alternatives where those that they are made of do; for the pass.
 use Rattle.std.proofs.Common.{◌≡◌, List, [], ◌∷◌, refl, ap, sym, ◌∙◌, subst, inl, inr, ◌⊎◌}
 use Rattle.std.specs.Prelude.{Option}
 use Rattle.lalrpop_grammar_symbols.specs.Symbols.{Closed, Op, Text, TextSpan, WrittenSymbol}
@@ -8,11 +8,11 @@ use Rattle.lalrpop_grammar_language.specs.Enabled.{EnabledGrammar}
 use Rattle.lalrpop_grammar_language.specs.Admitting.{argument_list, bind}
 use Rattle.lalrpop_grammar_language.specs.Conditions.{Holds}
 use Rattle.lalrpop_norm_expansion.specs.Between.{rule_between}
-use Rattle.lalrpop_norm_chain.specs.Spans.{IsAddedOrigin, IsMadeFrom}
+use Rattle.lalrpop_norm_fault_chain.specs.PassedOn.{IsAddedOrigin, IsMadeFrom, IsShapeKey}
 use Rattle.lalrpop_norm_key_rules.specs.AddedRules.{AddedChoice, AreAddedAlternatives, IsAddedRule, added_choices}
 use Rattle.lalrpop_norm_key_rules.specs.FinishedRules.{BecomesInInstance, IsFinishedRule, IsRepeatType}
 use Rattle.lalrpop_norm_key_rules.specs.InstanceRules.{AreInstancesBy}
-use Rattle.lalrpop_norm_key_symbols.specs.KeyedSymbols.{AreWrittenByName}
+use Rattle.lalrpop_norm_key_rules.specs.PassedOn.{AreWrittenByName}
 
 -- an alternative of an instance is made of one of the rule
 instance_of : (held : Option Condition → Type 0) (becomes : Alternative → Alternative → Type 0) (as_ bs : List Alternative)
@@ -109,3 +109,16 @@ finished_stands g rs f keys (Closed.terminal t) p made d b i = absurd d
 finished_stands g rs f keys (Closed.choose x) p made d b i = absurd d
 finished_stands g rs f keys (Closed.name m k x) p made d b i = absurd d
 finished_stands g rs f keys Closed.faulty p made d b i = absurd d
+
+-- the rule of a repeat, a group or a lookaround stands at its place
+pub finished_place : (g : EnabledGrammar) (rs : List Rule) (f : Closed → Text) (keys : List Closed) (x : Closed) (p : TextSpan)
+    (made : Rule) → IsShapeKey x → IsFinishedRule g rs f keys x p made → made.span ≡ p
+finished_place g rs f keys (Closed.repeat op x) p made shape d = d.span
+finished_place g rs f keys (Closed.group xs) p made shape d = d.span
+finished_place g rs f keys Closed.lookahead p made shape d = d.span
+finished_place g rs f keys Closed.lookbehind p made shape d = d.span
+finished_place g rs f keys (Closed.call m xs level) p made shape d = absurd shape
+finished_place g rs f keys (Closed.terminal t) p made shape d = absurd shape
+finished_place g rs f keys (Closed.choose x) p made shape d = absurd shape
+finished_place g rs f keys (Closed.name m k x) p made shape d = absurd shape
+finished_place g rs f keys Closed.faulty p made shape d = absurd shape

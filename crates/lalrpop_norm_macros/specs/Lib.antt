@@ -1,2 +1,3 @@
-pub mod MacroPass
 pub mod MacroKeys
+pub mod MacroPass
+pub mod PassedOn

@@ -3,7 +3,7 @@
 ghost use Rattle.std.specs.Prelude.{◌≡◌, IfErr, IfOk, map};
 ghost use Rattle.lalrpop_grammar.specs.Views.{grammar_view, nonterminal_view};
 ghost use Rattle.lalrpop_judge_search.specs.Search.{finds as finds_in, is_too_deep};
-ghost use Rattle.lalrpop_norm_chain.specs.Chains.{IsMacroResult};
+ghost use Rattle.lalrpop_norm_fault_chain.specs.PassedOn.{IsMacroResult};
 ghost use Rattle.lalrpop_norm_key_rules.specs.RuleItems.{grammar_with_rules, other_items};
 ghost use Rattle.lalrpop_norm_macros.specs.MacroPass.{HasNoMacroFault, IsMacroFault, IsReadyForMacros};
 
@@ -38,9 +38,9 @@ fn expanded_rules<F: Finder>(
 }
 
 /// The grammar whose macros are expanded: in place of its rules it has one for each key, that is for each rule that is no macro,
-/// each call of a macro that is made, and each repeat, group and lookaround in these. Its other items stay. `limit` says how deep
-/// calls may stand in calls. The finder searches for the patterns of conditions. Names are resolved before, levels are expanded,
-/// and what is disabled is gone.
+/// each call of a macro that is made, and each repeat, group and lookaround in these, which stands where it is met first. Its other
+/// items stay. `limit` says how deep calls may stand in calls. The finder searches for the patterns of conditions. Names are
+/// resolved before, levels are expanded, and what is disabled is gone.
 ///
 /// # Errors
 ///

@@ -4,7 +4,7 @@ ghost use Rattle.std.specs.Prelude.{[], IfErr, IfOk, map};
 ghost use Rattle.lalrpop_grammar.specs.Views.{grammar_view, nonterminal_view};
 ghost use Rattle.lalrpop_grammar_rules.specs.RuleTable.{IsOfGrammar, IsTable};
 ghost use Rattle.lalrpop_norm_expansion.specs.Between.{grammar_between};
-ghost use Rattle.lalrpop_norm_chain.specs.Chains.{IsMacroResult};
+ghost use Rattle.lalrpop_norm_fault_chain.specs.PassedOn.{IsMacroResult};
 ghost use Rattle.lalrpop_norm_key_rules.specs.KeyRuleLaws.{HasRightKeys};
 ghost use Rattle.lalrpop_norm_key_rules.specs.RuleItems.{grammar_with_rules};
 ghost use Rattle.lalrpop_norm_key_table.specs.Tables.{IsKeyIndex, table_keys};
@@ -17,11 +17,13 @@ use lalrpop_grammar_repr::NormResult;
 use lalrpop_grammar_rules::Rules;
 use lalrpop_grammar_symbols::List;
 use lalrpop_norm_key_names::key_names;
+use lalrpop_norm_key_places::key_spans;
 use lalrpop_norm_key_rules::key_rules;
 use lalrpop_norm_key_table::KeyTable;
 use std::alloc::Global;
 
-/// The rules of the grammar's keys, each under a name of its own. The table is of the grammar's rules, under no features.
+/// The rules of the grammar's keys, each under a name of its own; those of repeats, groups and lookarounds stand where these are met
+/// first. The table is of the grammar's rules, under no features.
 pub(crate) fn rules_of_keys<F: Finder>(
     alloc: Global,
     finder: &F,
@@ -40,5 +42,14 @@ pub(crate) fn rules_of_keys<F: Finder>(
         → TellsOfMadeCall (grammar_between (F.finds finder.now) (grammar_view grammar.now)) (F.too_deep finder.now) fault) }
 {
     let names = key_names(alloc, grammar, keys)?;
-    key_rules(alloc, finder, grammar, rules, keys, names.as_slice(), &[])
+    let spans = key_spans(alloc, finder, grammar, rules, keys)?;
+    key_rules(
+        alloc,
+        finder,
+        grammar,
+        rules,
+        keys,
+        names.as_slice(),
+        spans.as_slice(),
+    )
 }
