@@ -2,7 +2,7 @@
 
 use lalrpop_lr1_items::Lr1State;
 use lalrpop_sets::Token;
-use std::alloc::AllocError;
+use std::alloc::{AllocError, AllocFailed};
 
 /// Where tokens go wrong.
 #[derive(Drop)]
@@ -31,6 +31,17 @@ impl<'g> From<AllocError> for InterpretFault<'g> {
     ghost from_gives = { λ _ fault. fault ≡ Memory };
 
     fn from(_: AllocError) -> InterpretFault<'g> {
+        InterpretFault::Memory
+    }
+}
+
+impl<'g, T: Drop> From<AllocFailed<T>> for InterpretFault<'g> {
+    ghost use Rattle.std.specs.Prelude.{◌≡◌};
+    ghost use Rattle.lalrpop_lr1_parse.specs.declared.interpret_fault.InterpretFault.TheVariants.{Memory};
+
+    ghost from_gives = { λ _ fault. fault ≡ Memory };
+
+    fn from(_: AllocFailed<T>) -> InterpretFault<'g> {
         InterpretFault::Memory
     }
 }

@@ -21,12 +21,20 @@ use crate::tree_stack::TreeStack;
 use lalrpop_grammar::ScanToken;
 use lalrpop_grammar_repr::TerminalSet;
 use lalrpop_lr1_items::Lr1State;
-use std::alloc::{AllocError, Global};
+use std::alloc::{AllocError, AllocFailed, Global};
 
 impl From<AllocError> for Stop {
     ghost from_gives = { λ _ stop. stop ≡ Memory };
 
     fn from(_: AllocError) -> Stop {
+        Stop::Memory
+    }
+}
+
+impl<T: Drop> From<AllocFailed<T>> for Stop {
+    ghost from_gives = { λ _ stop. stop ≡ Memory };
+
+    fn from(_: AllocFailed<T>) -> Stop {
         Stop::Memory
     }
 }

@@ -31,7 +31,7 @@ use Rattle.lalrpop_norm_expansion.specs.Premises.{IsReadGrammar}
 use Rattle.lalrpop_run_answers.specs.ExpansionTrees.{IsForestOfTree}
 use Rattle.lalrpop_run_answers.proofs.ReachLemmas.{HoldsInside}
 use Rattle.lalrpop_run_answers.specs.Laws.{AdmittedHaveForests, ForestsAreAdmitted, ForestsAreOne}
-use Rattle.lalrpop_run_label_laws.specs.ToldExpansions.{AreToldExpansion}
+use Rattle.lalrpop_run_prepare.specs.PassedOn.{AreToldExpansion}
 use Rattle.lalrpop_run_prepare.specs.PreparedGrammars.{HasNamedProductions, IsPrepared, PreparedGrammar}
 use Rattle.lalrpop_run_prepare.proofs.StartLemmas.{start_in_expansion}
 use Rattle.lalrpop_run_text_answers.specs.AnswerLaws.{IsWrittenOf}

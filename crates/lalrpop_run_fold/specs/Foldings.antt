@@ -11,7 +11,7 @@ use Rattle.lalrpop_lr1_parse.specs.ExpandedViews.{expanded_view}
 use Rattle.lalrpop_lr1_parse.specs.declared.expanded_tree.ExpandedTree.{ExpandedTree}
 use Rattle.lalrpop_lr1_theory.specs.Spans.{SpannedForest}
 use Rattle.lalrpop_norm_expansion.specs.Premises.{IsReadGrammar}
-use Rattle.lalrpop_run_label_laws.specs.ToldExpansions.{AreToldExpansion}
+use Rattle.lalrpop_run_prepare.specs.PassedOn.{AreToldExpansion}
 use Rattle.lalrpop_run_prepare.specs.PreparedGrammars.{IsPrepared, PreparedGrammar}
 use Rattle.lalrpop_run_text_answers.specs.AnswerLaws.{IsWrittenOf}
 use Rattle.lalrpop_run_fold.specs.declared.fold_error.FoldError.{FoldError}

@@ -1,5 +1,6 @@
-pub mod PassingRanks
-pub mod Folds
 pub mod FoldedTrees
 pub mod Foldings
+pub mod Folds
+pub mod PassedOn
+pub mod PassingRanks
 pub mod PostOrders

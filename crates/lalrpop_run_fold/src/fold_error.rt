@@ -3,7 +3,7 @@
 ghost use Rattle.std.specs.Prelude.{◌≡◌};
 ghost use Rattle.lalrpop_run_fold.specs.declared.fold_error.FoldError.TheVariants.{Memory};
 
-use std::alloc::AllocError;
+use std::alloc::{AllocError, AllocFailed};
 
 /// Why a written tree isn't folded.
 #[derive(Clone, Copy, Debug, PartialEq, Eq)]
@@ -18,6 +18,14 @@ impl From<AllocError> for FoldError {
     ghost from_gives = { λ _ error. error ≡ Memory };
 
     fn from(_: AllocError) -> FoldError {
+        FoldError::Memory
+    }
+}
+
+impl<T: Drop> From<AllocFailed<T>> for FoldError {
+    ghost from_gives = { λ _ error. error ≡ Memory };
+
+    fn from(_: AllocFailed<T>) -> FoldError {
         FoldError::Memory
     }
 }

@@ -14,6 +14,7 @@ mod tree_folding;
 mod tree_unfolding;
 
 pub use fold_error::FoldError;
+pub use lalrpop_run_prepare::Prepared;
 pub use laws::foldings_are_inverse;
 pub use tree_folding::fold;
 pub use tree_unfolding::unfold;

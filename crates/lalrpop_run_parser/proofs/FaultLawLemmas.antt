@@ -31,8 +31,8 @@ use Rattle.lalrpop_run_answers.specs.ExpansionTrees.{expanded_size}
 use Rattle.lalrpop_run_parser.specs.Limits.{BeginsSmallSentence, IsFaultAt, TellsFaultsFirst, TellsLimitWhere, TextPassesLimit}
 use Rattle.lalrpop_run_parser.specs.Parsers.{HasTableBy}
 use Rattle.lalrpop_run_parser.proofs.CanonicalRunLemmas.{CantFollow, larger_tree}
-use Rattle.lalrpop_run_prepare.specs.PreparedGrammars.{IsPrepared, MayBeParsedFrom, PreparedGrammar}
-use Rattle.lalrpop_run_prepare.proofs.StartLemmas.{start_in_expansion}
+use Rattle.lalrpop_run_witness.specs.PassedOn.{IsPrepared, MayBeParsedFrom, PreparedGrammar}
+use Rattle.lalrpop_run_witness.proofs.PassedOnLemmas.{start_in_expansion}
 use Rattle.lalrpop_run_text_answers.specs.TextAnswers.{AreExpansionOf, terminals_of_tokens}
 use Rattle.lalrpop_run_text_answers.proofs.ExpandedForestLemmas.{expanded_forest}
 

@@ -8,6 +8,7 @@ use Rattle.lalrpop_judge_certificates.specs.declared.certificate.Certificate.{Ce
 use Rattle.lalrpop_judge_search.specs.Search.{finds, is_too_deep}
 use Rattle.lalrpop_lane.specs.BuilderAnswers.{AreLr1By}
 use Rattle.lalrpop_lane_method.specs.declared.Method.{Method}
+use Rattle.lalrpop_lane_method.specs.declared.Method.TheVariants as methods
 use Rattle.lalrpop_lr1_build.specs.BuiltStates.{IsCanonicalFault, TellsNoLr1, theory_grammar}
 use Rattle.lalrpop_lr1_collapse.specs.CollapseAnswers.{states_over}
 use Rattle.lalrpop_lr1_items.specs.declared.state.State.{State}
@@ -19,13 +20,24 @@ use Rattle.lalrpop_lr1_parse.specs.declared.action_table.ActionTable.{ActionTabl
 use Rattle.lalrpop_lr1_theory.specs.Answers.{IsLr1}
 use Rattle.lalrpop_lr1_theory.specs.CheckedStates.{AreCheckedStates, IsStartAlone}
 use Rattle.lalrpop_lr1_theory.specs.States.{State as TheoryState}
-use Rattle.lalrpop_lr1_theory.specs.ValidItems.{NoneBarren}
+use Rattle.lalrpop_lr1_theory.specs.ValidItems.{CountsItemSets, NoneBarren}
+use Rattle.lalrpop_lr1_theory.proofs.CountLemmas.{canonical_counted}
 use Rattle.lalrpop_norm_expansion.specs.Premises.{IsReadGrammar}
 use Rattle.lalrpop_run_answers.specs.Laws.{OneWrittenTree}
-use Rattle.lalrpop_run_parser.specs.Parsers.{HasConflicts, HasOneTreeEach, HasStatesBy, HasTableBy, IsParserTable}
-use Rattle.lalrpop_run_prepare.specs.PreparedGrammars.{IsPrepared, MayBeParsedFrom, PreparedGrammar}
-use Rattle.lalrpop_run_prepare.proofs.StartLemmas.{start_in_expansion}
+use Rattle.lalrpop_run_parser.specs.Parsers.{AreCountedBy, HasConflicts, HasOneTreeEach, HasStatesBy, HasTableBy, IsParserTable}
+use Rattle.lalrpop_run_witness.specs.PassedOn.{IsPrepared, MayBeParsedFrom, PreparedGrammar}
+use Rattle.lalrpop_run_witness.proofs.PassedOnLemmas.{start_in_expansion}
 use Rattle.lalrpop_run_witness.specs.Witnesses.{AreItsConflicts, AreWitnessesOf}
+
+-- canonical states of an expansion are counted by its sets of items
+item_sets_counted : (v : PreparedGrammar) (method : Method) (built : List (State (List ℕ))) (count : ℕ)
+    → MayBeParsedFrom v.expansion v.start_name → AreLr1By method v.expansion v.start_name built → count ≡ length built
+    → AreCountedBy method v count
+item_sets_counted v (methods.Lane copies) built count m by many = tt
+item_sets_counted v methods.Canonical built count m by many =
+    subst (CountsItemSets (Contains (theory_grammar v.expansion)) v.start_name.0) (length-map built _ ∙ sym many)
+    (canonical_counted (theory_grammar v.expansion) v.start_name.0 (states_over v.expansion.terminals built)
+    by.states_are.constructed m.none_barren)
 
 -- what is said of the productions and the start that were handed on is said of the prepared ones
 module _ (v : PreparedGrammar) (g : Grammar) (start : NonterminalString) (same : g ≡ v.expansion) (named : start ≡ v.start_name) where
@@ -47,12 +59,13 @@ module _ (v : PreparedGrammar) (g : Grammar) (start : NonterminalString) (same :
 
   pub states_counted : (method : Method) (built : List (State (List ℕ))) (count : ℕ)
       → AreCheckedStates (theory_grammar v.expansion) v.start_name.0 (states_over v.expansion.terminals built)
-      → AreLr1By method g start built → count ≡ length built → HasStatesBy method v count
-  states_counted method built count checked by_method many = record {
+      → AreLr1By method g start built → MayBeParsedFrom v.expansion v.start_name → count ≡ length built → HasStatesBy method v count
+  states_counted method built count checked by_method m many = record {
     states = built;
     by_method = handed (λ h n. AreLr1By method h n built) by_method;
     checked = checked;
     count_is = many;
+    counted = item_sets_counted v method built count m (handed (λ h n. AreLr1By method h n built) by_method) many;
   }
 
   -- the conflicts that are told are those of the expansion
@@ -104,14 +117,15 @@ module _ (v : PreparedGrammar) (built : List (State (List ℕ)))
   -- the states that were built are those of the table
   pub table_built : (method : Method) (start : NonterminalString) (table : ActionTable) (g : Grammar)
       (given : List (State (List ℕ))) (count : ℕ) → g ≡ v.expansion → start ≡ v.start_name → given ≡ built
-      → AreLr1By method g start built → IsTableOf table (states_over g.terminals given) → count ≡ length built
-      → HasTableBy method v table count
-  table_built method start table g given count same named all by_method made many = record {
+      → AreLr1By method g start built → MayBeParsedFrom v.expansion v.start_name → IsTableOf table (states_over g.terminals given)
+      → count ≡ length built → HasTableBy method v table count
+  table_built method start table g given count same named all by_method m made many = record {
     states_are = record {
       states = built;
       by_method = handed v g start same named (λ h n. AreLr1By method h n built) by_method;
       checked = checked;
       count_is = many;
+      counted = item_sets_counted v method built count m (handed v g start same named (λ h n. AreLr1By method h n built) by_method) many;
     };
     table_is = table_over table g given same all made;
   }

@@ -18,7 +18,7 @@ use Rattle.lalrpop_run_parser.specs.declared.parse_error.ParseError.{ParseError}
 use Rattle.lalrpop_run_parser.specs.declared.parse_error.ParseError.TheVariants as errors
 use Rattle.lalrpop_run_parser.proofs.GenerateLemmas.{one_tree_by}
 use Rattle.lalrpop_run_parser.proofs.SameAnswerLemmas.{same_for_text}
-use Rattle.lalrpop_run_prepare.specs.PreparedGrammars.{IsPrepared, PreparedGrammar}
+use Rattle.lalrpop_run_witness.specs.PassedOn.{IsPrepared, PreparedGrammar}
 use Rattle.lalrpop_run_text_answers.specs.TextAnswers.{IsRightForText, TextAnswer, terminals_of_tokens}
 
 same_some : (a b : TextAnswer) → ◌≡◌ {A = Option TextAnswer} (Some a) (Some b) → a ≡ b

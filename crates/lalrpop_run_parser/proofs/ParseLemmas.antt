@@ -39,8 +39,8 @@ use Rattle.lalrpop_run_parser.specs.ParserAnswers.{parse_error_of_scan}
 use Rattle.lalrpop_run_parser.specs.Parsers.{IsParserTable}
 use Rattle.lalrpop_run_parser.specs.declared.parse_error.ParseError.{ParseError}
 use Rattle.lalrpop_run_parser.specs.declared.parse_error.ParseError.TheVariants as errors
-use Rattle.lalrpop_run_prepare.specs.PreparedGrammars.{IsPrepared, MayBeParsedFrom, PreparedGrammar}
-use Rattle.lalrpop_run_prepare.proofs.StartLemmas.{start_in_expansion}
+use Rattle.lalrpop_run_witness.specs.PassedOn.{IsPrepared, MayBeParsedFrom, PreparedGrammar}
+use Rattle.lalrpop_run_witness.proofs.PassedOnLemmas.{start_in_expansion}
 use Rattle.lalrpop_run_text_answers.specs.AnswerLaws.{RightParsesAreRight, StandsForAnswer}
 use Rattle.lalrpop_run_text_answers.specs.TextAnswers.{IsRightForText, IsRightForTokens, TextAnswer, terminals_of_tokens}
 use Rattle.lalrpop_run_written.specs.ActionLabels.{TellsLabel, kept_count}

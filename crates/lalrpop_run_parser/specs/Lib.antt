@@ -1,3 +1,4 @@
 pub mod Limits
-pub mod Parsers
 pub mod ParserAnswers
+pub mod Parsers
+pub mod PassedOn

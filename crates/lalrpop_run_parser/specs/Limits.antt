@@ -17,7 +17,7 @@ use Rattle.lalrpop_run_parser.specs.ParserAnswers.{IsRightForItsText}
 use Rattle.lalrpop_run_parser.specs.Parsers.{ParserView}
 use Rattle.lalrpop_run_parser.specs.declared.parse_error.ParseError.{ParseError}
 use Rattle.lalrpop_run_parser.specs.declared.parse_error.ParseError.TheVariants as errors
-use Rattle.lalrpop_run_prepare.specs.PreparedGrammars.{PreparedGrammar}
+use Rattle.lalrpop_run_witness.specs.PassedOn.{PreparedGrammar}
 use Rattle.lalrpop_run_text_answers.specs.TextAnswers.{IsTreeWithin, TextAnswer, terminals_of_tokens}
 
 -- the limit is told exactly where this holds: each other answer, but for want of memory, comes only where it doesn't

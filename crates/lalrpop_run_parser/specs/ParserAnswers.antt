@@ -11,7 +11,7 @@ use Rattle.lalrpop_lr1_parse.specs.declared.stop.Stop.{Stop}
 use Rattle.lalrpop_lr1_parse.specs.declared.stop.Stop.TheVariants as stops
 use Rattle.lalrpop_run_parser.specs.declared.parse_error.ParseError.{ParseError}
 use Rattle.lalrpop_run_parser.specs.declared.parse_error.ParseError.TheVariants as errors
-use Rattle.lalrpop_run_prepare.specs.PreparedGrammars.{PreparedGrammar}
+use Rattle.lalrpop_run_witness.specs.PassedOn.{PreparedGrammar}
 use Rattle.lalrpop_run_text_answers.specs.TextAnswers.{IsRightForText, IsRightForTokens, TextAnswer}
 
 -- what a fault of a scan is as one of a parse

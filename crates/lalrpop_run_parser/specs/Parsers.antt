@@ -7,6 +7,7 @@ use Rattle.lalrpop_judge_certificates.specs.declared.certificate.Certificate.{Ce
 use Rattle.lalrpop_judge_search.specs.Search.{finds}
 use Rattle.lalrpop_lane.specs.BuilderAnswers.{AreLr1By}
 use Rattle.lalrpop_lane_method.specs.declared.Method.{Method}
+use Rattle.lalrpop_lane_method.specs.declared.Method.TheVariants as methods
 use Rattle.lalrpop_lr1_build.specs.BuiltStates.{IsCanonicalFault, theory_grammar}
 use Rattle.lalrpop_lr1_collapse.specs.CollapseAnswers.{states_over}
 use Rattle.lalrpop_lr1_items.specs.declared.state.State as built_states
@@ -17,7 +18,8 @@ use Rattle.lalrpop_lr1_parse.specs.declared.action_table.ActionTable.{ActionTabl
 use Rattle.lalrpop_lr1_theory.specs.Answers.{IsLr1}
 use Rattle.lalrpop_lr1_theory.specs.CheckedStates.{AreCheckedStates}
 use Rattle.lalrpop_lr1_theory.specs.States.{State}
-use Rattle.lalrpop_run_prepare.specs.PreparedGrammars.{PreparedGrammar}
+use Rattle.lalrpop_lr1_theory.specs.ValidItems.{CountsItemSets}
+use Rattle.lalrpop_run_witness.specs.PassedOn.{PreparedGrammar}
 use Rattle.lalrpop_run_refusals.specs.declared.refusing.GenerateError.{GenerateError}
 use Rattle.lalrpop_run_refusals.specs.declared.refusing.GenerateError.TheVariants as errors
 use Rattle.lalrpop_run_witness.specs.Witnesses.{AreWitnessesOf}
@@ -35,13 +37,19 @@ pub record IsParserTable (v : PreparedGrammar) (table : ActionTable) (count : �
   pub table_is : IsTableOf table states
   pub count_is : count ≡ length states
 
+-- by the canonical way states are as many as the nonempty sets of valid items
+abbrev pub AreCountedBy : Method → PreparedGrammar → ℕ → Type 0
+AreCountedBy (methods.Lane copies) v count = Unit {0}
+AreCountedBy methods.Canonical v count = CountsItemSets (Contains (theory_grammar v.expansion)) v.start_name.0 count
+
 -- There are so many states of the expansion by the method, with which it may be parsed from its start. By the canonical way they are
--- the canonical ones.
+-- the canonical ones, and as many as the nonempty sets of valid items.
 pub record HasStatesBy (method : Method) (v : PreparedGrammar) (count : ℕ) : Type 0 where
   pub states : List (built_states.State (List ℕ))
   pub by_method : AreLr1By method v.expansion v.start_name states
   pub checked : AreCheckedStates (theory_grammar v.expansion) v.start_name.0 (states_over v.expansion.terminals states)
   pub count_is : count ≡ length states
+  pub counted : AreCountedBy method v count
 
 -- The table is that of states by the method, and they are so many.
 pub record HasTableBy (method : Method) (v : PreparedGrammar) (table : ActionTable) (count : ℕ) : Type 0 where

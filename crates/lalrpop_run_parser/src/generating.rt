@@ -13,9 +13,8 @@ use lalrpop_lane_method::Method;
 use lalrpop_lr1_items::TableFault;
 use lalrpop_lr1_parse::ActionTable;
 use lalrpop_run_answers::one_written_tree;
-use lalrpop_run_prepare::Prepared;
 use lalrpop_run_refusals::GenerateError;
-use lalrpop_run_witness::witnesses;
+use lalrpop_run_witness::{Prepared, witnesses};
 use std::alloc::Global;
 
 /// The parser of the grammar for its start, by LR(1) states.

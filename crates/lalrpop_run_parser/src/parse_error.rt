@@ -6,7 +6,7 @@ ghost use Rattle.lalrpop_run_parser.specs.declared.parse_error.ParseError.TheVar
 
 use lalrpop_grammar_symbols::Atom;
 use lalrpop_lexer_scan::ScanError;
-use std::alloc::AllocError;
+use std::alloc::{AllocError, AllocFailed};
 
 /// Why a text has no tree.
 #[derive(Debug, PartialEq, Eq, Drop)]
@@ -32,6 +32,14 @@ impl From<AllocError> for ParseError {
     ghost from_gives = { λ _ error. error ≡ Memory };
 
     fn from(_: AllocError) -> ParseError {
+        ParseError::Memory
+    }
+}
+
+impl<T: Drop> From<AllocFailed<T>> for ParseError {
+    ghost from_gives = { λ _ error. error ≡ Memory };
+
+    fn from(_: AllocFailed<T>) -> ParseError {
         ParseError::Memory
     }
 }

@@ -11,7 +11,7 @@ ghost use Rattle.lalrpop_lexer_scan.specs.Tokens.{AreTokensOf, FillTheText};
 use lalrpop_grammar::ScanToken;
 use lalrpop_lexer_scan::ScanError;
 use lalrpop_lr1_parse::ActionTable;
-use lalrpop_run_prepare::Prepared;
+use lalrpop_run_witness::Prepared;
 use std::alloc::Global;
 use std::marker::Model;
 
@@ -29,7 +29,7 @@ impl<'p> Model for Parser<'p> {
     ghost use mir.Syntax.{named};
     ghost use Rattle.lalrpop_lr1_parse.specs.contracts.action_table.ActionTable as tables;
     ghost use Rattle.lalrpop_run_parser.specs.Parsers.{IsParserTable, ParserView};
-    ghost use Rattle.lalrpop_run_prepare.specs.contracts.prepared.Prepared as preparations;
+    ghost use Rattle.lalrpop_run_witness.specs.PreparedContracts as preparations;
 
     ghost Value = { ParserView };
 

@@ -24,7 +24,8 @@ returns-in_ok-table-in-Ok-clause-states c =
     states_checked v c.expansion.result.now c.in_ok-start.start c.expansion.ensures named c.in-Ok.states.items c.in-Ok.ensures.checked
     c.start_name.ensures.parsed in
     states_counted v c.expansion.result.now c.in_ok-start.start c.expansion.ensures named c.args.method c.in-Ok.states.items
-    (length c.as_slice-built.result.now) checked c.in-Ok.ensures.states (ap length c.as_slice-built.ensures.value)
+    (length c.as_slice-built.result.now) checked c.in-Ok.ensures.states c.start_name.ensures.parsed
+    (ap length c.as_slice-built.ensures.value)
 
 pub returns-in_ok-table-in-Ok-clause-table : goal.returns-in_ok-table-in-Ok-clause-table
 returns-in_ok-table-in-Ok-clause-table c =
@@ -36,8 +37,8 @@ returns-in_ok-table-in-Ok-clause-table c =
     table_built v c.in-Ok.states.items checked c.args.method c.in_ok-start.start c.in_ok-table-in-Ok.table c.expansion-in-Ok.result.now
     c.as_slice-built.result.now (length c.as_slice-built.result.now) c.expansion-in-Ok.ensures named c.as_slice-built.ensures.value
     (subst (λ (h : Grammar). AreLr1By c.args.method h c.in_ok-start.start c.in-Ok.states.items)
-    (c.expansion.ensures ∙ sym c.expansion-in-Ok.ensures) c.in-Ok.ensures.states) c.in_ok-table-in-Ok.ensures
-    (ap length c.as_slice-built.ensures.value)
+    (c.expansion.ensures ∙ sym c.expansion-in-Ok.ensures) c.in-Ok.ensures.states) c.start_name.ensures.parsed
+    c.in_ok-table-in-Ok.ensures (ap length c.as_slice-built.ensures.value)
 
 pub returns-in_ok-table-in-Ok-clause-lr1 : goal.returns-in_ok-table-in-Ok-clause-lr1
 returns-in_ok-table-in-Ok-clause-lr1 c =

@@ -11,7 +11,7 @@ use Rattle.lalrpop_run_parser.specs.Parsers.{ParserView}
 use Rattle.lalrpop_run_parser.proofs.ParseLemmas.{may_run, none_stand, right_stop, right_tree}
 use Rattle.lalrpop_run_parser.proofs.ParserLimitLemmas.{stop_within, tree_within}
 use Rattle.lalrpop_run_parser.proofs.parser.Parser.parse_tokens.Goals as goal
-use Rattle.lalrpop_run_prepare.specs.PreparedGrammars.{PreparedGrammar}
+use Rattle.lalrpop_run_witness.specs.PassedOn.{PreparedGrammar}
 
 pub parse_onto-requires : goal.parse_onto-requires
 parse_onto-requires c = λ k. (

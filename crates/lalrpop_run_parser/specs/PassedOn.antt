@@ -1,0 +1,3 @@
+-- Definitions of crates below, for crates above that do not name those crates themselves.
+pub use Rattle.lalrpop_run_witness.specs.PassedOn.{IsGenerable, IsNormalized, IsPrepareRefusal, IsPrepared, LoweredGrammar}
+pub use Rattle.lalrpop_run_witness.specs.PassedOn.{PreparedGrammar, lowered_view, scan_entries}
