@@ -1,7 +1,8 @@
-//! Table tests, and the tokens of standard input, to be timed.
+//! Table tests, and the tokens and the tree of standard input, to be timed.
 //!
 //! The words name files of cases, each of which is run over readers and a writer in memory. Behind the word `tokens` stand a
-//! start and a file: the program answers as `lalrpop_run tokens` does, whose text is a word and so no longer than a word may be.
+//! start and a file, behind `parse` a limit of moves, too: the program answers as `lalrpop_run` does, whose text is a word and so no
+//! longer than a word may be.
 #![tactic(auto)]
 
 mod case;
@@ -13,7 +14,7 @@ mod timing;
 
 use crate::runs::run_tally;
 use crate::tally::Tally;
-use crate::timing::answer_words;
+use crate::timing::{answer_parse, answer_tokens};
 use anyhow::Result;
 use std::alloc::Global;
 use std::env;
@@ -32,7 +33,10 @@ fn respond<R: Alloc<A = Global> + Env + Files + Input + Print>(rt: &R) -> Result
     let words: Vec<String> = env::args(rt)?.collect(rt.alloc())?;
     match words.as_slice() {
         [_, first, start, file] if first.as_str() == "tokens" => {
-            answer_words(rt, start.as_str(), file.as_str())
+            answer_tokens(rt, start.as_str(), file.as_str())
+        }
+        [_, first, start, file, limit] if first.as_str() == "parse" => {
+            answer_parse(rt, start.as_str(), file.as_str(), limit.as_str())
         }
         words => run_tables(rt, words),
     }

@@ -1,4 +1,4 @@
-//! The tokens of standard input, under the grammar in a file: to be timed.
+//! The tokens and the tree of standard input, under the grammar in a file: to be timed.
 
 use anyhow::{Context, Result};
 use lalrpop_grammar_streams::Watched;
@@ -11,13 +11,36 @@ use std::{fs, io};
 const WRONG_WORDS: u8 = 4;
 
 /// Answers the command `tokens` over the start, the grammar in the file, and standard input.
-pub(crate) fn answer_words<R: Alloc<A = Global> + Files + Input + Print>(
+pub(crate) fn answer_tokens<R: Alloc<A = Global> + Files + Input + Print>(
     rt: &R,
     start: &str,
     file: &str,
 ) -> Result<u8> {
+    answer_words(rt, &["lalrpop_cases", "tokens", "--start", start], file)
+}
+
+/// Answers the command `parse` over the start, the grammar in the file, the limit of moves, and standard input.
+pub(crate) fn answer_parse<R: Alloc<A = Global> + Files + Input + Print>(
+    rt: &R,
+    start: &str,
+    file: &str,
+    limit: &str,
+) -> Result<u8> {
+    answer_words(
+        rt,
+        &["lalrpop_cases", "parse", "--start", start, "--limit", limit],
+        file,
+    )
+}
+
+/// Answers the words over the grammar in the file, and standard input.
+fn answer_words<R: Alloc<A = Global> + Files + Input + Print>(
+    rt: &R,
+    words: &[&str],
+    file: &str,
+) -> Result<u8> {
     let grammar = fs::read_to_string(rt, file).context(format_args!("reading {file}"))?;
-    match options(rt.alloc(), &["lalrpop_cases", "tokens", "--start", start]) {
+    match options(rt.alloc(), words) {
         Ok(found) => Ok(answer_options(rt, &found, grammar.as_str())),
         Err(OptionsError::Words(_)) => Ok(WRONG_WORDS),
         Err(OptionsError::Memory) => Err(AllocError.into()),

@@ -7,7 +7,7 @@ use Rattle.lalrpop_lr1_theory.specs.Productions as theory
 use Rattle.lalrpop_lr1_theory.specs.States.{HasItem, State}
 use Rattle.lalrpop_lr1_theory.specs.Trees.{Move, shift}
 use Rattle.lalrpop_lr1_items.specs.Views.{production_symbol_view, production_view}
-use Rattle.lalrpop_lr1_out_steps.specs.declared.out_graphs.OutGraphs.{OutGraphs}
+use Rattle.lalrpop_lr1_shown_moves.specs.PassedOn.{OutGraphs}
 use Rattle.lalrpop_lr1_shift_places.specs.ShiftPlaces.{IsShiftPlace}
 use Rattle.lalrpop_lr1_shift_places.specs.declared.places.ShiftPlace.{ShiftPlace}
 use Rattle.lalrpop_lr1_shown_moves.specs.ShownMoves.{ShowsMove, ShowsShift}

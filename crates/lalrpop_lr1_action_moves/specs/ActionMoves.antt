@@ -10,8 +10,8 @@ use Rattle.lalrpop_lr1_items.specs.Views.{production_view}
 use Rattle.lalrpop_lr1_items.specs.declared.conflict.Action.{Action}
 use Rattle.lalrpop_lr1_items.specs.declared.conflict.Action.TheVariants as actions
 use Rattle.lalrpop_lr1_first.specs.FirstSetsOf.{IsProductionOf}
-use Rattle.lalrpop_lr1_rest_trees.specs.RestForests.{AnyLeaves, HasRest}
-use Rattle.lalrpop_lr1_out_steps.specs.declared.out_graphs.OutGraphs.{OutGraphs}
+use Rattle.lalrpop_lr1_shown_moves.specs.PassedOn.{AnyLeaves, HasRest}
+use Rattle.lalrpop_lr1_shown_moves.specs.PassedOn.{OutGraphs}
 use Rattle.lalrpop_lr1_shown_moves.specs.ShownMoves.{LeadsNowhere, ShowsMove, ShowsReduction}
 
 -- no item's dot stands before the terminal

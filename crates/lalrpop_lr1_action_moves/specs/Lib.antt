@@ -1,1 +1,2 @@
 pub mod ActionMoves
+pub mod PassedOn

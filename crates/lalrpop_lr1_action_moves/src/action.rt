@@ -6,15 +6,14 @@ ghost use Rattle.lalrpop_grammar_repr.specs.declared.grammar.Grammar.{Grammar};
 ghost use Rattle.lalrpop_lr1_theory.specs.States as theory;
 ghost use Rattle.lalrpop_lr1_items.specs.Views.{lr_state_view};
 ghost use Rattle.lalrpop_lr1_least_trees.specs.MoveViews.{tree_move_view};
-ghost use Rattle.lalrpop_lr1_ways_out.specs.OutSearches.{IsAnyOut};
+ghost use Rattle.lalrpop_lr1_shown_moves.specs.PassedOn.{IsAnyOut};
 ghost use Rattle.lalrpop_lr1_shown_moves.specs.ShownMoves.{AreSteppedStates, IsNextOut, next_of, next_ways};
 ghost use Rattle.lalrpop_lr1_action_moves.specs.ActionMoves.{ShowsAction};
 
 use lalrpop_lr1_items::{Action, State};
 use lalrpop_lr1_least_trees::TreeMove;
 use lalrpop_lr1_shift_places::shift_place;
-use lalrpop_lr1_shown_moves::{NextOut, with_reduction, with_shift};
-use lalrpop_lr1_ways_out::AnyOut;
+use lalrpop_lr1_shown_moves::{AnyOut, NextOut, with_reduction, with_shift};
 use std::alloc::{AllocError, Global};
 
 /// The moves of a whole tree in which the state with the number does the action, a reduction before what comes next: first those along the

@@ -6,3 +6,4 @@
 mod action;
 
 pub use action::action_moves;
+pub use lalrpop_lr1_shown_moves::{AnyOut, NextOut, with_reduction};

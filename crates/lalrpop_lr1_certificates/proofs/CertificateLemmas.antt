@@ -20,14 +20,14 @@ use Rattle.lalrpop_lr1_least_trees.specs.MoveViews.{tree_move_view}
 use Rattle.lalrpop_lr1_outward_laws.specs.PathTrees.{IsStateOf, LedBy}
 use Rattle.lalrpop_lr1_outward_laws.proofs.PathLemmas.{walk_by_edges}
 use Rattle.lalrpop_lr1_state_paths.specs.PathTables.{last_steps}
-use Rattle.lalrpop_lr1_out_steps.specs.declared.out_graphs.OutGraphs.{OutGraphs}
-use Rattle.lalrpop_lr1_made_trees.proofs.MakingLemmas.{moves_lead}
+use Rattle.lalrpop_lr1_shown_laws.specs.PassedOn.{OutGraphs}
+use Rattle.lalrpop_lr1_shown_laws.proofs.PassedOnLemmas.{moves_lead}
 use Rattle.lalrpop_judge_certificates.specs.Certificates.{MakesMove, ShownConflict, number_move, reduce_by}
 use Rattle.lalrpop_lr1_shown_laws.specs.Laws.{ShownMovesCanBeMade, ShownTreesMakeTheMove}
-use Rattle.lalrpop_lr1_shown_moves.specs.ShownMoves.{AreSteppedStates, ShowsMove}
-use Rattle.lalrpop_lr1_action_moves.specs.ActionMoves.{ShowsAction}
-use Rattle.lalrpop_lr1_conflict_moves.specs.ConflictMoves.{AreConflictMoves}
-use Rattle.lalrpop_lr1_conflict_moves.specs.declared.conflict.ConflictMoves.{ConflictMoves}
+use Rattle.lalrpop_lr1_shown_laws.specs.PassedOn.{AreSteppedStates, ShowsMove}
+use Rattle.lalrpop_lr1_conflict_laws.specs.PassedOn.{ShowsAction}
+use Rattle.lalrpop_lr1_conflict_laws.specs.PassedOn.{AreConflictMoves}
+use Rattle.lalrpop_lr1_conflict_laws.specs.PassedOn.{ConflictMoves}
 use Rattle.lalrpop_lr1_conflict_laws.specs.StandingConflicts.{IsOtherAction, IsStandingConflict}
 use Rattle.lalrpop_lr1_certificates.specs.ConflictCertificates.{HaveOwnActions, IsCertificateOf, move_of_action}
 use Rattle.lalrpop_lr1_certificates.specs.MadeCertificates.{CanBeMade, IsMadeCertificate}

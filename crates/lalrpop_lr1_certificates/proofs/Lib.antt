@@ -1,4 +1,5 @@
-pub mod StartLemmas
 pub mod CertificateLemmas
+pub mod PassedOnLemmas
 pub mod ShownLemmas
 pub mod SlotLemmas
+pub mod StartLemmas

@@ -9,7 +9,7 @@ use Rattle.lalrpop_sets.specs.TokensLeft.{token_seen}
 use Rattle.lalrpop_sets.specs.declared.token.TokenRef.{TokenRef}
 use Rattle.lalrpop_lr1_items.specs.Views.{lr_state_view, token_lookahead}
 use Rattle.lalrpop_lr1_items.specs.declared.conflict.Conflict.{Conflict}
-use Rattle.lalrpop_lr1_conflict_moves.specs.ConflictMoves.{HasFinishedItem}
+use Rattle.lalrpop_lr1_conflict_laws.specs.PassedOn.{HasFinishedItem}
 use Rattle.lalrpop_lr1_conflict_laws.specs.StandingConflicts.{IsStandingConflict, IsToldConflict, next_of_token}
 use Rattle.lalrpop_lr1_certificates.specs.ShownStates.{AreShownConflicts, IsConflictAt, IsLeastToken, states_of}
 use Rattle.lalrpop_lr1_certificates.specs.declared.shown.ShownConflicts.{ShownConflicts}

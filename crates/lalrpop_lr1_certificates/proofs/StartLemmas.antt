@@ -26,10 +26,10 @@ use Rattle.lalrpop_lr1_least_trees.specs.declared.least_trees.LeastTrees.{LeastT
 use Rattle.lalrpop_lr1_outward_laws.specs.PathTrees.{ArePaths}
 use Rattle.lalrpop_lr1_state_paths.specs.PathTables.{AreReachedStates, last_steps}
 use Rattle.lalrpop_lr1_state_paths.specs.declared.state_paths.StatePaths.{StatePaths}
-use Rattle.lalrpop_lr1_out_steps.specs.OutGraphs.{AreWaysOut}
-use Rattle.lalrpop_lr1_out_steps.specs.ToldSteps.{HasNameNumber}
-use Rattle.lalrpop_lr1_out_steps.specs.declared.out_graphs.OutGraphs.{OutGraphs}
-use Rattle.lalrpop_lr1_shown_moves.specs.ShownMoves.{AreSteppedStates}
+use Rattle.lalrpop_lr1_shown_laws.specs.PassedOn.{AreWaysOut}
+use Rattle.lalrpop_lr1_shown_laws.specs.PassedOn.{HasNameNumber}
+use Rattle.lalrpop_lr1_shown_laws.specs.PassedOn.{OutGraphs}
+use Rattle.lalrpop_lr1_shown_laws.specs.PassedOn.{AreSteppedStates}
 
 -- each of symbols that are spelled has a number
 spelled_number : (at : ℕ → Option Symbol) (numbers : List ℕ) (xs : List Symbol) (i : ℕ) (x : Symbol) (b : List Symbol) →

@@ -1,4 +1,5 @@
 pub mod ConflictCertificates
-pub mod ShownStates
 pub mod MadeCertificates
+pub mod PassedOn
+pub mod ShownStates
 pub mod Slots

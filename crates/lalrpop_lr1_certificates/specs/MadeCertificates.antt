@@ -3,10 +3,10 @@ use Rattle.std.specs.Prelude.{ℕ, List, map, ◌≡◌}
 use Rattle.lalrpop_lr1_theory.specs.Productions.{Next}
 use Rattle.lalrpop_lr1_items.specs.declared.conflict.Conflict.{Conflict}
 use Rattle.lalrpop_lr1_least_trees.specs.MoveViews.{tree_move_view}
-use Rattle.lalrpop_lr1_made_trees.specs.SpanNumbers.{AreMade, LeadSomewhere, LeadToOne}
-use Rattle.lalrpop_lr1_out_steps.specs.declared.out_graphs.OutGraphs.{OutGraphs}
-use Rattle.lalrpop_lr1_conflict_moves.specs.ConflictMoves.{AreConflictMoves}
-use Rattle.lalrpop_lr1_conflict_moves.specs.declared.conflict.ConflictMoves.{ConflictMoves}
+use Rattle.lalrpop_lr1_shown_laws.specs.PassedOn.{AreMade, LeadSomewhere, LeadToOne}
+use Rattle.lalrpop_lr1_shown_laws.specs.PassedOn.{OutGraphs}
+use Rattle.lalrpop_lr1_conflict_laws.specs.PassedOn.{AreConflictMoves}
+use Rattle.lalrpop_lr1_conflict_laws.specs.PassedOn.{ConflictMoves}
 use Rattle.lalrpop_judge_certificates.specs.Certificates.{ShownConflict, reduce_by}
 use Rattle.lalrpop_lr1_certificates.specs.ConflictCertificates.{move_of_action}
 use Rattle.lalrpop_lr1_certificates.specs.ShownStates.{IsConflictAt, states_of}

@@ -11,8 +11,8 @@ use Rattle.lalrpop_lr1_items.specs.declared.conflict.Conflict.{Conflict}
 use Rattle.lalrpop_lr1_items.specs.declared.state.State.{State}
 use Rattle.lalrpop_lr1_first.specs.NumberedGrammars.{HasItsTerminals}
 use Rattle.lalrpop_lr1_build.specs.BuiltStates.{theory_grammar}
-use Rattle.lalrpop_lr1_out_steps.specs.declared.out_graphs.OutGraphs.{OutGraphs}
-use Rattle.lalrpop_lr1_shown_moves.specs.ShownMoves.{AreSteppedStates}
+use Rattle.lalrpop_lr1_shown_laws.specs.PassedOn.{OutGraphs}
+use Rattle.lalrpop_lr1_shown_laws.specs.PassedOn.{AreSteppedStates}
 use Rattle.lalrpop_lr1_conflict_laws.specs.StandingConflicts.{IsToldConflict}
 use Rattle.lalrpop_lr1_certificates.specs.ConflictCertificates.{HaveOwnActions, IsCertificateOf}
 use Rattle.lalrpop_lr1_certificates.specs.declared.shown.ShownConflicts.{ShownConflicts}

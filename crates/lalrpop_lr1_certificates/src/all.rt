@@ -15,9 +15,8 @@ use lalrpop_grammar_symbols::NonterminalString;
 use lalrpop_judge_certificates::Certificate;
 use lalrpop_lr1_items::{Conflict, State};
 use lalrpop_lr1_least_trees::LeastTrees;
-use lalrpop_lr1_out_steps::OutGraphs;
+use lalrpop_lr1_shown_laws::{AnyOut, OutGraphs};
 use lalrpop_lr1_state_paths::StatePaths;
-use lalrpop_lr1_ways_out::AnyOut;
 use lalrpop_sets::TokenSet;
 use std::alloc::{AllocError, Global};
 

@@ -11,3 +11,4 @@ mod shown;
 mod slots;
 
 pub use all::certificates;
+pub use lalrpop_lr1_conflict_laws::told_conflicts_stand;

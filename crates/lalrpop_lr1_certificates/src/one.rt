@@ -5,8 +5,8 @@ ghost use Rattle.lalrpop_grammar_symbols.specs.Views.{terminal_view};
 ghost use Rattle.lalrpop_sets.specs.TokensLeft.{token_seen};
 ghost use Rattle.lalrpop_judge_certificates.specs.CertificateViews.{certificate_view};
 ghost use Rattle.lalrpop_judge_certificates.specs.MoveViews.{move_view};
-ghost use Rattle.lalrpop_lr1_ways_out.specs.OutSearches.{IsAnyOut};
-ghost use Rattle.lalrpop_lr1_shown_moves.specs.ShownMoves.{IsNextOut, next_of, next_ways};
+ghost use Rattle.lalrpop_lr1_shown_laws.specs.PassedOn.{IsAnyOut};
+ghost use Rattle.lalrpop_lr1_shown_laws.specs.PassedOn.{IsNextOut, next_of, next_ways};
 ghost use Rattle.lalrpop_lr1_conflict_laws.specs.StandingConflicts.{next_of_token};
 ghost use Rattle.lalrpop_lr1_certificates.specs.ConflictCertificates.{move_of_action};
 ghost use Rattle.lalrpop_lr1_certificates.specs.MadeCertificates.{AreMovesAt, CanBeMade, IsMadeCertificate};
@@ -15,13 +15,11 @@ ghost use Rattle.lalrpop_lr1_certificates.specs.ShownStates.{AreShownConflicts, 
 use crate::shown::ShownConflicts;
 use lalrpop_grammar_symbols::TerminalString;
 use lalrpop_judge_certificates::{Certificate, Move};
-use lalrpop_lr1_conflict_laws::standing_conflicts_have_moves;
-use lalrpop_lr1_conflict_moves::{ConflictMoves, conflict_moves};
+use lalrpop_lr1_conflict_laws::{ConflictMoves, conflict_moves, standing_conflicts_have_moves};
 use lalrpop_lr1_items::{Action, Conflict};
-use lalrpop_lr1_made_trees::{made_trees, only_tree};
-use lalrpop_lr1_shown_laws::{shown_moves_can_be_made, shown_trees_make_the_move};
-use lalrpop_lr1_shown_moves::NextOut;
-use lalrpop_lr1_ways_out::AnyOut;
+use lalrpop_lr1_shown_laws::{
+    AnyOut, NextOut, made_trees, only_tree, shown_moves_can_be_made, shown_trees_make_the_move,
+};
 use lalrpop_sets::{TokenRef, TokenSet};
 use std::alloc::{AllocError, Global};
 

@@ -2,8 +2,8 @@
 //! lacks for the moves of all.
 
 ghost use Rattle.std.specs.Prelude.{◌≡◌, ◌<◌, IfOk, length};
-ghost use Rattle.lalrpop_lr1_ways_out.specs.OutSearches.{IsAnyOut};
-ghost use Rattle.lalrpop_lr1_shown_moves.specs.ShownMoves.{IsNextOut};
+ghost use Rattle.lalrpop_lr1_shown_laws.specs.PassedOn.{IsAnyOut};
+ghost use Rattle.lalrpop_lr1_shown_laws.specs.PassedOn.{IsNextOut};
 ghost use Rattle.lalrpop_lr1_certificates.specs.ShownStates.{AreShownConflicts};
 
 use crate::shown::ShownConflicts;
@@ -12,10 +12,8 @@ use lalrpop_grammar_repr::Production;
 use lalrpop_grammar_symbols::TerminalString;
 use lalrpop_lr1_items::{Action, State};
 use lalrpop_lr1_least_trees::TreeMove;
-use lalrpop_lr1_rest_trees::rest_count;
 use lalrpop_lr1_shift_places::shift_place;
-use lalrpop_lr1_shown_moves::NextOut;
-use lalrpop_lr1_ways_out::{AnyOut, EndOut, WantedOut, WantedSteps};
+use lalrpop_lr1_shown_laws::{AnyOut, EndOut, NextOut, WantedOut, WantedSteps, rest_count};
 use lalrpop_sets::{TokenRef, TokenSet};
 use std::alloc::{AllocError, Global};
 

@@ -2,8 +2,8 @@
 
 ghost use Rattle.std.specs.Prelude.{◌≡◌, ◌<◌, ◌↔◌, ℕ, IfOk, IsTrue, OnOk, Some, length, map, set};
 ghost use Rattle.lalrpop_sets.specs.TokensLeft.{token_seen};
-ghost use Rattle.lalrpop_lr1_ways_out.specs.OutSearches.{IsAnyOut};
-ghost use Rattle.lalrpop_lr1_shown_moves.specs.ShownMoves.{IsNextOut, next_of, next_ways};
+ghost use Rattle.lalrpop_lr1_shown_laws.specs.PassedOn.{IsAnyOut};
+ghost use Rattle.lalrpop_lr1_shown_laws.specs.PassedOn.{IsNextOut, next_of, next_ways};
 ghost use Rattle.lalrpop_lr1_conflict_laws.specs.StandingConflicts.{next_of_token};
 ghost use Rattle.lalrpop_lr1_certificates.specs.ShownStates.{AreShownConflicts, AreStepsOut};
 ghost use Rattle.lalrpop_lr1_certificates.specs.Slots.{AreFilledBefore, AreFilledBelow, AreLeastTokens, AreCertificateSlots, IsFilled, StayFilled};
@@ -12,8 +12,7 @@ use crate::one::certificate_before;
 use crate::room::ask_for_room;
 use crate::shown::ShownConflicts;
 use lalrpop_judge_certificates::Certificate;
-use lalrpop_lr1_shown_moves::NextOut;
-use lalrpop_lr1_ways_out::{AnyOut, EndOut, WantedOut, WantedSteps};
+use lalrpop_lr1_shown_laws::{AnyOut, EndOut, NextOut, WantedOut, WantedSteps};
 use lalrpop_sets::TokenRef;
 use std::alloc::{AllocError, Global};
 

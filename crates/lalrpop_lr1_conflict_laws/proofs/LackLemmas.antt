@@ -23,10 +23,10 @@ use Rattle.lalrpop_lr1_build.specs.BuiltStates.{theory_grammar}
 use Rattle.lalrpop_lr1_outward_laws.specs.PathTrees.{ArePaths, IsStateOf, LastSteps, LedBy}
 use Rattle.lalrpop_lr1_outward_laws.proofs.PathLemmas.{walk_by_edges}
 use Rattle.lalrpop_lr1_outward_laws.proofs.WayOutLemmas.{GoesOut, carried_out}
-use Rattle.lalrpop_lr1_state_paths.specs.PathTables.{last_steps}
-use Rattle.lalrpop_lr1_out_steps.specs.declared.out_graphs.OutGraphs.{OutGraphs}
-use Rattle.lalrpop_lr1_shown_moves.specs.ShownMoves.{ShowsReduction}
-use Rattle.lalrpop_lr1_action_moves.specs.ActionMoves.{ShowsAction, ShowsShiftOf}
+use Rattle.lalrpop_lr1_conflict_moves.specs.PassedOn.{last_steps}
+use Rattle.lalrpop_lr1_conflict_moves.specs.PassedOn.{OutGraphs}
+use Rattle.lalrpop_lr1_conflict_moves.specs.PassedOn.{ShowsReduction}
+use Rattle.lalrpop_lr1_conflict_moves.specs.PassedOn.{ShowsAction, ShowsShiftOf}
 use Rattle.lalrpop_lr1_conflict_moves.specs.ConflictMoves.{LacksConflictMoves}
 use Rattle.lalrpop_lr1_conflict_laws.specs.StandingConflicts.{IsOtherAction, IsStandingConflict}
 

@@ -13,8 +13,8 @@ use Rattle.lalrpop_lr1_items.specs.declared.table_fault.TableConstructionError.{
 use Rattle.lalrpop_lr1_items.specs.declared.table_fault.TableFault.TheVariants as faults
 use Rattle.lalrpop_lr1_first.specs.NumberedGrammars.{HasItsTerminals}
 use Rattle.lalrpop_lr1_build.specs.BuiltStates.{IsCanonicalFault, theory_grammar}
-use Rattle.lalrpop_lr1_out_steps.specs.declared.out_graphs.OutGraphs.{OutGraphs}
-use Rattle.lalrpop_lr1_shown_moves.specs.ShownMoves.{AreSteppedStates}
+use Rattle.lalrpop_lr1_conflict_moves.specs.PassedOn.{OutGraphs}
+use Rattle.lalrpop_lr1_conflict_moves.specs.PassedOn.{AreSteppedStates}
 use Rattle.lalrpop_lr1_conflict_moves.specs.ConflictMoves.{LacksConflictMoves}
 use Rattle.lalrpop_lr1_conflict_laws.specs.StandingConflicts.{IsStandingConflict, IsToldConflict}
 

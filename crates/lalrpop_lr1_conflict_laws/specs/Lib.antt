@@ -1,2 +1,3 @@
-pub mod StandingConflicts
 pub mod Laws
+pub mod PassedOn
+pub mod StandingConflicts

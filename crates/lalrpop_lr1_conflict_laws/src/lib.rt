@@ -15,3 +15,5 @@ pub fn told_conflicts_stand()
 pub fn standing_conflicts_have_moves()
     ensures { StandingConflictsHaveMoves }
 {}
+
+pub use lalrpop_lr1_conflict_moves::{ConflictMoves, conflict_moves};

@@ -12,8 +12,8 @@ use Rattle.lalrpop_lr1_outward_laws.specs.PathTrees.{IsStateOf, LedBy}
 use Rattle.lalrpop_lr1_state_paths.specs.PathForests.{HaveForestMoves}
 use Rattle.lalrpop_lr1_state_paths.specs.PathTables.{last_steps}
 use Rattle.lalrpop_lr1_state_paths.specs.declared.state_paths.StatePaths.{StatePaths}
-use Rattle.lalrpop_lr1_out_steps.specs.declared.out_graphs.OutGraphs.{OutGraphs}
-use Rattle.lalrpop_lr1_shown_moves.specs.ShownMoves.{AreSteppedStates, IsPathForest, ShowsReduction}
+use Rattle.lalrpop_lr1_action_moves.specs.PassedOn.{OutGraphs}
+use Rattle.lalrpop_lr1_action_moves.specs.PassedOn.{AreSteppedStates, IsPathForest, ShowsReduction}
 
 module _ (g : Grammar) (s : Text) (states : List State) (ways : OutGraphs) (are : AreSteppedStates g s states ways) (n : ℕ) where
   pub paths_told : (paths : StatePaths) → ways.paths.now ≡ paths → (found : Option (List Move)) →

@@ -14,8 +14,8 @@ use Rattle.lalrpop_lr1_least_trees.specs.MoveViews.{tree_move_view}
 use Rattle.lalrpop_lr1_outward_laws.specs.PathTrees.{LedBy}
 use Rattle.lalrpop_lr1_state_paths.specs.PathForests.{HaveForestMoves}
 use Rattle.lalrpop_lr1_state_paths.specs.PathTables.{last_steps}
-use Rattle.lalrpop_lr1_out_steps.specs.declared.out_graphs.OutGraphs.{OutGraphs}
-use Rattle.lalrpop_lr1_shown_moves.specs.ShownMoves.{IsPathForest, ShowsReduction}
+use Rattle.lalrpop_lr1_action_moves.specs.PassedOn.{OutGraphs}
+use Rattle.lalrpop_lr1_action_moves.specs.PassedOn.{IsPathForest, ShowsReduction}
 use Rattle.lalrpop_lr1_action_moves.specs.ActionMoves.{ShowsAction}
 use Rattle.lalrpop_lr1_conflict_moves.specs.declared.conflict.ConflictMoves.{ConflictMoves}
 

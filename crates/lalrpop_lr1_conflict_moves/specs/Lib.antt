@@ -1,1 +1,2 @@
 pub mod ConflictMoves
+pub mod PassedOn

@@ -5,15 +5,13 @@ ghost use Rattle.lalrpop_grammar_symbols.specs.Symbols.{Text};
 ghost use Rattle.lalrpop_grammar_repr.specs.declared.grammar.Grammar.{Grammar};
 ghost use Rattle.lalrpop_lr1_theory.specs.States as theory;
 ghost use Rattle.lalrpop_lr1_items.specs.Views.{lr_state_view};
-ghost use Rattle.lalrpop_lr1_ways_out.specs.OutSearches.{IsAnyOut};
-ghost use Rattle.lalrpop_lr1_shown_moves.specs.ShownMoves.{AreSteppedStates, IsNextOut, next_of, next_ways};
+ghost use Rattle.lalrpop_lr1_action_moves.specs.PassedOn.{IsAnyOut};
+ghost use Rattle.lalrpop_lr1_action_moves.specs.PassedOn.{AreSteppedStates, IsNextOut, next_of, next_ways};
 ghost use Rattle.lalrpop_lr1_conflict_moves.specs.ConflictMoves.{HasFinishedItem, ShowConflict};
 
-use lalrpop_lr1_action_moves::action_moves;
+use lalrpop_lr1_action_moves::{AnyOut, NextOut, action_moves, with_reduction};
 use lalrpop_lr1_items::{Conflict, State};
 use lalrpop_lr1_least_trees::TreeMove;
-use lalrpop_lr1_shown_moves::{NextOut, with_reduction};
-use lalrpop_lr1_ways_out::AnyOut;
 use std::alloc::{AllocError, Global};
 
 /// The moves that show a conflict.

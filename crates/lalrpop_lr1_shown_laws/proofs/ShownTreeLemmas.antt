@@ -12,7 +12,7 @@ use Rattle.lalrpop_judge_certificates.specs.Certificates.{AreCountedFrom, MakesM
 use Rattle.lalrpop_lr1_made_trees.specs.SpanNumbers.{AreMade, LeadSomewhere, LeadToOne, numbered_spans}
 use Rattle.lalrpop_lr1_made_trees.proofs.MakingLemmas.{moves_lead}
 use Rattle.lalrpop_lr1_outward_laws.specs.OutwardMoves.{IsContinued}
-use Rattle.lalrpop_lr1_out_steps.specs.declared.out_graphs.OutGraphs.{OutGraphs}
+use Rattle.lalrpop_lr1_shown_moves.specs.PassedOn.{OutGraphs}
 use Rattle.lalrpop_lr1_shown_moves.specs.ShownMoves.{IsPathForest, ShowsMove}
 
 numbered_counted : (n k : ℕ) → AreCountedFrom n (numbered_spans n k)

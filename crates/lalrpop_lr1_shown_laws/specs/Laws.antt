@@ -8,7 +8,7 @@ use Rattle.lalrpop_lr1_theory.specs.Trees.{Forest, Move}
 use Rattle.lalrpop_lr1_first.specs.FirstSetsOf.{IsProductionOf}
 use Rattle.lalrpop_judge_certificates.specs.Certificates.{AreCountedFrom, MakesMove, number_move}
 use Rattle.lalrpop_lr1_made_trees.specs.SpanNumbers.{AreMade, LeadSomewhere, LeadToOne}
-use Rattle.lalrpop_lr1_out_steps.specs.declared.out_graphs.OutGraphs.{OutGraphs}
+use Rattle.lalrpop_lr1_shown_moves.specs.PassedOn.{OutGraphs}
 use Rattle.lalrpop_lr1_shown_moves.specs.ShownMoves.{IsPathForest, ShowsMove}
 
 -- Where a forest on a state's path has the moves in front, and the moves show a move behind them, both can be made: the first to trees,

@@ -14,3 +14,8 @@ pub fn shown_moves_can_be_made()
 pub fn shown_trees_make_the_move()
     ensures { ShownTreesMakeTheMove }
 {}
+
+pub use lalrpop_lr1_made_trees::{made_trees, only_tree};
+pub use lalrpop_lr1_shown_moves::{
+    AnyOut, EndOut, NextOut, OutGraphs, WantedOut, WantedSteps, rest_count,
+};

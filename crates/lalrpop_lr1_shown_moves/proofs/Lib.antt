@@ -1,2 +1,3 @@
 pub mod NextLemmas
+pub mod PassedOnLemmas
 pub mod ShownLemmas

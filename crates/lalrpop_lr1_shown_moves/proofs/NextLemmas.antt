@@ -5,8 +5,8 @@ use Rattle.lalrpop_grammar_repr.specs.declared.grammar.Grammar.{Grammar}
 use Rattle.lalrpop_lr1_theory.specs.Productions.{first}
 use Rattle.lalrpop_lr1_theory.specs.States.{State}
 use Rattle.lalrpop_lr1_theory.specs.Trees.{Move}
-use Rattle.lalrpop_lr1_rest_trees.specs.RestForests.{NoLeaves}
-use Rattle.lalrpop_lr1_out_steps.specs.declared.out_graphs.OutGraphs.{OutGraphs}
+use Rattle.lalrpop_lr1_ways_out.specs.PassedOn.{NoLeaves}
+use Rattle.lalrpop_lr1_ways_out.specs.PassedOn.{OutGraphs}
 use Rattle.lalrpop_lr1_ways_out.specs.OutSearches.{TellsWayOut}
 use Rattle.lalrpop_lr1_shown_moves.specs.ShownMoves.{ComesNext}
 

@@ -11,12 +11,12 @@ use Rattle.lalrpop_lr1_outward_laws.specs.OutwardMoves.{IsContinued, LeadsOut}
 use Rattle.lalrpop_lr1_outward_laws.specs.PathTrees.{IsBack, IsStateOf, LedBy}
 use Rattle.lalrpop_lr1_outward_laws.proofs.OutwardLemmas.{continued}
 use Rattle.lalrpop_lr1_outward_laws.proofs.PathLemmas.{back_there}
-use Rattle.lalrpop_lr1_rest_trees.specs.RestForests.{AnyLeaves, AreRestMoves}
+use Rattle.lalrpop_lr1_ways_out.specs.PassedOn.{AnyLeaves, AreRestMoves}
 use Rattle.lalrpop_lr1_least_trees.specs.MoveViews.{tree_move_view}
 use Rattle.lalrpop_lr1_least_trees.specs.declared.tree_move.TreeMove.{TreeMove}
-use Rattle.lalrpop_lr1_state_paths.specs.PathTables.{last_steps}
-use Rattle.lalrpop_lr1_state_paths.specs.declared.state_paths.StatePaths.{StatePaths}
-use Rattle.lalrpop_lr1_out_steps.specs.declared.out_graphs.OutGraphs.{OutGraphs}
+use Rattle.lalrpop_lr1_ways_out.specs.PassedOn.{last_steps}
+use Rattle.lalrpop_lr1_ways_out.specs.PassedOn.{StatePaths}
+use Rattle.lalrpop_lr1_ways_out.specs.PassedOn.{OutGraphs}
 use Rattle.lalrpop_lr1_ways_out.specs.OutSearches.{TellsWayOut}
 use Rattle.lalrpop_lr1_shown_moves.specs.ShownMoves.{AreSteppedStates, ComesNext, IsPathForest, LeadsNowhere, ShowsMove, ShowsReduction, ShowsShift}
 

@@ -16,10 +16,10 @@ use Rattle.lalrpop_lr1_least_trees.specs.MoveViews.{tree_move_view}
 use Rattle.lalrpop_lr1_least_trees.specs.declared.tree_move.TreeMove.{TreeMove}
 use Rattle.lalrpop_lr1_outward_laws.specs.OutwardMoves.{IsContinued, LeadsOut}
 use Rattle.lalrpop_lr1_outward_laws.specs.PathTrees.{ArePaths, IsBack, LedBy}
-use Rattle.lalrpop_lr1_rest_trees.specs.RestForests.{AnyLeaves, HasRest}
-use Rattle.lalrpop_lr1_state_paths.specs.PathTables.{last_steps}
-use Rattle.lalrpop_lr1_out_steps.specs.OutGraphs.{AreWaysOut}
-use Rattle.lalrpop_lr1_out_steps.specs.declared.out_graphs.OutGraphs.{OutGraphs}
+use Rattle.lalrpop_lr1_ways_out.specs.PassedOn.{AnyLeaves, HasRest}
+use Rattle.lalrpop_lr1_ways_out.specs.PassedOn.{last_steps}
+use Rattle.lalrpop_lr1_ways_out.specs.PassedOn.{AreWaysOut}
+use Rattle.lalrpop_lr1_ways_out.specs.PassedOn.{OutGraphs}
 use Rattle.lalrpop_lr1_ways_out.specs.OutSearches.{IsEndOut, IsWantedOut, TellsWayOut}
 use Rattle.lalrpop_lr1_shown_moves.specs.declared.next_out.NextOut.{NextOut}
 use Rattle.lalrpop_lr1_shown_moves.specs.declared.next_out.NextOut.TheVariants as nexts

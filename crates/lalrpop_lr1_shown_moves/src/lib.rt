@@ -7,5 +7,6 @@
 mod next_out;
 mod shown;
 
+pub use lalrpop_lr1_ways_out::{AnyOut, EndOut, OutGraphs, WantedOut, WantedSteps, rest_count};
 pub use next_out::NextOut;
 pub use shown::{with_reduction, with_shift};

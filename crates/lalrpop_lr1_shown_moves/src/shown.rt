@@ -15,9 +15,7 @@ use crate::next_out::NextOut;
 use lalrpop_grammar_repr::{Production, Symbol};
 use lalrpop_grammar_symbols::TerminalString;
 use lalrpop_lr1_least_trees::TreeMove;
-use lalrpop_lr1_rest_trees::rest_moves;
-use lalrpop_lr1_state_paths::StatePaths;
-use lalrpop_lr1_ways_out::AnyOut;
+use lalrpop_lr1_ways_out::{AnyOut, StatePaths, rest_moves};
 use std::alloc::{AllocError, Global};
 
 /// These moves, then the one, then the others.

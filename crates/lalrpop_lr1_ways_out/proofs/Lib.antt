@@ -1,7 +1,8 @@
 pub mod AlongLemmas
-pub mod FoundLemmas
 pub mod EdgeStepLemmas
-pub mod WayLemmas
+pub mod ExamplesOfWaysFound
+pub mod FoundLemmas
+pub mod PassedOnLemmas
 pub mod WantedLemmas
 pub mod WantedWayLemmas
-pub mod ExamplesOfWaysFound
+pub mod WayLemmas

@@ -1,3 +1,4 @@
 pub mod OutSearches
+pub mod PassedOn
 pub mod StepMoves
 pub mod WantedGoals

@@ -12,5 +12,8 @@ mod wanted_steps;
 
 pub use any_out::AnyOut;
 pub use end_out::EndOut;
+pub use lalrpop_lr1_out_steps::OutGraphs;
+pub use lalrpop_lr1_rest_trees::{rest_count, rest_moves};
+pub use lalrpop_lr1_state_paths::StatePaths;
 pub use wanted_out::WantedOut;
 pub use wanted_steps::WantedSteps;

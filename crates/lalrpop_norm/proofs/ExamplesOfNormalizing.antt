@@ -11,7 +11,7 @@ use Rattle.lalrpop_grammar_repr.specs.declared.session.NormFault.{NormFault}
 use Rattle.lalrpop_grammar_repr.specs.declared.session.NormFault.TheVariants as faults
 use Rattle.lalrpop_norm_expansion.specs.Premises.{IsReadItem}
 use Rattle.lalrpop_norm_checks.specs.Faults.{CheckStands, HasNoCheckFault}
-use Rattle.lalrpop_norm_fault_chain.specs.StandingFaults.{IsStandingFault}
+use Rattle.lalrpop_norm_macros.specs.PassedOn.{IsStandingFault}
 use Rattle.lalrpop_norm.specs.Normalizing.{IsNormalizable, IsWrittenFault, TellsOfWritten}
 
 abbrev never : Text → Bool

@@ -27,13 +27,13 @@ use Rattle.lalrpop_norm_lower.specs.LoweredLists.{count_actions, count_alternati
 use Rattle.lalrpop_norm_lower.specs.LoweredSymbols.{lowered_name}
 use Rattle.lalrpop_norm_lower.proofs.EarlierLemmas.{among_at}
 use Rattle.lalrpop_norm_lower.proofs.ExpansionRowLemmas.{alternative_row, are_expansion_rows, lowered_rows, rule_rows, start_row}
-use Rattle.lalrpop_norm_chain.specs.Chains.{IsMacroChain}
-use Rattle.lalrpop_norm_chain.specs.PremiseLaws.{AreInOrder, HasFreePrefix, HasRulesInOrder}
-use Rattle.lalrpop_norm_chain.proofs.ChainLemmas.{between_behind}
-use Rattle.lalrpop_norm_chain.proofs.FrontLemmas.{prefix_leveled, same_expanded, to}
-use Rattle.lalrpop_norm_chain.proofs.KeyPrefixLemmas.{keys_free}
-use Rattle.lalrpop_norm_chain.proofs.OrderLemmas.{keys_ordered, leveled_ordered}
-use Rattle.lalrpop_norm_chain.proofs.PrefixLemmas.{leveled_free}
+use Rattle.lalrpop_norm_stages.specs.PassedOn.{IsMacroChain}
+use Rattle.lalrpop_norm_stages.specs.PassedOn.{AreInOrder, HasFreePrefix, HasRulesInOrder}
+use Rattle.lalrpop_norm_stages.proofs.PassedOnLemmas.{between_behind}
+use Rattle.lalrpop_norm_stages.proofs.PassedOnLemmas.{prefix_leveled, same_expanded, to}
+use Rattle.lalrpop_norm_stages.proofs.PassedOnLemmas.{keys_free}
+use Rattle.lalrpop_norm_stages.proofs.PassedOnLemmas.{keys_ordered, leveled_ordered}
+use Rattle.lalrpop_norm_stages.proofs.PassedOnLemmas.{leveled_free}
 use Rattle.lalrpop_norm.specs.Normalizing.{HasTooManyLabels, IsLabelOf}
 use Rattle.lalrpop_norm.proofs.CountLemmas.{once_before, once_behind, once_within}
 

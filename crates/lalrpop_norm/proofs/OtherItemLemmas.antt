@@ -11,9 +11,9 @@ use Rattle.lalrpop_norm_expansion.specs.Between.{enabled_part, enabled_item, wit
 use Rattle.lalrpop_norm_expansion.specs.Premises.{IsReadGrammar}
 use Rattle.lalrpop_norm_name_laws.specs.Resolving.{DefinedNames, defined_names, resolved_item, resolved_grammar}
 use Rattle.lalrpop_norm_level_laws.specs.LeveledGrammar.{leveled_rules, leveled_item}
-use Rattle.lalrpop_norm_key_rules.specs.RuleItems.{other_items}
-use Rattle.lalrpop_norm_chain.specs.PremiseLaws.{leveled_part}
-use Rattle.lalrpop_norm_lower_law.specs.LoweredViews.{HasNoTokenizer}
+use Rattle.lalrpop_norm_macros.specs.PassedOn.{other_items}
+use Rattle.lalrpop_norm_stages.specs.PassedOn.{leveled_part}
+use Rattle.lalrpop_norm_stages.specs.PassedOn.{HasNoTokenizer}
 
 others_left : (features : List Text) (items : List WrittenItem)
     → other_items (filter_map (enabled_item features) items) ≡ other_items items

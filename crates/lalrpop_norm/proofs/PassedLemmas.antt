@@ -13,19 +13,19 @@ use Rattle.lalrpop_norm_names.specs.FoundFaults.{IsNameFault}
 use Rattle.lalrpop_norm_level_laws.specs.LevelFaults.{HasRightLevels}
 use Rattle.lalrpop_norm_levels.specs.LevelExpansions.{HasPlainNames, IsLevelExpansion, IsLevelFault}
 use Rattle.lalrpop_norm_checks.specs.Faults.{HasNoCheckFault}
-use Rattle.lalrpop_norm_key_rules.specs.RuleItems.{other_items}
+use Rattle.lalrpop_norm_macros.specs.PassedOn.{other_items}
 use Rattle.lalrpop_norm_entries.specs.Patterns.{entry_patterns, entry_precedences}
 use Rattle.lalrpop_norm_entries.specs.Places.{FirstPlaces}
-use Rattle.lalrpop_norm_chain.specs.Chains.{IsMacroChain, IsMacroResult}
-use Rattle.lalrpop_norm_chain.specs.Lowered.{LoweredGrammar}
-use Rattle.lalrpop_norm_chain.specs.Normalized.{IsNormalized}
-use Rattle.lalrpop_norm_chain.specs.PremiseLaws.{resolved_part}
-use Rattle.lalrpop_norm_lower_law.specs.LoweredViews.{HasNoTokenizer}
+use Rattle.lalrpop_norm_stages.specs.PassedOn.{IsMacroChain, IsMacroResult}
+use Rattle.lalrpop_norm_stages.specs.PassedOn.{LoweredGrammar}
+use Rattle.lalrpop_norm_stages.specs.PassedOn.{IsNormalized}
+use Rattle.lalrpop_norm_stages.specs.PassedOn.{resolved_part}
+use Rattle.lalrpop_norm_stages.specs.PassedOn.{HasNoTokenizer}
 use Rattle.lalrpop_norm_stages.specs.Stages.{DecidesEntriesOf, HasNoLaterFault, IsLaterFault, IsNormalizedWhereRead}
-use Rattle.lalrpop_norm_fault_chain.specs.FaultLaws.{IsLevelChain}
-use Rattle.lalrpop_norm_fault_chain.specs.StandingFaults.{IsRightToLevels, IsRightToMacros}
-use Rattle.lalrpop_norm_fault_chain.specs.TokenFaults.{enabled_places}
-use Rattle.lalrpop_norm_fault_chain.proofs.StandingLemmas.{right_levels}
+use Rattle.lalrpop_norm_macros.specs.PassedOn.{IsLevelChain}
+use Rattle.lalrpop_norm_macros.specs.PassedOn.{IsRightToLevels, IsRightToMacros}
+use Rattle.lalrpop_norm_macros.specs.PassedOn.{enabled_places}
+use Rattle.lalrpop_norm_macros.proofs.PassedOnLemmas.{right_levels}
 use Rattle.lalrpop_norm_macros.specs.MacroPass.{HasNoMacroFault, IsMacroFault, IsReadyForMacros}
 use Rattle.lalrpop_norm.specs.Normalizing.{HasNoWrittenFault, IsNormalizable, TellsOfWritten}
 use Rattle.lalrpop_norm.proofs.OtherItemLemmas.{no_tokenizer_there}

@@ -12,9 +12,9 @@ use Rattle.lalrpop_norm_expansion.specs.Between.{grammar_between, rule_between, 
 use Rattle.lalrpop_norm_expansion.specs.Types.{IsGrounded}
 use Rattle.lalrpop_norm_expansion.proofs.ExpansionListLemmas.{rule_there}
 use Rattle.lalrpop_norm_types.specs.TypeFaults.{HasNoType, HasNoTypeFault, TypeFault, is_part_rule, rule_symbol}
-use Rattle.lalrpop_norm_chain.specs.Chains.{IsMacroChain}
-use Rattle.lalrpop_norm_chain.proofs.FrontLemmas.{closed_to, has_rule, types_expanded}
-use Rattle.lalrpop_norm_fault_chain.specs.WrittenTypeFaults.{IsDisagreeing, IsUntyped}
+use Rattle.lalrpop_norm_stages.specs.PassedOn.{IsMacroChain}
+use Rattle.lalrpop_norm_stages.proofs.PassedOnLemmas.{closed_to, has_rule, types_expanded}
+use Rattle.lalrpop_norm_macros.specs.PassedOn.{IsDisagreeing, IsUntyped}
 
 -- each rule has a type, where none is told
 every_typed : (g : EnabledGrammar) (rs : List Rule) → HasNoTypeFault g rs → (r : Rule) → Among rs r → HasNoType g r.name → ⊥

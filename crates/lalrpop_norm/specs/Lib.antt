@@ -1,1 +1,2 @@
 pub mod Normalizing
+pub mod PassedOn

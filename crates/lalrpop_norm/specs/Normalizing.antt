@@ -14,9 +14,9 @@ use Rattle.lalrpop_grammar_repr.specs.declared.session.NormFault.TheVariants as 
 use Rattle.lalrpop_norm_expansion.specs.Between.{grammar_between, without_disabled}
 use Rattle.lalrpop_norm_expansion.specs.Premises.{IsReadGrammar, HasNoRecovery}
 use Rattle.lalrpop_norm_key_table.specs.Tables.{HasEachOnce}
-use Rattle.lalrpop_norm_fault_chain.specs.MadeConditions.{HasConditionWhere}
-use Rattle.lalrpop_norm_fault_chain.specs.StandingFaults.{IsRightToLevels, IsRightToTokens, IsStandingFault}
-use Rattle.lalrpop_norm_fault_chain.specs.WrittenTypeFaults.{IsDisagreeing, IsUntyped}
+use Rattle.lalrpop_norm_macros.specs.PassedOn.{HasConditionWhere}
+use Rattle.lalrpop_norm_macros.specs.PassedOn.{IsRightToLevels, IsRightToTokens, IsStandingFault}
+use Rattle.lalrpop_norm_macros.specs.PassedOn.{IsDisagreeing, IsUntyped}
 
 -- The grammar looks as one that was read, and no enabled alternative has the symbol of error recovery.
 pub record IsNormalizable (finds : Text → Text → Option Bool) (features : List Text) (w : Grammar) : Type 0 where

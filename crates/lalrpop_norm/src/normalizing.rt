@@ -4,10 +4,10 @@ ghost use Rattle.std.specs.Prelude.{IfErr, IfOk};
 ghost use Rattle.lalrpop_grammar.specs.Views.{grammar_view};
 ghost use Rattle.lalrpop_judge_search.specs.Search.{finds, is_too_deep};
 ghost use Rattle.lalrpop_lexer.specs.Simulation.{Decides};
-ghost use Rattle.lalrpop_norm_chain.specs.Normalized.{IsNormalized};
+ghost use Rattle.lalrpop_norm_stages.specs.PassedOn.{IsNormalized};
 ghost use Rattle.lalrpop_norm_entries.specs.Patterns.{entry_patterns, entry_precedences};
 ghost use Rattle.lalrpop_norm_lower.specs.TableReadiness.{IsReadyForTables};
-ghost use Rattle.lalrpop_norm_lower_law.specs.LoweredViews.{lowered_view};
+ghost use Rattle.lalrpop_norm_stages.specs.PassedOn.{lowered_view};
 ghost use Rattle.lalrpop_norm.specs.Normalizing.{HasNoWrittenFault, IsNormalizable, TellsOfWritten};
 
 use lalrpop_grammar::Grammar;

@@ -1,10 +1,11 @@
-pub mod InstanceRules
 pub mod AddedRules
 pub mod FinishedRules
-pub mod RuleItems
-pub mod UsableSymbols
-pub mod KeyInstances
+pub mod InstanceRules
 pub mod KeyDeclarations
-pub mod RulesUnder
-pub mod WrittenKeys
+pub mod KeyInstances
 pub mod KeyRuleLaws
+pub mod PassedOn
+pub mod RuleItems
+pub mod RulesUnder
+pub mod UsableSymbols
+pub mod WrittenKeys

@@ -16,7 +16,7 @@ use Rattle.lalrpop_norm_types.specs.TerminalTypes.{HasTerminalTypes}
 use Rattle.lalrpop_norm_types.specs.TypeFaults.{HasRuleTypes, WhereExpanded}
 use Rattle.lalrpop_norm_lower.specs.Lowered.{IsLowerable, IsLowered, KeepsTheRest}
 use Rattle.lalrpop_norm_lower.specs.declared.lowering.Normalized.{Normalized}
-use Rattle.lalrpop_norm_chain.proofs.ChainLemmas.{between_behind}
+use Rattle.lalrpop_norm_lower_law.proofs.PassedOnLemmas.{between_behind}
 use Rattle.lalrpop_norm_lower_law.specs.LoweredViews.{first_entries, lowered_view}
 use Rattle.lalrpop_norm_lower_law.specs.LoweredChains.{IsTypeChain}
 use Rattle.lalrpop_norm_lower_law.proofs.EntryLemmas.{first_behind, first_is}

@@ -1,1 +1,2 @@
 pub mod FinishLemmas
+pub mod PassedOnLemmas

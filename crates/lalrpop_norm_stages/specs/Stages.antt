@@ -11,9 +11,9 @@ use Rattle.lalrpop_norm_entries.specs.Patterns.{entry_patterns, entry_precedence
 use Rattle.lalrpop_norm_entries.specs.Places.{FirstPlaces}
 use Rattle.lalrpop_norm_types.specs.TypeFaults.{HasNoTypeFault, IsTypeFault, WhereExpanded}
 use Rattle.lalrpop_norm_lower.specs.LowerFaults.{HasFewActions, IsLowerFault}
-use Rattle.lalrpop_norm_chain.specs.Chains.{IsMacroChain}
-use Rattle.lalrpop_norm_chain.specs.Lowered.{LoweredGrammar}
-use Rattle.lalrpop_norm_chain.specs.Normalized.{IsNormalized}
+use Rattle.lalrpop_norm_lower_law.specs.PassedOn.{IsMacroChain}
+use Rattle.lalrpop_norm_lower_law.specs.PassedOn.{LoweredGrammar}
+use Rattle.lalrpop_norm_lower_law.specs.PassedOn.{IsNormalized}
 use Rattle.lalrpop_norm_lower_law.specs.LoweredViews.{HasNoTokenizer}
 
 -- Where the expanded grammar is what the passes up to macros make of a written one without fault of the first pass, and has no

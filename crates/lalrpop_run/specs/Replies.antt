@@ -16,8 +16,8 @@ use Rattle.lalrpop_run_commands.specs.Judge.{IsJudgeReply}
 use Rattle.lalrpop_run_commands.specs.Parse.{IsParseReply}
 use Rattle.lalrpop_run_questions.specs.Questions.{Question, reads_text}
 use Rattle.lalrpop_run_commands.specs.Tokens.{IsTokensReply}
-use Rattle.lalrpop_run_replies.specs.declared.reply.Reply.{Reply}
-use Rattle.lalrpop_run_replies.specs.declared.reply.Reply.TheVariants as replies
+use Rattle.lalrpop_run_commands.specs.PassedOn.{Reply}
+use Rattle.lalrpop_run_commands.specs.ReplyVariants as replies
 
 abbrev pub IsTaskReply : Task → Question → Grammar → Text → Reply → Type 0
 IsTaskReply tasks.Judge q g text reply = IsJudgeReply q g reply

@@ -10,11 +10,11 @@ pub use lalrpop_json_grammar::{
     Fault, FaultKind, Key, ReadError, Step, TreeText, print_tree, read_grammar, read_tree,
 };
 pub use lalrpop_json_writer::{WriteError, write_grammar};
-pub use lalrpop_run_fold::{FoldError, fold, foldings_are_inverse, unfold};
+pub use lalrpop_run_commands::{
+    Answer, Certificate, FoldError, Move, ParseError, Parser, Prepared, Reply, ScanError,
+    check_conflict, fold, foldings_are_inverse, generate, prepare, unfold, witness,
+};
 pub use lalrpop_run_options::{Method, Options, OptionsError, Task, options};
-pub use lalrpop_run_parser::{ParseError, Parser, generate};
-pub use lalrpop_run_prepare::{Prepared, prepare};
 pub use lalrpop_run_refusals::GenerateError;
-pub use lalrpop_run_replies::{Answer, Reply};
 pub use running::run;
 pub use words::run_words;

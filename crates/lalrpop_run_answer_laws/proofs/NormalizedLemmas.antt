@@ -21,7 +21,7 @@ use Rattle.lalrpop_norm_expansion.proofs.AmongLemmas.{map_among}
 use Rattle.lalrpop_norm_expansion.proofs.LevelLemmas.{keeps}
 use Rattle.lalrpop_norm_lower.specs.Lowered.{says_inline}
 use Rattle.lalrpop_norm_lower.specs.declared.lowering.Normalized.{Normalized}
-use Rattle.lalrpop_norm_chain.specs.Normalized.{IsNormalized}
+use Rattle.lalrpop_norm_lower_law.specs.PassedOn.{IsNormalized}
 use Rattle.lalrpop_norm_lower_law.specs.LoweredViews.{found_entries, lowered_view, names_marked_inline}
 use Rattle.lalrpop_norm_lower_law.proofs.EntryLemmas.{entry_found, found_entry}
 use Rattle.lalrpop_lr1_inline.specs.InlinedNames.{NonterminalEntries, data_named, is_inline_mark, is_marked_data}

@@ -1,3 +1,4 @@
-pub mod NamedLabels
 pub mod NamedGrammars
+pub mod NamedLabels
 pub mod NormalizedExpansions
+pub mod PassedOn

@@ -7,7 +7,7 @@ use Rattle.lalrpop_grammar_symbols.specs.contracts.names.NonterminalStringOrd.Th
 use Rattle.lalrpop_grammar.specs.WrittenGrammar.{Grammar}
 use Rattle.lalrpop_grammar_language.specs.Enabled.{enabled_grammar}
 use Rattle.lalrpop_grammar_repr.specs.declared.grammar.Grammar as repr
-use Rattle.lalrpop_norm_chain.specs.Normalized.{IsNormalized}
+use Rattle.lalrpop_norm_lower_law.specs.PassedOn.{IsNormalized}
 use Rattle.lalrpop_norm_lower.specs.TableReadiness.{IsReadyForTables}
 use Rattle.lalrpop_norm_lower.specs.declared.lowering.Normalized.{Normalized}
 use Rattle.lalrpop_norm_lower_law.specs.LoweredViews.{lowered_view}

@@ -11,13 +11,13 @@ use Rattle.lalrpop_lexer_scan.specs.Entries.{ScanEntry}
 use Rattle.lalrpop_lexer_scan.specs.Scanning.{IsScannerOf}
 use Rattle.lalrpop_lr1_build.specs.BuiltStates.{theory_grammar}
 use Rattle.lalrpop_lr1_theory.specs.Answers.{IsLr1}
-use Rattle.lalrpop_norm_chain.specs.Normalized.{IsNormalized}
+use Rattle.lalrpop_run_parser.specs.PassedOn.{IsNormalized}
 use Rattle.lalrpop_norm_expansion.specs.Premises.{IsReadGrammar}
-use Rattle.lalrpop_norm_lower_law.specs.LoweredViews.{lowered_view}
+use Rattle.lalrpop_run_parser.specs.PassedOn.{lowered_view}
 use Rattle.lalrpop_run_parser.specs.Parsers.{HasOneTreeEach}
-use Rattle.lalrpop_run_prepare.specs.PreparedGrammars.{PreparedGrammar}
-use Rattle.lalrpop_run_tokens.specs.Refused.{IsGenerable}
-use Rattle.lalrpop_run_tokens.specs.Tokenizers.{scan_entries}
+use Rattle.lalrpop_run_parser.specs.PassedOn.{PreparedGrammar}
+use Rattle.lalrpop_run_parser.specs.PassedOn.{IsGenerable}
+use Rattle.lalrpop_run_parser.specs.PassedOn.{scan_entries}
 use Rattle.lalrpop_run_text_answers.specs.TextAnswers.{IsRightForText}
 use Rattle.lalrpop_run_commands.specs.Parse.{IsAnswerTold, IsParseReply, TellsTextAnswer}
 use Rattle.lalrpop_run_commands.specs.Parsers.{HasParser, IsPreparedFor}

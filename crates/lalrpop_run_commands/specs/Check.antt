@@ -2,7 +2,7 @@
 use Rattle.std.specs.Prelude.{◌≡◌, ℕ}
 use Rattle.lalrpop_grammar.specs.declared.grammar.Grammar.{Grammar}
 use Rattle.lalrpop_run_parser.specs.Parsers.{HasStatesBy}
-use Rattle.lalrpop_run_prepare.specs.PreparedGrammars.{PreparedGrammar}
+use Rattle.lalrpop_run_parser.specs.PassedOn.{PreparedGrammar}
 use Rattle.lalrpop_run_commands.specs.Parsers.{HasParser, IsNoParserReply}
 use Rattle.lalrpop_run_questions.specs.Questions.{Question}
 use Rattle.lalrpop_run_replies.specs.declared.reply.Reply.{Reply}

@@ -10,14 +10,14 @@ use Rattle.lalrpop_judge_certificates.specs.declared.certificate.Certificate.{Ce
 use Rattle.lalrpop_judge_search.specs.Search.{finds, is_too_deep}
 use Rattle.lalrpop_lr1_build.specs.BuiltStates.{theory_grammar}
 use Rattle.lalrpop_lr1_theory.specs.Answers.{IsLr1}
-use Rattle.lalrpop_run_conflicts.specs.WrittenConflicts.{AreWrittenConflicts}
-use Rattle.lalrpop_run_conflicts.specs.declared.written_conflict.WrittenConflict.{WrittenConflict}
+use Rattle.lalrpop_run_replies.specs.PassedOn.{AreWrittenConflicts}
+use Rattle.lalrpop_run_replies.specs.PassedOn.{WrittenConflict}
 use Rattle.lalrpop_run_parser.specs.Parsers.{HasConflicts}
-use Rattle.lalrpop_run_prepare.specs.PreparedGrammars.{IsPrepared, PreparedGrammar}
-use Rattle.lalrpop_run_prepare.specs.PrepareRefusals.{IsPrepareRefusal}
+use Rattle.lalrpop_run_parser.specs.PassedOn.{IsPrepared, PreparedGrammar}
+use Rattle.lalrpop_run_parser.specs.PassedOn.{IsPrepareRefusal}
 use Rattle.lalrpop_run_refusals.specs.declared.refusing.GenerateError.{GenerateError}
 use Rattle.lalrpop_run_refusals.specs.declared.refusing.GenerateError.TheVariants as errors
-use Rattle.lalrpop_run_tokens.specs.Refused.{IsGenerable}
+use Rattle.lalrpop_run_parser.specs.PassedOn.{IsGenerable}
 use Rattle.lalrpop_run_questions.specs.Questions.{Question}
 use Rattle.lalrpop_run_replies.specs.declared.reply.Reply.{Reply}
 use Rattle.lalrpop_run_replies.specs.declared.reply.Reply.TheVariants as replies

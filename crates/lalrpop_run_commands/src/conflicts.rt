@@ -8,10 +8,9 @@ ghost use Rattle.lalrpop_run_parser.specs.Parsers.{IsGenerateRefusal};
 ghost use Rattle.lalrpop_run_commands.specs.Parsers.{IsNoParserReply, IsPreparedFor};
 ghost use Rattle.lalrpop_run_questions.specs.Questions.{Question as AskedQuestion};
 
-use lalrpop_run_conflicts::written_conflicts;
-use lalrpop_run_prepare::Prepared;
+use lalrpop_run_parser::Prepared;
 use lalrpop_run_refusals::GenerateError;
-use lalrpop_run_replies::Reply;
+use lalrpop_run_replies::{Reply, written_conflicts};
 use std::alloc::{AllocError, Global};
 
 /// The reply that tells why a prepared grammar has no parser: its conflicts, with written trees. Want of memory is none.

@@ -7,7 +7,7 @@ ghost use Rattle.lalrpop_run_commands.specs.Parsers.{IsPreparedFor, IsRefusedFor
 ghost use Rattle.lalrpop_run_questions.specs.Questions.{question_view};
 
 use lalrpop_grammar::Grammar;
-use lalrpop_run_prepare::{Prepared, prepare};
+use lalrpop_run_parser::{Prepared, prepare};
 use lalrpop_run_questions::Question;
 use lalrpop_run_refusals::GenerateError;
 use std::alloc::Global;

@@ -7,12 +7,12 @@ use Rattle.lalrpop_judge_certificates.specs.CertificateViews.{certificate_view}
 use Rattle.lalrpop_judge_certificates.specs.declared.certificate.Certificate.{Certificate}
 use Rattle.lalrpop_lr1_theory.proofs.StepLemmas.{some_same}
 use Rattle.lalrpop_lr1_build.proofs.NumberedAutomatonLemmas.{get_some}
-use Rattle.lalrpop_lr1_out_steps.proofs.ListLemmas.{before_or_end}
+use Rattle.lalrpop_run_witness.proofs.PassedOnLemmas.{before_or_end}
 use Rattle.lalrpop_run_conflicts.specs.WrittenConflicts.{AreWrittenOf, HaveTreesOf, IsWrittenConflict}
 use Rattle.lalrpop_run_conflicts.specs.declared.written_conflict.WrittenConflict.{WrittenConflict}
 use Rattle.lalrpop_lr1_items.specs.declared.table_fault.TableConstructionError.{TableConstructionError}
 use Rattle.lalrpop_norm_expansion.specs.Premises.{IsReadGrammar}
-use Rattle.lalrpop_run_prepare.specs.PreparedGrammars.{PreparedGrammar}
+use Rattle.lalrpop_run_fold.specs.PassedOn.{PreparedGrammar}
 use Rattle.lalrpop_run_witness.specs.Witnesses.{AreWitnessesOf}
 
 pub written_more : (v : PreparedGrammar) (certificates : List Certificate) (n : ℕ) (old new : List WrittenConflict) (c : Certificate)

@@ -13,7 +13,7 @@ use Rattle.lalrpop_run_conflicts.specs.declared.written_conflict.WrittenConflict
 use Rattle.lalrpop_run_conflicts.specs.declared.written_conflict.WrittenMove.{WrittenMove}
 use Rattle.lalrpop_run_conflicts.specs.declared.written_conflict.WrittenMove.TheVariants as moves
 use Rattle.lalrpop_run_fold.specs.Foldings.{IsUnfolded}
-use Rattle.lalrpop_run_prepare.specs.PreparedGrammars.{PreparedGrammar}
+use Rattle.lalrpop_run_fold.specs.PassedOn.{PreparedGrammar}
 
 -- both trees are from the grammar's start, over the productions of its expansion
 pub record HasTreesOf (v : PreparedGrammar) (c : ShownConflict) : Type 0 where

@@ -7,6 +7,7 @@ mod texts;
 mod unfolding;
 mod written_conflict;
 
+pub use lalrpop_run_fold::{FoldError, fold, foldings_are_inverse, unfold};
 pub use texts::write_conflicts;
 pub use unfolding::written_conflicts;
 pub use written_conflict::{WrittenConflict, WrittenMove};

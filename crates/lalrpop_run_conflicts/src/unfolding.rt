@@ -10,8 +10,7 @@ ghost use Rattle.lalrpop_run_conflicts.specs.WrittenConflicts.{AreWrittenConflic
 use crate::written_conflict::{WrittenConflict, WrittenMove};
 use lalrpop_grammar_symbols::TerminalString;
 use lalrpop_judge_certificates::{Certificate, Move};
-use lalrpop_run_fold::unfold;
-use lalrpop_run_prepare::Prepared;
+use lalrpop_run_fold::{Prepared, unfold};
 use std::alloc::{AllocError, Global};
 
 /// A copy of what comes next.

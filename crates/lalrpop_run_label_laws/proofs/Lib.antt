@@ -1,5 +1,6 @@
+pub mod ExamplesOfActionLabels
+pub mod PassedOnLemmas
 pub mod PutLemmas
+pub mod ToldExpansionLemmas
 pub mod ToldRecordLemmas
 pub mod ToldStepLemmas
-pub mod ToldExpansionLemmas
-pub mod ExamplesOfActionLabels

@@ -19,7 +19,7 @@ use Rattle.lalrpop_norm_lower.specs.LoweredSymbols.{named_production}
 use Rattle.lalrpop_lr1_theory.specs.Productions as theory
 use Rattle.lalrpop_lr1_items.specs.Views.{production_symbol_view, production_view}
 use Rattle.lalrpop_lr1_items.proofs.NoConflictLemmas.{at_mapped}
-use Rattle.lalrpop_lr1_build.specs.BuiltStates.{theory_grammar}
+use Rattle.lalrpop_run_answer_laws.specs.PassedOn.{theory_grammar}
 use Rattle.lalrpop_lr1_inline.specs.InlinedGrammars.{IsInlinedGrammar}
 use Rattle.lalrpop_lr1_inline.specs.InlinedNames.{NonterminalEntries}
 use Rattle.lalrpop_lr1_inline.specs.InliningSteps.{productions_named}

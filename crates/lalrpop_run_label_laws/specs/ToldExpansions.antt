@@ -9,11 +9,11 @@ use Rattle.lalrpop_grammar.specs.declared.origin.Origin as choices
 use Rattle.lalrpop_grammar_language.specs.Enabled.{EnabledGrammar, enabled_grammar}
 use Rattle.lalrpop_grammar_repr.specs.declared.action.ActionFnDefn.{ActionFnDefn}
 use Rattle.lalrpop_grammar_repr.specs.declared.grammar.Grammar as repr
-use Rattle.lalrpop_norm_chain.specs.Normalized.{IsNormalized}
+use Rattle.lalrpop_run_answer_laws.specs.PassedOn.{IsNormalized}
 use Rattle.lalrpop_norm_lower.specs.TableReadiness.{IsReadyForTables}
 use Rattle.lalrpop_norm_lower.specs.declared.lowering.Normalized.{Normalized}
-use Rattle.lalrpop_norm_lower_law.specs.LoweredViews.{lowered_view}
-use Rattle.lalrpop_lr1_build.specs.BuiltStates.{theory_grammar}
+use Rattle.lalrpop_run_answer_laws.specs.PassedOn.{lowered_view}
+use Rattle.lalrpop_run_answer_laws.specs.PassedOn.{theory_grammar}
 use Rattle.lalrpop_lr1_inline.specs.InlinedGrammars.{IsInlinedGrammar}
 use Rattle.lalrpop_lr1_theory.specs.Productions.{Production}
 use Rattle.lalrpop_run_answers.specs.Expansions.{AreExpansion}

@@ -27,9 +27,9 @@ use Rattle.lalrpop_norm_expansion.specs.Inlined.{IsInlined}
 use Rattle.lalrpop_norm_expansion.specs.Premises.{IsReadGrammar}
 use Rattle.lalrpop_norm_lower.specs.TableReadiness.{IsReadyForTables}
 use Rattle.lalrpop_norm_lower.specs.declared.lowering.Normalized.{Normalized}
-use Rattle.lalrpop_norm_lower_law.specs.LoweredViews.{lowered_view}
-use Rattle.lalrpop_run_answer_laws.proofs.InlinedExpansionLemmas.{base_expansion}
-use Rattle.lalrpop_run_answer_laws.proofs.NormalizedLemmas.{named_expansion, named_origins}
+use Rattle.lalrpop_run_label_laws.specs.PassedOn.{lowered_view}
+use Rattle.lalrpop_run_label_laws.proofs.PassedOnLemmas.{base_expansion}
+use Rattle.lalrpop_run_label_laws.proofs.PassedOnLemmas.{named_expansion, named_origins}
 use Rattle.lalrpop_run_answers.specs.Barren.{HasNoBarren, IsLeastBarrenName}
 use Rattle.lalrpop_run_answers.specs.ExpansionTrees.{is_inlined_nonterminal}
 use Rattle.lalrpop_run_answers.specs.Expansions.{AreBaseExpansion}
@@ -37,7 +37,7 @@ use Rattle.lalrpop_run_answers.proofs.BarrenLemmas.{barren_named, named_barren, 
 use Rattle.lalrpop_run_answers.proofs.InlinedTestLemmas.{inlined_decided}
 use Rattle.lalrpop_run_label_laws.specs.ToldExpansions.{AreToldExpansion}
 use Rattle.lalrpop_run_label_laws.proofs.ToldExpansionLemmas.{told_expansion}
-use Rattle.lalrpop_run_answer_laws.proofs.EntryLemmas.{steps_own, steps_sorted}
+use Rattle.lalrpop_run_label_laws.proofs.PassedOnLemmas.{steps_own, steps_sorted}
 use Rattle.lalrpop_run_prepare.specs.PrepareRefusals.{IsPrepareRefusal, IsRefusedExpansion, IsRefusedStart}
 use Rattle.lalrpop_run_prepare.specs.PreparedGrammars.{IsPreparedWhereRead, MayBeParsedFrom, PreparedGrammar}
 use Rattle.lalrpop_run_prepare.proofs.StartLemmas.{start_in_expansion}

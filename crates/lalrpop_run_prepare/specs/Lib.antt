@@ -1,3 +1,4 @@
 pub mod InlineRefusals
-pub mod PreparedGrammars
+pub mod PassedOn
 pub mod PrepareRefusals
+pub mod PreparedGrammars

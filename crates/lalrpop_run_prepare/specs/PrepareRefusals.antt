@@ -13,9 +13,9 @@ use Rattle.lalrpop_lr1_build.specs.BuiltStates.{theory_grammar}
 use Rattle.lalrpop_lr1_inline.specs.InlinedGrammars.{IsInlineFault, IsInlinedGrammar}
 use Rattle.lalrpop_lr1_inline.specs.declared.fault.InlineFault.TheVariants as faults
 use Rattle.lalrpop_lr1_theory.specs.ValidItems.{NoneBarren}
-use Rattle.lalrpop_norm_chain.specs.Normalized.{IsNormalized}
+use Rattle.lalrpop_run_label_laws.specs.PassedOn.{IsNormalized}
 use Rattle.lalrpop_norm_lower.specs.declared.lowering.Normalized.{Normalized}
-use Rattle.lalrpop_norm_lower_law.specs.LoweredViews.{lowered_view}
+use Rattle.lalrpop_run_label_laws.specs.PassedOn.{lowered_view}
 use Rattle.lalrpop_run_answers.specs.Barren.{IsLeastBarrenName}
 use Rattle.lalrpop_run_prepare.specs.InlineRefusals.{IsRefusedInlining, told_at}
 use Rattle.lalrpop_run_prepare.specs.PreparedGrammars.{MayBeParsedFrom}

@@ -18,11 +18,11 @@ use Rattle.lalrpop_lr1_first.specs.NumberedGrammars.{HasItsTerminals}
 use Rattle.lalrpop_lr1_inline.specs.InlinedGrammars.{IsInlinedGrammar}
 use Rattle.lalrpop_lr1_theory.specs.CheckedStates.{IsStartAlone}
 use Rattle.lalrpop_lr1_theory.specs.ValidItems.{NoneBarren}
-use Rattle.lalrpop_norm_chain.specs.Normalized.{IsNormalized}
+use Rattle.lalrpop_run_label_laws.specs.PassedOn.{IsNormalized}
 use Rattle.lalrpop_norm_expansion.specs.Premises.{IsReadGrammar}
 use Rattle.lalrpop_norm_lower.specs.declared.lowering.Normalized.{Normalized}
-use Rattle.lalrpop_norm_lower_law.specs.LoweredViews.{lowered_view}
-use Rattle.lalrpop_run_answer_laws.specs.NamedGrammars.{StandUnderNames}
+use Rattle.lalrpop_run_label_laws.specs.PassedOn.{lowered_view}
+use Rattle.lalrpop_run_label_laws.specs.PassedOn.{StandUnderNames}
 use Rattle.lalrpop_run_label_laws.specs.ToldExpansions.{AreToldExpansion}
 use Rattle.lalrpop_run_tokens.specs.Refused.{IsGenerable}
 use Rattle.lalrpop_run_tokens.specs.Tokenizers.{scan_entries}

@@ -20,9 +20,8 @@ use lalrpop_grammar_repr::{Grammar as LoweredGrammar, Session};
 use lalrpop_grammar_symbols::List;
 use lalrpop_lexer::dfa::Dfa;
 use lalrpop_lexer_scan::Scanner;
-use lalrpop_norm::Normalized;
 use lalrpop_run_refusals::GenerateError;
-use lalrpop_run_tokens::{normalize_for_start, terminals_of};
+use lalrpop_run_tokens::{Normalized, normalize_for_start, terminals_of};
 use std::alloc::{AllocError, Global};
 
 /// Looks at the map of the nonterminals, which says that their names ascend.

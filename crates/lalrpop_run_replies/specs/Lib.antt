@@ -1,2 +1,3 @@
 pub mod Outputs
+pub mod PassedOn
 pub mod ReplyTexts

@@ -8,6 +8,7 @@ mod refusals;
 mod reply;
 mod texts;
 
+pub use lalrpop_run_conflicts::{FoldError, fold, foldings_are_inverse, unfold, written_conflicts};
 pub use putting::put;
 pub use refusals::refusal_reply;
 pub use reply::{Answer, Reply};

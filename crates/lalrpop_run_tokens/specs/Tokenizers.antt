@@ -6,11 +6,11 @@ use Rattle.lalrpop_lexer_scan.specs.Entries.{ScanEntry}
 use Rattle.lalrpop_lexer_scan.specs.Scanning.{IsScannerOf}
 use Rattle.lalrpop_lexer_scan.specs.declared.scanner.Scanner.{Scanner}
 use Rattle.lalrpop_lexer.specs.Simulation.{Decides, StateView}
-use Rattle.lalrpop_norm_chain.specs.Lowered.{LoweredGrammar}
-use Rattle.lalrpop_norm_chain.specs.Normalized.{IsNormalized}
+use Rattle.lalrpop_norm.specs.PassedOn.{LoweredGrammar}
+use Rattle.lalrpop_norm.specs.PassedOn.{IsNormalized}
 use Rattle.lalrpop_norm_entries.specs.Patterns.{entry_patterns, entry_precedences, scan_entry}
 use Rattle.lalrpop_norm_lower.specs.declared.lowering.Normalized.{Normalized}
-use Rattle.lalrpop_norm_lower_law.specs.LoweredViews.{lowered_view}
+use Rattle.lalrpop_norm.specs.PassedOn.{lowered_view}
 use Rattle.lalrpop_run_tokens.specs.Refused.{IsGenerable}
 
 -- the tokenizer's entries as texts are cut by them

@@ -11,5 +11,6 @@ mod starting;
 mod tokenizing;
 
 pub use entries::terminals_of;
+pub use lalrpop_norm::Normalized;
 pub use normalized::normalize_for_start;
 pub use tokenizing::tokenizer;

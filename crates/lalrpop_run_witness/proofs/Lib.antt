@@ -1,1 +1,2 @@
+pub mod PassedOnLemmas
 pub mod WitnessLemmas

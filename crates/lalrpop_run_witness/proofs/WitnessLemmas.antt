@@ -14,7 +14,7 @@ use Rattle.lalrpop_lr1_items.specs.declared.state.State.{State}
 use Rattle.lalrpop_lr1_items.specs.declared.table_fault.TableConstructionError.{TableConstructionError}
 use Rattle.lalrpop_lr1_theory.specs.CanonicalStates.{AreCanonicalStates}
 use Rattle.lalrpop_lr1_theory.specs.ValidItems.{NoneBarren}
-use Rattle.lalrpop_lr1_conflict_laws.specs.Laws.{ToldConflictsStand}
+use Rattle.lalrpop_lr1_certificates.specs.PassedOn.{ToldConflictsStand}
 use Rattle.lalrpop_lr1_certificates.specs.ConflictCertificates.{AreCertificatesOf, HaveOwnActions, IsCertificateOf}
 use Rattle.lalrpop_lr1_certificates.specs.ShownStates.{AreToldConflicts, shown_states}
 use Rattle.lalrpop_norm_expansion.specs.Premises.{IsReadGrammar}

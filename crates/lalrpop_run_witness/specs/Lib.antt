@@ -1,1 +1,3 @@
+pub mod PassedOn
+pub mod PreparedContracts
 pub mod Witnesses

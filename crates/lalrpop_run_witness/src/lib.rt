@@ -5,4 +5,5 @@
 
 mod witnessing;
 
+pub use lalrpop_run_prepare::{Prepared, prepare};
 pub use witnessing::{witness, witnesses};

@@ -4,8 +4,7 @@ ghost use Rattle.std.specs.Prelude.{◌<◌, IfOk, length};
 ghost use Rattle.lalrpop_run_witness.specs.Witnesses.{AreItsConflicts, AreWitnessesOf, IsWitnessOf};
 
 use lalrpop_judge_certificates::Certificate;
-use lalrpop_lr1_certificates::certificates;
-use lalrpop_lr1_conflict_laws::told_conflicts_stand;
+use lalrpop_lr1_certificates::{certificates, told_conflicts_stand};
 use lalrpop_lr1_items::Lr1TableConstructionError;
 use lalrpop_run_prepare::Prepared;
 use std::alloc::{AllocError, Global};

@@ -1,7 +1,7 @@
 use Rattle.std.proofs.Common.{◌∙◌, subst, sym}
 use Rattle.lalrpop_lr1_theory.specs.Productions.{Next}
 use Rattle.lalrpop_lr1_theory.proofs.StepLemmas.{some_same}
-use Rattle.lalrpop_lr1_shown_moves.specs.ShownMoves.{next_of}
+use Rattle.lalrpop_lr1_shown_laws.specs.PassedOn.{next_of}
 use Rattle.lalrpop_judge_certificates.specs.CertificateViews.{certificate_view}
 use Rattle.lalrpop_lr1_certificates.specs.ConflictCertificates.{IsCertificateOf}
 use Rattle.lalrpop_lr1_certificates.specs.MadeCertificates.{IsMadeCertificate}

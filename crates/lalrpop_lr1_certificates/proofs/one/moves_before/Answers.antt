@@ -3,8 +3,8 @@ use Rattle.lalrpop_lr1_theory.proofs.StepLemmas.{some_same}
 use Rattle.lalrpop_lr1_items.specs.Views.{lr_state_view, token_lookahead}
 use Rattle.lalrpop_lr1_items.specs.declared.conflict.Conflict.{Conflict}
 use Rattle.lalrpop_lr1_items.proofs.NoConflictLemmas.{mapped_at}
-use Rattle.lalrpop_lr1_shown_moves.specs.ShownMoves.{next_of}
-use Rattle.lalrpop_lr1_conflict_moves.specs.ConflictMoves.{AreConflictMoves, ShowConflict}
+use Rattle.lalrpop_lr1_shown_laws.specs.PassedOn.{next_of}
+use Rattle.lalrpop_lr1_conflict_laws.specs.PassedOn.{AreConflictMoves, ShowConflict}
 use Rattle.lalrpop_lr1_certificates.specs.ShownStates.{states_of}
 use Rattle.lalrpop_lr1_certificates.proofs.ShownLemmas.{stands_before, state_finished, state_within}
 use Rattle.lalrpop_lr1_certificates.proofs.one.moves_before.Goals as goal

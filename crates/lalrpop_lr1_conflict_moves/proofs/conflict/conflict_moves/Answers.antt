@@ -9,7 +9,7 @@ use Rattle.lalrpop_lr1_state_paths.specs.PathForests.{HaveForestMoves}
 use Rattle.lalrpop_lr1_state_paths.specs.PathTables.{last_steps}
 use Rattle.lalrpop_lr1_items.specs.Views.{lr_state_view, production_view}
 use Rattle.lalrpop_lr1_least_trees.specs.MoveViews.{tree_move_view}
-use Rattle.lalrpop_lr1_shown_moves.specs.ShownMoves.{ShowsReduction, next_of, next_ways}
+use Rattle.lalrpop_lr1_action_moves.specs.PassedOn.{ShowsReduction, next_of, next_ways}
 use Rattle.lalrpop_lr1_action_moves.specs.ActionMoves.{ShowsAction}
 use Rattle.lalrpop_lr1_conflict_moves.proofs.ConflictLemmas.{on_path, paths_told, reduction_told}
 use Rattle.lalrpop_lr1_conflict_moves.proofs.conflict.conflict_moves.Goals as goal

@@ -5,7 +5,7 @@ use Rattle.lalrpop_lr1_first.specs.NumberedGrammars.{IsNumberTableOf}
 use Rattle.lalrpop_lr1_items.specs.Views.{production_symbol_view, production_view}
 use Rattle.lalrpop_lr1_least_trees.specs.MoveViews.{tree_move_view}
 use Rattle.lalrpop_lr1_least_trees.specs.declared.tree_move.TreeMove.TheVariants as named
-use Rattle.lalrpop_lr1_rest_trees.specs.RestForests.{AnyLeaves, HaveRestMoves}
+use Rattle.lalrpop_lr1_ways_out.specs.PassedOn.{AnyLeaves, HaveRestMoves}
 use Rattle.lalrpop_lr1_ways_out.specs.OutSearches.{TellsWayOut}
 use Rattle.lalrpop_lr1_shown_moves.proofs.ShownLemmas.{back_told, joined_seen, shift_shown, shift_unshown}
 use Rattle.lalrpop_lr1_shown_moves.proofs.shown.with_shift.Goals as goal

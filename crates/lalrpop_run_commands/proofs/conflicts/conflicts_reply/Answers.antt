@@ -3,8 +3,8 @@ use Rattle.lalrpop_grammar.specs.declared.grammar.Grammar.{Grammar}
 use Rattle.lalrpop_grammar.specs.Views.{grammar_view}
 use Rattle.lalrpop_judge_certificates.specs.declared.certificate.Certificate.{Certificate}
 use Rattle.lalrpop_norm_expansion.specs.Premises.{IsReadGrammar}
-use Rattle.lalrpop_run_conflicts.specs.WrittenConflicts.{AreWrittenConflicts, HaveTreesOf}
-use Rattle.lalrpop_run_conflicts.proofs.UnfoldedLemmas.{witnessed_trees}
+use Rattle.lalrpop_run_replies.specs.PassedOn.{AreWrittenConflicts, HaveTreesOf}
+use Rattle.lalrpop_run_replies.proofs.PassedOnLemmas.{witnessed_trees}
 use Rattle.lalrpop_run_parser.specs.Parsers.{IsGenerateRefusal}
 use Rattle.lalrpop_run_commands.specs.Parsers.{IsNoParserReply}
 use Rattle.lalrpop_run_commands.proofs.conflicts.conflicts_reply.Goals as goal

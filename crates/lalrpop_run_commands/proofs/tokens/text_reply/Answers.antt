@@ -1,6 +1,6 @@
 use Rattle.std.proofs.Common.{subst, sym}
 use Rattle.lalrpop_lexer_scan.specs.Scanning.{IsScannerOf}
-use Rattle.lalrpop_run_prepare.specs.PreparedGrammars.{PreparedGrammar}
+use Rattle.lalrpop_run_parser.specs.PassedOn.{PreparedGrammar}
 use Rattle.lalrpop_run_commands.proofs.ParserLemmas.{parser_for, scanned}
 use Rattle.lalrpop_run_commands.specs.Tokens.{IsTokensReply}
 use Rattle.lalrpop_run_commands.proofs.tokens.text_reply.Goals as goal

@@ -1,4 +1,4 @@
-use Rattle.lalrpop_norm_lower_law.specs.LoweredViews.{lowered_view}
+use Rattle.lalrpop_norm.specs.PassedOn.{lowered_view}
 use Rattle.lalrpop_run_tokens.specs.Tokenizers.{scan_entries}
 use Rattle.lalrpop_run_tokens.proofs.tokenizing.tokenizer.Goals as goal
 
