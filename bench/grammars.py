@@ -2,6 +2,7 @@
 import os
 import subprocess
 import time
+from typing import NamedTuple
 
 HERE = os.path.dirname(os.path.abspath(__file__))
 PROGRAM = os.path.join(HERE, "..", "crates", "lalrpop", "out", "lalrpop")
@@ -50,12 +51,31 @@ def entry(number):
     return {"literal": {"quoted": f"a{number}"}, "map": None} | SPAN
 
 
+class Run(NamedTuple):
+    """What a run took, printed and ended with. Of two runs the lesser is the faster one."""
+
+    seconds: float
+    memory: float  # the greatest, in MB
+    printed: str
+    status: int  # of a run that was killed, the number of the signal below 0
+
+    def fault(self, statuses=(0,)):
+        """What is wrong with a run that ended with another status, which is no fast answer; nothing where none is wrong."""
+        return None if self.status in statuses else f"failed: status {self.status}"
+
+
 def timed(command, source):
-    """Seconds, the greatest memory in MB, and what is printed, of one run over a file as standard input."""
+    """One run over a file as standard input."""
     with open(source, "rb") as standard_input:
         start = time.monotonic()
         child = subprocess.Popen(command, stdin=standard_input, stdout=subprocess.PIPE)
         printed = child.stdout.read().decode()
-        _, _, used = os.wait4(child.pid, 0)
+        _, status, used = os.wait4(child.pid, 0)
         seconds = time.monotonic() - start
-    return seconds, used.ru_maxrss / 1024, printed.strip()
+    return Run(seconds, used.ru_maxrss / 1024, printed.strip(), os.waitstatus_to_exitcode(status))
+
+
+def better(command, source, statuses=(0,)):
+    """The better of two runs; one that failed, where one did."""
+    runs = [timed(command, source) for _ in range(2)]
+    return min([it for it in runs if it.fault(statuses)] or runs)

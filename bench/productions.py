@@ -1,4 +1,5 @@
-"""Plain productions: how they are read, what bison and menhir call them, and how programs are run over them. For the scripts of this folder."""
+"""Plain productions: how they are read, written for our programs, bison and menhir, and how programs are run over them. For the scripts of
+this folder."""
 import ctypes
 import hashlib
 import json
@@ -8,6 +9,8 @@ import subprocess
 import sys
 from pathlib import Path
 from typing import NamedTuple
+
+from grammars import alternative, grammar as written, literal, name, rule
 
 TOP = Path(__file__).resolve().parent.parent
 GRAMMARS = TOP / "bench" / "grammars"
@@ -72,6 +75,17 @@ def read(file):
         sys.exit(f"{file}: {lacking[0]} has no production")
     terminals = dict.fromkeys(it for it in symbols if it.startswith('"'))
     return Grammar(file.stem, file, productions, {it: f"T{at}" for at, it in enumerate(terminals, 1)})
+
+
+def json_text(grammar, classes=None):
+    """The grammar as written, for our program: a rule for each nonterminal. A terminal that stands for a class of tokens is the symbol that
+    classes have for it."""
+    rules, found = {}, classes or {}
+    for left, right in grammar.productions[1:]:
+        texts = [json.loads(it) if it.startswith('"') else None for it in right]
+        symbols = [name(it) if text is None else found.get(text, literal(text)) for it, text in zip(right, texts)]
+        rules.setdefault(left, []).append(alternative(symbols))
+    return json.dumps(written([rule(left, alternatives) for left, alternatives in rules.items()]))
 
 
 def bison_text(grammar):
