@@ -1,0 +1,2 @@
+pub mod ValidCores
+pub mod Lr0Laws
