@@ -1,9 +1,13 @@
 //! Conflicts, and the actions that they tell.
 
+ghost use Rattle.std.specs.Prelude.{◌≡◌, IfOk};
+
+use crate::lookahead::Lookahead;
 use crate::state_index::StateIndex;
 use lalrpop_grammar_repr::Production;
 use lalrpop_grammar_symbols::TerminalString;
 use lalrpop_sets::{Nil, TokenSet};
+use std::alloc::AllocError;
 
 /// What a state may do.
 #[derive(Debug, PartialEq, Eq, PartialOrd, Ord, Drop)]
@@ -12,6 +16,18 @@ pub enum Action<'g> {
     Shift(TerminalString, StateIndex),
     /// It reduces by the production.
     Reduce(&'g Production),
+}
+
+impl<'g> Action<'g> {
+    /// A copy that equals it.
+    pub fn try_clone(&self) -> Result<Action<'g>, AllocError>
+        ensures { IfOk result (λ copy. copy ≡ self.now) }
+    {
+        Ok(match self {
+            Action::Shift(terminal, to) => Action::Shift(terminal.try_clone()?, *to),
+            Action::Reduce(production) => Action::Reduce(production),
+        })
+    }
 }
 
 /// A reduction of a state that another action forbids.
@@ -25,6 +41,20 @@ pub struct Conflict<'g, L> {
     pub production: &'g Production,
     /// The other action.
     pub action: Action<'g>,
+}
+
+impl<'g, L: Lookahead> Conflict<'g, L> {
+    /// A copy that equals it.
+    pub fn try_clone(&self) -> Result<Conflict<'g, L>, AllocError>
+        ensures { IfOk result (λ copy. copy ≡ self.now) }
+    {
+        Ok(Conflict {
+            state: self.state,
+            lookahead: self.lookahead.try_clone()?,
+            production: self.production,
+            action: self.action.try_clone()?,
+        })
+    }
 }
 
 /// A conflict of a state without lookaheads.
