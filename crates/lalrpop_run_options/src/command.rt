@@ -13,11 +13,15 @@ use std::alloc::{AllocError, Global};
 
 /// What the help says below the options: each task with an example, and what the statuses are.
 const TASKS_AND_STATUSES: &str = "\
-Commands, each with an example:
-  judge   whether the grammar admits a tree: lalrpop_run judge --start S --tree \"$(cat examples/lists.tree.json)\" < examples/lists.grammar.json
-  tokens  the tokens of a text: lalrpop_run tokens --start S --text 'a b' < examples/lists.grammar.json
-  check   whether the grammar has a parser: lalrpop_run check --start Expr < examples/calculator.grammar.json
-  parse   the tree of a text: lalrpop_run parse --start Expr --text '1+2*3' < examples/calculator.grammar.json
+Commands, each with its options and an example:
+  judge   whether the grammar admits a tree: --start, --tree; [--features]
+          lalrpop_run judge --start S --tree \"$(cat examples/lists.tree.json)\" < examples/lists.grammar.json
+  tokens  the tokens of a text: --start; [--text, --features, --macro-limit, --method, --copies]
+          lalrpop_run tokens --start S --text 'a b' < examples/lists.grammar.json
+  check   whether the grammar has a parser: --start; [--features, --macro-limit, --method, --copies]
+          lalrpop_run check --start Expr < examples/calculator.grammar.json
+  parse   the tree of a text: --start; [--text, --features, --macro-limit, --limit, --method, --copies]
+          lalrpop_run parse --start Expr --text '1+2*3' < examples/calculator.grammar.json
 
 Status:
   0  an answer
