@@ -1,5 +1,8 @@
 //! Why there is no answer.
 
+ghost use Rattle.std.specs.Prelude.{◌≡◌, Some};
+ghost use Rattle.lalrpop_lr1_answers.specs.FaultTexts.{answer_fault_text};
+
 use lalrpop_lr1_lines::LinesError;
 use std::alloc::{AllocError, AllocFailed};
 use std::fmt::{self, Display, Formatter, Write};
@@ -24,18 +27,28 @@ pub enum AnswerFault {
 }
 
 impl From<AllocError> for AnswerFault {
+    ghost use Rattle.lalrpop_lr1_answers.specs.declared.fault.AnswerFault.TheVariants.{Memory};
+
+    ghost from_gives = { λ _ error. error ≡ Memory };
+
     fn from(_: AllocError) -> AnswerFault {
         AnswerFault::Memory
     }
 }
 
 impl<T: Drop> From<AllocFailed<T>> for AnswerFault {
+    ghost use Rattle.lalrpop_lr1_answers.specs.declared.fault.AnswerFault.TheVariants.{Memory};
+
+    ghost from_gives = { λ _ error. error ≡ Memory };
+
     fn from(_: AllocFailed<T>) -> AnswerFault {
         AnswerFault::Memory
     }
 }
 
 impl Display for AnswerFault {
+    ghost output = { λ e. Some (answer_fault_text e) };
+
     fn fmt<W: Write>(&self, f: &mut Formatter<W>) -> fmt::Result {
         match self {
             AnswerFault::Lines(error) => Display::fmt(error, f),

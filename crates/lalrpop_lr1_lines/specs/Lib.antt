@@ -1,2 +1,3 @@
+pub mod ErrorTexts
 pub mod Lines
 pub mod Words

@@ -1,5 +1,6 @@
 -- Words of a line, and which of them spell symbols: for the contracts of reading lines.
-use Rattle.std.specs.Prelude.{ℕ, ◌<◌, ◌≤◌, ◌-◌, ◌≡◌, ◌==◌, ◌⊎◌, ◌&&◌, ◌||◌, suc, if◌then◌else◌, nat_lt, IsTrue, Some, Bool}
+use Rattle.std.specs.Prelude.{ℕ, ◌<◌, ◌≤◌, ◌-◌, ◌≡◌, ◌==◌, ◌⊎◌, ◌&&◌, ◌||◌, suc}
+use Rattle.std.specs.Prelude.{if◌then◌else◌, nat_lt, IsTrue, Some, Bool}
 use Rattle.std.specs.Prelude.{List, [], ◌∷◌, drop, length, slice_index, take}
 use Rattle.std.specs.Char.{is_ascii_alphanumeric}
 use Rattle.std.specs.List.{list_all}

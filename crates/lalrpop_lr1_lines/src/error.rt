@@ -1,5 +1,8 @@
 //! What may be wrong with lines.
 
+ghost use Rattle.std.specs.Prelude.{Some};
+ghost use Rattle.lalrpop_lr1_lines.specs.ErrorTexts.{lines_error_text};
+
 use std::alloc::{AllocError, AllocFailed};
 use std::fmt::{self, Display, Formatter, Write};
 
@@ -37,6 +40,8 @@ impl<T: Drop> From<AllocFailed<T>> for LinesError {
 }
 
 impl Display for LinesError {
+    ghost output = { λ e. Some (lines_error_text e) };
+
     fn fmt<W: Write>(&self, f: &mut Formatter<W>) -> fmt::Result {
         match self {
             LinesError::Line(number) => write!(f, "line {number} is no production"),
