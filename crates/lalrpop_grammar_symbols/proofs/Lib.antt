@@ -1,3 +1,4 @@
+pub mod ComparedLemmas
 pub mod EscapeLemmas
 pub mod MapLemmas
 pub mod SubsymbolLemmas

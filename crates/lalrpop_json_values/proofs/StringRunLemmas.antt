@@ -8,6 +8,7 @@ use Rattle.std.specs.Map.{values_of}
 use Rattle.serde_json.specs.declared.value.Value.{Value}
 use Rattle.lalrpop_json_values.specs.Prefix.{longest_of, longest_run}
 use Rattle.lalrpop_json_values.specs.Strings.{strings, items_strings, members_strings}
+use Rattle.lalrpop_json_values.proofs.NestingLemmas.{below_array}
 use Rattle.lalrpop_json_values.proofs.PrefixRunLemmas.{longest_of-append}
 
 -- ---- by the shape of a value
@@ -43,14 +44,6 @@ of_none (number n) e f g = refl
 of_none (string s) e f g = absurd (cc)
 of_none (array ds) e f g = absurd (cc)
 of_none (object ms) e f g = absurd (cc)
-
-pub below_array : (d : Data) (ds : Items) → as_array d ≡ Some ds → depth d ≡ suc (items_depth ds)
-below_array null ds e = absurd (cc)
-below_array (boolean b) ds e = absurd (cc)
-below_array (number n) ds e = absurd (cc)
-below_array (string s) ds e = absurd (cc)
-below_array (array xs) ds e = let same : xs ≡ ds = cc in ap (λ x. suc (items_depth x)) same
-below_array (object ms) ds e = absurd (cc)
 
 pub below_object : (d : Data) (ms : Members) → as_object d ≡ Some ms → depth d ≡ suc (members_depth ms)
 below_object null ms e = absurd (cc)

@@ -5,14 +5,12 @@ use Rattle.std.specs.Bool.{Decides}
 use Rattle.std.specs.List.{AllByRecursion}
 use Rattle.std.specs.List.Sorted.{IsStrictlySortedBy}
 use Rattle.std.specs.Map.{keys_of}
-use Rattle.std.specs.Cmp.Lexicographic.{slice_cmp}
-use Rattle.std.specs.Ordering.{is_eq, nat_cmp}
+use Rattle.std.specs.Ordering.{is_eq}
 use Rattle.std.specs.declared.cmp.Ordering.TheVariants.{Less}
-use Rattle.std.proofs.lemmas.Map.Text.{is_eq-slice_cmp}
-use Rattle.std.proofs.lemmas.Slice.Eq.{bytes_eq-Decides}
 use Rattle.lalrpop_grammar_symbols.specs.Symbols.{Text}
 use Rattle.lalrpop_grammar_symbols.specs.contracts.names.NonterminalStringOrd.TheImpl as names
 use Rattle.lalrpop_grammar_symbols.specs.declared.names.NonterminalString.{NonterminalString}
+use Rattle.lalrpop_grammar_symbols.proofs.ComparedLemmas.{same_text}
 use Rattle.lalrpop_grammar_language.specs.Among.{Among}
 use Rattle.lalrpop_grammar_language.proofs.PlaceLemmas.{among_filter, among_map}
 use Rattle.lalrpop_grammar_repr.specs.Maps.{at_name}
@@ -21,9 +19,7 @@ use Rattle.lalrpop_lr1_inline.specs.InlinedNames.{NonterminalEntries, data_named
 use Rattle.lalrpop_lr1_inline.specs.InlinedNames.{is_marked_inline, name_of_text}
 use Rattle.lalrpop_lr1_inline.specs.InliningOrders.{HasAllInlined}
 
-pub same_text : (s t : Text) → Decides (is_eq (slice_cmp nat_cmp s t)) (s ≡ t)
-same_text s t = (λ e. (bytes_eq-Decides s t).0 (sym (is_eq-slice_cmp s t) ∙ e), λ e. is_eq-slice_cmp s t ∙ (bytes_eq-Decides s t).1 e)
-
+-- two names compare as equal just where they are the same
 pub same_name : (a b : NonterminalString) → Decides (is_eq ((names.ghosts).cmp a b)) (a ≡ b)
 same_name a b = (λ e. ap name_of_text ((same_text a.0 b.0).0 e), λ e. (same_text a.0 b.0).1 (ap (λ n. n.0) e))
 
@@ -106,5 +102,6 @@ listed_inlined g sorted n i =
     let s = among_filter (λ (e : NonterminalString × NonterminalData). is_marked_inline e.1) g r.0 r.1 in
     subst (λ (x : Text). is_inlined_name g x ≡ true) r.2 (ap is_marked_data (lookup_entry g sorted r.0 s.0) ∙ s.1)
 
+-- where names ascend, the list of inlined names has each inlined nonterminal and nothing else
 pub all_listed : (g : NonterminalEntries) → IsStrictlySortedBy (names.ghosts).cmp (keys_of g) → HasAllInlined g (inlined_names g)
 all_listed g sorted n = (inlined_listed g n, listed_inlined g sorted n)

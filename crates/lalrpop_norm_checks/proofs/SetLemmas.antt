@@ -5,20 +5,18 @@ use Rattle.std.specs.Bool.{Decides}
 use Rattle.std.specs.Borrow.{Bor}
 use Rattle.std.specs.BTreeSet.{BTreeSet, contains}
 use Rattle.std.specs.BTreeMap.{is_at}
-use Rattle.std.specs.Cmp.Lexicographic.{slice_cmp}
 use Rattle.std.specs.List.{list_any}
 use Rattle.std.specs.Option.{option_cmp}
-use Rattle.std.specs.Ordering.{is_eq, nat_cmp}
+use Rattle.std.specs.Ordering.{is_eq}
 use Rattle.std.proofs.Common.{Ordering}
 use Rattle.std.specs.Prelude.{Option, Some, None, option_map, not}
 use Rattle.std.proofs.lemmas.List.{map-append}
-use Rattle.std.proofs.lemmas.Map.Text.{is_eq-slice_cmp}
-use Rattle.std.proofs.lemmas.Slice.Eq.{bytes_eq-Decides}
 use Rattle.lalrpop_grammar_symbols.specs.Symbols.{Text, Terminal}
 use Rattle.lalrpop_grammar_symbols.specs.Views.{literal_view}
 use Rattle.lalrpop_grammar_symbols.specs.contracts.terminal.TerminalLiteralOrd.TheImpl as literals
 use Rattle.lalrpop_grammar_symbols.specs.declared.terminal.TerminalLiteral.{TerminalLiteral}
 use Rattle.lalrpop_grammar_symbols.specs.declared.terminal.TerminalLiteral.TheVariants as variants
+use Rattle.lalrpop_grammar_symbols.proofs.ComparedLemmas.{same_text}
 use Rattle.lalrpop_grammar.specs.WrittenGrammar.{WrittenEntry}
 use Rattle.lalrpop_grammar_language.specs.Among.{Among}
 use Rattle.lalrpop_norm_checks.specs.Entries.{literal_in_entry, AreListedOnce}
@@ -34,14 +32,12 @@ key_cmp = option_cmp (λ x y. (literals.ghosts).cmp x.now y.now)
 abbrev pub key_view : Key → Option Terminal
 key_view = option_map (λ l. literal_view l.now)
 
+-- quoted terminals that are the same have the same text
 pub quoted_is : (s t : Text) → Terminal.quoted s ≡ Terminal.quoted t → s ≡ t
 quoted_is s t e = cc
 
 regex_is : (s t : Text) → Terminal.regex s ≡ Terminal.regex t → s ≡ t
 regex_is s t e = cc
-
-same_text : (s t : Text) → Decides (is_eq (slice_cmp nat_cmp s t)) (s ≡ t)
-same_text s t = (λ e. (bytes_eq-Decides s t).0 (sym (is_eq-slice_cmp s t) ∙ e), λ e. is_eq-slice_cmp s t ∙ (bytes_eq-Decides s t).1 e)
 
 same_literal : (a b : TerminalLiteral) → Decides (is_eq ((literals.ghosts).cmp a b)) (literal_view a ≡ literal_view b)
 same_literal (variants.Quoted s) (variants.Quoted t) =
@@ -51,6 +47,7 @@ same_literal (variants.Regex s) (variants.Quoted t) = (λ e. cc, λ e. cc)
 same_literal (variants.Regex s) (variants.Regex t) =
     (λ e. ap Terminal.regex ((same_text s t).0 e), λ e. (same_text s t).1 (regex_is s t e))
 
+-- terminals in options that are the same are the same
 pub some_is : (x y : Terminal) → Some x ≡ Some y → x ≡ y
 some_is x y e = cc
 
@@ -68,9 +65,11 @@ same_key (Some x) (Some y) = (
 abbrev pub Holds : BTreeSet Key → List (Option Terminal) → Type 0
 Holds s xs = (q : Key) → Decides (contains key_cmp s q) (Among xs (key_view q))
 
+-- false and true are not the same, which rules out a case
 pub false_is_true : false ≡ true → ⊥
 false_is_true e = cc
 
+-- a set without keys has nothing, as an empty list has
 pub holds_nothing : (s : BTreeSet Key) → s.keys ≡ [] → Holds s []
 holds_nothing s e q = (λ h. false_is_true (sym (ap (list_any (is_at (key_cmp q))) e) ∙ h), λ m. absurd m)
 
@@ -142,6 +141,7 @@ pub there_already : (first there : Bool) → first ≡ not there → first ≡ f
 there_already first true e h = refl
 there_already first false e h = absurd (false_is_true (sym h ∙ e))
 
+-- where `insert` answers that the key is new the set had it not
 pub not_there : (first there : Bool) → first ≡ not there → first ≡ true → there ≡ false
 not_there first true e h = sym h ∙ e
 not_there first false e h = refl

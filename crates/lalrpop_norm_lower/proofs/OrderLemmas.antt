@@ -11,8 +11,9 @@ use Rattle.lalrpop_grammar_symbols.specs.declared.terminal.TerminalLiteral.TheVa
 use Rattle.lalrpop_grammar_symbols.specs.declared.terminal.TerminalString.{TerminalString}
 use Rattle.lalrpop_grammar_symbols.specs.declared.terminal.TerminalString.TheVariants as terminal
 use Rattle.lalrpop_norm_types.specs.TypeFaults.{nonterminal_of}
-use Rattle.lalrpop_norm_types.proofs.TableLemmas.{same_text}
+use Rattle.lalrpop_grammar_symbols.proofs.ComparedLemmas.{same_text}
 
+-- the comparison of names of nonterminals finds them equal exactly where they are
 pub equal_names : (a b : NonterminalString) → Decides (is_eq ((names.ghosts).cmp a b)) (a ≡ b)
 equal_names a b = (λ e. ap nonterminal_of ((same_text a.0 b.0).0 e), λ e. (same_text a.0 b.0).1 (ap (λ n. n.0) e))
 
@@ -24,6 +25,7 @@ equal_literals (literal.Regex s) (literal.Quoted t) = (λ e. cc, λ e. cc)
 equal_literals (literal.Regex s) (literal.Regex t) =
     (λ e. ap literal.Regex ((same_text s t).0 e), λ e. (same_text s t).1 (let same : s ≡ t = cc in same))
 
+-- the comparison of terminals finds them equal exactly where they are
 pub equal_terminals : (a b : TerminalString) → Decides (is_eq ((terminals.ghosts).cmp a b)) (a ≡ b)
 equal_terminals (terminal.Literal l) (terminal.Literal m) =
     (λ e. ap terminal.Literal ((equal_literals l m).0 e), λ e. (equal_literals l m).1 (let same : l ≡ m = cc in same))

@@ -5,15 +5,13 @@ use Rattle.std.proofs.Common.{Bool, true, false, cond, Ordering}
 use Rattle.std.specs.declared.cmp.Ordering.TheVariants.{Less, Equal, Greater}
 use Rattle.std.specs.Bool.{Decides}
 use Rattle.std.specs.BTreeMap.{insert_entry, is_at}
-use Rattle.std.specs.Cmp.Lexicographic.{slice_cmp}
 use Rattle.std.specs.Map.{lookup}
-use Rattle.std.specs.Ordering.{is_eq, match_ordering, nat_cmp}
+use Rattle.std.specs.Ordering.{is_eq, match_ordering}
 use Rattle.std.specs.Prelude.{Option, Some, None, option_map}
-use Rattle.std.proofs.lemmas.Map.Text.{is_eq-slice_cmp}
-use Rattle.std.proofs.lemmas.Slice.Eq.{bytes_eq-Decides}
 use Rattle.lalrpop_grammar_symbols.specs.Symbols.{Text}
 use Rattle.lalrpop_grammar_symbols.specs.contracts.names.NonterminalStringOrd.TheImpl as names
 use Rattle.lalrpop_grammar_symbols.specs.declared.names.NonterminalString.{NonterminalString}
+use Rattle.lalrpop_grammar_symbols.proofs.ComparedLemmas.{same_text}
 use Rattle.lalrpop_grammar.specs.WrittenGrammar.{Grammar}
 use Rattle.lalrpop_grammar_language.specs.Among.{Among}
 use Rattle.lalrpop_grammar_repr.specs.Maps.{at_name, with_name}
@@ -67,9 +65,6 @@ module _ {K X : Type 0} (R : K → K → Ordering) (decides : (a b : K) → Deci
               let equal : is_eq (R k e.0) ≡ true = (decides k e.0).1 same in
               let greater : is_eq (R k e.0) ≡ false = ap is_eq h in
               cc
-
-pub same_text : (s t : Text) → Decides (is_eq (slice_cmp nat_cmp s t)) (s ≡ t)
-same_text s t = (λ e. (bytes_eq-Decides s t).0 (sym (is_eq-slice_cmp s t) ∙ e), λ e. is_eq-slice_cmp s t ∙ (bytes_eq-Decides s t).1 e)
 
 same_name : (a b : NonterminalString) → Decides (is_eq ((names.ghosts).cmp a b)) (a ≡ b)
 same_name a b = (λ e. ap nonterminal_of ((same_text a.0 b.0).0 e), λ e. (same_text a.0 b.0).1 (ap (λ n. n.0) e))

@@ -22,7 +22,8 @@ use Rattle.lalrpop_norm_expansion.specs.Types.{text_type}
 use Rattle.lalrpop_norm_expansion.proofs.AmongLemmas.{among_left, among_parts, among_right}
 use Rattle.lalrpop_norm_types.specs.GroundViews.{type_repr_view}
 use Rattle.lalrpop_norm_types.specs.TerminalTypes.{AreTerminalTypes, IsWithTerminal, found_terminals}
-use Rattle.lalrpop_norm_types.proofs.TableLemmas.{lookup-insert_entry, same_text}
+use Rattle.lalrpop_norm_types.proofs.TableLemmas.{lookup-insert_entry}
+use Rattle.lalrpop_grammar_symbols.proofs.ComparedLemmas.{same_text}
 
 same_literal : (a b : TerminalLiteral) → Decides (is_eq ((literals.ghosts).cmp a b)) (a ≡ b)
 same_literal (literal.Quoted s) (literal.Quoted t) =

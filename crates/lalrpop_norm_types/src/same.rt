@@ -6,20 +6,13 @@ ghost use Rattle.lalrpop_norm_types.specs.GroundViews.{ground_types, type_repr_v
 use lalrpop_grammar_repr::TypeRepr;
 use lalrpop_grammar_symbols::Atom;
 
-/// Whether the texts are equal.
-fn same_text(a: &Atom, b: &Atom) -> bool
-    ensures { IsTrue result ↔ (a.now ≡ b.now) }
-{
-    *a == *b
-}
-
 /// Whether the lifetimes are equal.
 fn same_lifetime(a: &Option<Atom>, b: &Option<Atom>) -> bool
     ensures { IsTrue result ↔ (a.now ≡ b.now) }
 {
     match (a, b) {
         (None, None) => true,
-        (Some(a), Some(b)) => same_text(a, b),
+        (Some(a), Some(b)) => *a == *b,
         _ => false,
     }
 }
@@ -32,7 +25,7 @@ pub(crate) fn same_type(a: &TypeRepr, b: &TypeRepr) -> bool
     match (a, b) {
         (TypeRepr::Tuple(a), TypeRepr::Tuple(b)) => same_types(a.as_slice(), b.as_slice()),
         (TypeRepr::Nominal(a), TypeRepr::Nominal(b)) => {
-            same_text(&a.path, &b.path) && same_types(a.types.as_slice(), b.types.as_slice())
+            a.path == b.path && same_types(a.types.as_slice(), b.types.as_slice())
         }
         (
             TypeRepr::Ref {
@@ -50,7 +43,7 @@ pub(crate) fn same_type(a: &TypeRepr, b: &TypeRepr) -> bool
                 && *a_mutable == *b_mutable
                 && same_type(a.get(), b.get())
         }
-        (TypeRepr::Opaque(a), TypeRepr::Opaque(b)) => same_text(a, b),
+        (TypeRepr::Opaque(a), TypeRepr::Opaque(b)) => *a == *b,
         _ => false,
     }
 }

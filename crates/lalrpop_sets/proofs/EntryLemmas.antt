@@ -10,7 +10,8 @@ use Rattle.std.specs.declared.cmp.Ordering.{Ordering}
 use Rattle.std.specs.declared.cmp.Ordering.TheVariants.{Less, Equal, Greater}
 use Rattle.lalrpop_sets.specs.Collections.{SameEntries, same_all, PutsOnTo, Puts, PutsAll}
 
-some_inj : {X : Type 0} (c d : X) → Some c ≡ Some d → c ≡ d
+-- what stands in equal options is equal
+pub some_inj : {X : Type 0} (c d : X) → Some c ≡ Some d → c ≡ d
 some_inj c d e = cc
 
 module _ {K C : Type 0} (S : C → C → Type 0) (itself : (x : C) → S x x) where
@@ -35,6 +36,7 @@ module _ {K C : Type 0} (S : C → C → Type 0) (itself : (x : C) → S x x) wh
       → SameEntries S es fs
   same_put_eq test es fs c d found same e = subst (λ l. SameEntries S es l) (sym e) (same_put test es c d found same)
 
+-- what follows from a property of any error follows for the error that a result may hold
 pub map_err : {A E : Type 0} (r : Result A E) (P Q : E → Type 0) → ((e : E) → P e → Q e) → IfErr r P → IfErr r Q
 map_err (Ok x) P Q f h = tt
 map_err (Err e) P Q f h = f e h
@@ -114,10 +116,12 @@ module _ {K C X : Type 0} (cmp : K → K → Ordering) (nothing : C → Type 0) 
       → PutsAll cmp nothing S pushes old ps mid
   leads_end mid old left ps h e = h mid (subst (λ l. PutsAll cmp nothing S pushes mid l mid) (sym e) refl)
 
+-- what follows from a property of any value follows for the value that a result may hold
 pub ok_map : {A E : Type 0} (r : Result A E) (P Q : A → Type 0) → ((a : A) → P a → Q a) → IfOk r P → IfOk r Q
 ok_map (Ok x) P Q f h = f x h
 ok_map (Err e) P Q f h = tt
 
+-- a list of length 0 is the empty list
 pub nil_of : {A : Type 0} (xs : List A) → length xs ≡ 0 → xs ≡ []
 nil_of [] h = refl
 nil_of (x ∷ xs) h = absurd (omega arith)

@@ -11,6 +11,7 @@ use Rattle.std.specs.Ordering.{nat_cmp, ordering_then}
 use Rattle.std.specs.declared.cmp.Ordering.{Ordering}
 use Rattle.std.specs.declared.cmp.Ordering.TheVariants.{Less, Equal, Greater}
 use Rattle.lalrpop_sets.specs.Bits.{has, has_bit, bit_numbers, bits_from, is_nonempty, parting, AscendsFrom}
+use Rattle.lalrpop_sets.proofs.EntryLemmas.{some_inj}
 use Rattle.lalrpop_sets.proofs.WordLemmas.{asc_filter, asc_same, bit_past, has_above, has_below, has_within}
 
 -- the numbers from k on, looked for below n
@@ -42,6 +43,7 @@ found_all ws n h =
     let z : 64 * length ws - 0 ≡ 64 * length ws = omega arith in
     same_found ws n (64 * length ws) 0 h (omega arith) ∙ ap (λ m. filter (has_bit ws) (range_with_len 0 m)) z
 
+-- the numbers found from k on are those from k + 1 on, with k in front where its bit is set
 pub found_step : (ws : List ℕ) (n k : ℕ) (b : Bool) → k < n → has_bit ws k ≡ b
     → found ws n k ≡ cond b (k ∷ found ws n (k + 1)) (found ws n (k + 1))
 found_step ws n k b h e =
@@ -83,9 +85,6 @@ one_lacks k (x ∷ xs) ys h =
 
 pub asc_found : (ws : List ℕ) (n k : ℕ) → AscendsFrom k (found ws n k)
 asc_found ws n k = asc_filter (has_bit ws) k (n - k)
-
-some_inj : {X : Type 0} (c d : X) → Some c ≡ Some d → c ≡ d
-some_inj c d e = cc
 
 module _ (ws vs : List ℕ) (n : ℕ) (h : 64 * length ws ≤ n) (g : 64 * length vs ≤ n) where
   -- the order of what is found from a number on
