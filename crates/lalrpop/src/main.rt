@@ -21,7 +21,7 @@ const WRITE_FAULT: u8 = 6;
 fn main(rt: HostRuntime) -> ExitCode {
     match respond(&rt) {
         Ok(status) => ExitCode::from(status),
-        Err(error) => ExitCode::from(unanswered(&rt, &error)),
+        Err(error) => ExitCode::from(tell_fault(&rt, &error)),
     }
 }
 
@@ -69,7 +69,7 @@ fn texts(alloc: Global, words: &[String]) -> Result<Vec<&str>, AllocError> {
 }
 
 /// What is said where the words couldn't be read or a fault of theirs couldn't be written.
-fn unanswered(rt: &impl Print, error: &io::Error) -> u8 {
+fn tell_fault(rt: &impl Print, error: &io::Error) -> u8 {
     if error.kind() != io::ErrorKind::OutOfMemory {
         return WRITE_FAULT;
     }

@@ -83,16 +83,16 @@ fn grammar(alloc: Global) -> Result<Grammar, AllocError> {
 }
 
 /// How many productions the nonterminal has, and whether it stands on no right side.
-fn asked(alloc: Global, grammar: &Grammar, name: &str) -> Result<(usize, bool), AllocError> {
+fn ask_of(alloc: Global, grammar: &Grammar, name: &str) -> Result<(usize, bool), AllocError> {
     let name = name_of(alloc, name)?;
     let count = grammar.productions_for(&name).len();
     Ok((count, grammar.start_is_alone(&name)))
 }
 
 fn answers(rt: &impl Abort, alloc: Global, grammar: &Grammar) -> Result<(), Fail> {
-    assert!(rt; asked(alloc, grammar, "__S")? == (1, true));
-    assert!(rt; asked(alloc, grammar, "S")? == (1, false));
-    assert!(rt; asked(alloc, grammar, "A")? == (0, false));
+    assert!(rt; ask_of(alloc, grammar, "__S")? == (1, true));
+    assert!(rt; ask_of(alloc, grammar, "S")? == (1, false));
+    assert!(rt; ask_of(alloc, grammar, "A")? == (0, false));
     Ok(())
 }
 

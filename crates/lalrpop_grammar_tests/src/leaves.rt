@@ -10,7 +10,7 @@ use std::test::Fail;
 const NESTED: &str =
     r#"{"args":[],"children":[{"list":[{"group":[{"span":[0,1],"terminal":{"bare":"A"},"text":"1"},{"look":null}]},{"opt":{"span":[2,3],"terminal":{"bare":"B"},"text":"2"}}]},{"args":[],"children":[{"opt":null},{"span":[5,6],"terminal":{"bare":"A"},"text":"3"}],"place":0,"rule":"S"}],"place":0,"rule":"S"}"#;
 
-fn nested(alloc: Global) -> Result<WrittenTree, Fail> {
+fn nested_tree(alloc: Global) -> Result<WrittenTree, Fail> {
     let value = Value::from_str(alloc, NESTED)?;
     let tree = read_tree(alloc, &value)?;
     Ok(tree)
@@ -33,7 +33,7 @@ fn is_leaf(leaf: Option<Leaf<'_>>, name: &str, text: &str, span: Span) -> bool {
 
 #[test]
 fn leaves_from_left_to_right(rt: HostRuntime) -> Result<(), Fail> {
-    let tree = nested(rt.alloc())?;
+    let tree = nested_tree(rt.alloc())?;
     let mut leaves = tree.leaves(rt.alloc())?;
     assert!(rt; is_leaf(leaves.next(), "A", "1", Span(0, 1)));
     assert!(rt; is_leaf(leaves.next(), "B", "2", Span(2, 3)));
@@ -46,7 +46,7 @@ fn leaves_from_left_to_right(rt: HostRuntime) -> Result<(), Fail> {
 #[test]
 fn tokens_of_the_leaves(rt: HostRuntime) -> Result<(), Fail> {
     let alloc = rt.alloc();
-    let tree = nested(alloc)?;
+    let tree = nested_tree(alloc)?;
     let tokens = tree.tokens(alloc)?;
     assert_eq!(rt; tokens.len(), 3);
     let wanted = ScanToken {
@@ -62,7 +62,7 @@ fn tokens_of_the_leaves(rt: HostRuntime) -> Result<(), Fail> {
 #[test]
 fn copies_of_trees_and_tokens(rt: HostRuntime) -> Result<(), Fail> {
     let alloc = rt.alloc();
-    let tree = nested(alloc)?;
+    let tree = nested_tree(alloc)?;
     assert!(rt; tree.try_clone(alloc)? == tree);
     let token = ScanToken {
         terminal: TerminalString::Bare(Atom::new(alloc, "B")?),

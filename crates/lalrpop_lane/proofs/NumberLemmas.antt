@@ -1,10 +1,11 @@
 -- Numbers for marked and other places: which they are, that they are apart and rise. For the order in which states with gotos come first.
-use Rattle.std.proofs.Common.{◌≡◌, ◌∙◌, ◌⊎◌, ℕ, zero, suc, ◌+◌, ◌<◌, ◌≤◌, Bool, true, false, List, [], ◌∷◌, ◌++◌}
+use Rattle.std.proofs.Common.{◌≡◌, ◌∙◌, ◌⊎◌, ℕ, zero, suc, ◌+◌, ◌<◌, ◌≤◌, Bool, true, false}
+use Rattle.std.proofs.Common.{List, [], ◌∷◌, ◌++◌}
 use Rattle.std.proofs.Common.{append_assoc, drop, drop-cons, get_or, length, length-append, Some, refl, sym, ap, inl, inr, ⊎_elim, arith}
 use Rattle.std.specs.Prelude.{slice_get}
 use Rattle.lalrpop_lr1_theory.proofs.StepLemmas.{some_same}
 use Rattle.lalrpop_lr1_items.specs.declared.state.State.{State}
-use Rattle.lalrpop_lane.specs.GotoNumbers.{count_marked, fronts_of, goto_numbers, has_some, numbers_from, picked}
+use Rattle.lalrpop_lane.specs.GotoNumbers.{count_marked, fronts_of, goto_numbers, has_some, numbers_from, with_mark}
 use Rattle.lalrpop_lane.specs.GotoNumbers.{state_by_numbers, states_by_numbers}
 
 -- how many aren't marked
@@ -18,18 +19,22 @@ counts [] = refl
 counts (true ∷ marks) = let h = counts marks in omega (arith, h)
 counts (false ∷ marks) = let h = counts marks in omega (arith, h)
 
+-- no more places are marked than there are
 pub marked_within : (marks : List Bool) → count_marked marks ≤ length marks
 marked_within marks = let h = counts marks in omega (arith, h)
 
+-- each state has one mark that says whether it stays in front
 pub fronts_length : {L : Type 0} (first : Bool) (states : List (State L)) → length (fronts_of first states) ≡ length states
 fronts_length first [] = refl
 fronts_length first (state ∷ states) = ap suc (fronts_length false states)
 
+-- each place gets one number, whether it's marked or not
 pub numbers_length : (marks : List Bool) (front rest : ℕ) → length (numbers_from marks front rest) ≡ length marks
 numbers_length [] front rest = refl
 numbers_length (true ∷ marks) front rest = ap suc (numbers_length marks (suc front) rest)
 numbers_length (false ∷ marks) front rest = ap suc (numbers_length marks front (suc rest))
 
+-- states with new numbers are as many as before
 pub renumbered_length : {L : Type 0} (numbers owns : List ℕ) (states : List (State L)) → length owns ≡ length states →
     length (states_by_numbers numbers owns states) ≡ length states
 renumbered_length numbers [] [] e = refl
@@ -37,8 +42,9 @@ renumbered_length numbers [] (state ∷ states) e = absurd (omega (arith, e))
 renumbered_length numbers (own ∷ owns) [] e = absurd (omega (arith, e))
 renumbered_length numbers (own ∷ owns) (state ∷ states) e = ap suc (renumbered_length numbers owns states (omega (arith, e)))
 
+-- as many are picked as are marked, and as many of the others as aren't
 pub picked_length : {X : Type 0} (marks : List Bool) (xs : List X) → length marks ≡ length xs →
-    (length (picked true marks xs) ≡ count_marked marks) × (length (picked false marks xs) ≡ count_unmarked marks)
+    (length (with_mark true marks xs) ≡ count_marked marks) × (length (with_mark false marks xs) ≡ count_unmarked marks)
 picked_length [] xs e = (refl, refl)
 picked_length (mark ∷ marks) [] e = absurd (omega (arith, e))
 picked_length (true ∷ marks) (x ∷ xs) e =
@@ -52,15 +58,16 @@ pub record IsFrontAt {X : Type 0} (marks : List Bool) (xs : List X) (front n m :
   pub mark : slice_get marks n ≡ Some true
   pub number : m ≡ front + behind
   pub within : behind < count_marked marks
-  pub found : slice_get (picked true marks xs) behind ≡ slice_get xs n
+  pub found : slice_get (with_mark true marks xs) behind ≡ slice_get xs n
 
 -- the same where it isn't marked
 pub record IsRestAt {X : Type 0} (marks : List Bool) (xs : List X) (rest n m : ℕ) : Type 0 where
   pub behind : ℕ
   pub mark : slice_get marks n ≡ Some false
   pub number : m ≡ rest + behind
-  pub found : slice_get (picked false marks xs) behind ≡ slice_get xs n
+  pub found : slice_get (with_mark false marks xs) behind ≡ slice_get xs n
 
+-- each number given is that of a marked place or of one that isn't, so many behind the first of its kind
 pub placed : {X : Type 0} (marks : List Bool) (xs : List X) (front rest n m : ℕ) → length marks ≡ length xs →
     slice_get (numbers_from marks front rest) n ≡ Some m → IsFrontAt marks xs front n m ⊎ IsRestAt marks xs rest n m
 placed [] xs front rest n m l e = let z : ⊥ = cc in absurd z
@@ -129,6 +136,7 @@ front_given (true ∷ marks) front rest (suc j) l =
     (suc h.0, h.1 ∙ ap Some (let z : suc front + j ≡ front + suc j = omega arith in z))
 front_given (false ∷ marks) front rest j l = let h = front_given marks front (suc rest) j l in (suc h.0, h.1)
 
+-- each number for those that aren't marked is given to one of them
 pub rest_given : (marks : List Bool) (front rest j : ℕ) → j < count_unmarked marks →
     (n : ℕ) × (slice_get (numbers_from marks front rest) n ≡ Some (rest + j))
 rest_given [] front rest j l = absurd (omega (arith, l))
@@ -150,13 +158,15 @@ renumbered_get numbers (own ∷ owns) (first ∷ states) zero m state e f =
 renumbered_get numbers (own ∷ owns) (first ∷ states) (suc n) m state e f = renumbered_get numbers owns states n m state e f
 
 -- a place is marked where the state there is the first or has gotos
-pub front_mark : {L : Type 0} (first : Bool) (states : List (State L)) (n : ℕ) (state : State L) → slice_get states (suc n) ≡ Some state →
+pub front_mark : {L : Type 0} (first : Bool) (states : List (State L)) (n : ℕ) (state : State L) →
+    slice_get states (suc n) ≡ Some state →
     slice_get (fronts_of first states) (suc n) ≡ Some (has_some state.gotos)
 front_mark first [] n state e = let z : ⊥ = cc in absurd z
 front_mark first (one ∷ []) n state e = let z : ⊥ = cc in absurd z
 front_mark first (one ∷ other ∷ states) zero state e = ap (λ (s : State _). Some (has_some s.gotos)) (some_same other state e)
 front_mark first (one ∷ other ∷ states) (suc n) state e = front_mark false (other ∷ states) n state e
 
+-- the first of all states always stays in front
 pub front_first : {L : Type 0} (states : List (State L)) (state : State L) → slice_get states 0 ≡ Some state →
     slice_get (fronts_of true states) 0 ≡ Some true
 front_first [] state e = let z : ⊥ = cc in absurd z

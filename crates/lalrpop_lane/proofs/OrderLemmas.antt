@@ -1,5 +1,6 @@
 -- States put in order are the states by the new numbers, those in front first: for what the builder of ordered states answers.
-use Rattle.std.proofs.Common.{◌≡◌, ◌∙◌, ℕ, zero, suc, ◌+◌, ◌-◌, ◌<◌, ◌≤◌, Bool, true, false, List, [], ◌∷◌, ◌++◌}
+use Rattle.std.proofs.Common.{◌≡◌, ◌∙◌, ℕ, zero, suc, ◌+◌, ◌-◌, ◌<◌, ◌≤◌, Bool, true, false}
+use Rattle.std.proofs.Common.{List, [], ◌∷◌, ◌++◌}
 use Rattle.std.proofs.Common.{length, length-append, map, Some, refl, sym, ap, subst, inl, inr, ⊎_elim, arith}
 use Rattle.std.specs.Prelude.{slice_get}
 use Rattle.std.proofs.lemmas.Bool.{cases_lt}
@@ -21,7 +22,7 @@ use Rattle.lalrpop_lr1_collapse.proofs.ListLemmas.{long_map}
 use Rattle.lalrpop_lr1_collapse.proofs.ViewLemmas.{renumbered_seen}
 use Rattle.lalrpop_lane_laws.specs.GotoOrders.{AreInGotoOrder, IsInFront}
 use Rattle.lalrpop_lane_laws.specs.RenumberedStates.{AreRenumberedStates, IsRenumberedState}
-use Rattle.lalrpop_lane.specs.GotoNumbers.{count_marked, fronts_of, goto_numbers, has_some, in_goto_order, picked}
+use Rattle.lalrpop_lane.specs.GotoNumbers.{count_marked, fronts_of, goto_numbers, has_some, in_goto_order, with_mark}
 use Rattle.lalrpop_lane.specs.GotoNumbers.{state_by_numbers, states_by_numbers}
 use Rattle.lalrpop_lane.proofs.NumberLemmas.{front_first, front_given, front_mark, fronts_length, numbers_length}
 use Rattle.lalrpop_lane.proofs.NumberLemmas.{picked_length, placed, renumbered_get, renumbered_length, rest_given, rises}
@@ -37,7 +38,8 @@ split_at a b h = (b - a, omega (arith, h))
 not_apart : (n k : ℕ) → (n < k → ⊥) → (k < n → ⊥) → n ≡ k
 not_apart n k f g =
     ⊎_elim (λ (l : n < k). absurd (f l))
-    (λ (l : k ≤ n). ⊎_elim (λ (m : k < n). absurd (g m)) (λ (m : n ≤ k). let z : n ≡ k = omega (arith, l, m) in z) (cases_lt k n))
+    (λ (l : k ≤ n).
+    ⊎_elim (λ (m : k < n). absurd (g m)) (λ (m : n ≤ k). let z : n ≡ k = omega (arith, l, m) in z) (cases_lt k n))
     (cases_lt n k)
 
 none_there : {X : Type 0} (xs : List X) → has_some xs ≡ false → xs ≡ []
@@ -82,8 +84,8 @@ module _ (ts : TerminalSet) (old : List (State (List ℕ))) where
       slice_get (in_goto_order old) m ≡ Some (state_by_numbers numbers m state)
   stands n m state e f =
       let here = renumbered_get numbers numbers old n m state e f in
-      let first = picked true marks renumbered in
-      let others = picked false marks renumbered in
+      let first = with_mark true marks renumbered in
+      let others = with_mark false marks renumbered in
       let long = (picked_length marks renumbered as_many).0 in
       ⊎_elim
       (λ p.
@@ -103,8 +105,8 @@ module _ (ts : TerminalSet) (old : List (State (List ℕ))) where
 
   given : (m : ℕ) → m < length (states_over ts (in_goto_order old)) → (n : ℕ) × (slice_get numbers n ≡ Some m)
   given m h =
-      let first = picked true marks renumbered in
-      let others = picked false marks renumbered in
+      let first = with_mark true marks renumbered in
+      let others = with_mark false marks renumbered in
       let long = picked_length marks renumbered as_many in
       let all = long_map view (first ++ others) in
       let both = length-append first others in

@@ -46,18 +46,18 @@ states_by_numbers numbers (own ∷ owns) (state ∷ states) =
     state_by_numbers numbers own state ∷ states_by_numbers numbers owns states
 
 -- those that have the mark
-abbrev pub picked : {X : Type 0} → Bool → List Bool → List X → List X
-picked mark [] xs = []
-picked mark (own ∷ marks) [] = []
-picked true (true ∷ marks) (x ∷ xs) = x ∷ picked true marks xs
-picked true (false ∷ marks) (x ∷ xs) = picked true marks xs
-picked false (true ∷ marks) (x ∷ xs) = picked false marks xs
-picked false (false ∷ marks) (x ∷ xs) = x ∷ picked false marks xs
+abbrev pub with_mark : {X : Type 0} → Bool → List Bool → List X → List X
+with_mark mark [] xs = []
+with_mark mark (own ∷ marks) [] = []
+with_mark true (true ∷ marks) (x ∷ xs) = x ∷ with_mark true marks xs
+with_mark true (false ∷ marks) (x ∷ xs) = with_mark true marks xs
+with_mark false (true ∷ marks) (x ∷ xs) = with_mark false marks xs
+with_mark false (false ∷ marks) (x ∷ xs) = x ∷ with_mark false marks xs
 
 -- the states in this order, by their new numbers
 abbrev pub in_goto_order : {L : Type 0} → List (State L) → List (State L)
 in_goto_order states =
-    picked true (fronts_of true states)
+    with_mark true (fronts_of true states)
     (states_by_numbers (goto_numbers (fronts_of true states)) (goto_numbers (fronts_of true states)) states)
-    ++ picked false (fronts_of true states)
+    ++ with_mark false (fronts_of true states)
     (states_by_numbers (goto_numbers (fronts_of true states)) (goto_numbers (fronts_of true states)) states)

@@ -2,7 +2,7 @@
 
 ghost use Rattle.std.specs.Prelude.{◌≡◌, ◌++◌, true, false, IfOk, length};
 ghost use Rattle.lalrpop_lr1_collapse.specs.Renumbering.{HaveTargetsWithin};
-ghost use Rattle.lalrpop_lane.specs.GotoNumbers.{in_goto_order, picked, states_by_numbers};
+ghost use Rattle.lalrpop_lane.specs.GotoNumbers.{in_goto_order, with_mark, states_by_numbers};
 
 use crate::edges::renumber_state;
 use crate::numbering::{fronts, numbers_of};
@@ -34,7 +34,7 @@ fn put_marked_first<'g>(
     states: Vec<Lr1State<'g>>,
 ) -> Result<Vec<Lr1State<'g>>, AllocError>
     requires { length marks.now ≡ length states.items }
-    ensures { IfOk result (λ new. new.items ≡ picked true marks.now states.entry.items ++ picked false marks.now states.entry.items) }
+    ensures { IfOk result (λ new. new.items ≡ with_mark true marks.now states.entry.items ++ with_mark false marks.now states.entry.items) }
 {
     let mut first = Vec::new(alloc);
     let mut others = Vec::new(alloc);

@@ -96,7 +96,7 @@ impl<'g> Closures<'g> {
             self.edges.as_slice(),
             &mut slots,
         )?;
-        let brought = started(alloc, self.numbered.rules.as_slice(), slots.as_slice())?;
+        let brought = start_items(alloc, self.numbered.rules.as_slice(), slots.as_slice())?;
         Ok(brought)
     }
 }
@@ -210,7 +210,7 @@ fn seed_slots<L: ClosureLookahead>(
 }
 
 /// The items with the dot in front of the rules whose left sides' slots have something.
-fn started<L: ClosureLookahead>(
+fn start_items<L: ClosureLookahead>(
     alloc: Global,
     rules: &[NumberedRule],
     slots: &[Option<L>],

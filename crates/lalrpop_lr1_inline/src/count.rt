@@ -73,7 +73,7 @@ fn becomes(symbols: &[Symbol], counted: &[Counted]) -> u64
 }
 
 /// How many numbers are handed out for what becomes of a production with this right side.
-fn handed(symbols: &[Symbol], counted: &[Counted]) -> u64
+fn count_handed(symbols: &[Symbol], counted: &[Counted]) -> u64
     ensures { result ≡ up_to_limit (handed_out (counts_view counted.now) symbols.now) }
 {
     let mut many = 1;
@@ -104,7 +104,7 @@ fn all_handed(productions: &[Production], counted: &[Counted]) -> u64
 {
     let mut total = 0;
     for production in productions {
-        total = plus(total, handed(production.symbols.as_slice(), counted));
+        total = plus(total, count_handed(production.symbols.as_slice(), counted));
     }
     to_limit(total)
 }

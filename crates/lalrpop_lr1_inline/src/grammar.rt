@@ -26,7 +26,7 @@ fn too_many() -> InlineFault
 }
 
 /// The grammar with the nonterminals of the order inlined.
-fn inlined(
+fn inline_by_order(
     alloc: Global,
     grammar: Grammar,
     order: &[NonterminalString],
@@ -80,5 +80,5 @@ pub fn inline(alloc: Global, grammar: Grammar) -> Result<Grammar, InlineFault>
     if count_numbers(alloc, &grammar, order.as_slice())? > LIMIT {
         return Err(too_many());
     }
-    Ok(inlined(alloc, grammar, order.as_slice())?)
+    Ok(inline_by_order(alloc, grammar, order.as_slice())?)
 }

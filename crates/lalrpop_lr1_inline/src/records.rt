@@ -121,7 +121,7 @@ fn add_each(
 }
 
 /// The records with each of the productions behind each.
-fn replaced(
+fn replace_with_each(
     alloc: Global,
     fronts: &[Record],
     productions: &[Production],
@@ -137,7 +137,7 @@ fn replaced(
 }
 
 /// The records with one symbol more.
-fn grown(
+fn lengthen(
     alloc: Global,
     fronts: Vec<Record>,
     symbol: &Symbol,
@@ -148,7 +148,7 @@ fn grown(
         ≡ longer_records fronts.items (record_entries name.now.0 productions.now symbol.now)) }
 {
     if is_named(symbol, name) {
-        replaced(alloc, fronts.as_slice(), productions)
+        replace_with_each(alloc, fronts.as_slice(), productions)
     } else {
         keep_symbol(alloc, fronts, symbol)
     }
@@ -174,7 +174,7 @@ pub(crate) fn records(
 {
     let mut fronts = first_record(alloc)?;
     for symbol in symbols {
-        fronts = grown(alloc, fronts, symbol, name, productions)?;
+        fronts = lengthen(alloc, fronts, symbol, name, productions)?;
     }
     Ok(fronts)
 }

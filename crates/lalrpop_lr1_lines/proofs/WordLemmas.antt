@@ -1,5 +1,6 @@
 -- How the words of a text are found, place by place: for reading the words of a line.
-use Rattle.std.proofs.Common.{◌≡◌, ◌∙◌, ℕ, suc, ◌+◌, ◌<◌, ◌≤◌, ◌⊎◌, inl, inr, List, [], ◌∷◌, ◌++◌, length, take, get_or}
+use Rattle.std.proofs.Common.{◌≡◌, ◌∙◌, ℕ, suc, ◌+◌, ◌<◌, ◌≤◌, ◌⊎◌, inl, inr, List, []}
+use Rattle.std.proofs.Common.{◌∷◌, ◌++◌, length, take, get_or}
 use Rattle.std.proofs.Common.{ap, sym, refl, subst, arith}
 use Rattle.std.specs.Str.{IsCharBoundary, IsUtf8}
 use Rattle.std.proofs.lemmas.Bool.{cases_lt}
@@ -22,6 +23,7 @@ pub record IsScanning (text : List ℕ) (at from : ℕ) (q : Quotes) : Type 0 wh
   pub whole : (k : ℕ) → from ≤ k → k < at → IsFreeBlank text k → ⊥
   pub boundary : IsCharBoundary text from
 
+-- before the first character nothing is quoted, and a word may begin there
 pub scanning_start : (text : List ℕ) → IsCharBoundary text 0 → IsScanning text 0 0 Outside
 scanning_start text b = record {
   quotes = refl;
@@ -46,11 +48,13 @@ module _ (text : List ℕ) (at from : ℕ) (q : Quotes) (s : IsScanning text at 
 
     quotes_on : quotes_behind q c ≡ quotes_after Outside (take (at + 1) text)
     quotes_on =
-        let more : take (at + 1) text ≡ take at text ++ c ∷ [] = take_more text at 0 here ∙ ap (λ y. take at text ++ y ∷ []) (sym read) in
+        let more : take (at + 1) text ≡ take at text ++ c ∷ [] = take_more text at 0 here
+        ∙ ap (λ y. take at text ++ y ∷ []) (sym read) in
         ap (λ p. quotes_behind p c) s.quotes ∙ sym (ap (quotes_after Outside) more ∙ quotes_more Outside (take at text) c)
 
     -- behind a free blank another word may begin
-    pub scan_blank : (q' : Quotes) → IsUtf8 text → c ≡ 32 → q ≡ Outside → q' ≡ quotes_behind q c → IsScanning text (at + 1) (at + 1) q'
+    pub scan_blank : (q' : Quotes) → IsUtf8 text → c ≡ 32 → q ≡ Outside → q' ≡ quotes_behind q c →
+        IsScanning text (at + 1) (at + 1) q'
     scan_blank q' u e o n = record {
       quotes = n ∙ quotes_on;
       order = omega arith;

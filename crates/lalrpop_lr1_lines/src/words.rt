@@ -105,7 +105,7 @@ pub(crate) fn is_name(word: &str) -> bool
 }
 
 /// The text of the terminal that the word quotes.
-fn quoted(alloc: Global, word: &str) -> Read<Atom>
+fn quoted_text(alloc: Global, word: &str) -> Read<Atom>
     ensures { IfOk result (λ text. IfNone text (IsQuotedText word.now → ⊥)) }
 {
     if !word.starts_with('"') {
@@ -129,7 +129,7 @@ pub(crate) fn symbol_of(alloc: Global, word: &str) -> Read<Symbol>
         let name = NonterminalString(Atom::new(alloc, word)?);
         return Ok(Some(Symbol::Nonterminal(name)));
     }
-    match quoted(alloc, word)? {
+    match quoted_text(alloc, word)? {
         Some(text) => Ok(Some(Symbol::Terminal(TerminalString::quoted(text)))),
         None => Ok(None),
     }

@@ -1,7 +1,7 @@
 //! What grammars are normalized to.
 
 use crate::case::Case;
-use crate::passes::{fault_value, prefixed, session_of};
+use crate::passes::{fault_value, grammar_of_case, session_of};
 use anyhow::{Result, bail};
 use lalrpop_grammar::Origin;
 use lalrpop_grammar_repr::{NonterminalData, NormFault, NormResult, Production, Symbol};
@@ -35,7 +35,7 @@ pub(crate) fn productions(alloc: Global, case: &Case) -> Result<Value> {
 
 /// What the case's grammar is normalized to.
 fn normal(alloc: Global, case: &Case) -> Result<NormResult<Normalized>> {
-    let grammar = prefixed(alloc, case)?;
+    let grammar = grammar_of_case(alloc, case)?;
     let session = session_of(alloc, case)?;
     Ok(normalize(alloc, &session, grammar))
 }

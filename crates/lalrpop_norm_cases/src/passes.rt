@@ -18,9 +18,9 @@ const MACRO_LIMIT: u16 = 200;
 
 /// The first fault that a pass tells, up to the levels, with its span, `null` where none does.
 pub(crate) fn first_fault(alloc: Global, case: &Case) -> Result<Value> {
-    let grammar = prefixed(alloc, case)?;
+    let grammar = grammar_of_case(alloc, case)?;
     let session = session_of(alloc, case)?;
-    match checked(alloc, &session, grammar) {
+    match check_and_resolve(alloc, &session, grammar) {
         Ok(_) => Ok(Value::Null),
         Err(fault) => fault_value(alloc, fault),
     }
@@ -28,9 +28,9 @@ pub(crate) fn first_fault(alloc: Global, case: &Case) -> Result<Value> {
 
 /// The same up to the token check, of a grammar without levels and macros.
 pub(crate) fn token_fault(alloc: Global, case: &Case) -> Result<Value> {
-    let grammar = prefixed(alloc, case)?;
+    let grammar = grammar_of_case(alloc, case)?;
     let session = session_of(alloc, case)?;
-    match tokenized(alloc, &session, grammar) {
+    match check_tokens(alloc, &session, grammar) {
         Ok(()) => Ok(Value::Null),
         Err(fault) => fault_value(alloc, fault),
     }
@@ -39,16 +39,16 @@ pub(crate) fn token_fault(alloc: Global, case: &Case) -> Result<Value> {
 /// The rules of the grammar in which each level has a rule of its own, each by its name and the texts of its symbols,
 /// alternative by alternative; or the fault.
 pub(crate) fn leveled_rules(alloc: Global, case: &Case) -> Result<Value> {
-    let grammar = prefixed(alloc, case)?;
+    let grammar = grammar_of_case(alloc, case)?;
     let session = session_of(alloc, case)?;
-    match leveled(alloc, &session, grammar) {
+    match expand_levels(alloc, &session, grammar) {
         Ok(grammar) => Ok(rules_value(alloc, &grammar)?),
         Err(fault) => fault_value(alloc, fault),
     }
 }
 
 /// The grammar, with the prefix of the case where it has one.
-pub(crate) fn prefixed(alloc: Global, case: &Case) -> Result<Grammar> {
+pub(crate) fn grammar_of_case(alloc: Global, case: &Case) -> Result<Grammar> {
     let Ok(mut grammar) = read_grammar(alloc, &case.grammar) else {
         bail!("no grammar");
     };
@@ -83,7 +83,7 @@ pub(crate) fn session_of(alloc: Global, case: &Case) -> Result<Session, AllocErr
 }
 
 /// The grammar without what is disabled and with names resolved, where the passes up to the levels take it.
-fn checked(alloc: Global, session: &Session, grammar: Grammar) -> NormResult<Grammar> {
+fn check_and_resolve(alloc: Global, session: &Session, grammar: Grammar) -> NormResult<Grammar> {
     validate(alloc, &grammar)?;
     let enabled = remove_disabled_decls(alloc, session, grammar)?;
     let resolved = resolve(alloc, enabled)?;
@@ -94,14 +94,14 @@ fn checked(alloc: Global, session: &Session, grammar: Grammar) -> NormResult<Gra
 }
 
 /// The grammar in which each level has a rule of its own, where the passes up to that take it.
-fn leveled(alloc: Global, session: &Session, grammar: Grammar) -> NormResult<Grammar> {
-    let resolved = checked(alloc, session, grammar)?;
+fn expand_levels(alloc: Global, session: &Session, grammar: Grammar) -> NormResult<Grammar> {
+    let resolved = check_and_resolve(alloc, session, grammar)?;
     expand_precedence(alloc, resolved)
 }
 
 /// Whether the passes up to the token check take the grammar.
-fn tokenized(alloc: Global, session: &Session, grammar: Grammar) -> NormResult<()> {
-    let resolved = checked(alloc, session, grammar)?;
+fn check_tokens(alloc: Global, session: &Session, grammar: Grammar) -> NormResult<()> {
+    let resolved = check_and_resolve(alloc, session, grammar)?;
     let places = LiteralPlaces::new(alloc, &resolved)?;
     token_check::validate(alloc, resolved, &places)?;
     Ok(())

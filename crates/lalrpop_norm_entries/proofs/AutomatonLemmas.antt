@@ -1,5 +1,6 @@
 -- The patterns, precedences and ties of entries as the program finds them; for the making of their automaton.
-use Rattle.std.proofs.Common.{◌≡◌, ◌∙◌, ℕ, zero, suc, ◌<◌, ap, ap₂, sym, subst, refl, List, [], ◌∷◌, map, length, get_or, cond}
+use Rattle.std.proofs.Common.{◌≡◌, ◌∙◌, ℕ, zero, suc, ◌<◌, ap, ap₂, sym, subst, refl, List, [], ◌∷◌}
+use Rattle.std.proofs.Common.{map, length, get_or, cond}
 use Rattle.std.proofs.Common.{arith, option_map, Result, Ok, Err}
 use Rattle.std.specs.Prelude.{Option, Some, None, is_some, not, find, unwrap_or}
 use Rattle.std.specs.Str.{chars}
@@ -72,6 +73,7 @@ dfa_decides es ts ps dfa h k d =
     subst (λ (x : List Pattern). Decides dfa x (entry_precedences es)) (patterns_read es (map meaning ts) h)
     (subst (λ (y : List ℕ). Decides dfa (map meaning ts) y) k d)
 
+-- where no two of the read patterns tie by their precedences, no two of the entries do
 pub no_tie : (es : List InternEntry) (ts : List Hir) (ps : List Precedence) → AreEntryPatterns es (map meaning ts)
     → numbers ps ≡ entry_precedences es → HasNoTie (map meaning ts) (numbers ps)
     → HasNoTie (entry_patterns es) (entry_precedences es)
@@ -107,6 +109,7 @@ second_within es ts qs w one two h tie =
     let inside : two < length (map meaning ts) = tie.ties.second.0 in
     omega arith
 
+-- the first of the two entries that are told to tie is one of the entries: its place is below their number
 pub first_within : (es : List MatchEntry) (ts : List Hir) (qs w : List ℕ) (one two : ℕ)
     → AreEntryPatterns (map intern_entry_view es) (map meaning ts) → IsFirstTie (map meaning ts) qs w one two → one < length es
 first_within es ts qs w one two h tie =
@@ -143,7 +146,8 @@ pattern_clean (Terminal.regex t) p h = accepted_clean (whole_pattern (chars t)) 
 pattern_clean (Terminal.bare n) p h = cc
 pattern_clean Terminal.error p h = cc
 
-all_clean : (es : List InternEntry) (ps : List Pattern) (i : ℕ) → AreEntryPatterns es ps → refusal (get_or ps i Pattern.empty) ≡ None
+all_clean : (es : List InternEntry) (ps : List Pattern) (i : ℕ) → AreEntryPatterns es ps →
+    refusal (get_or ps i Pattern.empty) ≡ None
 all_clean es [] i h = refl
 all_clean [] (p ∷ ps) i h = cc
 all_clean (e ∷ es) (p ∷ ps) zero h = let first : entry_pattern e ≡ Some p = cc in pattern_clean e.literal p first

@@ -12,12 +12,15 @@ use Rattle.lalrpop_norm_entries.specs.Entries.{tokenizer_entries}
 use Rattle.lalrpop_norm_entries.specs.Patterns.{entry_precedences, is_refused, scan_entry}
 use Rattle.lalrpop_norm_entries.specs.Places.{FirstPlaces, place_of}
 
+-- a quoted literal with this text
 abbrev pub quoted : String → Terminal
 quoted s = Terminal.quoted (codes s)
 
+-- a regex literal with this text
 abbrev pub regex : String → Terminal
 regex s = Terminal.regex (codes s)
 
+-- a bare name with this text, as a terminal
 abbrev pub bare : String → Terminal
 bare s = Terminal.bare (codes s)
 
@@ -25,6 +28,7 @@ bare s = Terminal.bare (codes s)
 abbrev pub itself : ℕ → Terminal → WrittenEntry
 itself p l = WrittenEntry.unmapped l (p, p)
 
+-- an entry at a place that maps a literal to a terminal
 abbrev pub to : ℕ → Terminal → Terminal → WrittenEntry
 to p l t = WrittenEntry.mapped l t (p, p)
 
@@ -146,6 +150,7 @@ nothing_lacks_without_block = refl
 
 -- the block of a grammar, and places
 
+-- a grammar of these items alone: the prefix is two underscores, and it has no parameters and no attributes
 abbrev pub grammar : List WrittenItem → Grammar
 grammar items = record {
   prefix = codes "__";

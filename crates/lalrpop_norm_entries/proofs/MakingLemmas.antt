@@ -8,6 +8,7 @@ use Rattle.lalrpop_grammar.specs.WrittenGrammar.{InternEntry, WrittenEntry}
 use Rattle.lalrpop_grammar.specs.declared.match_token.MatchContents.{MatchContents}
 use Rattle.lalrpop_norm_entries.specs.Entries.{entries_for, entries_of_groups}
 
+-- the entries of a group of a match block, as definitions see them
 abbrev pub group_view : MatchContents → List WrittenEntry
 group_view g = map match_item_view g.items
 

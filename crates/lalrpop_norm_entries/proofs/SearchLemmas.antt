@@ -4,7 +4,7 @@ use Rattle.std.specs.Prelude.{Some, find, not}
 use Rattle.lalrpop_grammar_symbols.specs.Symbols.{Terminal}
 use Rattle.lalrpop_grammar.specs.WrittenGrammar.{WrittenEntry}
 use Rattle.lalrpop_norm_entries.specs.Blocks.{lists_literal}
-use Rattle.lalrpop_norm_entries.specs.Entries.{unlisted}
+use Rattle.lalrpop_norm_entries.specs.Entries.{not_listed}
 use Rattle.lalrpop_norm_entries.specs.Noting.{list_unless}
 
 -- the first element isn't the one
@@ -18,11 +18,11 @@ pub find_here : {A : Type 0} (p : A → Bool) (x : A) (xs : List A) (b : Bool) �
 find_here p x xs b e h = ap (λ c. cond c (Some x) (find p xs)) (sym e ∙ h)
 
 -- the first literal, unless an entry lists it, and then the others
-pub unlisted_first : (es : List WrittenEntry) (t : Terminal) (ts : List Terminal) (b : Bool) → b ≡ lists_literal es t
-    → unlisted es (t ∷ ts) ≡ list_unless b t ++ unlisted es ts
-unlisted_first es t ts b e = ap (λ c. cond (not c) (t ∷ unlisted es ts) (unlisted es ts)) (sym e) ∙ split b
+pub not_listed_first : (es : List WrittenEntry) (t : Terminal) (ts : List Terminal) (b : Bool) → b ≡ lists_literal es t
+    → not_listed es (t ∷ ts) ≡ list_unless b t ++ not_listed es ts
+not_listed_first es t ts b e = ap (λ c. cond (not c) (t ∷ not_listed es ts) (not_listed es ts)) (sym e) ∙ split b
   where
-    split : (c : Bool) → cond (not c) (t ∷ unlisted es ts) (unlisted es ts) ≡ list_unless c t ++ unlisted es ts
+    split : (c : Bool) → cond (not c) (t ∷ not_listed es ts) (not_listed es ts) ≡ list_unless c t ++ not_listed es ts
     split true = refl
     split false = refl
 

@@ -20,6 +20,7 @@ same_itself (Terminal.regex s) = (bytes_eq-Decides s s).1 refl
 same_itself (Terminal.bare s) = (bytes_eq-Decides s s).1 refl
 same_itself Terminal.error = refl
 
+-- two terminals that the test finds the same are equal
 pub same_is : (s t : Terminal) → same_terminal s t ≡ true → s ≡ t
 same_is (Terminal.quoted s) (Terminal.quoted t) h = ap Terminal.quoted ((bytes_eq-Decides s t).0 h)
 same_is (Terminal.regex s) (Terminal.regex t) h = ap Terminal.regex ((bytes_eq-Decides s t).0 h)
@@ -52,12 +53,15 @@ before_back (Terminal.quoted s) (Terminal.regex t) h k = k
 before_back (Terminal.regex s) (Terminal.regex t) h k = text_back s t h k
 before_back _ _ h k = h
 
+-- two values are equal where the options that hold them are
 pub some_is : {A : Type 0} (x y : A) → Some x ≡ Some y → x ≡ y
 some_is x y h = cc
 
+-- an option without a value is never one with a value
 pub none_is_some : {A : Type 0} (x : A) → None ≡ Some x → ⊥
 none_is_some x h = cc
 
+-- false isn't true, so a case where it is can't be
 pub false_is_true : false ≡ true → ⊥
 false_is_true h = cc
 

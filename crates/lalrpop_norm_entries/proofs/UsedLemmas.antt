@@ -9,7 +9,7 @@ use Rattle.lalrpop_grammar_language.specs.Among.{Among}
 use Rattle.lalrpop_lexer_scan.specs.Literals.{LiteralUse, first_span, same_terminal, uses_in_grammar}
 use Rattle.lalrpop_norm_entries.specs.Blocks.{block_groups, entries_in_groups, first_lacking, has_terminal, is_catch_all, is_caught}
 use Rattle.lalrpop_norm_entries.specs.Blocks.{is_given, is_lacking, lists_literal, literal_given, literal_in_terminal, literal_turned}
-use Rattle.lalrpop_norm_entries.specs.Entries.{entries_for, entries_of_groups, entry, own_entry, tokenizer_entries, unlisted}
+use Rattle.lalrpop_norm_entries.specs.Entries.{entries_for, entries_of_groups, entry, own_entry, tokenizer_entries, not_listed}
 use Rattle.lalrpop_norm_entries.specs.Entries.{AreFullEntries}
 use Rattle.lalrpop_norm_entries.proofs.UniqueLemmas.{false_is_true, none_is_some, same_is, some_is}
 
@@ -194,18 +194,18 @@ of_block l groups used m h =
   where
     at : (has_terminal (filter_map literal_given (entries_in_groups groups)) l ≡ true)
         ⊎ (is_caught (entries_in_groups groups) l ≡ true)
-        → HasEntry (entries_of_groups (unlisted (entries_in_groups groups) used) groups) l
+        → HasEntry (entries_of_groups (not_listed (entries_in_groups groups) used) groups) l
     at (inl k) =
         let found = given_by (entries_in_groups groups) l k in
-        of_groups l (unlisted (entries_in_groups groups) used) groups found.0 found.1.0
-        (of_given l (unlisted (entries_in_groups groups) used) found.0 found.1.1)
+        of_groups l (not_listed (entries_in_groups groups) used) groups found.0 found.1.0
+        (of_given l (not_listed (entries_in_groups groups) used) found.0 found.1.1)
     at (inr k) =
         let parts = both_true (list_any is_catch_all (entries_in_groups groups)) (not (lists_literal (entries_in_groups groups) l)) k in
         let found = rest_among (entries_in_groups groups) parts.0 in
-        let other : Among (unlisted (entries_in_groups groups) used) l =
+        let other : Among (not_listed (entries_in_groups groups) used) l =
         among_filter (λ t. not (lists_literal (entries_in_groups groups) t)) used l m parts.1 in
-        of_groups l (unlisted (entries_in_groups groups) used) groups found.0 found.1.0
-        (of_rest l (unlisted (entries_in_groups groups) used) found.0 other found.1.1)
+        of_groups l (not_listed (entries_in_groups groups) used) groups found.0 found.1.0
+        (of_rest l (not_listed (entries_in_groups groups) used) found.0 other found.1.1)
 
 of_used : (l : Terminal) (block : Option (List (List WrittenEntry))) (used : List Terminal) → Among used l
     → first_lacking block used ≡ None → HasEntry (tokenizer_entries block used) l

@@ -9,7 +9,7 @@ ghost use Rattle.lalrpop_norm_entries.specs.Blocks.{block_groups};
 ghost use Rattle.lalrpop_norm_entries.specs.Entries.{
   own_entry,
   tokenizer_entries,
-  unlisted as not_listed,
+  not_listed,
   with_entries as has_entries,
 };
 ghost use Rattle.lalrpop_norm_entries.specs.Noting.{HasNoted, list_unless};
@@ -72,14 +72,14 @@ fn block_entries<'g>(
         ≡ tokenizer_entries (Some (map (λ c. map match_item_view c.items) groups.now)) (map (λ l. literal_view l.now) used.now)) }
 {
     let noted = noted_in(alloc, groups)?;
-    let others = unlisted(alloc, &noted, used)?;
+    let others = other_literals(alloc, &noted, used)?;
     let mut entries = List::new(alloc);
     push_groups(others.as_slice(), groups, &mut entries)?;
     Ok(entries)
 }
 
 /// The literals that no entry of the match block lists.
-fn unlisted<'g>(
+fn other_literals<'g>(
     alloc: Global,
     noted: &Noted<'g>,
     used: &[&'g TerminalLiteral],

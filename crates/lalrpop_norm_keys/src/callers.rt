@@ -15,7 +15,7 @@ ghost use Rattle.lalrpop_norm_keys.specs.MacroFaults.{TellsOfAlternative};
 ghost use Rattle.lalrpop_norm_keys.specs.PlaceSearch.{IsFoundInCalls, IsFoundInSides};
 
 use crate::called::unleveled_call;
-use crate::conditions::asked;
+use crate::conditions::ask_condition;
 use crate::places::place_in_symbols;
 use lalrpop_grammar_closed::{Binding, ClosedSymbol, Finder, right_side};
 use lalrpop_grammar_repr::NormFault;
@@ -49,7 +49,7 @@ fn place_in_side<F: Finder>(
         parameters: rule.written.args.as_slice(),
         args,
     };
-    if !asked(alloc, finder, rules, binding, &choice.alternative.condition)? {
+    if !ask_condition(alloc, finder, rules, binding, &choice.alternative.condition)? {
         return Ok(None);
     }
     let side = right_side(alloc, rules, rule, choice, args)?;

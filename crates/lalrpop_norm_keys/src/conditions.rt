@@ -67,7 +67,7 @@ fn told_fault(fault: ConditionFault, span: Span) -> NormFault
 ///
 /// It is on something else than a quoted literal, or its pattern isn't read, or the search for the pattern is refused, or memory
 /// runs out.
-pub(crate) fn asked<F: Finder>(
+pub(crate) fn ask_condition<F: Finder>(
     alloc: Global,
     finder: &F,
     rules: &Rules<'_>,

@@ -16,7 +16,7 @@ ghost use Rattle.lalrpop_norm_keys.specs.MacroFaults.{IsAskable, TellsOfAlternat
 ghost use Rattle.lalrpop_norm_keys.specs.Instances.{AddsSide, AddsSides, AreTight, HasKeysOf, TellsOfCall, TellsOfSome, kept_from};
 ghost use Rattle.lalrpop_norm_keys.specs.StandingCalls.{HasCallsOf};
 
-use crate::conditions::asked;
+use crate::conditions::ask_condition;
 use lalrpop_grammar_closed::{Binding, ClosedSymbol, Finder, right_side};
 use lalrpop_grammar_repr::NormFault;
 use lalrpop_grammar_rules::{Choice, EnabledRule, Rules};
@@ -62,7 +62,7 @@ fn add_side<F: Finder>(
         parameters: rule.written.args.as_slice(),
         args,
     };
-    if !asked(alloc, finder, rules, binding, &choice.alternative.condition)? {
+    if !ask_condition(alloc, finder, rules, binding, &choice.alternative.condition)? {
         return Ok(());
     }
     let side = right_side(alloc, rules, rule, choice, args)?;

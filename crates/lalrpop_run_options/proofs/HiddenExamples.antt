@@ -6,7 +6,7 @@ use Rattle.clap.specs.Kinds.{Kinds}
 use Rattle.clap.specs.Walk.{Text}
 use Rattle.clap.specs.declared.error.kind.ErrorKind.TheVariants.{ArgumentConflict, InvalidValue, UnknownArgument, ValueValidation}
 use Rattle.lalrpop_run_options.proofs.ProgramLemmas.{some_methods, some_tasks}
-use Rattle.lalrpop_run_options.specs.Hidden.{hidden, hidden_value}
+use Rattle.lalrpop_run_options.specs.Hidden.{hide_values, hidden_value}
 use Rattle.lalrpop_run_options.specs.Program.{program}
 
 -- a line that asks for a judgement, with these words behind it
@@ -14,14 +14,14 @@ abbrev judged : List Text → List Text
 judged words = codes "lalrpop_run" ∷ codes "judge" ∷ codes "--start" ∷ codes "S" ∷ words
 
 abbrev faults : List Text → Kinds
-faults line = fault_of (program some_tasks some_methods) (hidden line)
+faults line = fault_of (program some_tasks some_methods) (hide_values line)
 
 -- ---- both values are hidden, and found
 
 abbrev both : List Text
 both = judged (codes "--text" ∷ codes "-a" ∷ codes "--tree" ∷ codes "-b" ∷ [])
 
-both-hidden : hidden both ≡ judged (codes "--text" ∷ [] ∷ codes "--tree" ∷ [] ∷ [])
+both-hidden : hide_values both ≡ judged (codes "--text" ∷ [] ∷ codes "--tree" ∷ [] ∷ [])
 both-hidden = refl
 
 both-text : hidden_value (codes "--text") both ≡ Some (codes "-a")
@@ -39,7 +39,7 @@ both-faults = refl
 abbrev tree_as_text : List Text
 tree_as_text = judged (codes "--text" ∷ codes "--tree" ∷ codes "-x" ∷ [])
 
-tree_as_text-hidden : hidden tree_as_text ≡ judged (codes "--text" ∷ [] ∷ codes "-x" ∷ [])
+tree_as_text-hidden : hide_values tree_as_text ≡ judged (codes "--text" ∷ [] ∷ codes "-x" ∷ [])
 tree_as_text-hidden = refl
 
 tree_as_text-text : hidden_value (codes "--text") tree_as_text ≡ Some (codes "--tree")
@@ -57,7 +57,7 @@ tree_as_text-faults = refl
 abbrev end_as_text : List Text
 end_as_text = judged (codes "--text" ∷ codes "--" ∷ codes "--tree" ∷ codes "-b" ∷ [])
 
-end_as_text-hidden : hidden end_as_text ≡ judged (codes "--text" ∷ [] ∷ codes "--tree" ∷ [] ∷ [])
+end_as_text-hidden : hide_values end_as_text ≡ judged (codes "--text" ∷ [] ∷ codes "--tree" ∷ [] ∷ [])
 end_as_text-hidden = refl
 
 end_as_text-text : hidden_value (codes "--text") end_as_text ≡ Some (codes "--")
@@ -72,7 +72,7 @@ end_as_text-faults = refl
 abbrev behind_the_end : List Text
 behind_the_end = judged (codes "--" ∷ codes "--text" ∷ codes "-x" ∷ [])
 
-behind_the_end-hidden : hidden behind_the_end ≡ behind_the_end
+behind_the_end-hidden : hide_values behind_the_end ≡ behind_the_end
 behind_the_end-hidden = refl
 
 behind_the_end-text : hidden_value (codes "--text") behind_the_end ≡ None
@@ -87,7 +87,7 @@ behind_the_end-faults = refl
 abbrev last : List Text
 last = judged (codes "--text" ∷ [])
 
-last-hidden : hidden last ≡ last
+last-hidden : hide_values last ≡ last
 last-hidden = refl
 
 last-faults : faults last ≡ InvalidValue ∷ []
@@ -99,7 +99,7 @@ last-faults = refl
 abbrev behind_start : List Text
 behind_start = codes "lalrpop_run" ∷ codes "judge" ∷ codes "--start" ∷ codes "--text" ∷ codes "-x" ∷ []
 
-behind_start-hidden : hidden behind_start
+behind_start-hidden : hide_values behind_start
     ≡ codes "lalrpop_run" ∷ codes "judge" ∷ codes "--start" ∷ codes "--text" ∷ [] ∷ []
 behind_start-hidden = refl
 
@@ -118,7 +118,7 @@ twice-faults = refl
 abbrev attached : List Text
 attached = judged (codes "--text=-x" ∷ [])
 
-attached-hidden : hidden attached ≡ attached
+attached-hidden : hide_values attached ≡ attached
 attached-hidden = refl
 
 attached-faults : faults attached ≡ []
@@ -127,7 +127,7 @@ attached-faults = refl
 
 -- ---- the program's name is no option
 
-name-hidden : hidden (codes "--text" ∷ codes "-x" ∷ []) ≡ codes "--text" ∷ codes "-x" ∷ []
+name-hidden : hide_values (codes "--text" ∷ codes "-x" ∷ []) ≡ codes "--text" ∷ codes "-x" ∷ []
 name-hidden = refl
 
 -- ---- the way to states: a word that names a method, and a number

@@ -1,4 +1,4 @@
--- What is left of a line behind each of its words, for the loops of `hidden` and `hidden_value`.
+-- What is left of a line behind each of its words, for the loops of `hide_values` and `hidden_value`.
 use Rattle.std.proofs.Common.{◌≡◌, ◌∙◌, ◌+◌, ◌<◌, ◌≤◌, ◌++◌, ap, ap₂, refl, sym, ℕ, Bool, true, false}
 use Rattle.std.proofs.Common.{List, [], ◌∷◌, Option, Some, None}
 use Rattle.std.proofs.Common.{append_assoc, drop, get_or, length}
@@ -8,7 +8,7 @@ use Rattle.std.specs.Borrow.{Bor}
 use Rattle.std.proofs.lemmas.List.{append-nil, at_drop_all, at_drop_more, map-append}
 use Rattle.std.specs.Str.{bytes_eq}
 use Rattle.clap.specs.Walk.{Text, texts}
-use Rattle.lalrpop_run_options.specs.Hidden.{begins_with_dash, ends_options, hidden, hidden_value, if_hidden, parts, parts_of_line}
+use Rattle.lalrpop_run_options.specs.Hidden.{begins_with_dash, ends_options, hide_values, hidden_value, if_hidden, parts, parts_of_line}
 use Rattle.lalrpop_run_options.specs.Hidden.{shown_words, LinePart}
 use Rattle.lalrpop_run_options.specs.Hidden.{shown_value, takes_dashes, value_among}
 use Rattle.lalrpop_run_options.specs.Place.{is_value_of, place_after, shown_at}
@@ -17,7 +17,7 @@ use Rattle.lalrpop_run_options.specs.declared.hidden.Place.TheVariants.{Any, Nam
 
 -- the words that `clap` is shown of these, of which the first is at this place
 abbrev pub shown_from : Place → List Text → List Text
-shown_from Name line = hidden line
+shown_from Name line = hide_values line
 shown_from Any words = flat_map shown_words (parts words)
 shown_from (Value option) [] = []
 shown_from (Value option) (value ∷ words) = shown_value value ∷ flat_map shown_words (parts words)

@@ -33,6 +33,7 @@ lent words = record { ref_ptr = (0, 0); now = map (λ t. record { ref_ptr = (0, 
 abbrev pub some_tasks : WordList
 some_tasks = lent task_words
 
+-- the words of the methods as a list that is lent from nowhere
 abbrev pub some_methods : WordList
 some_methods = lent method_words
 

@@ -46,8 +46,8 @@ shown_words (LinePart.valued option value) = option ∷ shown_value value ∷ []
 shown_words (LinePart.single word) = word ∷ []
 
 -- the line that `clap` is shown
-abbrev pub hidden : List Text → List Text
-hidden line = flat_map shown_words (parts_of_line line)
+abbrev pub hide_values : List Text → List Text
+hide_values line = flat_map shown_words (parts_of_line line)
 
 -- the value of the first such option among the parts
 abbrev pub value_among : Text → List LinePart → Option Text

@@ -2,7 +2,7 @@
 //! such a word is hidden where it is a value.
 ghost use Rattle.std.specs.Prelude.{◌≡◌, IfOk, option_map};
 ghost use Rattle.clap.specs.Walk.{texts};
-ghost use Rattle.lalrpop_run_options.specs.Hidden.{begins_with_dash, hidden, hidden_value, takes_dashes};
+ghost use Rattle.lalrpop_run_options.specs.Hidden.{begins_with_dash, hide_values, hidden_value, takes_dashes};
 ghost use Rattle.lalrpop_run_options.specs.Place.{is_value_of, place_after, shown_at};
 
 use std::alloc::{AllocError, Global};
@@ -56,8 +56,8 @@ impl<'a> Place<'a> {
 
 /// The words of `line`, but for the values of `--text` and `--tree` that begin with `-`: they are
 /// empty.
-pub(crate) fn hidden<'a>(alloc: Global, line: &[&'a str]) -> Result<Vec<&'a str>, AllocError>
-    ensures { IfOk result (λ shown. texts shown.items ≡ hidden (texts line.now)) }
+pub(crate) fn hide_values<'a>(alloc: Global, line: &[&'a str]) -> Result<Vec<&'a str>, AllocError>
+    ensures { IfOk result (λ shown. texts shown.items ≡ hide_values (texts line.now)) }
 {
     let mut shown = Vec::new(alloc);
     let mut place = Place::Name;

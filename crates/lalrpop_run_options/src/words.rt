@@ -6,7 +6,7 @@ ghost use Rattle.lalrpop_run_options.specs.Refusal.{IsOwnRefusal};
 
 use crate::command::command;
 use crate::found::read;
-use crate::hidden::hidden;
+use crate::hidden::hide_values;
 use crate::{Options, OptionsError};
 use std::alloc::Global;
 
@@ -25,7 +25,7 @@ pub fn options(alloc: Global, words: &[&str]) -> Result<Options, OptionsError>
     ensures rules { FollowsRules (texts words.now) result }
     ensures refused { IfErr result IsOwnRefusal }
 {
-    let shown = hidden(alloc, words)?;
+    let shown = hide_values(alloc, words)?;
     let command = command(alloc)?;
     let matches = command.try_get_matches_from(shown.as_slice())?;
     Ok(read(alloc, words, &matches)?)

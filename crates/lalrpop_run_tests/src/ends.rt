@@ -97,7 +97,7 @@ fn interrupted_reads_are_borne_up_to_the_bound(rt: HostRuntime) -> Result<(), Fa
         (u64::MAX, "read fault\n", 6),
     ] {
         let out = Room::new(rt.alloc(), usize::MAX, 0);
-        let reader = Pieces::interrupted(lists(), interruptions);
+        let reader = Pieces::with_interruptions(lists(), interruptions);
         judge_ends(&rt, reader, out, text, status)?;
     }
     Ok(())

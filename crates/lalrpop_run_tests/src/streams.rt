@@ -17,7 +17,7 @@ pub(crate) struct Pieces<'a> {
 
 impl<'a> Pieces<'a> {
     /// Whole pieces, after so many interrupted calls.
-    pub(crate) fn interrupted(rest: &'a [u8], interruptions: u64) -> Pieces<'a> {
+    pub(crate) fn with_interruptions(rest: &'a [u8], interruptions: u64) -> Pieces<'a> {
         Pieces {
             rest,
             piece: usize::MAX,

@@ -1,4 +1,5 @@
-use Rattle.std.proofs.Common.{◌≡◌, ◌∙◌, ◌<◌, ◌++◌, ◌∷◌, List, [], ℕ, ap, arith, drop, length, length-append, rules, suc, subst, sym, get_or}
+use Rattle.std.proofs.Common.{◌≡◌, ◌∙◌, ◌<◌, ◌++◌, ◌∷◌, List, [], ℕ, ap, arith, drop, length}
+use Rattle.std.proofs.Common.{length-append, rules, suc, subst, sym, get_or}
 use Rattle.std.specs.Vec.Iter.{into_iter_items}
 use Rattle.lalrpop_lr1_items.specs.declared.state.State.{State}
 use Rattle.lalrpop_lr1_collapse.specs.Renumbering.{HaveTargetsWithin}
@@ -21,11 +22,13 @@ loop-state-init c =
 
 pub renumber_state-requires-clause-shifts : goal.renumber_state-requires-clause-shifts
 renumber_state-requires-clause-shifts c =
-    (subst (HaveTargetsWithin (length c.args.numbers.now)) c.in-Some.ensures.steps.0 c.loop-state.invariant.2 0 c.in-Some.state (omega arith)).0
+    (subst (HaveTargetsWithin (length c.args.numbers.now)) c.in-Some.ensures.steps.0 c.loop-state.invariant.2 0 c.in-Some.state
+    (omega arith)).0
 
 pub renumber_state-requires-clause-gotos : goal.renumber_state-requires-clause-gotos
 renumber_state-requires-clause-gotos c =
-    (subst (HaveTargetsWithin (length c.args.numbers.now)) c.in-Some.ensures.steps.0 c.loop-state.invariant.2 0 c.in-Some.state (omega arith)).1
+    (subst (HaveTargetsWithin (length c.args.numbers.now)) c.in-Some.ensures.steps.0 c.loop-state.invariant.2 0 c.in-Some.state
+    (omega arith)).1
 
 pub loop-state-preserved : goal.loop-state-preserved
 loop-state-preserved c =

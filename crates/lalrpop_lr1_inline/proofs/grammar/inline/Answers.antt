@@ -1,4 +1,5 @@
-use Rattle.std.proofs.Common.{◌≡◌, ◌+◌, ◌<◌, ◌≤◌, ◌^◌, ◌∙◌, [], List, ap, arith, inr, length, map, refl, subst, sym}
+use Rattle.std.proofs.Common.{◌≡◌, ◌+◌, ◌<◌, ◌≤◌, ◌^◌, ◌∙◌, [], List, ap, arith, inr, length, map}
+use Rattle.std.proofs.Common.{refl, subst, sym}
 use Rattle.lalrpop_grammar_symbols.specs.Symbols.{Text}
 use Rattle.lalrpop_grammar_symbols.specs.declared.names.NonterminalString.{NonterminalString}
 use Rattle.lalrpop_lr1_inline.specs.InliningSteps.{AreInlineSteps, numbers_after}
@@ -26,8 +27,8 @@ returns-then-branch-gt-LIMIT-clause-fault c =
     subst (IsInlineFault g) (sym c.too_many.ensures)
     (inr (record { order = order; is_order = o.order; too_many = past; error_is = refl }))
 
-pub inlined-requires-clause-room : goal.inlined-requires-clause-room
-inlined-requires-clause-room c =
+pub inline_by_order-requires-clause-room : goal.inline_by_order-requires-clause-room
+inline_by_order-requires-clause-room c =
     let g = c.args.grammar in
     let es = g.nonterminals in
     let order = names c.in_ok-order.order.items in
@@ -53,12 +54,12 @@ returns-clause-inlined c =
     (c.in_ok-count_numbers.ensures
     ∙ ap (λ (l : List NonterminalString). up_to_limit (k + sum_of_entries (handed_out (counts_of es [] (names l))) es))
     c.as_slice.ensures.value) in
-    let made = c.in_ok-inlined.field-0 in
+    let made = c.in_ok-inline_by_order.field-0 in
     record {
       order = order;
       is_order = o.order;
       steps = subst (λ (l : List NonterminalString). AreInlineSteps (names l) es g.action_fn_defns made.nonterminals made.action_fn_defns)
-          c.as_slice-2.ensures.value c.in_ok-inlined.ensures.steps;
+          c.as_slice-2.ensures.value c.in_ok-inline_by_order.ensures.steps;
       numbers = omega (arith, many, c.if-branch-gt-LIMIT.false);
-      others = c.in_ok-inlined.ensures.others;
+      others = c.in_ok-inline_by_order.ensures.others;
     }

@@ -7,7 +7,8 @@ use Rattle.lalrpop_lexer.specs.declared.error.DfaConstructionError.TheVariants a
 use Rattle.lalrpop_lexer.specs.Build as build
 use Rattle.lalrpop_lexer.specs.Outcome.{numbers}
 use Rattle.lalrpop_norm_entries.specs.Patterns.{AreEntryPatterns, entry_precedences}
-use Rattle.lalrpop_norm_entries.proofs.AutomatonLemmas.{IsRefusal, dfa_decides, first_within, never_refused, no_tie, none_refused, same_sizes}
+use Rattle.lalrpop_norm_entries.proofs.AutomatonLemmas.{IsRefusal, dfa_decides, first_within, never_refused, no_tie}
+use Rattle.lalrpop_norm_entries.proofs.AutomatonLemmas.{none_refused, same_sizes}
 use Rattle.lalrpop_norm_entries.proofs.AutomatonLemmas.{second_within, tie_moved, tie_told}
 use Rattle.lalrpop_norm_entries.proofs.automaton.entries_dfa.Goals as goal
 

@@ -26,8 +26,8 @@ flow-requires-clause-edges g c =
     (subst (λ n. EdgesAreWithin (table_end t) n (edges_seen c.args.self.now.firsts.items c.args.self.now.edges.items))
     (sym c.in_ok-seed_slots.ensures.count) (edges_within c.args.self.now c.requires.closures))
 
-pub started-requires : goal.started-requires
-started-requires g c = λ r rule e.
+pub start_items-requires : goal.start_items-requires
+start_items-requires g c = λ r rule e.
     let t = c.args.self.now.numbered in
     let below = left_below t c.requires.closures.numbers r rule (ap (λ l. slice_get l r) (sym c.as_slice-3.ensures.value) ∙ e) in
     let long = ap length c.as_slice-4.ensures.value ∙ c.flow.ensures.count ∙ c.in_ok-seed_slots.ensures.count in

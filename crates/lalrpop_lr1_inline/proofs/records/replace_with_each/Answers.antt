@@ -1,7 +1,7 @@
 use Rattle.std.proofs.Common.{◌+◌, drop, map}
 use Rattle.lalrpop_grammar_repr.specs.declared.action.InlinedSymbol.TheVariants as inlined
 use Rattle.lalrpop_lr1_inline.proofs.RecordLemmas.{item_front, longer_on}
-use Rattle.lalrpop_lr1_inline.proofs.records.replaced.Goals as goal
+use Rattle.lalrpop_lr1_inline.proofs.records.replace_with_each.Goals as goal
 
 pub loop-front-preserved : goal.loop-front-preserved
 loop-front-preserved c =

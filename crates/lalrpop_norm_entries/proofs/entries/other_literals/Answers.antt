@@ -4,10 +4,10 @@ use Rattle.std.specs.Borrow.{Bor}
 use Rattle.lalrpop_grammar_symbols.specs.Symbols.{Terminal}
 use Rattle.lalrpop_grammar_symbols.specs.Views.{literal_view}
 use Rattle.lalrpop_grammar_symbols.specs.declared.terminal.TerminalLiteral.{TerminalLiteral}
-use Rattle.lalrpop_norm_entries.specs.Entries.{unlisted}
+use Rattle.lalrpop_norm_entries.specs.Entries.{not_listed}
 use Rattle.lalrpop_norm_entries.specs.Noting.{list_unless}
-use Rattle.lalrpop_norm_entries.proofs.SearchLemmas.{moved, unlisted_first}
-use Rattle.lalrpop_norm_entries.proofs.entries.unlisted.Goals as goal
+use Rattle.lalrpop_norm_entries.proofs.SearchLemmas.{moved, not_listed_first}
+use Rattle.lalrpop_norm_entries.proofs.entries.other_literals.Goals as goal
 
 abbrev seen : Bor TerminalLiteral → Terminal
 seen l = literal_view l.now
@@ -19,12 +19,12 @@ loop-literal-preserved c = λ entries noted.
     let x = c.literal-item.result in
     let here : drop i xs ≡ x ∷ drop (i + 1) xs =
     drop_more xs i x c.loop-literal-test.true ∙ ap (λ y. y ∷ drop (i + 1) xs) (sym c.literal-item.is) in
-    moved (unlisted entries (map seen xs)) (map seen c.loop-literal.others.items) (unlisted entries (map seen (drop i xs)))
-    (list_unless c.is_listed.result (seen x)) (unlisted entries (map seen (drop (i + 1) xs)))
+    moved (not_listed entries (map seen xs)) (map seen c.loop-literal.others.items) (not_listed entries (map seen (drop i xs)))
+    (list_unless c.is_listed.result (seen x)) (not_listed entries (map seen (drop (i + 1) xs)))
     (map seen c.push_unless.new.literals.items)
     (c.loop-literal.invariant entries noted)
-    (ap (λ l. unlisted entries (map seen l)) here
-    ∙ unlisted_first entries (seen x) (map seen (drop (i + 1) xs)) c.is_listed.result (c.is_listed.ensures entries noted))
+    (ap (λ l. not_listed entries (map seen l)) here
+    ∙ not_listed_first entries (seen x) (map seen (drop (i + 1) xs)) c.is_listed.result (c.is_listed.ensures entries noted))
     c.in_ok-push_unless.ensures
 
 pub returns : goal.returns
@@ -32,5 +32,5 @@ returns c = λ entries noted.
     let past : drop c.loop-literal.literal-index c.args.used.now ≡ [] =
     drop_all c.loop-literal.literal-index c.args.used.now c.loop-literal-test.false in
     sym (append-nil (map seen c.loop-literal.others.items))
-    ∙ sym (ap (λ l. map seen c.loop-literal.others.items ++ unlisted entries (map seen l)) past)
+    ∙ sym (ap (λ l. map seen c.loop-literal.others.items ++ not_listed entries (map seen l)) past)
     ∙ c.loop-literal.invariant entries noted

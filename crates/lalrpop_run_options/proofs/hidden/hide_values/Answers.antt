@@ -1,6 +1,6 @@
 use Rattle.std.proofs.Common.{◌∙◌, sym}
 use Rattle.lalrpop_run_options.proofs.HiddenLemmas.{shown-end, shown-step}
-use Rattle.lalrpop_run_options.proofs.hidden.hidden.Goals as goal
+use Rattle.lalrpop_run_options.proofs.hidden.hide_values.Goals as goal
 
 pub loop-word-preserved : goal.loop-word-preserved
 loop-word-preserved c =

@@ -1,6 +1,6 @@
 use Rattle.std.proofs.Common.{◌≡◌, ◌+◌, ◌*◌, drop}
 use Rattle.lalrpop_lr1_inline.specs.NumberCounts.{counts_view, handed_out, up_to_limit}
-use Rattle.lalrpop_lr1_inline.proofs.count.handed.Given as goal
+use Rattle.lalrpop_lr1_inline.proofs.count.count_handed.Given as goal
 
 abbrev pub invariant-loop-one : goal.invariant-loop-one
 invariant-loop-one l =

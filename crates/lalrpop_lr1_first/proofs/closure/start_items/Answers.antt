@@ -5,8 +5,8 @@ use Rattle.lalrpop_lr1_first.specs.declared.place.NumberedRule.{NumberedRule}
 use Rattle.lalrpop_lr1_first.proofs.FlowLemmas.{at_none}
 use Rattle.lalrpop_lr1_first.proofs.ListLemmas.{read_slice}
 use Rattle.lalrpop_lr1_first.proofs.SeedLemmas.{started_more}
-use Rattle.lalrpop_lr1_first.proofs.closure.started.Goals.{in-None, in-Some+in_ok-try_clone-in-Some+in_ok-push-in-Some}
-use Rattle.lalrpop_lr1_first.proofs.closure.started.Goals as goal
+use Rattle.lalrpop_lr1_first.proofs.closure.start_items.Goals.{in-None, in-Some+in_ok-try_clone-in-Some+in_ok-push-in-Some}
+use Rattle.lalrpop_lr1_first.proofs.closure.start_items.Goals as goal
 
 pub loop-rule-preserved : goal.loop-rule-preserved
 loop-rule-preserved g c =

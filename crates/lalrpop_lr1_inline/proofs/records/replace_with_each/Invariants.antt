@@ -1,7 +1,7 @@
 use Rattle.std.proofs.Common.{◌≡◌, ◌++◌, drop, map}
 use Rattle.lalrpop_grammar_repr.specs.declared.action.InlinedSymbol.TheVariants as inlined
 use Rattle.lalrpop_lr1_inline.specs.InliningSteps.{longer_records}
-use Rattle.lalrpop_lr1_inline.proofs.records.replaced.Given as goal
+use Rattle.lalrpop_lr1_inline.proofs.records.replace_with_each.Given as goal
 
 abbrev pub invariant-loop-front : goal.invariant-loop-front
 invariant-loop-front l =

@@ -2,8 +2,8 @@ use Rattle.std.proofs.Common.{◌+◌, ◌*◌, ◌∙◌, ap, drop, sym}
 use Rattle.lalrpop_lr1_inline.specs.NumberCounts.{choices_at, counts_view, handed_out, up_to_limit}
 use Rattle.lalrpop_lr1_inline.proofs.LimitLemmas.{handed_off, handed_on, handed_place}
 use Rattle.lalrpop_lr1_inline.proofs.RecordLemmas.{item_front}
-use Rattle.lalrpop_lr1_inline.proofs.count.handed.Goals.{then-has_named, else-has_named}
-use Rattle.lalrpop_lr1_inline.proofs.count.handed.Goals as goal
+use Rattle.lalrpop_lr1_inline.proofs.count.count_handed.Goals.{then-has_named, else-has_named}
+use Rattle.lalrpop_lr1_inline.proofs.count.count_handed.Goals as goal
 
 pub loop-one-preserved : goal.loop-one-preserved
 loop-one-preserved c =
