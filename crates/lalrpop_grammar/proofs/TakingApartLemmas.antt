@@ -1,5 +1,7 @@
--- Trees that are taken apart by a loop: each turn leaves fewer nodes, or no more of them and fewer at hand. For the drops of trees, here and of other crates.
-use Rattle.std.proofs.Common.{◌≡◌, ℕ, zero, suc, Bool, true, false, ◌==◌, ◌+◌, ◌*◌, ◌<◌, ◌≤◌, List, [], ◌∷◌, ◌++◌, sym, ap, ◌∙◌, refl, arith, slice_set, get_or, length, Vec, vec_len, Global}
+-- Trees taken apart by a loop: each turn leaves fewer nodes, or no more and fewer at hand. For drops of trees, in other crates too.
+use Rattle.std.proofs.Common.{◌≡◌, ℕ, zero, suc, Bool, true, false, ◌==◌, ◌+◌, ◌*◌, ◌<◌, ◌≤◌}
+use Rattle.std.proofs.Common.{List, [], ◌∷◌, ◌++◌, sym, ap, ◌∙◌, refl, arith, slice_set, get_or, length, Vec}
+use Rattle.std.proofs.Common.{vec_len, Global}
 use Rattle.std.proofs.Math.Nat.{mul-le-mul_right}
 
 -- what all of the list count for
@@ -25,6 +27,7 @@ not_empty : (n : ℕ) → false ≡ (n == 0) → 0 < n
 not_empty zero is = let both : false ≡ true = is in let no : ⊥ = cc in absurd no
 not_empty (suc n) is = omega arith
 
+-- a list that was seen not to be empty has a first element
 pub has_first : {X : Type 0} (v : Vec X Global) (empty : Bool) → empty ≡ (vec_len v == 0) → empty ≡ false → 0 < length v.items
 has_first v empty is isnt = let some = not_empty v.len (sym isnt ∙ is) in omega (arith, some, v.ok.0)
 
@@ -44,5 +47,6 @@ total-append : {X : Type 0} (f : X → ℕ) (ys : List X) (x : X) → total f (y
 total-append f [] x = refl
 total-append f (y ∷ ys) x = omega (arith, total-append f ys x)
 
+-- a sum over a list is that over its front and its last element, in either order
 pub total-last : {X : Type 0} (f : X → ℕ) (xs ys : List X) (x : X) → xs ≡ ys ++ x ∷ [] → total f xs ≡ f x + total f ys
 total-last f xs ys x is = ap (total f) is ∙ total-append f ys x

@@ -29,6 +29,7 @@ pub same_bool-refl : (a : Bool) → same_bool a a ≡ true
 same_bool-refl true = refl
 same_bool-refl false = refl
 
+-- whether two repeats are the same
 abbrev pub same_op : Op → Op → Bool
 same_op Op.star Op.star = true
 same_op Op.plus Op.plus = true

@@ -34,6 +34,7 @@ among_filter f (x ∷ xs) y h = go (f x) refl h (λ k. among_filter f xs y k)
     go true e (inr k) ih = let r = ih k in (inr r.0, r.1)
     go false e k ih = let r = ih k in (inr r.0, r.1)
 
+-- what is among the images is the image of one that is among the list
 pub among_map : {A B : Type 0} (f : A → B) (xs : List A) (y : B) → Among (map f xs) y → (x : A) × Among xs x × (f x ≡ y)
 among_map f [] y h = absurd h
 among_map f (x ∷ xs) y (inl e) = (x, inl refl, e)

@@ -42,6 +42,7 @@ part-word c t e = go (inner c) e
     go Closed.lookbehind e = cc
     go Closed.faulty e = cc
 
+-- the tree under a closed symbol is that of its nonterminal, names and choices left out
 pub part-sub : (c y : Closed) → grammar_symbol c ≡ GrammarSymbol.nonterminal (Nonterminal.closed y) → inner c ≡ y
 part-sub c y e = go (inner c) e
   where

@@ -95,6 +95,7 @@ alt symbols = with [] symbols
 abbrev pub on_K : ConditionTest → String → List WrittenSymbol → Alternative
 on_K test against symbols = if_so [] (Some (record { place = here; parameter = codes "K"; test = test; against = codes against })) symbols
 
+-- texts as lists of bytes, for examples
 abbrev pub texts : List String → List Text
 texts [] = []
 texts (s ∷ ss) = codes s ∷ texts ss

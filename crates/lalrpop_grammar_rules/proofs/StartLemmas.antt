@@ -8,6 +8,7 @@ use Rattle.lalrpop_grammar_rules.specs.StartViews.{active_start}
 use Rattle.lalrpop_grammar_symbols.specs.Symbols.{Text}
 use Rattle.lalrpop_grammar_language.specs.Starts.{can_start, has_none}
 
+-- a list is empty exactly where its images are none: for the question whether a rule has parameters
 pub none-by : {A : Type 0} (f : A → Text) (xs : List A) (none : Bool) → IsTrue none ↔ (xs ≡ []) → none ≡ has_none (map f xs)
 none-by f [] true h = refl
 none-by f [] false h = h.1 refl

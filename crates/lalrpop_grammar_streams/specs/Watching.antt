@@ -1,5 +1,6 @@
 -- What a watch keeps, and what becomes of it: by a call, and by what the inner reader or writer answers to it.
-use Rattle.std.specs.Prelude.{◌≡◌, ℕ, ◌-◌, ◌<◌, ◌≤◌, ◌⊎◌, Bool, true, false, not, ◌==◌, ◌||◌, ◌&&◌, Result, Ok, Err}
+use Rattle.std.specs.Prelude.{◌≡◌, ℕ, ◌-◌, ◌<◌, ◌≤◌, ◌⊎◌, Bool, true, false, not, ◌==◌}
+use Rattle.std.specs.Prelude.{◌||◌, ◌&&◌, Result, Ok, Err}
 use Rattle.lalrpop_grammar_streams.specs.declared.watch.Watch.{Watch}
 use Rattle.lalrpop_grammar_streams.specs.declared.watched.Watched.{Watched}
 

@@ -134,6 +134,7 @@ pub room-single : (xs : Syms TextSpan) → most_open (xs ∷ []) ≡ suc (symbol
 unfolding most_open
 room-single xs = omega arith
 
+-- no symbols have depth 0
 pub depth-none : symbols_depth Syms.none ≡ 0
 unfolding symbols_depth
 depth-none = refl

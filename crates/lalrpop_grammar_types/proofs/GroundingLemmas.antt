@@ -41,6 +41,7 @@ nothing : (x : Option TypeRepr) → and_type x None ≡ None
 nothing None = refl
 nothing (Some y) = refl
 
+-- where one of some types has no type of the lowered grammar, not all of them have one
 pub one_without_type : (ts : List TypeRef) (i : ℕ) (x : TypeRef) → i < length ts → x ≡ get_or ts i x → None ≡ type_repr_of x
     → None ≡ all_types (map type_repr_of ts)
 one_without_type [] i x h here none = absurd (omega arith)

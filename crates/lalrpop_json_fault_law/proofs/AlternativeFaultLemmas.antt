@@ -91,6 +91,7 @@ condition_tells d =
 
 -- ---- alternatives
 
+-- reading a list of attributes tells one of its faults, the first where keys are in order, or it has none
 pub attributes_tell : (d : Data) → Tells (list_of_component Component.attribute) d (list_at (λ i. attribute_at) d)
 attributes_tell d = list_tells (Wanted.component Component.attribute) d attribute_at λ e below. attribute_tells e
 
@@ -130,6 +131,7 @@ alternative_tells : (rule : List ℕ) (i : ℕ) (d : Data)
 unfolding alternative_at
 alternative_tells rule i d = by_place rule i d (nat_lt i (2 ^ 32)) refl
 
+-- reading a rule's list of alternatives tells one of its faults, the first where keys are in order, or it has none
 pub alternatives_of_rule : (rule : List ℕ) (d : Data)
     → Tells (Wanted.alternatives (Wanted.component Component.alternative)) d (alternatives_at rule d)
 alternatives_of_rule rule d =

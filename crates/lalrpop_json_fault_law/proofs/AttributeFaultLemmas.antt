@@ -62,6 +62,7 @@ by_literal (Some form.Quoted) d e = component_told Component.literal d quoted_la
 by_literal (Some form.Regex) d e = component_told Component.literal d regex_layout (regex_at d) e (regex_tells d)
 by_literal _ d e = component_untold Component.literal d e
 
+-- reading a literal tells one of its faults, the first where keys are in order, or it has none
 pub literal_tells : (d : Data) → Tells (Wanted.component Component.literal) d (literal_at d)
 unfolding literal_at
 literal_tells d = by_literal (form_by_key literal_rows d) d (literal_told d)
@@ -91,6 +92,7 @@ by_terminal (Some form.Regex) d e =
     (tells_then (HasKeysInOrder d) (FormFault regex_layout d) (λ l. terminals.Literal l) (regex_at d) (regex_tells d))
 by_terminal _ d e = component_untold Component.terminal d e
 
+-- reading a terminal tells one of its faults, the first where keys are in order, or it has none
 pub terminal_tells : (d : Data) → Tells (Wanted.component Component.terminal) d (terminal_at d)
 unfolding terminal_at
 terminal_tells d = by_terminal (form_by_key terminal_rows d) d (terminal_told d)
@@ -148,6 +150,7 @@ module _ (read : Reader Attribute) where
       field name_at _ (λ e below. name_tells e) λ id.
       field span_at _ (λ e below. span_tells e) λ span. done))
 
+-- reading an attribute, and those inside, tells one of its faults, the first where keys are in order, or it has none
 pub attribute_tells : (d : Data) → Tells (Wanted.component Component.attribute) d (attribute_at d)
 attribute_tells =
     by_depth (λ d. Tells (Wanted.component Component.attribute) d (attribute_at d))

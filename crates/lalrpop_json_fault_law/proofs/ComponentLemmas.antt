@@ -97,6 +97,7 @@ abbrev pub SameRows : LayoutOf → List (Key × Form) → List (Key × Layout) �
 SameRows layout rows ts =
     ◌≡◌ {A = List (Key × Option Layout)} (map (λ r. (r.0, layout (Some r.1))) rows) (map (λ t. (t.0, Some t.1)) ts)
 
+-- where the readers' rows name the table's forms, a value tells the same form by either
 pub rows_told : (layout : LayoutOf) → layout None ≡ None → (rows : List (Key × Form)) (ts : List (Key × Layout)) (d : Data)
     → SameRows layout rows ts → told_by_key ts d ≡ layout (form_by_key rows d)
 rows_told layout none rows ts d same = sym (pick_told ts d) ∙ ap (λ rs. pick rs d) (sym same) ∙ pick_forms layout none rows d

@@ -98,6 +98,7 @@ mutual
       members_in_order js (put k first.0 found) ms (rising_put k first.0 found rising)
       (members_put k first.0 found (json_in_order j first.0 first.1) all) first.2
 
+-- each object in what is read of a JSON text has each key once, in byte order
 pub read_in_order : ReadValuesAreInOrder
 read_in_order text d e =
     let got = went_on of_json (option_and_then (λ p. json.if_last p.0 p.1) (json.value max_depth (tokens text))) d e in

@@ -255,23 +255,28 @@ by_item (Some form.Rule) d e =
 by_item (Some form.Use) d e = component_told Component.item d import_layout (import_at d) e (import_tells d)
 by_item _ d e = component_untold Component.item d e
 
+-- reading an item tells one of its faults, the first where keys are in order, or it has none
 pub item_tells : (d : Data) → Tells (Wanted.component Component.item) d (item_at d)
 unfolding item_at
 item_tells d = by_item (item_form d) d (item_told d)
 
 -- ---- rules and blocks by themselves
 
+-- reading a rule by itself tells one of its faults, the first where keys are in order, or it has none
 pub only_rule_tells : (d : Data) → Tells (Wanted.component Component.rule) d (rule_at d)
 only_rule_tells d = component_told Component.rule d rule_layout (rule_at d) refl (rule_tells d)
 
+-- reading a `match` block by itself tells one of its faults, the first where keys are in order, or it has none
 pub only_match_tells : (d : Data) → Tells (Wanted.component Component.match_block) d (match_at d)
 only_match_tells d = component_told Component.match_block d match_layout (match_at d) refl (match_tells d)
 
+-- reading an `extern` block by itself tells one of its faults, the first where keys are in order, or it has none
 pub only_extern_tells : (d : Data) → Tells (Wanted.component Component.extern_block) d (extern_at d)
 only_extern_tells d = component_told Component.extern_block d extern_layout (extern_at d) refl (extern_tells d)
 
 -- ---- grammars
 
+-- reading a grammar tells one of its faults, the first where keys are in order, or it has none
 pub grammar_tells : (d : Data) → Tells (Wanted.component Component.grammar) d (grammar_at d)
 unfolding grammar_at key_text
 grammar_tells d =

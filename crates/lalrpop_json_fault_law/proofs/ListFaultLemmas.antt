@@ -124,6 +124,7 @@ items_tell w ds r h =
     from f (IsFaultOfValue.wrong_shape a b) = absurd (cc)
     from f (IsFaultOfValue.in_list i e g at h is) = to_from (λ i. IsFaultOfValue w) 0 i i ds e f g at (omega arith) h is
 
+-- where reading tells the faults of the elements, each by itself, reading the list tells those of the list
 pub list_tells : {A : Type 0} (w : Wanted) (d : Data) (read : Data → Result A Fault)
     → ((e : Data) → depth e < depth d → Tells w e (read e)) → Tells (Wanted.list w) d (list_at (λ i. read) d)
 unfolding list_at
@@ -186,6 +187,7 @@ alternatives_tell_all w ds r h =
     from f (IsFaultOfValue.too_many i e at high is) =
         to_from (AlternativeFault w) 0 i i ds e f (here fault.WrongShape) at (omega arith) (inr (high, refl)) is
 
+-- where reading tells the faults of each alternative at its index, reading the list tells those of the list
 pub alternatives_tell : {A : Type 0} (w : Wanted) (d : Data) (read : ℕ → Data → Result A Fault)
     → ((i : ℕ) (e : Data) → depth e < depth d → TellsOf (HasKeysInOrder e) (AlternativeFault w i e) (read i e))
     → Tells (Wanted.alternatives w) d (list_at read d)

@@ -17,6 +17,7 @@ use Rattle.lalrpop_json_fault_law.proofs.OrderLemmas.{all_before, are_in_order, 
 use Rattle.lalrpop_json_fault_law.proofs.OrderLemmas.{is_before_all, not_before_both}
 use Rattle.lalrpop_json_fault_law.proofs.OrderLemmas.{order_head, order_tail, same_bytes, text_itself}
 
+-- where the first key has its name, and then the others theirs, both tests pass
 pub head_named : (b rest : Bool) → cond b rest false ≡ true → (b ≡ true) × (rest ≡ true)
 head_named true rest e = (refl, e)
 head_named false rest e = absurd (cc)
@@ -34,6 +35,7 @@ all_named k (n ∷ ns) (l ∷ ls) before named =
       all_named k ns ls (before_tail k n ns before) first.1,
     )
 
+-- an object with just the keys of a form, which are in byte order, has its keys in byte order
 pub named_rising : (ks : List Key) (ls : List (List ℕ)) → are_in_order ks ≡ true → are_named ks ls ≡ true → AreRising ls
 named_rising ks [] order named = tt
 named_rising [] (l ∷ ls) order named = absurd (cc)
@@ -80,6 +82,7 @@ same_head k ks l ls order rising (inr s) (n, inr stands, is) =
     let other = before_all k ks (order_head k ks order) n stands in
     absurd (not_before_both l (key_text k) one (subst (λ x. text_order (key_text k) x ≡ Less) is other))
 
+-- an object with its keys in byte order that lacks no key of a form and has no other has just the form's keys
 pub rising_named : (ks : List Key) (ls : List (List ℕ)) → are_in_order ks ≡ true → AreRising ls
     → ((k : Key) → IsAmong ks k → IsAmong ls (key_text k))
     → ((l : List ℕ) → IsAmong ls l → is_listed ks l ≡ true) → are_named ks ls ≡ true

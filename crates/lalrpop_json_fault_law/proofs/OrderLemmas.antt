@@ -21,6 +21,7 @@ use Rattle.lalrpop_json_fault_law.specs.Order.{FaultComesBefore, order_of_steps,
 abbrev pub IsNotBefore : Fault → Fault → Type 0
 IsNotBefore f g = (g ≡ f) ⊎ FaultComesBefore f g
 
+-- a text compares as equal to itself
 pub text_itself : (s : List ℕ) → text_order s s ≡ Equal
 text_itself s = tied_itself nat_list_cmp_total s
 
@@ -37,11 +38,13 @@ inside_after s f g (inr h) = inr (rw (step_itself s) h)
 pub step_before : (s t : Step) (f g : Fault) → order_of_steps s t ≡ Less → FaultComesBefore (inside s f) (inside t g)
 step_before s t f g h = rw h refl
 
+-- a smaller index compares as less
 pub index_less : (i j : ℕ) → i < j → nat_cmp i j ≡ Less
 index_less i j h = sym (nat_cmp_is i j Less h)
 
 -- ---- keys in byte order
 
+-- whether a key comes in byte order before each of some keys
 abbrev pub is_before_all : Key → List Key → Bool
 is_before_all k [] = true
 is_before_all k (l ∷ ls) = is_lt (text_order (key_text k) (key_text l)) && is_before_all k ls
@@ -61,6 +64,7 @@ less_is Less e = refl
 less_is Equal e = absurd (cc)
 less_is Greater e = absurd (cc)
 
+-- a key that comes before each of some keys compares as less than any one of them
 pub before_all : (k : Key) (ks : List Key) → is_before_all k ks ≡ true → (l : Key) → IsAmong ks l
     → text_order (key_text k) (key_text l) ≡ Less
 before_all k [] h l s = absurd s
@@ -71,17 +75,21 @@ before_all k (m ∷ ms) h l (inr s) =
     let rest = both (is_lt (text_order (key_text k) (key_text m))) (is_before_all k ms) h in
     before_all k ms rest.1 l s
 
+-- a key that comes before each of some keys comes before each of them but the first
 pub before_tail : (k l : Key) (ks : List Key) → is_before_all k (l ∷ ks) ≡ true → is_before_all k ks ≡ true
 before_tail k l ks h = (both (is_lt (text_order (key_text k) (key_text l))) (is_before_all k ks) h).1
 
+-- of keys in order the first comes before each of the others
 pub order_head : (k : Key) (ks : List Key) → are_in_order (k ∷ ks) ≡ true → is_before_all k ks ≡ true
 order_head k ks h = (both (is_before_all k ks) (are_in_order ks) h).0
 
+-- keys in order without the first are in order
 pub order_tail : (k : Key) (ks : List Key) → are_in_order (k ∷ ks) ≡ true → are_in_order ks ≡ true
 order_tail k ks h = (both (is_before_all k ks) (are_in_order ks) h).1
 
 -- ---- texts that rise
 
+-- a text that is less than each of some texts is less than any one among them
 pub all_before : (l : List ℕ) (ls : List (List ℕ)) → AllByRecursion (λ m. text_order l m ≡ Less) ls → (m : List ℕ)
     → IsAmong ls m
     → text_order l m ≡ Less
@@ -94,6 +102,7 @@ pub not_before_both : (k l : List ℕ) → text_order k l ≡ Less → text_orde
 not_before_both k l a b =
     let turned : text_order k l ≡ Greater = nat_list_cmp_total.antisymm k l ∙ ap ordering_reverse b in absurd (cc)
 
+-- texts that are the same pass the test of equal bytes
 pub same_bytes : (s t : List ℕ) → s ≡ t → bytes_eq s t ≡ true
 same_bytes s t e =
     ap (λ x. bytes_eq s x) (sym e) ∙ sym (is_eq-slice_cmp s s) ∙ ap is_eq (text_itself s)

@@ -53,6 +53,7 @@ required_matches (Some x) = tt
 text_only : (d : Data) → OnlyShape Wanted.text d
 text_only d f (IsFaultOfValue.wrong_shape a b) = (a, b)
 
+-- reading a text goes well where the value is a JSON string, else it tells the one fault of the value
 pub text_tells : (d : Data) → Tells Wanted.text d (text_at d)
 unfolding text_at
 text_tells d = by_shape Wanted.text d (required_value (as_str d)) (text_only d) (required_matches (as_str d))
@@ -60,6 +61,7 @@ text_tells d = by_shape Wanted.text d (required_value (as_str d)) (text_only d) 
 flag_only : (d : Data) → OnlyShape Wanted.flag d
 flag_only d f (IsFaultOfValue.wrong_shape a b) = (a, b)
 
+-- reading a boolean goes well where the value is one, else it tells the one fault of the value
 pub flag_tells : (d : Data) → Tells Wanted.flag d (flag_at d)
 unfolding flag_at
 flag_tells d = by_shape Wanted.flag d (required_value (as_bool d)) (flag_only d) (required_matches (as_bool d))
@@ -67,6 +69,7 @@ flag_tells d = by_shape Wanted.flag d (required_value (as_bool d)) (flag_only d)
 null_only : (d : Data) → OnlyShape Wanted.nothing d
 null_only d f (IsFaultOfValue.wrong_shape a b) = (a, b)
 
+-- reading `null` goes well where the value is it, else it tells the one fault of the value
 pub null_tells : (d : Data) → Tells Wanted.nothing d (null_at d)
 unfolding null_at
 null_tells d = by_shape Wanted.nothing d (required_value (as_null d)) (null_only d) (required_matches (as_null d))
@@ -94,6 +97,7 @@ pub words_tell : {A : Type 0} (ws : List Word) (d : Data) (read : List ℕ → R
 words_tell ws d read h =
     by_shape (Wanted.word ws) d (required_value (as_str d) >>= read) (word_only ws d) (words_match ws (as_str d) read h)
 
+-- reading this very word goes well where the value is it, else it tells the one fault of the value
 pub word_tells : (w : Word) (d : Data) → Tells (Wanted.word (w ∷ [])) d (word_at w d)
 unfolding word_at
 word_tells w d = words_tell (w ∷ []) d _ λ t. or_word (is_word w t) false tt (Err (here fault.WrongShape)) refl
@@ -123,6 +127,7 @@ or_other ws w d (Err f) none h = (IsFaultOfValue.no_word none h.0, λ order g q.
 
 -- ---- `null` or something
 
+-- `null` has no fault at a place that takes `null` or something
 pub null_has_none : (w : Wanted) (d : Data) (u : ⊤) → as_null d ≡ Some u → (f : Fault) → IsFaultOfValue (Wanted.optional w) d f
     → ⊥
 null_has_none w d u e f (IsFaultOfValue.wrong_shape a b) = absurd (cc)
@@ -146,10 +151,12 @@ by_null : {A : Type 0} (w : Wanted) (d : Data) (x : A) (r : Result A Fault) (o :
 by_null w d x r None e h = some_tells w d r e h
 by_null w d x r (Some u) e h = null_has_none w d u e
 
+-- where a reading tells faults of a value, one that takes `null` first tells those of `null` or the value
 pub option_tells : {A : Type 0} (w : Wanted) (d : Data) (x : A) (r : Result A Fault) → Tells w d r
     → Tells (Wanted.optional w) d (cond (is_some (as_null d)) (Ok x) r)
 option_tells w d x r h = by_null w d x r (as_null d) refl h
 
+-- where reading a value tells its faults, reading `null` or the value tells those of a place that takes both
 pub optional_tells : {A : Type 0} (w : Wanted) (d : Data) (read : Data → Result A Fault) → Tells w d (read d)
     → Tells (Wanted.optional w) d (optional read d)
 optional_tells w d read h =
@@ -173,6 +180,7 @@ no_name : (d : Data) → as_str d ≡ None → (g : Fault) → IsFaultOfValue Wa
 no_name d none g (IsFaultOfValue.wrong_shape a b) = inl b
 no_name d none g (IsFaultOfValue.bad_name s same bad is) = absurd (cc)
 
+-- reading a name goes well where the value is a JSON string with a name, else it tells the one fault of the value
 pub name_tells : (d : Data) → Tells Wanted.name d (name_at d)
 unfolding name_at
 name_tells null = (IsFaultOfValue.wrong_shape refl refl, λ order. no_name null refl)
@@ -215,6 +223,7 @@ no_number : (d : Data) → as_number d ≡ None → (g : Fault) → IsFaultOfVal
 no_number d none g (IsFaultOfValue.wrong_shape a b) = inl b
 no_number d none g (IsFaultOfValue.bad_number n same bad is) = absurd (cc)
 
+-- reading a number goes well where the value is a whole one below 2 ^ 32, else it tells the one fault of the value
 pub number_tells : (d : Data) → Tells Wanted.number d (number_at d)
 unfolding number_at
 number_tells null = (IsFaultOfValue.wrong_shape refl refl, λ order. no_number null refl)
@@ -314,6 +323,7 @@ no_span d none = (IsFaultOfValue.wrong_shape none refl, λ order g q. by g q)
     by g (IsFaultOfValue.second_end lo hi p e q is) = let fit : fits Wanted.span d ≡ true = ap (fits Wanted.span) e in absurd (cc)
     by g (IsFaultOfValue.wrong_order lo hi e less is) = let fit : fits Wanted.span d ≡ true = ap (fits Wanted.span) e in absurd (cc)
 
+-- reading a span tells a fault of its ends, or of their order, the first of them, or it has none
 pub span_tells : (d : Data) → Tells Wanted.span d (span_at d)
 unfolding span_at
 span_tells null = no_span null refl

@@ -201,8 +201,10 @@ first_through (p ∷ ps) k (q ∷ qs) l (r ∷ rs) m h i =
     by Equal Greater a b h i rest = absurd (cc)
     by Greater u a b h i rest = absurd (cc)
 
+-- no fault comes before one that comes before it
 pub no_earlier : NoneComesBeforeAnEarlier
 no_earlier f g h i = first_once f.path f.kind g.path g.kind h i
 
+-- a fault that comes before another comes before all that come after that one
 pub later : EarlierComesBeforeLater
 later f g x h i = first_through f.path f.kind g.path g.kind x.path x.kind h i

@@ -191,10 +191,12 @@ module _ (read : Reader Symbol) where
   unfolding symbol_layer_at
   layer_tells d inner = by_form (form_of_symbol d) d inner (symbol_told d)
 
+-- reading a symbol, and those inside, tells one of its faults, the first where keys are in order, or it has none
 pub symbol_tells : (d : Data) → Tells (Wanted.component Component.symbol) d (symbol_at d)
 symbol_tells =
     by_depth (λ d. Tells (Wanted.component Component.symbol) d (symbol_at d))
     λ d inner. rw (symbol_opened d) (layer_tells symbol_at d inner)
 
+-- reading a list of symbols tells one of its faults, the first where keys are in order, or it has none
 pub symbols_tell : (d : Data) → Tells (list_of_component Component.symbol) d (list_at (λ i. symbol_at) d)
 symbols_tell d = list_tells (Wanted.component Component.symbol) d symbol_at λ e below. symbol_tells e

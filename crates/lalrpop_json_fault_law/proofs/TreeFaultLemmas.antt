@@ -104,6 +104,7 @@ module _ (read : Reader WrittenTree) where
   unfolding tree_layer_at
   layer_tells d inner = by_form (form_of_tree d) d inner (tree_told d)
 
+-- reading a tree, and those inside, tells one of its faults, the first where keys are in order, or it has none
 pub tree_tells : (d : Data) → Tells (Wanted.component Component.tree) d (tree_at d)
 tree_tells =
     by_depth (λ d. Tells (Wanted.component Component.tree) d (tree_at d))

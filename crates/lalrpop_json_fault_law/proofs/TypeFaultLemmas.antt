@@ -96,6 +96,7 @@ module _ (read : Reader TypeRef) where
   unfolding type_layer_at
   layer_tells d inner = by_form (form_by_key type_rows d) d inner (type_told d)
 
+-- reading a type, and those inside, tells one of its faults, the first where keys are in order, or it has none
 pub type_tells : (d : Data) → Tells (Wanted.component Component.type) d (type_at d)
 type_tells =
     by_depth (λ d. Tells (Wanted.component Component.type) d (type_at d))

@@ -1,5 +1,6 @@
 -- Rows of trees that are being printed: what is still to come of their text, and that it ends.
-use Rattle.std.proofs.Common.{ap₂, ◌≡◌, ℕ, zero, suc, ◌<◌, List, [], ◌∷◌, ◌++◌, Some, refl, sym, ap, ◌∙◌, map, length, replicate, flat_map, append_assoc, append-nil, arith}
+use Rattle.std.proofs.Common.{ap₂, ◌≡◌, ℕ, zero, suc, ◌<◌, List, [], ◌∷◌, ◌++◌, Some, refl, sym, ap}
+use Rattle.std.proofs.Common.{◌∙◌, map, length, replicate, flat_map, append_assoc, append-nil, arith}
 use Rattle.std.specs.Prelude.{codes}
 use Rattle.std.specs.Borrow.{Bor}
 use Rattle.std.proofs.lemmas.List.{map-append}
@@ -88,7 +89,8 @@ regroup b o k u c r = simp append_assoc
 module _ (all rest : List Row) (row : Row) (pops : all ≡ rest ++ row ∷ []) (none : length row.trees.now ≡ 0) where
   -- its closing bracket comes first
   pub closes : rows_to_come all ≡ row.closing.now ++ rows_to_come rest
-  closes = to_come-push all rest row pops ∙ ap (λ t. (t ++ row.closing.now) ++ rows_to_come rest) (from_none row.before.now row.trees.now none)
+  closes = to_come-push all rest row pops ∙ ap (λ t. (t ++ row.closing.now) ++ rows_to_come rest)
+      (from_none row.before.now row.trees.now none)
 
   pub closes-fewer : steps_left rest < steps_left all
   closes-fewer = empty-fewer (row_trees all) (row_trees rest) row.trees (row_trees-push all rest row pops) none
@@ -120,7 +122,8 @@ module _ (all one two rest : List Row) (row after below : Row) (x : WrittenTree)
   pub opens-first : rows_to_come all ≡ (row.before.now ++ opening_text (tree_view x)) ++ rows_to_come two
   opens-first =
       to_come-push all rest row pops
-      ∙ ap (λ (xs : List WrittenTree). (texts_from row.before.now (tree_texts (trees (map tree_view xs))) ++ row.closing.now) ++ rows_to_come rest) parts
+      ∙ ap (λ (xs : List WrittenTree). (texts_from row.before.now
+      (tree_texts (trees (map tree_view xs))) ++ row.closing.now) ++ rows_to_come rest) parts
       ∙ ap (λ t. (((row.before.now ++ t) ++ next) ++ row.closing.now) ++ rows_to_come rest) (opened (tree_view x))
       ∙ regroup row.before.now (opening_text (tree_view x)) (rest_text (tree_view x)) next row.closing.now (rows_to_come rest)
       ∙ ap (λ t. (row.before.now ++ opening_text (tree_view x)) ++ t) (sym pushed)
@@ -140,6 +143,7 @@ options_in (Tree.group ts) = 0
 options_in (Tree.terminal token) = 0
 options_in Tree.look = 0
 
+-- the openings of one option more are those of the others with one more behind them
 pub options-snoc : (n : ℕ) → options_text (suc n) ≡ options_text n ++ codes "?("
 options-snoc zero = refl
 options-snoc (suc n) = ap (λ t. codes "?(" ++ t) (options-snoc n) ∙ sym (append_assoc (codes "?(") (options_text n) (codes "?("))

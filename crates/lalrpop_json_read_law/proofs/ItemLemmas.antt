@@ -120,6 +120,7 @@ contents_read i c h = each_image (λ _. IsReadableEntry) IsReadEntry match_item_
 
 -- items
 
+-- an item that has a spelling is seen as one that a grammar may have as it is read
 pub item_read : (i : ℕ) (x : GrammarItem) → IsReadableItem x → IsReadItem (item_view x)
 item_read i x (IsReadableItem.nonterminal r e h) = subst (λ u. IsReadItem (item_view u)) (sym e) (rule_read r h)
 item_read i x (IsReadableItem.match_token b e h) =

@@ -5,6 +5,7 @@ use Rattle.lalrpop_grammar_symbols.specs.Symbols.{Text}
 use Rattle.lalrpop_json_values.specs.Scalars.{is_name}
 use Rattle.lalrpop_norm_expansion.specs.Premises.{is_identifier}
 
+-- a name of the format is an identifier
 pub name_read : (n : Text) → IsTrue (is_name n) → is_identifier n ≡ true
 name_read [] h = h
 name_read (c ∷ cs) h = h

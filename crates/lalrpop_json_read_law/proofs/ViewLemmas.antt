@@ -33,6 +33,7 @@ of_kind p k =
     fold-roll-Symbol (TextSpan → WrittenSymbol) (Syms TextSpan) (Text × Syms TextSpan) (Op × WrittenSymbol) WrittenSymbol
     kind_step expr_step macro_step repeat_step symbol_step (record { span = p; kind = k })
 
+-- the symbol of a name alone is seen as a name that may be of a terminal or a nonterminal
 pub view-id : (p : Span) (n : Text) → symbol_view (written_symbol p (kinds.AmbiguousId n)) ≡ Sym.ambiguous_id (span_view p) n
 view-id p n =
     of_kind p (kinds.AmbiguousId n)
@@ -41,6 +42,7 @@ view-id p n =
     (fold-roll-SymbolKind (TextSpan → WrittenSymbol) (Syms TextSpan) (Text × Syms TextSpan) (Op × WrittenSymbol) WrittenSymbol
     kind_step expr_step macro_step repeat_step symbol_step (layer.AmbiguousId n))
 
+-- the symbol of a terminal's literal is seen as that terminal
 pub view-literal : (p : Span) (l : TerminalLiteral)
     → symbol_view (written_symbol p (kinds.Terminal (terminals.Literal l))) ≡ Sym.terminal (span_view p) (literal_view l)
 view-literal p l =
@@ -50,6 +52,7 @@ view-literal p l =
     (fold-roll-SymbolKind (TextSpan → WrittenSymbol) (Syms TextSpan) (Text × Syms TextSpan) (Op × WrittenSymbol) WrittenSymbol
     kind_step expr_step macro_step repeat_step symbol_step (layer.Terminal (terminals.Literal l)))
 
+-- the symbol of a group is seen as the group of what is seen of its symbols
 pub view-group : (p : Span) (xs : List Symbol)
     → symbol_view (written_symbol p (group_of xs)) ≡ Sym.expr (span_view p) (syms (map symbol_view xs))
 view-group p xs =
@@ -62,6 +65,7 @@ view-group p xs =
     (fold-roll-ExprSymbol (TextSpan → WrittenSymbol) (Syms TextSpan) (Text × Syms TextSpan) (Op × WrittenSymbol) WrittenSymbol
     kind_step expr_step macro_step repeat_step symbol_step (record { symbols = xs }))
 
+-- the symbol of a macro is seen as the macro's name with what is seen of its arguments
 pub view-macro : (p : Span) (n : Text) (args : List Symbol)
     → symbol_view (written_symbol p (macro_of n args)) ≡ Sym.macro (span_view p) n (syms (map symbol_view args))
 view-macro p n args =
@@ -75,6 +79,7 @@ view-macro p n args =
     (fold-roll-MacroSymbol (TextSpan → WrittenSymbol) (Syms TextSpan) (Text × Syms TextSpan) (Op × WrittenSymbol) WrittenSymbol
     kind_step expr_step macro_step repeat_step symbol_step (record { name = record { 0 = n }; args = args }))
 
+-- the symbol of a repetition is seen as what is seen of the repeated symbol, with the operator
 pub view-repeat : (p : Span) (op : RepeatOp) (x : Symbol)
     → symbol_view (written_symbol p (repeat_of op x)) ≡ Sym.repeat (span_view p) (repeat_op_view op) (symbol_view x)
 view-repeat p op x =
@@ -87,6 +92,7 @@ view-repeat p op x =
     (fold-roll-RepeatSymbol (TextSpan → WrittenSymbol) (Syms TextSpan) (Text × Syms TextSpan) (Op × WrittenSymbol) WrittenSymbol
     kind_step expr_step macro_step repeat_step symbol_step (record { op = op; symbol = x }))
 
+-- the symbol that chooses a value is seen as the choice of what is seen of the symbol inside
 pub view-choose : (p : Span) (x : Symbol) → symbol_view (written_symbol p (kinds.Choose x)) ≡ Sym.choose (span_view p) (symbol_view x)
 view-choose p x =
     of_kind p (kinds.Choose x)
@@ -95,6 +101,7 @@ view-choose p x =
     (fold-roll-SymbolKind (TextSpan → WrittenSymbol) (Syms TextSpan) (Text × Syms TextSpan) (Op × WrittenSymbol) WrittenSymbol
     kind_step expr_step macro_step repeat_step symbol_step (layer.Choose x))
 
+-- the symbol that names a value is seen as its name, mutable or not, and what is seen of the symbol inside
 pub view-name : (p : Span) (m : Bool) (n : Text) (x : Symbol)
     → symbol_view (written_symbol p (named_of m n x)) ≡ Sym.name (span_view p) m n (symbol_view x)
 view-name p m n x =
@@ -104,6 +111,7 @@ view-name p m n x =
     (fold-roll-SymbolKind (TextSpan → WrittenSymbol) (Syms TextSpan) (Text × Syms TextSpan) (Op × WrittenSymbol) WrittenSymbol
     kind_step expr_step macro_step repeat_step symbol_step (layer.Name (record { mutable = m; name = n }) x))
 
+-- the symbol of the place ahead, `@L`, is seen as itself
 pub view-lookahead : (p : Span) → symbol_view (written_symbol p kinds.Lookahead) ≡ Sym.lookahead (span_view p)
 view-lookahead p =
     of_kind p kinds.Lookahead
@@ -112,6 +120,7 @@ view-lookahead p =
     (fold-roll-SymbolKind (TextSpan → WrittenSymbol) (Syms TextSpan) (Text × Syms TextSpan) (Op × WrittenSymbol) WrittenSymbol
     kind_step expr_step macro_step repeat_step symbol_step layer.Lookahead)
 
+-- the symbol of the place behind, `@R`, is seen as itself
 pub view-lookbehind : (p : Span) → symbol_view (written_symbol p kinds.Lookbehind) ≡ Sym.lookbehind (span_view p)
 view-lookbehind p =
     of_kind p kinds.Lookbehind
@@ -120,6 +129,7 @@ view-lookbehind p =
     (fold-roll-SymbolKind (TextSpan → WrittenSymbol) (Syms TextSpan) (Text × Syms TextSpan) (Op × WrittenSymbol) WrittenSymbol
     kind_step expr_step macro_step repeat_step symbol_step layer.Lookbehind)
 
+-- the symbol of errors, `!`, is seen as itself
 pub view-error : (p : Span) → symbol_view (written_symbol p kinds.Error) ≡ Sym.error (span_view p)
 view-error p =
     of_kind p kinds.Error
@@ -128,20 +138,26 @@ view-error p =
     (fold-roll-SymbolKind (TextSpan → WrittenSymbol) (Syms TextSpan) (Text × Syms TextSpan) (Op × WrittenSymbol) WrittenSymbol
     kind_step expr_step macro_step repeat_step symbol_step layer.Error)
 
+-- the type of a tuple is seen as the tuple of what is seen of its types
 pub view-tuple : (ts : List TypeRef) → type_view (types.Tuple ts) ≡ Ty.tuple (tys (map type_view ts))
 view-tuple ts = ap type_view (sym (types.rolls-Tuple ts)) ∙ fold-roll-TypeRef Ty type_step (type_layer.Tuple ts)
 
+-- the type of a path with arguments is seen as the path with what is seen of the arguments
 pub view-nominal : (path : Text) (ts : List TypeRef) → type_view (types.Nominal path ts) ≡ Ty.nominal path (tys (map type_view ts))
 view-nominal path ts = ap type_view (sym (types.rolls-Nominal path ts)) ∙ fold-roll-TypeRef Ty type_step (type_layer.Nominal path ts)
 
+-- the type of a name alone is seen as that name
 pub view-type_name : (n : Text) → type_view (types.Id n) ≡ Ty.id n
 view-type_name n = ap type_view (sym (types.rolls-Id n)) ∙ fold-roll-TypeRef Ty type_step (type_layer.Id n)
 
+-- the type that a symbol has is seen as the type of what is seen of the symbol
 pub view-of_symbol : (x : Symbol) → type_view (types.OfSymbol x) ≡ Ty.of_symbol (symbol_view x)
 view-of_symbol x = ap type_view (sym (types.rolls-OfSymbol x)) ∙ fold-roll-TypeRef Ty type_step (type_layer.OfSymbol x)
 
+-- the type of a reference is seen as its lifetime, mutable or not, and what is seen of the type behind it
 pub view-ref : (l : Option Text) (m : Bool) (t : TypeRef) → type_view (types.Ref l m t) ≡ Ty.ref l m (type_view t)
 view-ref l m t = ap type_view (sym (types.rolls-Ref l m t)) ∙ fold-roll-TypeRef Ty type_step (type_layer.Ref l m t)
 
+-- the type that is kept as a text is seen as that text
 pub view-opaque : (text : Text) → type_view (types.Opaque text) ≡ Ty.opaque text
 view-opaque text = ap type_view (sym (types.rolls-Opaque text)) ∙ fold-roll-TypeRef Ty type_step (type_layer.Opaque text)

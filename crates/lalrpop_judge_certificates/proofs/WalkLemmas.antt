@@ -161,6 +161,7 @@ pub record IsAdding (base children now : SpannedForest) (n : ℕ) : Type 0 where
   pub count : length (roots (without_spans front)) ≡ n
   pub now_is : now ≡ base beside front
 
+-- at first no children stand behind the trees that there are
 pub adding_none : (base children : SpannedForest) → IsAdding base children base 0
 adding_none base children = record {
   front = none_at;

@@ -87,7 +87,8 @@ module _ (grammar : List Production) (s : Text) (states others : List State) (nu
   edge_source m (terminal t) l h = old_number m h.0 h.1
   edge_source m (nonterminal A) l h = old_number m h.0 h.1
 
-  edge_there : (n m : ℕ) → Goes n m → (x : Symbol) (l : ℕ) → HasEdge others m x l → (k : ℕ) × HasEdge states n x k × Goes k l
+  edge_there : (n m : ℕ) → Goes n m → (x : Symbol) (l : ℕ) → HasEdge others m x l →
+      (k : ℕ) × HasEdge states n x k × Goes k l
   edge_there n m e (terminal t) l h =
       let o = old_at n m e in
       let k = ((are.same n m o.0 h.0 e o.1 h.1).shifts t l).0 h.2 in (k.0, (o.0, o.1, k.1), k.2)

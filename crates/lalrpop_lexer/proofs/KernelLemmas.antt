@@ -149,6 +149,7 @@ module _ (t : Graph) (sets : List (Vec ℕ Global)) (entries : List (Vec ℕ Glo
 abbrev key_order : Vec ℕ Global → Vec ℕ Global → Ordering
 key_order x y = slice_cmp nat_cmp x.items y.items
 
+-- whether a list of states is the one that a kernel holds
 abbrev pub is_key : List ℕ → Vec ℕ Global → Bool
 is_key key k = is_eq (slice_cmp nat_cmp key k.items)
 

@@ -92,6 +92,7 @@ pub items_none : (item : Bool → List ℕ → Reading (List Range)) (whole rest
     class_items_from item (length whole + 1) true [] whole ≡ syntax_fault rest
 items_none item whole rest is_first set w e = w.same ∙ none_at item w.count rest is_first set e
 
+-- before the first item of brackets is read, nothing of the set stands and all of the text is left
 pub items_start : (item : Bool → List ℕ → Reading (List Range)) (whole : List ℕ) (set : List Range) → set ≡ []
     → IsUnderWay item whole whole true set
 items_start item whole set e = rw e (record { shorter = omega arith; count = length whole + 1; enough = omega arith; same = refl })

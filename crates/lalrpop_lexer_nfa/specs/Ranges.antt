@@ -1,5 +1,6 @@
 -- Ranges, and the ranges that a list of ranges falls into.
-use Rattle.std.specs.Prelude.{◌≡◌, ℕ, ◌+◌, ◌<◌, ◌≤◌, ◌⊎◌, List, All, Contains, AllPairs, length, slice_index, slice_index_or}
+use Rattle.std.specs.Prelude.{◌≡◌, ℕ, ◌+◌, ◌<◌, ◌≤◌, ◌⊎◌, List, All, Contains, AllPairs, length}
+use Rattle.std.specs.Prelude.{slice_index, slice_index_or}
 use Rattle.lalrpop_lexer_nfa.specs.declared.test.Test.{Test}
 
 -- the range holds the number

@@ -118,6 +118,7 @@ partner_above r a b h =
 behind_above : (s e a : ℕ) → s ≤ e → nat_lt e a ≡ true → nat_le s a ≡ true
 behind_above s e a le h = grind (arith, nat_tests)
 
+-- before the first pair is looked at, those from the start of the range on are left
 pub walk_starts : (r : Range) (pairs rest : Pairs) (now : List Range) → AreInOrder pairs → r.start ≤ r.end
     → rest ≡ filter (λ (p : ℕ × ℕ). nat_le r.start p.0) pairs → IsUnderWay r pairs rest now now
 walk_starts r pairs rest now h le e =
@@ -194,6 +195,7 @@ pub record IsWalked (r : Range) (pairs rest : Pairs) (before now : List Range) :
 behind_leads : (r : Range) (a b : ℕ) → r.end < a → (in_range r a && not (in_range r b)) ≡ false
 behind_leads r a b lt = let out : in_range r a ≡ false = grind (arith, in_range_tells r a) in rw out refl
 
+-- once the pairs that are left begin behind the range, all partners of the range were gathered
 pub walk_ends : (r : Range) (pairs rest : Pairs) (before now : List Range) → IsUnderWay r pairs rest before now
     → All (λ (p : ℕ × ℕ). r.end < p.0) rest → IsWalked r pairs rest before now
 walk_ends r pairs rest before now w behind =
@@ -212,6 +214,7 @@ pub record AreLeft (rs : List Range) (i : ℕ) (pairs : Pairs) : Type 0 where
   pub in_order : AreInOrder pairs
   pub same : (k : ℕ) → i ≤ k → k < length rs → partners_of (range_at rs k) pairs ≡ partners_of (range_at rs k) fold_pairs
 
+-- before the first range all pairs are left
 pub all_left : (rs : List Range) (pairs : Pairs) → pairs ≡ fold_pairs → AreLeft rs 0 pairs
 all_left rs pairs e = rw e (record { in_order = AreInOrder-fold_pairs; same = λ k le hk. refl })
 
@@ -219,6 +222,7 @@ partner_behind : (r : Range) (e a b : ℕ) → e < r.start → (in_range r a && 
 partner_behind r e a b lt h =
     let inside = (and_parts (in_range r a) (not (in_range r b)) h).0 in grind (arith, nat_tests, in_range_tells r a)
 
+-- behind a range those pairs are left that begin behind its end
 pub fewer_left : (rs : List Range) (i : ℕ) (pairs rest : Pairs) → IsRising rs → i < length rs → AreLeft rs i pairs
     → rest ≡ filter (λ (p : ℕ × ℕ). nat_lt (range_at rs i).end p.0) pairs → AreLeft rs (i + 1) rest
 fewer_left rs i pairs rest rising hi w e =
@@ -298,6 +302,7 @@ led pairs (r ∷ rs) c h = elim (or_cases _ _ (sym (in_ranges-append (partners_o
       record { source = l.source; listed = l.listed; member = in_ranges-cons r rs l.source ∙ or_right _ _ l.member }
 ]
 
+-- what was gathered are the ranges and the partners of each, and nothing else
 pub gathers_partners : (pairs : Pairs) (rs gathered : List Range) → gathered ≡ rs ++ flat_map (λ r. partners_of r pairs) rs
     → Gathers pairs rs gathered
 gathers_partners pairs rs gathered e =

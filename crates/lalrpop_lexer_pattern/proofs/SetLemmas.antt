@@ -28,6 +28,7 @@ pub in_range_tells : (r : Range) (c : ℕ) → ((in_range r c ≡ true) × (r.st
 unfolding in_range
 in_range_tells r c = grind (arith, nat_tests)
 
+-- one of three, however they are grouped
 pub or_assoc : (x y z : Bool) → (x || (y || z)) ≡ ((x || y) || z)
 or_assoc true y z = refl
 or_assoc false y z = refl

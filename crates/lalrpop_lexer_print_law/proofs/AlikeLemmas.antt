@@ -224,6 +224,7 @@ alike_unnamed name q p unwritten a = record {
 pub alike_itself : (p : Pattern) → IsAlike p p
 alike_itself p = record { words = λ w. (λ m. m, λ m. m); refused = λ full. refl }
 
+-- the pattern that matches this one character
 abbrev pub letter : ℕ → Pattern
 letter c = Pattern.literal (c ∷ [])
 

@@ -18,9 +18,11 @@ use Rattle.lalrpop_lexer_print_law.proofs.NumeralLemmas.{scalar_read}
 abbrev pub behind_backslash : ℕ → List ℕ → List ℕ
 behind_backslash c t = 120 ∷ 123 ∷ (digits 16 true c ++ 125 ∷ t)
 
+-- a printed character with a text after it is a backslash and what is behind the backslash
 pub character_front : (c : ℕ) (t : List ℕ) → character_text c ++ t ≡ 92 ∷ behind_backslash c t
 character_front c t = ap (λ l. 92 ∷ 120 ∷ 123 ∷ l) (append_assoc (digits 16 true c) (125 ∷ []) t)
 
+-- what is behind the backslash of a printed character is longer than the text after the character
 pub length-behind : (c : ℕ) (t : List ℕ) → length t < length (behind_backslash c t)
 length-behind c t = omega (arith, length-append (digits 16 true c) (125 ∷ t))
 
@@ -45,6 +47,7 @@ range_behind a b t = behind_backslash a (45 ∷ 92 ∷ behind_backslash b t)
 in_order : (a b c d e : List ℕ) → (((a ++ b) ++ c) ++ d) ++ e ≡ a ++ (b ++ (c ++ (d ++ e)))
 in_order a b c d e = simp append_assoc
 
+-- printed ranges with a text after them are a backslash and what is behind that of the first range
 pub range_front : (r : Range) (rs : List Range) (t : List ℕ)
     → ranges_text (r ∷ rs) ++ t ≡ 92 ∷ range_behind r.start r.end (ranges_text rs ++ t)
 range_front r rs t =

@@ -57,6 +57,7 @@ in_range_set r c h =
     in_ranges-ranges_of (in_ranges (r ∷ [])) c h ∙ in_ranges-cons r [] c
     ∙ ap (λ b. in_range r c || b) (in_ranges-nil c) ∙ or-false (in_range r c)
 
+-- a code point is in what is read beside a set just where it is in the set or in one of the ranges
 pub in_joined : (rs set : List Range) (c : ℕ) → c ≤ 0x10_FFFF
     → in_ranges (joined_set set rs) c ≡ (in_ranges set c || in_ranges rs c)
 in_joined [] set c h = sym (ap (λ b. in_ranges set c || b) (in_ranges-nil c) ∙ or-false (in_ranges set c))
@@ -116,6 +117,7 @@ nonempty_members (r ∷ rs) c = elim (cases_Bool (nat_le r.start r.end)) [
       rw none (nonempty_members rs c ∙ sym (in_ranges-cons r rs c ∙ ap (λ b. b || in_ranges rs c) out))
 ]
 
+-- where the ends of ranges are scalar values, those that hold a character are ranges as they are printed
 pub nonempty_printed : (rs : List Range) → HaveScalarEnds rs → ArePrinted (nonempty_ranges rs)
 nonempty_printed [] h = tt
 nonempty_printed (r ∷ rs) h = elim (cases_Bool (nat_le r.start r.end)) [
@@ -222,6 +224,7 @@ bracket_members (r ∷ rs) c all = joined_members (r ∷ rs) c all
 abbrev pub read_set : List Range → List Range
 read_set rs = bracket_set (nonempty_ranges rs)
 
+-- a printed class is read as a set with the same members
 pub read_members : (rs : List Range) (c : ℕ) → HaveScalarEnds rs → InRanges (read_set rs) c ↔ InRanges rs c
 read_members rs c h =
     let one = bracket_members (nonempty_ranges rs) c (nonempty_printed rs h) in (
@@ -229,6 +232,7 @@ read_members rs c h =
       λ m. one.1 (InRanges-from (nonempty_ranges rs) c (nonempty_members rs c ∙ in_ranges-from rs c m)),
     )
 
+-- the text of a class is read as an atom: the class of the set that it is read as
 pub class_read : (d : ℕ) (t : List ℕ) (rs : List Range) → HaveScalarEnds rs
     → atom_read (suc d) (class_text rs ++ t) ≡ Ok (Pattern.class (read_set rs), t)
 class_read d t rs h = bracket_read d t (nonempty_ranges rs) (nonempty_printed rs h)

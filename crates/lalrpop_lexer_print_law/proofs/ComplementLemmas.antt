@@ -84,6 +84,7 @@ pub digit_set : IsReadAsTest (letter_text 100) is_digit_char
 unfolding plain_atom_at escaped_atom_at escaped_set_at base_set_at finished_set
 digit_set = test_set (letter_text 100) (100 ∷ []) is_digit_char refl (λ rest. refl)
 
+-- `\D` is read as the class of the scalar values that are no digits
 pub digit_rest : IsReadAsRest (letter_text 68) is_digit_char
 unfolding plain_atom_at escaped_atom_at escaped_set_at base_set_at finished_set
 digit_rest = rest_set (letter_text 68) (68 ∷ []) is_digit_char refl (λ rest. refl)
@@ -93,6 +94,7 @@ pub space_set : IsReadAsTest (letter_text 115) is_space_char
 unfolding plain_atom_at escaped_atom_at escaped_set_at base_set_at finished_set
 space_set = test_set (letter_text 115) (115 ∷ []) is_space_char refl (λ rest. refl)
 
+-- `\S` is read as the class of the scalar values that are no white space
 pub space_rest : IsReadAsRest (letter_text 83) is_space_char
 unfolding plain_atom_at escaped_atom_at escaped_set_at base_set_at finished_set
 space_rest = rest_set (letter_text 83) (83 ∷ []) is_space_char refl (λ rest. refl)
@@ -102,6 +104,7 @@ pub word_set : IsReadAsTest (letter_text 119) is_word_char
 unfolding plain_atom_at escaped_atom_at escaped_set_at base_set_at finished_set
 word_set = test_set (letter_text 119) (119 ∷ []) is_word_char refl (λ rest. refl)
 
+-- `\W` is read as the class of the scalar values that words are not made of
 pub word_rest : IsReadAsRest (letter_text 87) is_word_char
 unfolding plain_atom_at escaped_atom_at escaped_set_at base_set_at finished_set
 word_rest = rest_set (letter_text 87) (87 ∷ []) is_word_char refl (λ rest. refl)

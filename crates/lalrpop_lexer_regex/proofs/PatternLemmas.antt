@@ -47,6 +47,7 @@ pub record IsRepeating (p : Pattern) (whole rest : List ℕ) (q : Pattern) : Typ
   pub enough : length rest < count
   pub same : repeats_from (length whole + 1) p whole ≡ repeats_from count q rest
 
+-- before the first sign of repetition is read, the pattern is the one that they follow
 pub repeats_start : (p : Pattern) (whole : List ℕ) → IsRepeating p whole whole p
 repeats_start p whole = record { shorter = omega arith; count = length whole + 1; enough = omega arith; same = refl }
 

@@ -1,5 +1,6 @@
 -- Where each entry has a terminal, none is skipped. For the making of a scanner.
-use Rattle.std.proofs.Common.{◌≡◌, ◌∙◌, Bool, true, false, not, ◌&&◌, ◌||◌, cond, List, [], ◌∷◌, map, refl, ap, ap₂, sym}
+use Rattle.std.proofs.Common.{◌≡◌, ◌∙◌, Bool, true, false, not, ◌&&◌, ◌||◌, cond, List, [], ◌∷◌, map}
+use Rattle.std.proofs.Common.{refl, ap, ap₂, sym}
 use Rattle.std.specs.Prelude.{Option, Some, None, is_some, option_map}
 use Rattle.std.specs.List.{list_all}
 use Rattle.lalrpop_grammar_symbols.specs.Symbols.{Terminal}
@@ -24,6 +25,7 @@ viewed_stand : (ts : List (Option TerminalString)) → list_all is_some ts ≡ l
 viewed_stand [] = refl
 viewed_stand (o ∷ ts) = ap₂ ◌&&◌ (same_stands o) (viewed_stand ts)
 
+-- all entries have a terminal exactly where none skips
 pub none_skips : (ts : List (Option TerminalString)) (es : List ScanEntry)
     → map (option_map terminal_view) ts ≡ map terminal_unless_skip es → list_all is_some ts ≡ not (some_skips es)
 none_skips ts es h = viewed_stand ts ∙ ap (list_all is_some) h ∙ all_stand es

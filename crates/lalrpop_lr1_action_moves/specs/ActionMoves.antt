@@ -17,7 +17,8 @@ use Rattle.lalrpop_lr1_shown_moves.specs.ShownMoves.{LeadsNowhere, ShowsMove, Sh
 -- no item's dot stands before the terminal
 abbrev pub HasNoShiftItem : List State → ℕ → Terminal → Type 0
 HasNoShiftItem states n t =
-    (p : theory.Production) (i : ℕ) (b : List theory.Symbol) → HasItem states n p i → drop i p.right ≡ theory.terminal t ∷ b → ⊥
+    (p : theory.Production) (i : ℕ) (b : List theory.Symbol) → HasItem states n p i →
+    drop i p.right ≡ theory.terminal t ∷ b → ⊥
 
 -- of some item whose dot does the rest has no trees, or nothing leads out behind it
 pub record HasLostShiftItem (g : Grammar) (s : Text) (states : List State) (ways : OutGraphs) (n : ℕ) (t : Terminal) : Type 0 where
@@ -34,7 +35,8 @@ ShowsShiftOf g s states ways n front t None = HasNoShiftItem states n t ⊎ HasL
 ShowsShiftOf g s states ways n front t (Some all) = ShowsMove g s ways n front (shift t) (Some t) all
 
 -- Moves that show the action: a reduction by the production of an item of the state, before what comes next; or a shift.
-abbrev pub ShowsAction : Grammar → Text → List State → OutGraphs → ℕ → List Move → theory.Next → Action → Option (List Move) → Type 0
+abbrev pub ShowsAction : Grammar → Text → List State → OutGraphs → ℕ → List Move → theory.Next → Action →
+    Option (List Move) → Type 0
 ShowsAction g s states ways n front x (actions.Reduce p) found =
     HasItem states n (production_view p.now) (length (production_view p.now).right) →
     ShowsReduction g s states ways n (production_view p.now) front x found

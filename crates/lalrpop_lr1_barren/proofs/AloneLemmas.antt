@@ -19,6 +19,7 @@ same_name : (x : Symbol) (n : NonterminalString) → production_symbol_view x �
 same_name (symbols.Nonterminal m) n e = let same : m.0 ≡ n.0 = cc in ap (λ t. symbols.Nonterminal (record { 0 = t })) same
 same_name (symbols.Terminal t) n e = let w : ⊥ = cc in absurd w
 
+-- a nonterminal that stands on no right side of the grammar stands on none as the grammar is seen
 pub alone_seen : (g : Grammar) (n : NonterminalString) → IsAlone n g.nonterminals → IsStartAlone (theory_grammar g) n.0
 alone_seen g n alone p c d =
     let m = in_map production_view (productions_of_grammar g) p c in

@@ -40,6 +40,7 @@ lent_derived trees are names wanted rules derived e f d =
     (subst (λ k. AreDerived names wanted (number_rules trees.table) k derived) long
     (subst (λ rs. AreDerived names wanted rs (length rules) derived) views d))
 
+-- rules that are derived for a terminal are for names below the count of names in all their kinds
 pub derived_names : (trees : LeastTrees) → AreLeastTrees trees → (wanted : ℕ) (t : Terminal) → IsWanted (symbols_by trees.table) t
     wanted →
     (derived : Derived) → AreDerived (name_count trees.table) wanted (number_rules trees.table) (length (number_rules trees.table))
@@ -83,6 +84,7 @@ pub record IsBeginNumber (it : BeginTrees) (n : NonterminalString) (b : ℕ) : T
   pub at : at_name n it.trees.now.numbers ≡ Some number
   pub is : begin_symbol (name_count it.trees.now.table) number ≡ b
 
+-- a name's number for trees that begin with the terminal comes from a number of its own
 pub begin_number_there : (it : BeginTrees) (n : NonterminalString) (b : ℕ) → Some b ≡ begin_number_of it n → IsBeginNumber it n b
 begin_number_there it n b e = go (at_name n it.trees.now.numbers) refl
   where
@@ -97,6 +99,7 @@ begin_number_there it n b e = go (at_name n it.trees.now.numbers) refl
           (sym (e ∙ ap (option_map (begin_symbol (name_count it.trees.now.table))) f));
     }
 
+-- a name without a number for trees that begin with the terminal has none of its own
 pub begin_number_missing : (it : BeginTrees) (n : NonterminalString) → None ≡ begin_number_of it n → at_name n it.trees.now.numbers
     ≡ None
 begin_number_missing it n e = go (at_name n it.trees.now.numbers) refl

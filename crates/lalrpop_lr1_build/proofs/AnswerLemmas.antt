@@ -100,6 +100,7 @@ lr0_states g start built h =
     none_alike (λ (n : Nil). []) nil_lookahead false (IsNextIn g.terminals []) (λ x. ⊥) g start nil_conflicts
     (nil_alike g.terminals) built h
 
+-- a fault of building before nothing is one of building without lookaheads
 pub lr0_fault : (g : Grammar) (start : NonterminalString) (fault : TableFault Nil) →
     IsFaultBuilt (λ (n : Nil). []) nil_lookahead false (IsNextIn g.terminals []) g start nil_conflicts fault →
     IsLr0Fault g start fault

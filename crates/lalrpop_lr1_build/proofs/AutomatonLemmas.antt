@@ -38,6 +38,7 @@ pub shifted_more : (Item Other : ℕ → Production → ℕ → Type 0) →
 shifted_more Item Other to n x p i h =
     record { dot = h.dot; rest = h.rest; on = h.on; item = to n p h.dot h.item; before = h.before }
 
+-- a walk along edges is a walk along any edges that include these
 pub walk_more : (Edge Other : ℕ → Symbol → ℕ → Type 0) → ((n : ℕ) (x : Symbol) (m : ℕ) → Edge n x m → Other n x m) →
     {g : List Symbol} {n : ℕ} → Walk Edge g n → Walk Other g n
 walk_more Edge Other to stands = stands

@@ -27,9 +27,11 @@ use Rattle.lalrpop_lr1_turn.proofs.ShiftLemmas.{item_moved, shifted_from, shifte
 use Rattle.lalrpop_lr1_build.specs.NumberedAutomata.{AreStartItems, HasNumberedEdge, HasNumberedItem, HasNumberedNext}
 use Rattle.lalrpop_lr1_build.proofs.AutomatonLemmas.{closure_more, marked_more}
 
+-- nothing is an element of an empty list
 pub no_element : {X : Type 0} (y : X) → Contains [] y → ⊥
 no_element y c = omega (arith, c.1)
 
+-- a list has something at each place before its length
 pub get_some : {X : Type 0} (xs : List X) (r : ℕ) → r < length xs → (x : X) × (slice_get xs r ≡ Some x)
 get_some [] r h = absurd (omega arith)
 get_some (x ∷ xs) zero h = (x, refl)
@@ -42,6 +44,7 @@ above {L} (x ∷ xs) a i l h c = ⊎_elim
     (λ e. let z : x.0 ≡ i = ap (λ (y : ℕ × L). y.0) e in omega (arith, h.0, z))
     (λ d. let r = above xs (suc x.0) i l h.1 d in omega (arith, h.0, r)) (contains_split x (i, l) xs c)
 
+-- in a list whose places ascend no place stands with two different values
 pub once_at : {L : Type 0} (xs : List (ℕ × L)) (a i : ℕ) (l m : L) → AscendsFrom a (places_of xs) → Contains xs (i, l) →
     Contains xs (i, m) → l ≡ m
 once_at [] a i l m h c d = absurd (no_element (i, l) c)
@@ -55,6 +58,7 @@ once_at {L} (x ∷ xs) a i l m h c d = ⊎_elim
     (λ f. once_at xs (suc x.0) i l m h.1 e f) (contains_split x (i, m) xs d))
     (contains_split x (i, l) xs c)
 
+-- a list that isn't empty has an element
 pub some_element : {X : Type 0} (xs : List X) → (xs ≡ [] → ⊥) → (x : X) × Contains xs x
 some_element [] h = absurd (h refl)
 some_element (x ∷ xs) h = (x, contains_here x xs)

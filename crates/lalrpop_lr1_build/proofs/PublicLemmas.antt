@@ -63,6 +63,7 @@ zip_left {A} {B} R (z ∷ xs) (y ∷ ys) h x c = ⊎_elim
     later : (w : B) × Contains ys w × R x w → (w : B) × Contains (y ∷ ys) w × R x w
     later r = (r.0, contains_later y r.0 ys r.1, r.2)
 
+-- of lists related place by place, the first has at each place of the second one that is related to what is there
 pub zip_at : {A B : Type 0} (R : A → B → Type 0) (xs : List A) (ys : List B) → AllZip R xs ys → (k : ℕ) (y : B) →
     slice_get ys k ≡ Some y → (x : A) × (slice_get xs k ≡ Some x) × R x y
 zip_at R [] [] h k y e = let z : ⊥ = cc in absurd z

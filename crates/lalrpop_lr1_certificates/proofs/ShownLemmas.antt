@@ -14,7 +14,8 @@ use Rattle.lalrpop_lr1_conflict_laws.specs.StandingConflicts.{IsStandingConflict
 use Rattle.lalrpop_lr1_certificates.specs.ShownStates.{AreShownConflicts, IsConflictAt, IsLeastToken, states_of}
 use Rattle.lalrpop_lr1_certificates.specs.declared.shown.ShownConflicts.{ShownConflicts}
 
-module _ (it : ShownConflicts) (are : AreShownConflicts it) (number : ℕ) (conflict : Conflict (List ℕ)) (at : IsConflictAt it number conflict) where
+module _ (it : ShownConflicts) (are : AreShownConflicts it) (number : ℕ) (conflict : Conflict (List ℕ))
+    (at : IsConflictAt it number conflict) where
   pub told : IsToldConflict it.grammar.now.terminals (states_of it) conflict
   told = are.told number conflict at
 

@@ -1,5 +1,6 @@
 -- How slots are filled one after the other: for the calls that make the certificates of all conflicts.
-use Rattle.std.proofs.Common.{◌≡◌, ◌∙◌, ◌<◌, ℕ, zero, suc, List, [], ◌∷◌, ◌++◌, length, map, Option, Some, None, refl, sym, ap, subst, arith}
+use Rattle.std.proofs.Common.{◌≡◌, ◌∙◌, ◌<◌, ℕ, zero, suc, List, [], ◌∷◌, ◌++◌, length, map, Option}
+use Rattle.std.proofs.Common.{Some, None, refl, sym, ap, subst, arith}
 use Rattle.std.proofs.Common.{inl, inr}
 use Rattle.std.specs.Prelude.{set, slice_get}
 use Rattle.std.proofs.Common.{◌+◌, ◌⊎◌, length-append}
@@ -15,7 +16,8 @@ use Rattle.lalrpop_judge_certificates.specs.declared.certificate.Certificate.{Ce
 use Rattle.lalrpop_lr1_items.proofs.NoConflictLemmas.{mapped_at}
 use Rattle.lalrpop_lr1_certificates.specs.ConflictCertificates.{AreCertificatesOf, HaveOwnActions}
 use Rattle.lalrpop_lr1_certificates.specs.ShownStates.{IsCertificateAt, IsLeastToken, states_of}
-use Rattle.lalrpop_lr1_certificates.specs.Slots.{AreEmptySlots, AreFilledBefore, AreFilledBelow, AreFilledSlots, AreFilling, AreLeastTokensOf, AreCertificateSlots, AreTakenOut, IsFilled, StayFilled}
+use Rattle.lalrpop_lr1_certificates.specs.Slots.{AreEmptySlots, AreFilledBefore, AreFilledBelow, AreFilledSlots, AreFilling}
+use Rattle.lalrpop_lr1_certificates.specs.Slots.{AreLeastTokensOf, AreCertificateSlots, AreTakenOut, IsFilled, StayFilled}
 use Rattle.lalrpop_lr1_certificates.specs.declared.shown.ShownConflicts.{ShownConflicts}
 
 -- what stands at the place that was written, and at the others
@@ -79,7 +81,8 @@ module _ (tokens : List TokenRef) (token : TokenRef) where
   pub none_before : (slots : List (Option Certificate)) → AreFilledBefore tokens token slots 0
   none_before slots i other below at same = absurd (omega (arith, below))
 
-  pub before_more : (old new : List (Option Certificate)) (number : ℕ) → StayFilled old new → AreFilledBefore tokens token old number →
+  pub before_more : (old new : List (Option Certificate)) (number : ℕ) → StayFilled old new →
+      AreFilledBefore tokens token old number →
       IsFilled new number → AreFilledBefore tokens token new (number + 1)
   before_more old new number stay before here i other below at same =
       one_or_other number i (IsFilled new i) (λ e. subst (IsFilled new) e here)
@@ -105,14 +108,16 @@ pub stay_on : (a b c : List (Option Certificate)) → StayFilled a b → StayFil
 stay_on a b c one other i f = other i (one i f)
 
 -- one more slot in which nothing stands
-pub empty_more : (n : ℕ) (old new : List (Option Certificate)) → new ≡ old ++ None ∷ [] → AreEmptySlots n old → AreEmptySlots (n + 1) new
+pub empty_more : (n : ℕ) (old new : List (Option Certificate)) → new ≡ old ++ None ∷ [] → AreEmptySlots n old →
+    AreEmptySlots (n + 1) new
 empty_more n old new more are = record {
   count = ap length more ∙ length-append old (None ∷ []) ∙ ap (λ k. k + 1) are.count;
   none = λ i slot e. go old i slot are.none (sym (ap (λ l. slice_get l i) more) ∙ e);
 }
   where
     go : (xs : List (Option Certificate)) (i : ℕ) (slot : Option Certificate) →
-        ((j : ℕ) (x : Option Certificate) → slice_get xs j ≡ Some x → x ≡ None) → slice_get (xs ++ None ∷ []) i ≡ Some slot → slot ≡ None
+        ((j : ℕ) (x : Option Certificate) → slice_get xs j ≡ Some x → x ≡ None) →
+        slice_get (xs ++ None ∷ []) i ≡ Some slot → slot ≡ None
     go [] zero slot none e = sym (some_same None slot e)
     go [] (suc i) slot none e = let z : ⊥ = cc in absurd z
     go (x ∷ xs) zero slot none e = none zero slot e
@@ -126,7 +131,8 @@ least_more it n old new token more are least = record {
   each = λ i other e. go i other (before_or_end old token i other (sym (ap (λ l. slice_get l i) more) ∙ e));
 }
   where
-    go : (i : ℕ) (other : TokenRef) → (slice_get old i ≡ Some other) ⊎ ((i ≡ length old) × (token ≡ other)) → IsLeastToken it i other
+    go : (i : ℕ) (other : TokenRef) → (slice_get old i ≡ Some other) ⊎ ((i ≡ length old) × (token ≡ other)) →
+        IsLeastToken it i other
     go i other (inl e) = are.each i other e
     go i other (inr e) = subst (λ t. IsLeastToken it i t) e.1 (subst (λ k. IsLeastToken it k token) (sym (e.0 ∙ are.count)) least)
 
@@ -154,7 +160,8 @@ module _ (it : ShownConflicts) (tokens : List TokenRef) (token : TokenRef) (firs
   }
 
 -- and before the first
-pub filling_none : (it : ShownConflicts) (tokens : List TokenRef) (token : TokenRef) (slots : List (Option Certificate)) → AreCertificateSlots it slots →
+pub filling_none : (it : ShownConflicts) (tokens : List TokenRef) (token : TokenRef) (slots : List (Option Certificate)) →
+    AreCertificateSlots it slots →
     AreFilling it tokens token slots slots 0
 filling_none it tokens token slots are =
     record { right = are; stay = stay_same slots; filled = none_before tokens token slots }
@@ -168,7 +175,9 @@ filled_more it tokens old new number token so_far there are stay filled = record
   filled = below_more old new number stay so_far.filled (filled number token (slice_get_within tokens number token there) there refl);
 }
 
-pub filled_on : (it : ShownConflicts) (slots : List (Option Certificate)) (number : ℕ) → AreFilledSlots it slots number → IsFilled slots number →
+-- where the slots below a number are filled, and the one at it, those below the next number are
+pub filled_on : (it : ShownConflicts) (slots : List (Option Certificate)) (number : ℕ) → AreFilledSlots it slots number →
+    IsFilled slots number →
     AreFilledSlots it slots (number + 1)
 filled_on it slots number so_far here = record {
   right = so_far.right;
@@ -186,7 +195,8 @@ module _ (all left rest : List (Option Certificate)) (taken : List Certificate) 
       let w : None ≡ Some f.0 = sym none ∙ same in
       absurd (cc)
 
-  pub taken_one : (c : Certificate) (new : List Certificate) (fewer : ℕ) → slot ≡ Some c → new ≡ taken ++ c ∷ [] → suc fewer ≡ many →
+  pub taken_one : (c : Certificate) (new : List Certificate) (fewer : ℕ) → slot ≡ Some c → new ≡ taken ++ c ∷ [] →
+      suc fewer ≡ many →
       AreTakenOut all new rest fewer
   taken_one c new fewer is more less = record {
     parts = ap (λ l. map Some l ++ rest) more ∙ ap (λ l. l ++ rest) (map-append (λ x. Some x) taken (c ∷ []))
@@ -198,16 +208,20 @@ module _ (all left rest : List (Option Certificate)) (taken : List Certificate) 
   }
 
 -- all slots as they were, with nothing taken out
-pub none_taken_out : (all left : List (Option Certificate)) (many : ℕ) → left ≡ all → AreFilledBelow all (length all) → many ≡ length left →
+pub none_taken_out : (all left : List (Option Certificate)) (many : ℕ) → left ≡ all → AreFilledBelow all (length all) →
+    many ≡ length left →
     AreTakenOut all [] left many
 none_taken_out all left many same filled count =
     record { parts = same; filled = subst (λ l. AreFilledBelow l (length l)) (sym same) filled; count = count }
 
 -- certificates that fill all slots are as many as the conflicts, and theirs
-pub slots_are_counted : (it : ShownConflicts) (all : List Certificate) → AreCertificateSlots it (map Some all) → length all ≡ length it.conflicts.now
+pub slots_are_counted : (it : ShownConflicts) (all : List Certificate) → AreCertificateSlots it (map Some all) →
+    length all ≡ length it.conflicts.now
 slots_are_counted it all are = sym (length-map all Some) ∙ are.count
 
-pub slots_are_certificates : (it : ShownConflicts) (all : List Certificate) → AreCertificateSlots it (map Some all) → HaveOwnActions it.grammar.now →
+-- full slots are a certificate for each conflict, in their order, where productions have actions of their own
+pub slots_are_certificates : (it : ShownConflicts) (all : List Certificate) → AreCertificateSlots it (map Some all) →
+    HaveOwnActions it.grammar.now →
     AreCertificatesOf it.grammar.now it.start.now.0 (states_of it) it.conflicts.now all
 slots_are_certificates it all are own = record {
   count = slots_are_counted it all are;

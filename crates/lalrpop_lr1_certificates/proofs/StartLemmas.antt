@@ -1,5 +1,6 @@
 -- Canonical states are led to by symbols with numbers, and the start has a number and a state: for what ways out are made from.
-use Rattle.std.proofs.Common.{◌≡◌, ◌∙◌, ◌<◌, ℕ, zero, suc, List, [], ◌∷◌, drop, length, Option, Some, Contains, refl, sym, ap, subst}
+use Rattle.std.proofs.Common.{◌≡◌, ◌∙◌, ◌<◌, ℕ, zero, suc, List, [], ◌∷◌, drop, length, Option, Some}
+use Rattle.std.proofs.Common.{Contains, refl, sym, ap, subst}
 use Rattle.std.proofs.lemmas.Option.{slice_get_within}
 use Rattle.lalrpop_grammar_symbols.specs.Symbols.{Text}
 use Rattle.lalrpop_grammar_repr.specs.declared.grammar.Grammar.{Grammar}
@@ -96,11 +97,13 @@ module _ (g : Grammar) (s : Text) (states : List State) (canonical : AreCanonica
           (r.0, (table_numbering table of.numbers).name_below r.0 s named, named)
 
       -- so paths lead to all states, and what leads out of them is known
-      pub stepped_states : (trees : LeastTrees) (paths : StatePaths) (ways other : OutGraphs) (start : NonterminalString) → trees.table ≡ table →
+      pub stepped_states : (trees : LeastTrees) (paths : StatePaths) (ways other : OutGraphs) (start : NonterminalString) →
+          trees.table ≡ table →
           paths.trees.now ≡ trees → ways.paths.now ≡ paths → other ≡ ways → start.0 ≡ s →
           (AreReachedStates trees states → ArePaths states (last_steps paths)) →
           (IsNumberTableOf g paths.trees.now.table → IsCover (IsProductionOf g) s (HasItem states) (HasEdge states) →
-          ArePaths states (last_steps paths) → HasNameNumber paths start → AreWaysOut g s states ways) → AreSteppedStates g s states other
+          ArePaths states (last_steps paths) → HasNameNumber paths start → AreWaysOut g s states ways) →
+          AreSteppedStates g s states other
       stepped_states trees paths ways other start tables of_trees of_paths same named lead out =
           let its_table : paths.trees.now.table ≡ table = ap (λ t. t.table) of_trees ∙ tables in
           let led = lead (record {

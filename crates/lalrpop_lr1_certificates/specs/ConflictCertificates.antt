@@ -25,7 +25,8 @@ move_of_action (actions.Reduce p) = reduce_by p.now.action.0
 
 -- It certifies a conflict; its first move is the reduction, its second the other action; the roots of the shared trees lead from state 0
 -- to the conflict's state; and next comes the least token of the conflict's lookahead: terminals ascend, the end is behind them.
-pub record IsCertificateOf (g : Grammar) (s : Text) (states : List State) (conflict : Conflict (List ℕ)) (c : ShownConflict) : Type 0 where
+pub record IsCertificateOf (g : Grammar) (s : Text) (states : List State) (conflict : Conflict (List ℕ))
+    (c : ShownConflict) : Type 0 where
   pub certifies : Certifies (IsProductionOf g) s c
   pub move1_is : c.move1 ≡ reduce_by conflict.production.now.action.0
   pub move2_is : c.move2 ≡ move_of_action conflict.action

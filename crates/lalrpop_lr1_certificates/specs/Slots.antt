@@ -34,7 +34,7 @@ abbrev pub AreFilledBefore : List TokenRef → TokenRef → List (Option Certifi
 AreFilledBefore tokens token slots below = (i : ℕ) (other : TokenRef) → i < below → slice_get tokens i ≡ Some other →
     token_seen other ≡ token_seen token → IsFilled slots i
 
--- Of the places below a number the slots with this token are filled; those that were filled before still are, and what stands there is right.
+-- Of the places below a number the slots with this token are filled; those filled before still are, and what stands there is right.
 pub record AreFilling (it : ShownConflicts) (tokens : List TokenRef) (token : TokenRef) (old slots : List (Option Certificate)) (n : ℕ) :
     Type 0 where
   pub right : AreCertificateSlots it slots
@@ -56,7 +56,8 @@ pub record AreFilledSlots (it : ShownConflicts) (slots : List (Option Certificat
   pub filled : AreFilledBelow slots n
 
 -- What was taken out stood in the first slots, the others are left, and all of them are filled.
-pub record AreTakenOut (all : List (Option Certificate)) (taken : List Certificate) (left : List (Option Certificate)) (many : ℕ) : Type 0 where
+pub record AreTakenOut (all : List (Option Certificate)) (taken : List Certificate) (left : List (Option Certificate))
+    (many : ℕ) : Type 0 where
   pub parts : map Some taken ++ left ≡ all
   pub filled : AreFilledBelow left (length left)
   pub count : many ≡ length left

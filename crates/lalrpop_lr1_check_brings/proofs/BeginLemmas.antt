@@ -26,6 +26,7 @@ use Rattle.lalrpop_lr1_check_names.proofs.NameLemmas.{in_flat, one_number, produ
 use Rattle.lalrpop_lr1_check_parts.proofs.GainLemmas.{no_element}
 use Rattle.lalrpop_lr1_check_brings.specs.BeginClauses.{AreBeginClauses, AreMarksOf, begin_of_rule, begin_to}
 
+-- the joined lists have what each element's list has
 pub flat_has : {X Y : Type 0} (f : X → List Y) (xs : List X) (x : X) (y : Y) → Contains xs x → Contains (f x) y →
     Contains (flat_map f xs) y
 flat_has f [] x y c d = absurd (no_element x c)

@@ -125,6 +125,7 @@ pub gains_no_name : {L : Type 0} (table : Numbered) (item : Item L) (marks : Lis
 gains_no_name table item marks e =
     gains_nothing marks (IsNumberBehind table item) (λ n p. let both = sym p.1 ∙ e in let w : ⊥ = cc in w)
 
+-- where a name stands behind a moved item's dot, gaining its number is gaining the number behind the dot
 pub gains_behind : {L : Type 0} (table : Numbered) (item : Item L) (name : NonterminalString) (old new : List Bool) →
     moved_name item ≡ Some name → GainsMarks old new (λ s. slice_get (table_names table) s ≡ Some name) →
     GainsMarks old new (IsNumberBehind table item)

@@ -213,6 +213,7 @@ key_there slots n slot e = go slots.keys.keys n e
     go (k ∷ ks) zero e = ap (λ s. Some (slot_key s)) (some_same k slot e)
     go (k ∷ ks) (suc n) e = go ks n e
 
+-- a number at which no slot stands is past all slots
 pub keys_past : (slots : Slots) (n : ℕ) → slice_get slots.keys.keys n ≡ None → length (slot_keys slots) ≤ n
 keys_past slots n e = go slots.keys.keys n e
   where

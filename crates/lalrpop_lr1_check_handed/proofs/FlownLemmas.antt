@@ -128,6 +128,7 @@ marks_of there [] j o e = let w : ⊥ = cc in absurd w
 marks_of there (s ∷ sets) zero o e = ap (slot_marks (λ (set : List ℕ). set) there) (some_same s o e)
 marks_of there (s ∷ sets) (suc j) o e = marks_of there sets j o e
 
+-- sets without a number past the end, as lookaheads, have no mark past the token of errors
 pub marks_within : (end : ℕ) (sets : List (List ℕ)) → ((j k : ℕ) → has (set_of_number sets j) k ≡ true → k ≤ end) →
     MarksAreWithin (λ (set : List ℕ). set) end (map Some sets)
 marks_within end sets small s l e k h =
@@ -167,6 +168,7 @@ module _ (end : ℕ) (edges : List Edge) (sets : List (List ℕ))
         (λ m. m) (or_cases (nat_eq (end + 2) k) (has l k) h),
   )
 
+-- where slots are marked with no token past the end, no number in their sets is past it
 pub slot_tokens : (end : ℕ) (slots : Slots) → AreSlots slots → ((key : SlotKey) (k : ℕ) → HasSlotMark slots key (Some k) →
     k ≤ end) →
     (j k : ℕ) → has (set_of_number (slot_sets slots) j) k ≡ true → k ≤ end

@@ -180,15 +180,16 @@ module _ (g : Grammar) (terminals : HasItsTerminals g) (all : List (State (List 
       go : (o : Option (State (List ℕ))) → slice_get all m ≡ o → ReducesBy (reductions_or_none o) p k →
           states.Reduces seen m (production_view p) (next_of_number g.terminals k)
       go None at (r, c, own) = absurd (no_element r c)
-      go (Some state) at (r, c, own) = subst (λ q. states.Reduces seen m (production_view q) (next_of_number g.terminals k)) own.0 (record {
-        state = lr_state_view look state;
-        lookahead = look r.0;
-        at = mapped_at (lr_state_view look) all m state at;
-        held = map_has (reduction_view look) state.reductions r c;
-        follows = map_has (next_of_number g.terminals) (filter (has r.0) (range_with_len 0 (eof_number g.terminals + 1))) k
-            (filter_has (has r.0) (range_with_len 0 (eof_number g.terminals + 1)) k own.1
-            (range_has 0 (eof_number g.terminals + 1) k (omega arith) (omega (arith, small))));
-      })
+      go (Some state) at (r, c, own) = subst (λ q. states.Reduces seen m (production_view q)
+          (next_of_number g.terminals k)) own.0 (record {
+            state = lr_state_view look state;
+            lookahead = look r.0;
+            at = mapped_at (lr_state_view look) all m state at;
+            held = map_has (reduction_view look) state.reductions r c;
+            follows = map_has (next_of_number g.terminals) (filter (has r.0) (range_with_len 0 (eof_number g.terminals + 1))) k
+                (filter_has (has r.0) (range_with_len 0 (eof_number g.terminals + 1)) k own.1
+                (range_has 0 (eof_number g.terminals + 1) k (omega arith) (omega (arith, small))));
+          })
 
   seen_reduces : (m : ℕ) (p : Production) (k : ℕ) → k ≤ eof_number g.terminals →
       states.Reduces seen m (production_view p) (next_of_number g.terminals k) → ReducesBy (reductions_in all m) p k

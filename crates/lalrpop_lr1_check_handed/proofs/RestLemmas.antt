@@ -54,6 +54,7 @@ get_past (x ∷ xs) (suc k) h = get_past xs k (omega (arith, h))
 pub end_is : (g : Grammar) → next_of_number g.terminals (eof_number g.terminals) ≡ None
 end_is g = ap (option_map terminal_view) (get_past g.terminals.all (eof_number g.terminals) (omega arith))
 
+-- the first set of symbols has the number of the end just where the symbols derive nothing
 pub nothing_is : (g : Grammar) (xs : List theory.Symbol) (all : List ℕ) (r : Bool) → IsFirstSet g xs all →
     r ≡ has all (eof_number g.terminals) → (r ≡ true) ↔ First0 (IsProductionOf g) xs None
 nothing_is g xs all r is e = (

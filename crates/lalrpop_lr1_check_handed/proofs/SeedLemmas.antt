@@ -27,6 +27,7 @@ begun_as g ps Seed Other more _ _ (IsBegunMark.seeded key mark s) = IsBegunMark.
 begun_as g ps Seed Other more _ _ (IsBegunMark.begun from key mark f b) =
     IsBegunMark.begun from key mark (begun_as g ps Seed Other more from None f) b
 
+-- slots with what items bring, closed, and then with the end for the start in state 0 are the seeds
 pub seeds_are : (g : Grammar) (ps : List Production) (s : Text) (states : List (State (List ℕ))) (none items closed all : Slots) →
     slot_keys none ≡ [] → GainsSlotMarks none items (ItemsBring g states) → ClosesMarks g ps items closed →
     GainsSlotMarks closed all (λ key mark. (key ≡ key_of 0 s) × IsMarkIn (eof_number g.terminals ∷ []) mark) →

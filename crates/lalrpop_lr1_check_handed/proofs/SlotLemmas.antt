@@ -22,6 +22,7 @@ use Rattle.lalrpop_lr1_check_handed.specs.contracts.slots.SlotPartialEq.TheImpl 
 use Rattle.lalrpop_lr1_check_handed.specs.declared.slots.Slot.{Slot}
 use Rattle.lalrpop_lr1_check_handed.specs.declared.slots.Slots.{Slots}
 
+-- the key of a slot from a state's number and a nonterminal's text
 abbrev pub key_of : ℕ → Text → SlotKey
 key_of n A = record { state = n; name = A }
 
@@ -218,6 +219,7 @@ of_keys old new own tokens are kept keys sets e f says = record {
   );
 }
 
+-- a slot that wasn't there, put in with an empty set, adds just the mark that it's there
 pub gains_new : (old new : Slots) (slot : Slot) → AreSlots old → list_any ((slots_eq.ghosts).eq slot) old.keys.keys ≡ false →
     new.keys.keys ≡ (if list_any ((slots_eq.ghosts).eq slot) old.keys.keys then old.keys.keys else old.keys.keys ++ slot ∷ []) →
     slot_sets new ≡ slot_sets old ++ [] ∷ [] → GainsSlotMarks old new (λ key mark. (key ≡ slot_key slot) × IsMarkIn [] mark)
@@ -231,6 +233,7 @@ gains_new old new slot are absent inserted pushed =
     (slot_keys old ++ slot_key slot ∷ []) (slot_sets old ++ [] ∷ []) e pushed
     (λ key mark. mark_pushed (slot_keys old) (slot_sets old) (slot_key slot) key mark are)
 
+-- a slot that was there already, put in once more, adds just the mark that it's there
 pub gains_old : (old new : Slots) (slot : Slot) (n : ℕ) → AreSlots old →
     list_any ((slots_eq.ghosts).eq slot) old.keys.keys ≡ true →
     new.keys.keys ≡ (if list_any ((slots_eq.ghosts).eq slot) old.keys.keys then old.keys.keys else old.keys.keys ++ slot ∷ []) →

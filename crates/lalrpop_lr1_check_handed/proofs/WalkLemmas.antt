@@ -84,6 +84,7 @@ walk_more Edge xs i x n next from m e says before =
           (step.0 (subst (λ l. LeadAlong Edge l n m) here (before.1 w))),
     )
 
+-- where no edge goes on by the next symbol, the symbols lead to no state, and none is the answer
 pub walk_stops : (Edge : ℕ → theory.Symbol → ℕ → Type 0) (xs : List Symbol) (i : ℕ) (x : Symbol) (n from m : ℕ) →
     slice_get xs i ≡ Some x → ((k : ℕ) → (◌≡◌ {A = Option ℕ} None (Some k)) ↔ Edge n (production_symbol_view x) k) →
     (LeadAlong Edge (map production_symbol_view (drop i xs)) n m ↔ LeadAlong Edge (map production_symbol_view xs) from m) →
@@ -95,6 +96,7 @@ walk_stops Edge xs i x n from m e says before =
           (subst (λ l. LeadAlong Edge l n m) here (before.1 w))),
     )
 
+-- behind the last symbol, the state that is reached is the one to which the symbols lead
 pub walk_ends : (Edge : ℕ → theory.Symbol → ℕ → Type 0) (xs : List Symbol) (i n from m : ℕ) → length xs ≤ i →
     (LeadAlong Edge (map production_symbol_view (drop i xs)) n m ↔ LeadAlong Edge (map production_symbol_view xs) from m) →
     (Some n ≡ Some m) ↔ LeadAlong Edge (map production_symbol_view xs) from m
@@ -116,6 +118,7 @@ name_some xs i x n e f =
     ∙ ap (λ l. theory.nonterminal n.0 ∷ map production_symbol_view l)
     (ap (λ j. drop j xs) one ∙ sym (take_all (length xs - (i + 1)) (drop (i + 1) xs) long))
 
+-- where a terminal stands, what is left of the symbols doesn't begin with a nonterminal
 pub name_other : (xs : List Symbol) (i : ℕ) (x : Symbol) (t : TerminalString) (A : Text) (b : List theory.Symbol) →
     slice_get xs i ≡ Some x → x ≡ symbols.Terminal t → drop i (map production_symbol_view xs) ≡ theory.nonterminal A ∷ b → ⊥
 name_other xs i x t A b e f g =

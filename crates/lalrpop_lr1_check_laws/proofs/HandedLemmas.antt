@@ -1,5 +1,6 @@
 -- What is carried is what is handed to names, along the symbols of a production: for that law.
-use Rattle.std.proofs.Common.{◌≡◌, ◌↔◌, ℕ, zero, suc, ◌+◌, List, [], ◌∷◌, ◌++◌, length, drop, take, refl, sym, ap, ◌∙◌, subst}
+use Rattle.std.proofs.Common.{◌≡◌, ◌↔◌, ℕ, zero, suc, ◌+◌, List, [], ◌∷◌, ◌++◌, length, drop, take}
+use Rattle.std.proofs.Common.{refl, sym, ap, ◌∙◌, subst}
 use Rattle.std.proofs.Common.{None, arith, append-nil}
 use Rattle.lalrpop_grammar_symbols.specs.Symbols.{Text}
 use Rattle.lalrpop_lr1_theory.specs.Productions.{Next, Production, Symbol, nonterminal}
@@ -28,7 +29,8 @@ take_all : {X : Type 0} (xs : List X) → take (length xs) xs ≡ xs
 take_all [] = refl
 take_all (x ∷ xs) = ap (λ l. x ∷ l) (take_all xs)
 
-module _ (G : Production → Type 0) (s : Text) (Item : ℕ → Production → ℕ → Type 0) (Edge : ℕ → Symbol → ℕ → Type 0) where
+module _ (G : Production → Type 0) (s : Text) (Item : ℕ → Production → ℕ → Type 0)
+    (Edge : ℕ → Symbol → ℕ → Type 0) where
   lead_one : (a : List Symbol) (X : Symbol) (n k m : ℕ) → LeadAlong Edge a n k → Edge k X m → LeadAlong Edge (a ++ X ∷ []) n m
   lead_one [] X n k m l e = (m, subst (λ j. Edge j X m) (sym l) e, refl)
   lead_one (Y ∷ a) X n k m l e = (l.0, l.1, lead_one a X l.0 k m l.2 e)

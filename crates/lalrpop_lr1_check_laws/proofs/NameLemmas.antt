@@ -1,5 +1,6 @@
 -- Names that a closure brings, that a start reaches, and that have trees: for the laws on checked states.
-use Rattle.std.proofs.Common.{◌≡◌, ◌↔◌, ◌⊎◌, ℕ, zero, suc, List, [], ◌∷◌, ◌++◌, drop, refl, sym, ap, ◌∙◌, subst, inl, inr}
+use Rattle.std.proofs.Common.{◌≡◌, ◌↔◌, ◌⊎◌, ℕ, zero, suc, List, [], ◌∷◌, ◌++◌, drop, refl, sym}
+use Rattle.std.proofs.Common.{ap, ◌∙◌, subst, inl, inr}
 use Rattle.std.proofs.Common.{arith, Contains, ⊎_elim}
 use Rattle.lalrpop_grammar_symbols.specs.Symbols.{Text}
 use Rattle.lalrpop_lr1_theory.specs.Productions.{Production, Symbol, nonterminal, terminal}
@@ -38,7 +39,8 @@ module _ (G : Production → Type 0) where
       })
 
   -- and the other way round: the productions of a name that is brought are in the closure
-  pub brought_item : (K : Production → ℕ → Type 0) {A : Text} → IsNameBrought G K A → (q : Production) → q.left ≡ A → G q →
+  pub brought_item : (K : Production → ℕ → Type 0) {A : Text} → IsNameBrought G K A → (q : Production) →
+      q.left ≡ A → G q →
       Closure G K q 0
   brought_item K (seeded A h) q e g =
       closed h.rest q (in_kernel h.production h.dot h.item) (h.before ∙ ap (λ B. nonterminal B ∷ h.rest) (sym e)) g

@@ -5,7 +5,8 @@ use Rattle.lalrpop_lr1_theory.specs.Productions.{Symbol, Production}
 use Rattle.lalrpop_lr1_check_laws.specs.NameClosures.{IsMovedItem, IsNameBegun, IsNameBrought}
 
 -- the state leads by the symbol to one that has the item with its dot moved over it
-abbrev pub LeadsToMoved : (ℕ → Production → ℕ → Type 0) → (ℕ → Symbol → ℕ → Type 0) → ℕ → Production → ℕ → Symbol → Type 0
+abbrev pub LeadsToMoved : (ℕ → Production → ℕ → Type 0) → (ℕ → Symbol → ℕ → Type 0) → ℕ → Production →
+    ℕ → Symbol → Type 0
 LeadsToMoved Item Edge n p i X = (m : ℕ) × Edge n X m × Item m p (suc i)
 
 -- the item stands in the state with its dot before the symbol

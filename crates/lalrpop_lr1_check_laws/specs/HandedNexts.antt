@@ -13,7 +13,8 @@ LeadAlong Edge (X ∷ g) n m = (k : ℕ) × Edge n X k × LeadAlong Edge g k m
 -- What is handed to a name in a state: the end to the start in state 0; what can come first behind the name after a dot; and,
 -- where what stands behind the name in a production derives nothing, what is handed to the production's own name, in the state
 -- from which the symbols before the name lead here.
-pub data IsHanded (G : Production → Type 0) (s : Text) (Item : ℕ → Production → ℕ → Type 0) (Edge : ℕ → Symbol → ℕ → Type 0) :
+pub data IsHanded (G : Production → Type 0) (s : Text) (Item : ℕ → Production → ℕ → Type 0)
+    (Edge : ℕ → Symbol → ℕ → Type 0) :
     ℕ → Text → Next → Type 0 where
   end_at_start : IsHanded G s Item Edge 0 s None
   first_behind : {n : ℕ} {p : Production} {i : ℕ} (b : List Symbol) (A : Text) (t : Terminal) → Closure G (Item n) p i →

@@ -11,11 +11,13 @@ set_there [] i h = absurd (omega arith)
 set_there (b ∷ bs) zero h = refl
 set_there (b ∷ bs) (suc i) h = set_there bs i (omega arith)
 
+-- a place that is marked is within the list of marks
 pub marked_within : (bs : List Bool) (i : ℕ) → IsMarked bs i → i < length bs
 marked_within [] i m = let w : ⊥ = cc in absurd w
 marked_within (b ∷ bs) zero m = omega arith
 marked_within (b ∷ bs) (suc i) m = omega (arith, marked_within bs i m)
 
+-- marking one place keeps all marks that were there
 pub set_kept : (bs : List Bool) (i n : ℕ) → IsMarked bs n → IsMarked (set bs i true) n
 set_kept [] i n m = let w : ⊥ = cc in absurd w
 set_kept (b ∷ bs) zero zero m = refl
@@ -23,6 +25,7 @@ set_kept (b ∷ bs) zero (suc n) m = m
 set_kept (b ∷ bs) (suc i) zero m = m
 set_kept (b ∷ bs) (suc i) (suc n) m = set_kept bs i n m
 
+-- a mark after one place is marked is at that place or was there before
 pub set_from : (bs : List Bool) (i n : ℕ) → IsMarked (set bs i true) n → (n ≡ i) ⊎ IsMarked bs n
 set_from [] i n m = let w : ⊥ = cc in absurd w
 set_from (b ∷ bs) zero zero m = inl refl
@@ -35,6 +38,7 @@ pub only_set : (bs : List Bool) (i n : ℕ) → ((k : ℕ) → has_mark bs k ≡
 only_set bs i n empty m =
     ⊎_elim (λ e. e) (λ k. let both : true ≡ false = sym k ∙ empty n in let w : ⊥ = cc in absurd w) (set_from bs i n m)
 
+-- a list with one place marked is as long as before
 pub set_long : (bs : List Bool) (i : ℕ) → length (set bs i true) ≡ length bs
 set_long [] i = refl
 set_long (b ∷ bs) zero = refl

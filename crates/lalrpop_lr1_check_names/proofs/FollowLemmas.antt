@@ -1,6 +1,7 @@
 -- What follows from marks by clauses has a tree by their rules, and the other way round: for closing marks.
 use Rattle.std.proofs.Common.{◌≡◌, ◌⊎◌, ◌↔◌, ℕ, zero, suc, ◌<◌, ◌≤◌, Bool, true, false, Some, None, Option}
-use Rattle.std.proofs.Common.{List, [], ◌∷◌, ◌++◌, length, map, refl, sym, ap, subst, inl, inr, ⊎_elim, arith, slice_get, Contains}
+use Rattle.std.proofs.Common.{List, [], ◌∷◌, ◌++◌, length, map, refl, sym, ap, subst, inl, inr, ⊎_elim, arith}
+use Rattle.std.proofs.Common.{slice_get, Contains}
 use Rattle.std.proofs.lemmas.Bool.{cases_lt}
 use Rattle.std.specs.Option.{is_some}
 use Rattle.std.specs.Prelude.{if◌then◌else◌}
@@ -107,7 +108,8 @@ module _ (clauses : List Clause) (marks : List Bool) where
       by_seed s = subst (λ (u : NumberRule). u.left < length marks) (sym s.is) s.within
 
   -- trees for several numbers, one after another
-  build_all : (ns : List ℕ) → ((k : ℕ) → Contains ns k → (ms : List NumberMove) × B (k ∷ []) ms) → (ms : List NumberMove) × B ns ms
+  build_all : (ns : List ℕ) → ((k : ℕ) → Contains ns k → (ms : List NumberMove) × B (k ∷ []) ms) →
+      (ms : List NumberMove) × B ns ms
   build_all [] each = ([], nothing)
   build_all (k ∷ ns) each =
       let one = each k (contains_here k ns) in
@@ -151,7 +153,8 @@ module _ (clauses : List Clause) (marks : List Bool) where
       ClausesAreWithin (length marks) clauses → (n : ℕ) → IsMarked (map is_some table) n ↔ F n
   closed_by table least within n = (there, back)
     where
-      entry_of : (t : List (Option LeastTree)) (k : ℕ) → IsMarked (map is_some t) k → (tree : LeastTree) × (slice_get t k ≡ Some (Some tree))
+      entry_of : (t : List (Option LeastTree)) (k : ℕ) → IsMarked (map is_some t) k →
+          (tree : LeastTree) × (slice_get t k ≡ Some (Some tree))
       entry_of [] k m = let w : ⊥ = cc in absurd w
       entry_of (None ∷ t) zero m = let w : ⊥ = cc in absurd w
       entry_of (Some tree ∷ t) zero m = (tree, refl)
@@ -169,7 +172,8 @@ module _ (clauses : List Clause) (marks : List Bool) where
       entry_at (e ∷ t) zero h = (e, refl)
       entry_at (e ∷ t) (suc k) h = entry_at t k (omega (arith, h))
 
-      some_marked : (t : List (Option LeastTree)) (k : ℕ) (tree : LeastTree) → slice_get t k ≡ Some (Some tree) → IsMarked (map is_some t) k
+      some_marked : (t : List (Option LeastTree)) (k : ℕ) (tree : LeastTree) → slice_get t k ≡ Some (Some tree) →
+          IsMarked (map is_some t) k
       some_marked [] k tree e = let w : ⊥ = cc in absurd w
       some_marked (None ∷ t) zero tree e = let w : ⊥ = cc in absurd w
       some_marked (Some u ∷ t) zero tree e = refl

@@ -32,6 +32,7 @@ no_element y c = omega (arith, c.1)
 name_is : (A B : Text) → theory.nonterminal A ≡ theory.nonterminal B → A ≡ B
 name_is A B e = cc
 
+-- what is in the joined lists is in the list that some element gives
 pub in_flat : {X Y : Type 0} (f : X → List Y) (xs : List X) (y : Y) → Contains (flat_map f xs) y →
     (x : X) × Contains xs x × Contains (f x) y
 in_flat f [] y c = absurd (no_element y c)

@@ -35,6 +35,7 @@ has_any-push (s ∷ rs) r k = go (has s.0 k) (has_any-push rs r k)
     go true e = refl
     go false e = e
 
+-- a test for a number in the first sets, or in the next one, is that test with one set more
 pub has_any-more : (rs : List ReductionEntry) (i : ℕ) (r : ReductionEntry) (old new : ℕ → Bool) → i < length rs →
     r ≡ get_or rs i r → ((k : ℕ) → old k ≡ has_any (take i rs) k) → ((k : ℕ) → new k ≡ (old k || has r.0 k)) →
     (k : ℕ) → new k ≡ has_any (take (i + 1) rs) k

@@ -44,6 +44,7 @@ same_terminals terminal.Error terminal.Error = (λ e. refl, λ e. refl)
 abbrev name_of : List ℕ → NonterminalString
 name_of n = record { 0 = n }
 
+-- names test as equal just where they are one
 pub same_names : (a b : NonterminalString) → Decides ((names.ghosts).eq a b) (a ≡ b)
 same_names a b =
     (λ e. ap name_of ((bytes_eq-Decides a.0 b.0).0 e), λ e. (bytes_eq-Decides a.0 b.0).1 (ap (λ n. n.0) e))
@@ -56,6 +57,7 @@ same_symbol (symbol.Terminal t) (symbol.Nonterminal n) = (λ e. cc, λ e. cc)
 same_symbol (symbol.Terminal t) (symbol.Terminal u) =
     (λ e. ap symbol.Terminal ((same_terminals t u).0 e), λ e. (same_terminals t u).1 (let same : t ≡ u = cc in same))
 
+-- where an `&&` is true, both of its sides are
 pub both_parts : (a b : Bool) → (a && b) ≡ true → (a ≡ true) × (b ≡ true)
 both_parts true b e = (refl, e)
 both_parts false b e = let z : ⊥ = cc in absurd z

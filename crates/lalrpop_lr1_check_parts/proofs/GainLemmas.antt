@@ -14,12 +14,15 @@ use Rattle.lalrpop_lr1_theory.proofs.ListLemmas.{contains_here, contains_later, 
 use Rattle.lalrpop_lr1_theory.proofs.StepLemmas.{some_same}
 use Rattle.lalrpop_lr1_check_parts.specs.ListTests.{GainsElements, HaveSameElements, HoldsAtEach, HoldsAtFirst, of_each_place}
 
+-- nothing is an element of an empty list
 pub no_element : {X : Type 0} (y : X) → Contains [] y → ⊥
 no_element y c = omega (arith, c.1)
 
+-- a list that stays as it is gains nothing
 pub gains_none : {X : Type 0} (a : List X) → GainsElements a a []
 gains_none a x = (λ c. inl c, λ h. ⊎_elim (λ c. c) (λ c. absurd (no_element x c)) h)
 
+-- what a list gains in two steps it gains in one, the second part behind the first
 pub gains_more : {X : Type 0} (a b c xs ys : List X) → GainsElements a b xs → GainsElements b c ys → GainsElements a c (xs ++ ys)
 gains_more a b c xs ys h k x = (
   λ e. ⊎_elim
@@ -87,6 +90,7 @@ pub taken_one : {X : Type 0} (xs : List X) (i : ℕ) (x : X) → i < length xs �
     take (i + 1) xs ≡ take i xs ++ x ∷ []
 taken_one xs i x h e = take_more xs i x h ∙ ap (λ y. take i xs ++ y ∷ []) (sym e)
 
+-- the images of one more of the first of a list are those so far and then that one's
 pub mapped_taken : {X Y : Type 0} (f : X → Y) (xs : List X) (i : ℕ) (x : X) → i < length xs → x ≡ get_or xs i x →
     map f (take (i + 1) xs) ≡ map f (take i xs) ++ f x ∷ []
 mapped_taken f xs i x h e = ap (map f) (taken_one xs i x h e) ∙ mapped_one f (take i xs) x
@@ -113,7 +117,8 @@ in_flat : {X Y : Type 0} (f : X → List Y) (xs : List X) (y : Y) → Contains (
 in_flat f [] y c = absurd (no_element y c)
 in_flat {X = X} f (z ∷ zs) y c = go (in_flat f zs y) (Contains-append_cases (f z) (flat_map f zs) y c)
   where
-    go : (Contains (flat_map f zs) y → (x : X) × Contains zs x × Contains (f x) y) → Contains (f z) y ⊎ Contains (flat_map f zs) y →
+    go : (Contains (flat_map f zs) y → (x : X) × Contains zs x × Contains (f x) y) →
+        Contains (f z) y ⊎ Contains (flat_map f zs) y →
         (x : X) × Contains (z ∷ zs) x × Contains (f x) y
     go deeper (inl d) = (z, contains_here z zs, d)
     go deeper (inr d) = let r : (x : X) × Contains zs x × Contains (f x) y = deeper d in (r.0, contains_later z r.0 zs r.1, r.2)
@@ -161,6 +166,7 @@ of_a_place {X} {Y} f xs y c =
     let place : r.0.0 ≡ p.0 = omega (arith, p.1) in
     (p.0, r.0.1, p.2, subst (λ k. Contains (f k r.0.1) y) place r.2)
 
+-- what comes of an element with its place is among what comes of all of them
 pub at_a_place : {X Y : Type 0} (f : ℕ → X → List Y) (xs : List X) (k : ℕ) (x : X) (y : Y) → slice_get xs k ≡ Some x →
     Contains (f k x) y → Contains (of_each_place f xs) y
 at_a_place {X} {Y} f xs k x y e c =
@@ -177,11 +183,13 @@ read_at [] n x y h e f = absurd (omega arith)
 read_at (z ∷ xs) zero x y h e f = e ∙ some_same z y f
 read_at (z ∷ xs) (suc n) x y h e f = read_at xs n x y (omega arith) e f
 
+-- what is read at a place within a list with a default stands at that place
 pub get_at : {X : Type 0} (xs : List X) (n : ℕ) (x : X) → n < length xs → x ≡ get_or xs n x → slice_get xs n ≡ Some x
 get_at [] n x h e = absurd (omega arith)
 get_at (z ∷ xs) zero x h e = ap Some (sym e)
 get_at (z ∷ xs) (suc n) x h e = get_at xs n x (omega arith) e
 
+-- what holds at the first places and at the next one holds at one place more
 pub first_more : {X : Type 0} (P : ℕ → X → Type 0) (xs : List X) (n : ℕ) (x : X) → n < length xs → x ≡ get_or xs n x → P n x
     →
     HoldsAtFirst P xs n → HoldsAtFirst P xs (n + 1)
@@ -199,6 +207,7 @@ first_more {X} P xs n x h e p before k y l f = go (cases k n l)
         let g : slice_get xs n ≡ Some y = ap (slice_get xs) c ∙ f in
         subst (λ j. P j y) c (subst (P n) (read_at xs n x y h e g) p)
 
+-- what holds at as many first places as a list has holds at each place
 pub first_all : {X : Type 0} (P : ℕ → X → Type 0) (xs : List X) (n : ℕ) → length xs ≤ n → HoldsAtFirst P xs n → HoldsAtEach
     P xs
 first_all P xs n h all k x e = all k x (omega (arith, h, slice_get_within xs k x e)) e
@@ -217,11 +226,13 @@ each_fails P xs n x r h e says fails = (
   λ all. let both : true ≡ false = sym (says.1 (all n x (get_at xs n x h e))) ∙ fails in let w : ⊥ = cc in absurd w,
 )
 
+-- where the test of the next place passes, what holds at the first places holds at one place more
 pub each_more : {X : Type 0} (P : ℕ → X → Type 0) (xs : List X) (n : ℕ) (x : X) (r : Bool) → n < length xs → x ≡ get_or xs n x
     →
     ((r ≡ true) ↔ P n x) → r ≡ true → HoldsAtFirst P xs n → HoldsAtFirst P xs (n + 1)
 each_more P xs n x r h e says passes before = first_more P xs n x h e (says.0 passes) before
 
+-- what held at each place up to the end holds at each place, as the answer true says
 pub each_passes : {X : Type 0} (P : ℕ → X → Type 0) (xs : List X) (n : ℕ) → length xs ≤ n → HoldsAtFirst P xs n →
     (◌≡◌ {A = Bool} true true) ↔ HoldsAtEach P xs
 each_passes P xs n h all = (λ z. first_all P xs n h all, λ z. refl)

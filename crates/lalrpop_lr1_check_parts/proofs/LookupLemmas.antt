@@ -40,9 +40,11 @@ bytes_self s = self_equal (slice_cmp nat_cmp s s) (nat_list_cmp_total.antisymm s
 abbrev name_at : List ℕ → NonterminalString
 name_at t = record { 0 = t }
 
+-- names that compare as equal are one
 pub name_exact : (a b : NonterminalString) → (names.ghosts).cmp a b ≡ Equal → a ≡ b
 name_exact a b e = ap name_at (exact_bytes a.0 b.0 e)
 
+-- each name compares as equal to itself
 pub name_self : (a : NonterminalString) → (names.ghosts).cmp a a ≡ Equal
 name_self a = bytes_self a.0
 
@@ -52,6 +54,7 @@ literal_exact (literal.Quoted s) (literal.Regex t) e = let w : ⊥ = cc in absur
 literal_exact (literal.Regex s) (literal.Quoted t) e = let w : ⊥ = cc in absurd w
 literal_exact (literal.Regex s) (literal.Regex t) e = ap literal.Regex (exact_bytes s t e)
 
+-- terminals that compare as equal are one
 pub terminal_exact : (a b : TerminalString) → (terminals.ghosts).cmp a b ≡ Equal → a ≡ b
 terminal_exact (terminal.Literal s) (terminal.Literal t) e = ap terminal.Literal (literal_exact s t e)
 terminal_exact (terminal.Literal s) (terminal.Bare t) e = let w : ⊥ = cc in absurd w
@@ -63,6 +66,7 @@ terminal_exact terminal.Error (terminal.Literal t) e = let w : ⊥ = cc in absur
 terminal_exact terminal.Error (terminal.Bare t) e = let w : ⊥ = cc in absurd w
 terminal_exact terminal.Error terminal.Error e = refl
 
+-- each terminal compares as equal to itself
 pub terminal_self : (a : TerminalString) → (terminals.ghosts).cmp a a ≡ Equal
 terminal_self (terminal.Literal (literal.Quoted s)) = bytes_self s
 terminal_self (terminal.Literal (literal.Regex s)) = bytes_self s

@@ -35,6 +35,7 @@ drop_get f [] (suc i) y b e = let w : ⊥ = cc in absurd w
 drop_get f (x ∷ xs) zero y b e = let z : f x ≡ y = cc in (x, refl, z)
 drop_get f (x ∷ xs) (suc i) y b e = drop_get f xs i y b e
 
+-- what is left of a mapped list at a place begins with the image of what stands there
 pub get_drop : {X Y : Type 0} (f : X → Y) (xs : List X) (i : ℕ) (x : X) → slice_get xs i ≡ Some x →
     (b : List Y) × (drop i (map f xs) ≡ f x ∷ b)
 get_drop f [] i x e = let w : ⊥ = cc in absurd w
@@ -55,6 +56,7 @@ placed_some xs i x n e = go (slice_get xs i) refl e
         let both : ◌≡◌ {A = Symbol × ℕ} (x, n) (y, i + 1) = some_same (x, n) (y, i + 1) g in
         (f ∙ ap (λ p. Some p.0) (sym both), ap (λ p. p.1) both)
 
+-- where no symbol with its place is answered, no symbol stands at the place
 pub placed_none : (xs : List Symbol) (i : ℕ) → None ≡ symbol_and_place xs i → slice_get xs i ≡ None
 placed_none xs i e = go (slice_get xs i) refl e
   where
@@ -63,6 +65,7 @@ placed_none xs i e = go (slice_get xs i) refl e
     go None f g = f
     go (Some y) f g = let w : ⊥ = cc in absurd w
 
+-- a list has something at each place before its length
 pub get_long : {X : Type 0} (xs : List X) (r : ℕ) → r < length xs → (x : X) × (slice_get xs r ≡ Some x)
 get_long [] r h = absurd (omega arith)
 get_long (x ∷ xs) zero h = (x, refl)

@@ -9,6 +9,7 @@ use Rattle.lalrpop_lr1_check_laws.proofs.HandedLemmas.{reduces_carried, reduces_
 use Rattle.lalrpop_lr1_check_laws.proofs.NameLemmas.{none_barren_productive}
 use Rattle.lalrpop_lr1_check_parts.specs.CheckedTests.{PassChecks}
 
+-- states that may be parsed with pass all tests
 pub checked_pass : (grammar : List Production) (s : Text) (states : List State) → AreCheckedStates grammar s states →
     PassChecks grammar s states
 checked_pass grammar s states c =
@@ -28,6 +29,7 @@ checked_pass grammar s states c =
       productive = (none_barren_productive (Contains grammar) s).0 c.none_barren;
     }
 
+-- states that pass all tests may be parsed with
 pub pass_checked : (grammar : List Production) (s : Text) (states : List State) → PassChecks grammar s states →
     AreCheckedStates grammar s states
 pass_checked grammar s states p = record {

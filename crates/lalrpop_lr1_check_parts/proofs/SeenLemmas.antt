@@ -50,6 +50,7 @@ abbrev made : List ℕ → List Symbol → ℕ → ℕ → ℕ → Production
 made name side action from to =
     record { nonterminal = record { 0 = name }; symbols = side; action = record { 0 = action }; span = record { 0 = from; 1 = to } }
 
+-- productions that are seen as one are one
 pub same_view : (p q : Production) → production_view p ≡ production_view q → p ≡ q
 same_view p q e =
     ap (λ x. made x p.symbols p.action.0 p.span.0 p.span.1) (ap (λ (v : theory.Production). v.left) e)

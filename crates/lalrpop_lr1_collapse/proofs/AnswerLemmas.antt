@@ -77,7 +77,8 @@ items_strict a b h k =
     there : h.other ≡ k.one
     there = same_production h.other k.one (sym h.other_is ∙ k.one_is)
 
-items_by_core : (a b c d : states.Item) → item_core a ≡ item_core c → item_core b ≡ item_core d → ItemBefore a b → ItemBefore c d
+items_by_core : (a b c d : states.Item) → item_core a ≡ item_core c → item_core b ≡ item_core d →
+    ItemBefore a b → ItemBefore c d
 items_by_core a b c d e f h =
     record {
       one = h.one;

@@ -55,6 +55,7 @@ cores_same (x ∷ a) (y ∷ b) = (
 abbrev pub dotted_view : DottedProduction → theory.Production × ℕ
 dotted_view c = (production_view c.0, c.1)
 
+-- the items as they are seen have the core that the items have, as it is seen
 pub core_view : {L : Type 0} (look : L → states.LookaheadSet) (items : List (Item L)) →
     map item_core (map (lr_item_view look) items) ≡ map dotted_view (items_core items)
 core_view look [] = refl

@@ -24,7 +24,8 @@ module _ {K : Type 0} {R : K → K → Ordering} (total : IsTotalOrder R) (numbe
   numbered to = record { 0 = slice_index_or numbers to.0 0 }
 
   pub renumbered_more : (whole done left rest old new : List (K × StateIndex)) (k : K) (to : StateIndex) →
-      IsStrictlySortedBy R (keys_of whole) → done ++ left ≡ whole → left ≡ (k, to) ∷ rest → old ≡ map (renumber numbers) done →
+      IsStrictlySortedBy R (keys_of whole) → done ++ left ≡ whole → left ≡ (k, to) ∷ rest →
+      old ≡ map (renumber numbers) done →
       new ≡ insert_entry R old k (numbered to) → new ≡ map (renumber numbers) (done ++ (k, to) ∷ [])
   renumbered_more whole done left rest old new k to sorted so first before inserted =
       inserted ∙ ap (λ es. insert_entry R es k (numbered to)) before
@@ -40,7 +41,8 @@ module _ {K : Type 0} {R : K → K → Ordering} (total : IsTotalOrder R) (numbe
           ∙ keys_of-map_values numbered (done ++ (k, to) ∷ rest) ∙ ap keys_of all
 
 -- the edges of a state at a place
-pub targets_at : (count : ℕ) (states : List (State (List ℕ))) (place : ℕ) (state : State (List ℕ)) → HaveTargetsWithin count states →
+pub targets_at : (count : ℕ) (states : List (State (List ℕ))) (place : ℕ) (state : State (List ℕ)) →
+    HaveTargetsWithin count states →
     slice_get states place ≡ Some state →
     All (λ (z : TerminalString × StateIndex). z.1.0 < count) state.shifts
     × All (λ (z : NonterminalString × StateIndex). z.1.0 < count) state.gotos

@@ -1,5 +1,6 @@
 -- Places of lists, one element more, and all of them: for the loops of the collapse.
-use Rattle.std.proofs.Common.{◌≡◌, ◌⊎◌, ℕ, zero, suc, ◌+◌, ◌<◌, ◌≤◌, List, [], ◌∷◌, ◌++◌, length, take, map, get_or}
+use Rattle.std.proofs.Common.{◌≡◌, ◌⊎◌, ℕ, zero, suc, ◌+◌, ◌<◌, ◌≤◌, List, [], ◌∷◌, ◌++◌}
+use Rattle.std.proofs.Common.{length, take, map, get_or}
 use Rattle.std.proofs.Common.{Some, refl, sym, ap, ◌∙◌, inl, inr, arith}
 use Rattle.std.proofs.Common.{append-nil}
 use Rattle.std.proofs.lemmas.List.Concat.{flat_map-append}
@@ -7,6 +8,7 @@ use Rattle.std.specs.Prelude.{flat_map, slice_get, slice_index_or}
 use Rattle.lalrpop_lr1_theory.proofs.ListLemmas.{get_split}
 use Rattle.lalrpop_lr1_theory.proofs.StepLemmas.{some_same}
 
+-- taking one more than a place's number takes what stands there, behind those before it
 pub take_get : {X : Type 0} (xs : List X) (i : ℕ) (x : X) → slice_get xs i ≡ Some x → take (i + 1) xs ≡ take i xs ++ x ∷ []
 take_get {X} xs i x e = ap (λ k. take k xs) (let z : i + 1 ≡ suc i = omega arith in z) ∙ go xs i e
   where
@@ -15,26 +17,31 @@ take_get {X} xs i x e = ap (λ k. take k xs) (let z : i + 1 ≡ suc i = omega ar
     go (y ∷ xs) zero e = ap (λ z. z ∷ []) (some_same y x e)
     go (y ∷ xs) (suc i) e = ap (λ zs. y ∷ zs) (go xs i e)
 
+-- taking at least as many as a list has takes all of it
 pub take_whole : {X : Type 0} (xs : List X) (i : ℕ) → length xs ≤ i → take i xs ≡ xs
 take_whole [] zero h = refl
 take_whole [] (suc i) h = refl
 take_whole (x ∷ xs) zero h = absurd (omega (arith, h))
 take_whole (x ∷ xs) (suc i) h = ap (λ ys. x ∷ ys) (take_whole xs i (omega (arith, h)))
 
+-- what is read at a place within a list with a default stands at that place
 pub get_here : {X : Type 0} (xs : List X) (i : ℕ) (x : X) → i < length xs → x ≡ get_or xs i x → slice_get xs i ≡ Some x
 get_here [] i x h e = absurd (omega (arith, h))
 get_here (y ∷ xs) zero x h e = ap Some (sym e)
 get_here (y ∷ xs) (suc i) x h e = get_here xs i x (omega (arith, h)) e
 
+-- within a list of numbers, what is read with zero as the default stands at that place
 pub index_here : (xs : List ℕ) (i : ℕ) → i < length xs → slice_get xs i ≡ Some (slice_index_or xs i 0)
 index_here [] i h = absurd (omega (arith, h))
 index_here (y ∷ xs) zero h = refl
 index_here (y ∷ xs) (suc i) h = index_here xs i (omega (arith, h))
 
+-- a mapped list is as long as the list
 pub long_map : {X Y : Type 0} (f : X → Y) (xs : List X) → length (map f xs) ≡ length xs
 long_map f [] = refl
 long_map f (x ∷ xs) = ap suc (long_map f xs)
 
+-- a list with one put behind is mapped to its image with that one's image put behind
 pub map_last : {X Y : Type 0} (f : X → Y) (xs : List X) (x : X) → map f (xs ++ x ∷ []) ≡ map f xs ++ f x ∷ []
 map_last f [] x = refl
 map_last f (y ∷ xs) x = ap (λ ys. f y ∷ ys) (map_last f xs x)

@@ -179,7 +179,8 @@ module _ (ts : TerminalSet) where
           let items = made.items in
           let number : items.number ≡ a = some_exact items.number a (sym items.numbered ∙ e) in
           let first : items.state ≡ made.first = state_exact items.state made.first (sym items.at ∙ made.at) in
-          let within = All-contains (λ (st : State (List ℕ)). All (λ (z : TerminalString × StateIndex). z.1.0 < length numbers) st.shifts
+          let within = All-contains
+          (λ (st : State (List ℕ)). All (λ (z : TerminalString × StateIndex). z.1.0 < length numbers) st.shifts
           × All (λ (z : NonterminalString × StateIndex). z.1.0 < length numbers) st.gotos) built made.first targets
           (contained built place made.first made.at) in
           record {

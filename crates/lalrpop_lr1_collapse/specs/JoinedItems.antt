@@ -34,7 +34,8 @@ pub record HasInOne (states : List (State (List ℕ))) (numbers : List ℕ) (a j
   pub mark : has_at state.items.vec j k ≡ true
 
 -- the items are those of the state at the place, each with what it has in its lookahead in any state with the same number
-pub record AreJoinedFrom (states : List (State (List ℕ))) (numbers : List ℕ) (place : ℕ) (joined : List (Item (List ℕ))) : Type 0 where
+pub record AreJoinedFrom (states : List (State (List ℕ))) (numbers : List ℕ) (place : ℕ)
+    (joined : List (Item (List ℕ))) : Type 0 where
   pub number : ℕ
   pub state : State (List ℕ)
   pub numbered : slice_get numbers place ≡ Some number

@@ -18,6 +18,7 @@ use Rattle.lalrpop_lr1_collapse_laws.specs.CollapsedStates.{HasEdgeOfOne, HasNum
 use Rattle.lalrpop_lr1_collapse_laws.proofs.CoreLemmas.{IsCoreMap, new_carried, new_cover}
 use Rattle.lalrpop_lr1_collapse_laws.proofs.FinishedLemmas.{ended, reduces_held, reduction_held}
 
+-- a list has something at each place before its length
 pub get_some : {X : Type 0} (xs : List X) (k : ℕ) → k < length xs → (x : X) × (slice_get xs k ≡ Some x)
 get_some [] k h = absurd (omega (arith, h))
 get_some (x ∷ xs) zero h = (x, refl)

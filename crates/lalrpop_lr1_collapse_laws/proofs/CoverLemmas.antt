@@ -4,11 +4,13 @@ use Rattle.lalrpop_grammar_symbols.specs.Symbols.{Text}
 use Rattle.lalrpop_lr1_theory.specs.Productions.{Production, Symbol}
 use Rattle.lalrpop_lr1_theory.specs.Automata.{Closure, IsCover, IsShifted, Walk, closed, goes, in_kernel, stands}
 
+-- the closure of more items has all that the closure of fewer has
 pub closure_more : (G : Production → Type 0) (K L : Production → ℕ → Type 0) →
     ((p : Production) (i : ℕ) → K p i → L p i) → {p : Production} {i : ℕ} → Closure G K p i → Closure G L p i
 closure_more G K L f (in_kernel p i k) = in_kernel p i (f p i k)
 closure_more G K L f (closed b q d e g) = closed b q (closure_more G K L f d) e g
 
+-- where a state has all items of another, it has all of that one's items moved over a symbol, too
 pub shifted_more : (Item Other : ℕ → Production → ℕ → Type 0) (n m : ℕ) (x : Symbol) →
     ((p : Production) (i : ℕ) → Item n p i → Other m p i) → (p : Production) (i : ℕ) → IsShifted Item n x p i →
     IsShifted Other m x p i

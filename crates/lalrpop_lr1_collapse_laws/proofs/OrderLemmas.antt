@@ -23,6 +23,7 @@ image_of {X} {Y} f (z ∷ zs) y c = go (image_of f zs y) (contains_split (f z) y
     go deeper (inl e) = (z, contains_here z zs, e)
     go deeper (inr d) = let r : (x : X) × Contains zs x × (f x ≡ y) = deeper d in (r.0, contains_later z r.0 zs r.1, r.2)
 
+-- a mapped list has the image of each element of the list
 pub image_there : {X Y : Type 0} (f : X → Y) (xs : List X) (x : X) → Contains xs x → Contains (map f xs) (f x)
 image_there f [] x c = absurd (no_element x c)
 image_there f (z ∷ zs) x c = go (image_there f zs x) (contains_split z x zs c)
@@ -31,12 +32,14 @@ image_there f (z ∷ zs) x c = go (image_there f zs x) (contains_split z x zs c)
     go deeper (inl e) = subst (λ y. Contains (f z ∷ map f zs) (f y)) e (contains_here (f z) (map f zs))
     go deeper (inr d) = contains_later (f z) (f x) (map f zs) (deeper d)
 
+-- a mapped list has at a place the image of what the list has there
 pub image_get : {X Y : Type 0} (f : X → Y) (xs : List X) (k : ℕ) (x : X) → slice_get xs k ≡ Some x →
     slice_get (map f xs) k ≡ Some (f x)
 image_get f [] k x e = let z : ⊥ = cc in absurd z
 image_get f (y ∷ xs) zero x e = ap Some (ap f (let z : y ≡ x = cc in z))
 image_get f (y ∷ xs) (suc k) x e = image_get f xs k x e
 
+-- what a mapped list has at a place is the image of what the list has there
 pub get_image : {X Y : Type 0} (f : X → Y) (xs : List X) (k : ℕ) (y : Y) → slice_get (map f xs) k ≡ Some y →
     (x : X) × (slice_get xs k ≡ Some x) × (f x ≡ y)
 get_image f [] k y e = let z : ⊥ = cc in absurd z

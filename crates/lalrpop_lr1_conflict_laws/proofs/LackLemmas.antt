@@ -1,4 +1,4 @@
--- Canonical states have trees on each path, and ways out behind each item; so nothing is missing that shows a conflict: for the law on that.
+-- Canonical states have trees on each path and ways out behind each item, so nothing lacks that shows a conflict: for the law on that.
 use Rattle.std.proofs.Common.{◌≡◌, ℕ, suc, List, ◌∷◌, ◌++◌, drop, length, subst, inl, inr, Contains, None}
 use Rattle.lalrpop_grammar_symbols.specs.Symbols.{Terminal, Text}
 use Rattle.lalrpop_grammar_symbols.specs.Views.{terminal_view}
@@ -60,13 +60,15 @@ module _ (grammar : List Production) (s : Text) (states : List State) (table : L
   item_on_path : (n : ℕ) (p : Production) (i : ℕ) → HasItem states n p i → (x : Next) × IsOnPath n p i x
   item_on_path n p i held =
       let w = paths.all n (held.state, held.at) in
-      let k = some_carried (Contains grammar) s (HasItem states) (HasEdge states) can.automaton.cover nb w.0 n (by_edges w.0 n w.1) p i held in
+      let k = some_carried (Contains grammar) s (HasItem states) (HasEdge states) can.automaton.cover nb w.0 n
+      (by_edges w.0 n w.1) p i held in
       (k.0, record { symbols = w.0; walk = w.1; carried = k.1 })
 
   -- moves lead out behind an item, from the state so many places back as its dot has symbols in front
   abbrev GoesOutBehind : ℕ → Production → ℕ → Next → Type 0
   GoesOutBehind n p i x =
-      GoesOut (Contains grammar) s (HasItem states) (HasEdge states) (LedBy table) (IsStateOf states) can.automaton.cover paths nb n i p.left x
+      GoesOut (Contains grammar) s (HasItem states) (HasEdge states) (LedBy table)
+      (IsStateOf states) can.automaton.cover paths nb n i p.left x
 
   way_behind : (n : ℕ) (p : Production) (i : ℕ) (x : Next) → IsOnPath n p i x → GoesOutBehind n p i x
   way_behind n p i x on =
@@ -90,7 +92,8 @@ module _ (grammar : List Production) (s : Text) (states : List State) (table : L
       (k.1.symbols, k.1.walk, lefts c and o.a, over, o.on)
 
   -- trees for what stands behind an item's dot, past the symbol there
-  rest_trees : (n : ℕ) (p : Production) (i : ℕ) → HasItem states n p i → (X : Symbol) (b : List Symbol) → drop i p.right ≡ X ∷ b →
+  rest_trees : (n : ℕ) (p : Production) (i : ℕ) → HasItem states n p i → (X : Symbol) (b : List Symbol) →
+      drop i p.right ≡ X ∷ b →
       (ts : Forest) × AreOver (Contains grammar) ts × (roots ts ≡ b)
   rest_trees n p i held X b d =
       let k = item_on_path n p i held in

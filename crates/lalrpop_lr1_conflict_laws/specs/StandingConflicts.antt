@@ -17,7 +17,8 @@ use Rattle.lalrpop_lr1_items.specs.declared.conflict.Conflict.{Conflict}
 abbrev pub IsOtherAction : List State → ℕ → theory.Next → theory.Production → Action → Type 0
 IsOtherAction states n x p (actions.Shift t target) =
     HasEdge states n (theory.terminal (terminal_view t)) target.0 × (Some (terminal_view t) ≡ x)
-IsOtherAction states n x p (actions.Reduce q) = Finished (HasLookahead states) n (production_view q.now) x × (p ≡ production_view q.now → ⊥)
+IsOtherAction states n x p (actions.Reduce q) = Finished (HasLookahead states) n (production_view q.now) x
+    × (p ≡ production_view q.now → ⊥)
 
 -- Before what comes next the conflict's state may reduce by its production, and do the other action.
 pub record IsStandingConflict (states : List State) (x : theory.Next) (conflict : Conflict (List ℕ)) : Type 0 where

@@ -26,7 +26,8 @@ module _ (g : Grammar) (s : Text) (states : List State) (ways : OutGraphs) (are 
 
   -- moves on the path to a state are some forest's there
   pub on_path : (front : List Move) → IsStateOf states n →
-      ((syms : List Symbol) → Walk (LedBy (last_steps ways.paths.now)) syms n → HaveForestMoves (IsProductionOf g) syms (Some front)) →
+      ((syms : List Symbol) → Walk (LedBy (last_steps ways.paths.now)) syms n →
+      HaveForestMoves (IsProductionOf g) syms (Some front)) →
       (f : Forest) × IsPathForest g ways n front f
   on_path front is told =
       let path = are.paths.all n is in
@@ -35,9 +36,11 @@ module _ (g : Grammar) (s : Text) (states : List State) (ways : OutGraphs) (are 
         record { symbols = path.0; walk = path.1; over = made.over; roots_are = made.roots_are; moves_are = sym made.moves_are },
       )
 
-  pub reduction_told : (other : OutGraphs) → other ≡ ways → (p : Production) (front : List Move) (x : Next) (found : Option (List Move)) →
+  pub reduction_told : (other : OutGraphs) → other ≡ ways →
+      (p : Production) (front : List Move) (x : Next) (found : Option (List Move)) →
       (AreSteppedStates g s states other → HasItem states n p (length p.right) → ShowsReduction g s states other n p front x found) →
       HasItem states n p (length p.right) → ShowsReduction g s states ways n p front x found
   reduction_told other one p front x found told held =
-      subst (λ it. AreSteppedStates g s states it → HasItem states n p (length p.right) → ShowsReduction g s states it n p front x found)
+      subst (λ it. AreSteppedStates g s states it → HasItem states n p (length p.right) →
+      ShowsReduction g s states it n p front x found)
       one told are held

@@ -34,7 +34,8 @@ pub record AreConflictMoves {L : Type 0} (g : Grammar) (s : Text) (states : List
       (Some (map tree_move_view it.other.items))
 
 -- some of them aren't there: trees for the symbols on the path, or moves that show the one or the other
-abbrev pub LacksConflictMoves : {L : Type 0} → Grammar → Text → List State → OutGraphs → ℕ → theory.Next → Conflict L → Type 0
+abbrev pub LacksConflictMoves : {L : Type 0} → Grammar → Text → List State → OutGraphs → ℕ → theory.Next →
+    Conflict L → Type 0
 LacksConflictMoves g s states ways n x conflict =
     ((syms : List theory.Symbol) → Walk (LedBy (last_steps ways.paths.now)) syms n → HaveForestMoves (IsProductionOf g) syms None)
     ⊎ ((front : List Move) × (ShowsReduction g s states ways n (production_view conflict.production.now) front x None

@@ -120,6 +120,7 @@ holds_more old new xs ys h a x = (
   λ c. (a x).1 (⊎_elim (λ d. inl ((h x).1 d)) (λ d. inr d) (Contains-append_cases xs ys x c)),
 )
 
+-- before anything is put in, an empty list has what an empty list has
 pub holds_none : {X : Type 0} (x : X) → Contains [] x ↔ Contains [] x
 holds_none x = (λ c. c, λ c. c)
 

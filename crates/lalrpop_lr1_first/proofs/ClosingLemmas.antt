@@ -10,7 +10,8 @@ use Rattle.lalrpop_lr1_theory.proofs.ListLemmas.{contains_get, contains_here, co
 use Rattle.lalrpop_lr1_items.specs.Views.{next_of_number}
 use Rattle.lalrpop_lr1_items.proofs.NoConflictLemmas.{at_mapped}
 use Rattle.lalrpop_sets.specs.Bits.{has}
-use Rattle.lalrpop_lr1_first.specs.ClosureTables.{AreItems, ClosesSeed, HoldTokens, IsClosureTable, SeedsAll, TableMarks, edge_of_rule, name_behind}
+use Rattle.lalrpop_lr1_first.specs.ClosureTables.{AreItems, ClosesSeed, HoldTokens, IsClosureTable, SeedsAll, TableMarks}
+use Rattle.lalrpop_lr1_first.specs.ClosureTables.{edge_of_rule, name_behind}
 use Rattle.lalrpop_lr1_first.specs.ClosureTables.{rule_edge_to, started_items, started_with}
 use Rattle.lalrpop_lr1_first.specs.FirstNumbers.{name_count, table_end, table_rules}
 use Rattle.lalrpop_lr1_first.specs.FlowEdges.{RestsAreWithin, edge_seen, edges_seen}

@@ -15,6 +15,7 @@ use Rattle.lalrpop_lr1_first.proofs.ListLemmas.{get_any}
 use Rattle.lalrpop_lr1_first.proofs.ListLemmas.{or_cases, or_left, or_right, set_itself}
 use Rattle.lalrpop_lr1_first.proofs.MissingLemmas.{missing_less, missing_set}
 
+-- before the first sweep the sets are the seed, and they count as changed, so that a sweep follows
 pub flowing_start : (firsts : Bool) (end : ℕ) (edges : List FlowEdge) (seed : List (List ℕ)) → AreBelow (end + 3) seed →
     IsFlowing firsts end edges seed seed true
 flowing_start firsts end edges seed b = record {
@@ -75,6 +76,7 @@ added_flows firsts end edges seed sets r e k there d h =
     (or_cases (eqb (end + 2) k) ((firsts && (not (eqb k end) && has e.first k)) || (has e.first end && has (set_of_number sets e.from) k))
     p.1)
 
+-- a sweep that has gone over no edge yet has changed nothing
 pub flowed_start : (firsts : Bool) (end : ℕ) (edges : List FlowEdge) (old : List (List ℕ)) → AreBelow (end + 3) old →
     FlowsTo firsts end edges 0 old old false
 flowed_start firsts end edges old b = record {
@@ -160,12 +162,14 @@ at_all_marks marks here [] a = refl
 at_all_marks marks here (l ∷ slots) zero = refl
 at_all_marks marks here (l ∷ slots) (suc a) = at_all_marks marks here slots a
 
+-- exchanging one slot exchanges just that slot's marks among the marks of all
 pub all_marks_set : {L : Type 0} (marks : L → List ℕ) (here : ℕ) (slots : List (Option L)) (a : ℕ) (l : Option L) →
     all_marks marks here (set slots a l) ≡ set (all_marks marks here slots) a (slot_marks marks here l)
 all_marks_set marks here [] a l = refl
 all_marks_set marks here (x ∷ slots) zero l = refl
 all_marks_set marks here (x ∷ slots) (suc a) l = ap (λ t. slot_marks marks here x ∷ t) (all_marks_set marks here slots a l)
 
+-- there are as many sets of marks as slots
 pub length_all_marks : {L : Type 0} (marks : L → List ℕ) (here : ℕ) (slots : List (Option L)) →
     length (all_marks marks here slots) ≡ length slots
 length_all_marks marks here [] = refl
@@ -320,6 +324,7 @@ marks_step {L} marks end now to came t t' w m read joined small a l e k h = ⊎_
         (or_cases (has (slot_marks marks (k + 1) t) k) (eqb (k + 1) k || has (marks came) k) (sym (joined (k + 1) k)
         ∙ ap (λ s. has (slot_marks marks (k + 1) s) k) z ∙ or_right (eqb (k + 1) k) (has (marks l) k) h))
 
+-- what is read within a list of slots is read there with none as the default, too
 pub at_none : {X : Type 0} (xs : List (Option X)) (a : ℕ) (x : Option X) → a < length xs → x ≡ get_or xs a x →
     get_or xs a None ≡ x
 at_none xs a x h e = get_any xs a None x h ∙ sym e

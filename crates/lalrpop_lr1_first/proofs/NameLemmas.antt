@@ -28,6 +28,7 @@ same_name a b = (
   λ e. is_eq-slice_cmp a.0 b.0 ∙ (bytes_eq-Decides a.0 b.0).1 (ap (λ n. n.0) e),
 )
 
+-- comparing two names the other way round gives the reverse order
 pub name_antisymm : (a b : NonterminalString) → (names.ghosts).cmp a b ≡ ordering_reverse ((names.ghosts).cmp b a)
 name_antisymm a b = nat_list_cmp_total.antisymm a.0 b.0
 
@@ -57,6 +58,7 @@ pairs_total (m ∷ ns) k n c = go (is_eq ((names.ghosts).cmp n m)) refl (pairs_t
         (λ e. let z : is_eq ((names.ghosts).cmp n m) ≡ true = (same_name n m).1 (sym e) in let w : ⊥ = cc in absurd w)
         rec (contains_split m n ns c)
 
+-- the keys of names paired with their places are these names
 pub pairs_keys : {X : Type 0} (ns : List X) (k : ℕ) → keys_of (pairs_from k ns) ≡ ns
 pairs_keys [] k = refl
 pairs_keys (n ∷ ns) k = ap (λ l. n ∷ l) (pairs_keys ns (suc k))

@@ -42,6 +42,7 @@ derives_more G H to xs ys (keeps x {xs = xs'} {ys = ys'} d) = keeps x (derives_m
 derives_more G H to xs ys (grows p {xs = xs'} {ys = ys'} {zs = zs} g d e) =
     grows p (to p g) (derives_more G H to p.right zs d) (derives_more G H to xs' ys' e)
 
+-- what can come first by some productions can by any productions that include these
 pub first_more : (G H : theory.Production → Type 0) → ((p : theory.Production) → G p → H p) →
     (xs : List theory.Symbol) (x : theory.Next) →
     First0 G xs x → First0 H xs x
@@ -57,6 +58,7 @@ derives_by G A xs ys (keeps x {xs = xs'} {ys = ys'} d) e not_kept =
     let z : x ≡ theory.nonterminal A = cc in absurd (not_kept ys' (ap (λ y. y ∷ ys') z))
 derives_by G A xs ys (grows p {xs = xs'} g d d') e not_kept = let z : p.left ≡ A = cc in (p, g, z)
 
+-- a nonterminal in which something can come first has a production
 pub first_by : (G : theory.Production → Type 0) (A : Text) (x : theory.Next) → First0 G (theory.nonterminal A ∷ []) x →
     (p : theory.Production) × G p × (p.left ≡ A)
 first_by G A None h = derives_by G A (theory.nonterminal A ∷ []) [] h refl (λ b e. let w : ⊥ = cc in w)
@@ -268,6 +270,7 @@ module _ (g : Grammar) (entries : List (NonterminalString × List ℕ)) (are : A
           let t : eqb k end ≡ true = ap (λ j. eqb k j) (sym e) ∙ eqb_self k in let w : ⊥ = cc in absurd w)
           (cases_lt k end)
 
+-- the keys of names paired with their sets are these names
 pub named_keys : (ns : List NonterminalString) (k : ℕ) (sets : List (List ℕ)) → keys_of (named_from k ns sets) ≡ ns
 named_keys [] k sets = refl
 named_keys (n ∷ ns) k sets = ap (λ l. n ∷ l) (named_keys ns (suc k) sets)

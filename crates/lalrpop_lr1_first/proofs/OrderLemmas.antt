@@ -31,6 +31,7 @@ exact_list R exact (x ∷ xs) (y ∷ ys) e =
     let b = both_equal (R x y) (slice_cmp R xs ys) e in
     ap (λ z. z ∷ xs) (exact x y b.0) ∙ ap (λ zs. y ∷ zs) (exact_list R exact xs ys b.1)
 
+-- names that compare as equal are one
 pub exact_name : CmpEqualImpliesEq (names.ghosts).cmp
 exact_name x y e = ap (λ t. record { 0 = t }) (exact_bytes x.0 y.0 e)
 
@@ -40,6 +41,7 @@ exact_literal (literal.Quoted s) (literal.Regex t) e = let w : ⊥ = cc in absur
 exact_literal (literal.Regex s) (literal.Quoted t) e = let w : ⊥ = cc in absurd w
 exact_literal (literal.Regex s) (literal.Regex t) e = ap literal.Regex (exact_bytes s t e)
 
+-- terminals that compare as equal are one
 pub exact_terminal : CmpEqualImpliesEq (terminals.ghosts).cmp
 exact_terminal (terminal.Literal s) (terminal.Literal t) e = ap terminal.Literal (exact_literal s t e)
 exact_terminal (terminal.Literal s) (terminal.Bare t) e = let w : ⊥ = cc in absurd w

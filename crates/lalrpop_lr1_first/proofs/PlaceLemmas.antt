@@ -31,6 +31,7 @@ get_dropped (y ∷ xs) (suc n) i x e =
 pub below_from : (n : ℕ) (all : List Place) (start : ℕ) → AreSymbolsBelow n all → AreSymbolsBelow n (drop start all)
 below_from n all start h i s e = h (start + i) s (get_dropped all start i (places.Symbol s) e)
 
+-- dropping at least as many as a list has leaves nothing
 pub drop_past : {X : Type 0} (xs : List X) (i : ℕ) → length xs ≤ i → drop i xs ≡ []
 drop_past [] zero h = refl
 drop_past [] (suc i) h = refl

@@ -32,6 +32,7 @@ taken_at (y ∷ xs) zero x e = let z : y ≡ x = cc in ap (λ w. w ∷ []) z
 taken_at (y ∷ xs) (suc i) x e =
     ap (λ n. take n (y ∷ xs)) (let z : suc i + 1 ≡ suc (i + 1) = omega arith in z) ∙ ap (λ l. y ∷ l) (taken_at xs i x e)
 
+-- what one more of the first of a list gives comes behind what those before it gave
 pub edges_more : {X Y : Type 0} (f : X → Option Y) (xs : List X) (i : ℕ) (x : X) → slice_get xs i ≡ Some x →
     filter_map f (take (i + 1) xs) ≡ filter_map f (take i xs) ++ cons_option (f x) []
 edges_more f xs i x e = ap (filter_map f) (taken_at xs i x e) ∙ filter_map-append f (take i xs) (x ∷ [])
@@ -62,6 +63,7 @@ no_name n xs e s more f l =
     let there : name_first n (s ∷ more) ≡ Some s = ap (λ b. if b then Some s else None) (true_lt s n l) in
     let both : Some s ≡ None = sym there ∙ here in let w : ⊥ = cc in w
 
+-- symbols that begin with the number of a nonterminal have that number as their first name
 pub name_there : (n : ℕ) (xs : List ℕ) (s : ℕ) (more : List ℕ) → xs ≡ s ∷ more → s < n → name_first n xs ≡ Some s
 name_there n xs s more f l = ap (name_first n) f ∙ ap (λ b. if b then Some s else None) (true_lt s n l)
 
@@ -279,6 +281,7 @@ ascend_from {L} slots (rule ∷ rules) a above starts =
     go None same more = same
     go (Some l) same more = (above 0 rule refl, more)
 
+-- the items with which rules start stand in order where the rules' starts do
 pub started_ascend : {L : Type 0} (slots : List (Option L)) (rules : List NumberedRule) →
     ((q r : ℕ) (one other : NumberedRule) → q < r → slice_get rules q ≡ Some one → slice_get rules r ≡ Some other →
     one.start < other.start) →

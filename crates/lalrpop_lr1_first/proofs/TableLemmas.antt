@@ -130,6 +130,7 @@ module _ (ts : TerminalSet) (set : IsTerminalSet ts) where
       end_at = end_is_none;
     }
 
+-- a mapped list has at a place the image of what the list has there
 pub get_mapped : {X Y : Type 0} (f : X → Y) (xs : List X) (r : ℕ) (x : X) → slice_get xs r ≡ Some x →
     slice_get (map f xs) r ≡ Some (f x)
 get_mapped f [] r x e = let w : ⊥ = cc in absurd w
@@ -172,6 +173,7 @@ spells_drop at (suc d) [] (y ∷ ys) sp = absurd sp
 spells_drop at (suc d) (x ∷ xs) [] sp = absurd sp
 spells_drop at (suc d) (x ∷ xs) (y ∷ ys) sp = spells_drop at d xs ys sp.1
 
+-- a mapped list is as long as the list
 pub long_map : {X Y : Type 0} (f : X → Y) (xs : List X) → length (map f xs) ≡ length xs
 long_map f [] = refl
 long_map f (x ∷ xs) = ap suc (long_map f xs)

@@ -1,5 +1,6 @@
 -- Edges put where they lead to, one after the other, and which they are then: for the lists of entering edges.
-use Rattle.std.proofs.Common.{◌≡◌, ◌≢◌, ◌∙◌, ℕ, zero, suc, ◌+◌, List, [], ◌∷◌, ◌++◌, length, Bool, true, false, nat_eq}
+use Rattle.std.proofs.Common.{◌≡◌, ◌≢◌, ◌∙◌, ℕ, zero, suc, ◌+◌, List, [], ◌∷◌, ◌++◌, length}
+use Rattle.std.proofs.Common.{Bool, true, false, nat_eq}
 use Rattle.std.proofs.Common.{Some, Contains, ◌⊎◌, inl, inr, ⊎_elim, refl, sym, ap, subst, arith, slice_get}
 use Rattle.std.proofs.Common.{Vec, Global}
 use Rattle.std.proofs.lemmas.Bool.{eqb-true}
@@ -10,9 +11,11 @@ use Rattle.lalrpop_lr1_graph_paths.specs.declared.graph.Edge.{Edge}
 use Rattle.lalrpop_lr1_graph_paths.specs.Graphs.{AddsEntering, EntersNode, edges_at, entering_from, listed_numbers, number_if}
 use Rattle.lalrpop_lr1_graph_paths.proofs.HeapLemmas.{first_or_other, first_there, others_there}
 
+-- nodes that the test finds equal are one node
 pub is_node : (m n : ℕ) → nat_eq m n ≡ true → m ≡ n
 is_node m n is = eqb-true m n is
 
+-- nodes that the test finds unequal are two nodes
 pub is_no_node : (m n : ℕ) → nat_eq m n ≡ false → m ≢ n
 is_no_node m n is = ⊎_elim (λ yes. let first = yes.0 in let no : ⊥ = cc in absurd no) (λ no. no.1) (eqb_tells m n)
 
@@ -51,9 +54,11 @@ first_pushed edges edge n =
 abbrev pub AreFirstEntering : List Edge → (ℕ → List ℕ) → Type 0
 AreFirstEntering edges lists = (n : ℕ) → lists n ≡ entering_from 0 edges n
 
+-- an empty table keeps the edges of a list that has none
 pub none_entered : {S : Type 0} (lists : HashMap ℕ (Vec ℕ Global) S) → IsEmpty lists → AreFirstEntering [] (edges_at lists)
 none_entered lists empty n = ap (λ es. listed_numbers (lookup (nat_eq n) es)) empty
 
+-- lists to which an edge was added at its node keep the edges before and this one
 pub entering_more : (edges : List Edge) (edge : Edge) (number : ℕ) (old new : ℕ → List ℕ) → number ≡ length edges →
     AddsEntering edge.to number old new → AreFirstEntering edges old → AreFirstEntering (edges ++ edge ∷ []) new
 entering_more edges edge number old new is adds are n = ⊎_elim
@@ -72,7 +77,8 @@ with_there : (test : Bool) (k : ℕ) (ks : List ℕ) (j : ℕ) → Contains ks j
 with_there true k ks j c = others_there k j ks c
 with_there false k ks j c = c
 
-with_from : (test : Bool) (k : ℕ) (ks : List ℕ) (j : ℕ) → Contains (number_if test k ks) j → ((test ≡ true) × (k ≡ j)) ⊎ Contains ks j
+with_from : (test : Bool) (k : ℕ) (ks : List ℕ) (j : ℕ) → Contains (number_if test k ks) j →
+    ((test ≡ true) × (k ≡ j)) ⊎ Contains ks j
 with_from true k ks j c = ⊎_elim (λ e. inl (refl, e)) (λ d. inr d) (first_or_other k j ks c)
 with_from false k ks j c = inr c
 
@@ -114,6 +120,7 @@ pub record AreEntering (edges : List Edge) (entering : ℕ → List ℕ) : Type 
   pub all : (e : ℕ) (edge : Edge) → slice_get edges e ≡ Some edge → Contains (entering edge.to) e
   pub only : (n e : ℕ) → Contains (entering n) e → EntersNode edges e n
 
+-- lists that keep all edges have for each node just the edges that lead to it
 pub are_entering : (edges : List Edge) (lists : ℕ → List ℕ) → AreFirstEntering edges lists → AreEntering edges lists
 are_entering edges lists are = record {
   all = λ e edge at. let same : 0 + e ≡ e = omega arith in

@@ -1,5 +1,6 @@
 -- Entries of goals and of edges, one after the other: for the functions that push them.
-use Rattle.std.proofs.Common.{◌≡◌, ◌∙◌, ℕ, ◌+◌, ◌<◌, ◌≤◌, List, [], ◌∷◌, ◌++◌, length, Contains, IsPermutation}
+use Rattle.std.proofs.Common.{◌≡◌, ◌∙◌, ℕ, ◌+◌, ◌<◌, ◌≤◌, List, [], ◌∷◌, ◌++◌, length}
+use Rattle.std.proofs.Common.{Contains, IsPermutation}
 use Rattle.std.proofs.Common.{Some, inl, inr, ⊎_elim, sym, ap, subst, arith, slice_get, length-append}
 use Rattle.std.proofs.lemmas.Bool.{cases_lt}
 use Rattle.std.proofs.lemmas.List.Elements.{Contains-append_left, Contains-push, Contains-push_cases}
@@ -13,11 +14,13 @@ use Rattle.lalrpop_lr1_graph_paths.specs.GraphPaths.{capped_sum, edge_weight, go
 use Rattle.lalrpop_lr1_graph_paths.specs.PathSearches.{AddsEdges, AreGoalEntries, IsEdgeEntry, IsGoalEntry, IsWaitingFor}
 use Rattle.lalrpop_lr1_graph_paths.proofs.HeapLemmas.{pushed_from, pushed_kept, pushed_long, pushed_there}
 
+-- what a list has at a place is one and the same, however it was found
 pub same_there : {X : Type 0} (xs : List X) (k : ℕ) (x y : X) → slice_get xs k ≡ Some x → slice_get xs k ≡ Some y → x ≡ y
 same_there xs k x y e f = cc
 
 -- those that wait still wait
-pub still_waits : (old new : List (Reverse Entry)) → ((entry : Reverse Entry) → Contains old entry → Contains new entry) → (n : ℕ) →
+pub still_waits : (old new : List (Reverse Entry)) →
+    ((entry : Reverse Entry) → Contains old entry → Contains new entry) → (n : ℕ) →
     IsWaitingFor old n → IsWaitingFor new n
 still_waits old new kept n w = record { entry = w.entry; has = kept w.entry w.has; node = w.node }
 

@@ -1,5 +1,6 @@
 -- Computed: nodes 0 to 3, edges 0 to 1, 1 to 2, 0 to 2 and 3 to 3, and a goal at 2. From 3 no path leads to it.
-use Rattle.std.proofs.Common.{◌≡◌, ◌∙◌, ℕ, zero, suc, ◌<◌, List, [], ◌∷◌, Some, None, refl, sym, ap, subst, arith, slice_get}
+use Rattle.std.proofs.Common.{◌≡◌, ◌∙◌, ℕ, zero, suc, ◌<◌, List, [], ◌∷◌, Some, None, refl, sym, ap}
+use Rattle.std.proofs.Common.{subst, arith, slice_get}
 use Rattle.lalrpop_lr1_graph_paths.specs.declared.graph.Edge.{Edge}
 use Rattle.lalrpop_lr1_graph_paths.specs.declared.graph.Goal.{Goal}
 use Rattle.lalrpop_lr1_graph_paths.specs.GraphPaths.{HasNoPathToGoal, IsPathIfSome, IsPathTo, capped_sum, ends, goes_on, path_weight}

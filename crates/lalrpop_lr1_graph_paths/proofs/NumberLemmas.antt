@@ -8,6 +8,7 @@ pub same_or_not : (m n : ℕ) → (m ≡ n) ⊎ (m ≢ n)
 same_or_not m n = ⊎_elim (λ l. inr (λ e. omega (arith, l, e)))
     (λ g. ⊎_elim (λ l. inr (λ e. omega (arith, l, e))) (λ h. inl (omega (arith, g, h))) (cases_lt n m)) (cases_lt m n)
 
+-- an optional value is never none and something at once
 pub never_both : {X : Type 0} (o : Option X) (x : X) → o ≡ None → o ≡ Some x → ⊥
 never_both o x n s = cc
 

@@ -29,6 +29,7 @@ pub weight_none : (paths : GoalPaths) (n : ℕ) → path_numbers paths.table n �
 weight_none paths n is =
     ap (λ o. option_map (λ (p : LightPath). p.weight) (option_and_then (slice_get paths.table.paths.items) o)) is
 
+-- where a node has the number of a path, the weight that is found for the node is that path's
 pub weight_found : (paths : GoalPaths) (n k : ℕ) → path_numbers paths.table n ≡ Some k → (path : LightPath) →
     slice_get paths.table.paths.items k ≡ Some path → found_weight paths n ≡ Some path.weight
 weight_found paths n k is path at =
@@ -41,6 +42,7 @@ pub first_edge_none : (paths : GoalPaths) (n : ℕ) → path_numbers paths.table
 first_edge_none paths n is =
     ap (λ o. option_and_then (λ (p : LightPath). edge_of_step p.step) (option_and_then (slice_get paths.table.paths.items) o)) is
 
+-- where a node has the number of a path, the first edge that is found for it is that with which the path begins
 pub first_edge_found : (paths : GoalPaths) (n k : ℕ) → path_numbers paths.table n ≡ Some k → (path : LightPath) →
     slice_get paths.table.paths.items k ≡ Some path → found_first_edge paths n ≡ edge_of_step path.step
 first_edge_found paths n k is path at =

@@ -1,5 +1,6 @@
 -- The search for paths, entry after entry: for its loop.
-use Rattle.std.proofs.Common.{◌≡◌, ◌∙◌, ℕ, zero, suc, ◌≤◌, List, [], ◌∷◌, ◌++◌, length, Contains, IsPermutation}
+use Rattle.std.proofs.Common.{◌≡◌, ◌∙◌, ℕ, zero, suc, ◌≤◌, List, [], ◌∷◌, ◌++◌, length, Contains}
+use Rattle.std.proofs.Common.{IsPermutation}
 use Rattle.std.proofs.Common.{Option, Some, None, ◌⊎◌, inl, inr, ⊎_elim, refl, sym, ap, subst, arith, slice_get, length-append}
 use Rattle.std.proofs.lemmas.List.Sorted.{Contains-permutation, IsPermutation-sym}
 use Rattle.std.specs.declared.cmp.Reverse.{Reverse}
@@ -42,7 +43,8 @@ module _ (edges : List Edge) (goals : List Goal) where
   }
 
   -- where more paths were found, a path weighs as before
-  weighed_still : (paths : List LightPath) (last : LightPath) (weight : ℕ) (step : PathStep) → IsWeighed edges goals paths weight step →
+  weighed_still : (paths : List LightPath) (last : LightPath) (weight : ℕ) (step : PathStep) →
+      IsWeighed edges goals paths weight step →
       IsWeighed edges goals (paths ++ last ∷ []) weight step
   weighed_still paths last weight (AtGoal g) w = w
   weighed_still paths last weight (OverEdge e rest) w = record {

@@ -13,6 +13,7 @@ use Rattle.lalrpop_lr1_graph_paths.proofs.EnteringLemmas.{are_entering}
 use Rattle.lalrpop_lr1_graph_paths.proofs.MeasureLemmas.{work_done}
 use Rattle.lalrpop_lr1_graph_paths.proofs.SearchLemmas.{search_keeps, search_passes, search_reordered}
 
+-- a list whose length is zero is the empty list
 pub nothing_left : {X : Type 0} (xs : List X) → length xs ≡ 0 → xs ≡ []
 nothing_left [] e = refl
 nothing_left (x ∷ xs) e = absurd (omega arith)

@@ -1,5 +1,6 @@
 -- What a graph keeps: its edges, and for each node the edges that lead to it.
-use Rattle.std.specs.Prelude.{ℕ, suc, Bool, true, false, List, [], ◌∷◌, ◌++◌, ◌≡◌, ◌≢◌, Option, Some, None, Vec, slice_get, nat_eq}
+use Rattle.std.specs.Prelude.{ℕ, suc, Bool, true, false, List, [], ◌∷◌, ◌++◌, ◌≡◌, ◌≢◌, Option, Some}
+use Rattle.std.specs.Prelude.{None, Vec, slice_get, nat_eq}
 use Rattle.std.specs.Global.{Global}
 use Rattle.std.specs.HashMap.{HashMap, get}
 use Rattle.lalrpop_lr1_graph_paths.specs.declared.graph.Edge.{Edge}

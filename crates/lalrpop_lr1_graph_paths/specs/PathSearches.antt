@@ -1,5 +1,6 @@
 -- The search for paths: which it has found, which wait to be looked at, and what is still to be done.
-use Rattle.std.specs.Prelude.{ℕ, ◌+◌, ◌<◌, List, [], ◌∷◌, ◌++◌, length, ◌≡◌, ◌≢◌, ◌⊎◌, Option, Some, None, Contains, nat_eq, slice_get}
+use Rattle.std.specs.Prelude.{ℕ, ◌+◌, ◌<◌, List, [], ◌∷◌, ◌++◌, length, ◌≡◌, ◌≢◌, ◌⊎◌}
+use Rattle.std.specs.Prelude.{Option, Some, None, Contains, nat_eq, slice_get}
 use Rattle.std.specs.HashMap.{get}
 use Rattle.std.specs.Option.{option_and_then, option_map}
 use Rattle.std.specs.declared.cmp.Reverse.{Reverse}

@@ -16,6 +16,7 @@ use Rattle.lalrpop_lr1_inline.specs.InliningSteps.{records_of}
 use Rattle.lalrpop_lr1_inline.proofs.MadeLemmas.{count_on}
 use Rattle.lalrpop_lr1_inline.proofs.StepRuleLemmas.{all_count_on}
 
+-- a step leaves the names of the nonterminals as they are, in their order
 pub keys_after : (n : Text) (sources : List Production) (es : NonterminalEntries) (k : ℕ) →
     keys_of (entries_after n sources es k) ≡ keys_of es
 keys_after n sources [] k = refl
@@ -57,6 +58,7 @@ productions_below m n sources (p ∷ qs) k below h =
 abbrev pub AreBelow : ℕ → NonterminalString × NonterminalData → Type 0
 AreBelow m e = All (IsBelow m) e.1.productions
 
+-- after a step all actions are below a number, where those before it are and the new ones end by it
 pub entries_below : (m : ℕ) (n : Text) (sources : List Production) (es : NonterminalEntries) (k : ℕ) → All (AreBelow m) es →
     k + length (all_records_after n sources es) ≤ m → All (AreBelow m) (entries_after n sources es k)
 entries_below m n sources [] k below h = All-nil (AreBelow m)

@@ -8,11 +8,13 @@ use Rattle.lalrpop_grammar_language.specs.Among.{Among}
 use Rattle.lalrpop_grammar_language.specs.Enabled.{has_text}
 use Rattle.std.proofs.lemmas.Grind.{reverse_onto}
 
+-- what stands in the first of two lists stands in them joined
 pub among_left : {A : Type 0} (xs ys : List A) (x : A) → Among xs x → Among (xs ++ ys) x
 among_left [] ys x h = absurd h
 among_left (a ∷ xs) ys x (inl e) = inl e
 among_left (a ∷ xs) ys x (inr h) = inr (among_left xs ys x h)
 
+-- what stands in the second of two lists stands in them joined
 pub among_right : {A : Type 0} (xs ys : List A) (x : A) → Among ys x → Among (xs ++ ys) x
 among_right [] ys x h = h
 among_right (a ∷ xs) ys x h = inr (among_right xs ys x h)
@@ -38,6 +40,7 @@ among_flat_map {A} {B} f (x ∷ xs) b i = go (among_parts (f x) (flat_map f xs) 
     go (inl j) later = (x, inl refl, j)
     go (inr j) later = let w = later j in (w.0, inr w.1, w.2)
 
+-- what stands in a list that is turned round stands in the list
 pub among_reverse : {A : Type 0} (xs : List A) (x : A) → Among (reverse xs) x → Among xs x
 among_reverse [] x i = i
 among_reverse {A} (y ∷ ys) x i =
@@ -48,6 +51,7 @@ among_reverse {A} (y ∷ ys) x i =
     go (inr (inl e)) later = inl e
     go (inr (inr j)) later = absurd j
 
+-- what stands in a list still stands in it once it is turned round
 pub reverse_among : {A : Type 0} (xs : List A) (x : A) → Among xs x → Among (reverse xs) x
 reverse_among [] x i = i
 reverse_among {A} (y ∷ ys) x (inl e) =
@@ -55,6 +59,7 @@ reverse_among {A} (y ∷ ys) x (inl e) =
 reverse_among {A} (y ∷ ys) x (inr i) =
     subst (λ (l : List A). Among l x) (sym (reverse_onto ys y [])) (among_left (reverse ys) (y ∷ []) x (reverse_among ys x i))
 
+-- a list with nothing joined behind it is the same list
 pub append-none : {A : Type 0} (xs : List A) → xs ++ [] ≡ xs
 append-none [] = refl
 append-none (x ∷ xs) = ap (λ l. x ∷ l) (append-none xs)
@@ -85,6 +90,7 @@ found_text n (m ∷ ms) h = go (bytes_eq n m) refl h (λ k. found_text n ms k)
 pub not_found : (n : Text) (ns : List Text) → has_text n ns ≡ false → Among ns n → ⊥
 not_found n ns e i = (let wrong : false ≡ true = sym e ∙ text_found n ns i in cc)
 
+-- joined lists have a text just where one of the two has it
 pub has_text-append : (n : Text) (xs ys : List Text) → has_text n (xs ++ ys) ≡ (has_text n xs || has_text n ys)
 has_text-append n [] ys = refl
 has_text-append n (x ∷ xs) ys = ap (λ b. bytes_eq n x || b) (has_text-append n xs ys) ∙ or_assoc (bytes_eq n x) _ _

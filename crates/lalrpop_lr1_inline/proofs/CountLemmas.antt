@@ -1,5 +1,6 @@
 -- The numbers that the steps hand out are those counted on the right sides that are given: for `inline`.
-use Rattle.std.proofs.Common.{◌≡◌, ◌+◌, ◌*◌, ◌∙◌, ℕ, List, [], ◌∷◌, ◌++◌, ap, append_assoc, arith, refl, sym, subst, suc, true, false}
+use Rattle.std.proofs.Common.{◌≡◌, ◌+◌, ◌*◌, ◌∙◌, ℕ, List, [], ◌∷◌, ◌++◌, ap, append_assoc}
+use Rattle.std.proofs.Common.{arith, refl, sym, subst, suc, true, false}
 use Rattle.std.proofs.Common.{inl, inr, length}
 use Rattle.std.specs.Prelude.{Bool, if◌then◌else◌}
 use Rattle.std.specs.Ordering.{is_eq}
@@ -26,7 +27,8 @@ use Rattle.lalrpop_lr1_inline.proofs.StepRuleLemmas.{all_count_on}
 use Rattle.lalrpop_lr1_inline.proofs.StepsLemmas.{looked_by}
 
 -- sums over right sides
-side_same : (f g : List Symbol → ℕ) → ((s : List Symbol) → f s ≡ g s) → (ps : List Production) → sum_of_sides f ps ≡ sum_of_sides g ps
+side_same : (f g : List Symbol → ℕ) → ((s : List Symbol) → f s ≡ g s) → (ps : List Production) →
+    sum_of_sides f ps ≡ sum_of_sides g ps
 side_same f g each [] = refl
 side_same f g each (p ∷ ps) = ap (λ k. k + sum_of_sides f ps) (each p.symbols) ∙ ap (λ k. g p.symbols + k) (side_same f g each ps)
 
@@ -51,11 +53,13 @@ side-append : (f : List Symbol → ℕ) (ps qs : List Production) → sum_of_sid
 side-append f [] qs = omega arith
 side-append f (p ∷ ps) qs = omega (arith, side-append f ps qs)
 
-side_zero : (f : List Symbol → ℕ) (ps : List Production) → ((p : Production) → Among ps p → f p.symbols ≡ 0) → sum_of_sides f ps ≡ 0
+side_zero : (f : List Symbol → ℕ) (ps : List Production) → ((p : Production) → Among ps p → f p.symbols ≡ 0) →
+    sum_of_sides f ps ≡ 0
 side_zero f [] none = refl
 side_zero f (p ∷ ps) none = omega (arith, none p (inl refl), side_zero f ps (λ q i. none q (inr i)))
 
-each_zero : (f : List Symbol → ℕ) (ps : List Production) → sum_of_sides f ps ≡ 0 → (p : Production) → Among ps p → f p.symbols ≡ 0
+each_zero : (f : List Symbol → ℕ) (ps : List Production) → sum_of_sides f ps ≡ 0 → (p : Production) →
+    Among ps p → f p.symbols ≡ 0
 each_zero f [] h p i = absurd i
 each_zero f (q ∷ ps) h p (inl same) = ap (λ (x : Production). f x.symbols) (sym same) ∙ omega (arith, h)
 each_zero f (q ∷ ps) h p (inr i) = each_zero f ps (omega (arith, h)) p i
@@ -161,10 +165,12 @@ grown_named ns done (e ∷ es) (d ∷ ds) h n f keeps =
         sum_of_sides f (productions_named (e ∷ es) n)
         ≡ sum_of_sides (λ s. becomes_many done s * f s) (productions_named (d ∷ ds) n)
     go true g ih =
-        ap (sum_of_sides f) (looked_by n e es true (ap (λ (k : NonterminalString). is_eq ((names.ghosts).cmp (name_of_text n) k)) h.0 ∙ g))
+        ap (sum_of_sides f) (looked_by n e es true
+        (ap (λ (k : NonterminalString). is_eq ((names.ghosts).cmp (name_of_text n) k)) h.0 ∙ g))
         ∙ h.1 f keeps ∙ ap (sum_of_sides (λ s. becomes_many done s * f s)) (sym (looked_by n d ds true g))
     go false g ih =
-        ap (sum_of_sides f) (looked_by n e es false (ap (λ (k : NonterminalString). is_eq ((names.ghosts).cmp (name_of_text n) k)) h.0 ∙ g))
+        ap (sum_of_sides f) (looked_by n e es false
+        (ap (λ (k : NonterminalString). is_eq ((names.ghosts).cmp (name_of_text n) k)) h.0 ∙ g))
         ∙ ih ∙ ap (sum_of_sides (λ s. becomes_many done s * f s)) (sym (looked_by n d ds false g))
 
 grown_entries : (ns : List Text) (done : InlinedCounts) (es ds : NonterminalEntries) → Grown ns done es ds →

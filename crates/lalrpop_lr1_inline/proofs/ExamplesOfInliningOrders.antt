@@ -16,15 +16,19 @@ use Rattle.lalrpop_lr1_inline.specs.InliningOrders.{IsInliningOrder, OrderWalk}
 use Rattle.lalrpop_lr1_inline.specs.InlineFaults.{IsInlinedIntoItself}
 use Rattle.lalrpop_lr1_inline.proofs.OrderLemmas.{order_named_first, order_unique}
 
+-- a nonterminal by its name, as a symbol on a right side
 abbrev pub n : String → Symbol
 n s = symbols.Nonterminal (name_of_text (codes s))
 
+-- a terminal by its bare name, as a symbol on a right side
 abbrev pub t : String → Symbol
 t s = symbols.Terminal (terminals.Bare (codes s))
 
+-- the attributes of a rule that is to be inlined
 abbrev pub marked : List Attribute
 marked = record { span = record { 0 = 0; 1 = 0 }; id = codes "inline"; arg = args.Empty } ∷ []
 
+-- a production by its nonterminal, the number of its action, and its right side
 abbrev pub production : String → ℕ → List Symbol → Production
 production s action side = record {
   nonterminal = name_of_text (codes s);
@@ -33,6 +37,7 @@ production s action side = record {
   span = record { 0 = 0; 1 = 0 };
 }
 
+-- a nonterminal's entry by its name, its attributes and its productions
 abbrev pub rule : String → List Attribute → List Production → NonterminalString × NonterminalData
 rule s attributes ps = (
   name_of_text (codes s),

@@ -14,9 +14,11 @@ use Rattle.lalrpop_lr1_inline.specs.InliningSteps.{IsInlineDefinition, all_recor
 use Rattle.lalrpop_lr1_inline.specs.InliningSteps.{productions_after, productions_named, records_of}
 use Rattle.lalrpop_lr1_inline.proofs.ExamplesOfInliningOrders.{marked, n, nested, production, rule, t}
 
+-- a place in a record that is replaced: by the production with this action and this right side
 abbrev pub by : ℕ → List Symbol → InlinedSymbol
 by action side = inlined.Inlined (record { 0 = action }) side
 
+-- a symbol in a record that is left as it is
 abbrev pub same : Symbol → InlinedSymbol
 same s = inlined.Original s
 

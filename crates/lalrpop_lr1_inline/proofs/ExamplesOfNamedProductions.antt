@@ -21,9 +21,11 @@ alike =
     rule "Op" marked (production "Op" 0 (t "a" ∷ []) ∷ production "Op" 1 (t "a" ∷ []) ∷ [])
     ∷ rule "S" [] (production "S" 2 (n "Op" ∷ t "x" ∷ []) ∷ []) ∷ []
 
+-- the label of Op's production with this action, in which nothing is inlined
 abbrev pub op_by : ℕ → Label Text ℕ
 op_by action = label_given (codes "Op") action (bare "a" ∷ [])
 
+-- the label of S's production in which Op is inlined, by its production with this action
 abbrev pub S_by : ℕ → Label Text ℕ
 S_by action = Label.choose (codes "S") 2 (Inlinings.inlined (op_by action) (Inlinings.kept Inlinings.none))
 

@@ -1,5 +1,6 @@
 -- Sums and products up to a limit are those of numbers that were cut to it: for the functions that count.
-use Rattle.std.proofs.Common.{◌≡◌, ◌+◌, ◌*◌, ◌≤◌, ◌^◌, ◌∙◌, ℕ, List, [], ◌∷◌, ◌++◌, ap, refl, sym, arith, true, false}
+use Rattle.std.proofs.Common.{◌≡◌, ◌+◌, ◌*◌, ◌≤◌, ◌^◌, ◌∙◌, ℕ, List, [], ◌∷◌, ◌++◌}
+use Rattle.std.proofs.Common.{ap, refl, sym, arith, true, false}
 use Rattle.std.proofs.Common.{inl, inr, suc, zero, ◌⊎◌}
 use Rattle.std.specs.Prelude.{◌||◌, Bool, if◌then◌else◌, min}
 use Rattle.std.specs.List.{list_any}
@@ -56,10 +57,12 @@ times_on many new a b whole x f g h =
     ∙ ap (λ k. up_to_limit (many * k)) (sym g) ∙ h
 
 -- a sum is one part further on
-pub plus_on : (total new part one rest whole x : ℕ) → new ≡ up_to_limit (total + part) → part ≡ up_to_limit one → whole ≡ one + rest →
+pub plus_on : (total new part one rest whole x : ℕ) → new ≡ up_to_limit (total + part) → part ≡ up_to_limit one →
+    whole ≡ one + rest →
     up_to_limit (total + whole) ≡ x → up_to_limit (new + rest) ≡ x
 plus_on total new part one rest whole x f g e h = omega (arith, f, g, e, h)
 
+-- where the nonterminal has no place in a right side, there is one way to replace its places
 pub choices_none : (n : Text) (many : ℕ) (side : List Symbol) → list_any (is_place n) side ≡ false → choices_at n many side ≡ 1
 choices_none n many [] f = refl
 choices_none n many (s ∷ side) f = go (is_place n s) f (choices_none n many side)
@@ -104,6 +107,7 @@ becomes_cut (c ∷ cs) side =
     product_cut (choices_at c.0 (up_to_limit c.1) side) (choices_at c.0 c.1 side) (becomes_many (counts_to_limit cs) side)
     (becomes_many cs side) (choices_cut c.0 c.1 side) (becomes_cut cs side)
 
+-- counts that are cut to the limit hand out as many numbers for a right side, up to the limit
 pub handed_cut : (cs : InlinedCounts) (side : List Symbol) → SameToLimit (handed_out (counts_to_limit cs) side) (handed_out cs side)
 handed_cut [] side = refl
 handed_cut (c ∷ cs) side =
@@ -122,6 +126,7 @@ sides_cut f g each [] = refl
 sides_cut f g each (p ∷ ps) =
     sum_cut (f p.symbols) (g p.symbols) (sum_of_sides f ps) (sum_of_sides g ps) (each p.symbols) (sides_cut f g each ps)
 
+-- sums over all entries are the same up to the limit where those of each right side are
 pub entries_cut : (f g : List Symbol → ℕ) → ((side : List Symbol) → SameToLimit (f side) (g side)) → (es : NonterminalEntries) →
     SameToLimit (sum_of_entries f es) (sum_of_entries g es)
 entries_cut f g each [] = refl
@@ -130,13 +135,16 @@ entries_cut f g each (e ∷ es) =
     (sides_cut f g each e.1.productions) (entries_cut f g each es)
 
 -- one symbol further on: a place of the nonterminal, and another symbol
-pub place_on : (n : Text) (t : ℕ) (s : Symbol) (rest left : List Symbol) (many new x : ℕ) → left ≡ s ∷ rest → is_place n s ≡ true →
+pub place_on : (n : Text) (t : ℕ) (s : Symbol) (rest left : List Symbol) (many new x : ℕ) → left ≡ s ∷ rest →
+    is_place n s ≡ true →
     new ≡ up_to_limit (many * t) → up_to_limit (many * choices_at n t left) ≡ x → up_to_limit (new * choices_at n t rest) ≡ x
 place_on n t s rest left many new x one place f h =
     times_on many new t (choices_at n t rest) (choices_at n t left) x f
     (ap (choices_at n t) one ∙ ap (λ (b : Bool). if b then t * choices_at n t rest else choices_at n t rest) place) h
 
-pub place_off : (n : Text) (t : ℕ) (s : Symbol) (rest left : List Symbol) (many new x : ℕ) → left ≡ s ∷ rest → is_place n s ≡ false →
+-- one symbol further on, which is no place of the nonterminal: the product so far stays
+pub place_off : (n : Text) (t : ℕ) (s : Symbol) (rest left : List Symbol) (many new x : ℕ) → left ≡ s ∷ rest →
+    is_place n s ≡ false →
     new ≡ many → up_to_limit (many * choices_at n t left) ≡ x → up_to_limit (new * choices_at n t rest) ≡ x
 place_off n t s rest left many new x one place f h =
     ap (λ k. up_to_limit (k * choices_at n t rest)) f
@@ -150,6 +158,7 @@ pub handed_place : (n : Text) (t : ℕ) (side : List Symbol) (rest : InlinedCoun
 handed_place n t side rest place =
     ap (λ (b : Bool). (if b then choices_at n t side else 0) + choices_at n t side * handed_out rest side) place
 
+-- one nonterminal further on, which has no place in the right side: no numbers are handed out for it
 pub handed_off : (n : Text) (t : ℕ) (side : List Symbol) (rest : InlinedCounts) → list_any (is_place n) side ≡ false →
     handed_out ((n, t) ∷ rest) side ≡ handed_out rest side
 handed_off n t side rest place =

@@ -1,5 +1,6 @@
 -- How many places of a nonterminal a right side has, and how many records come of them: for the count of numbers.
-use Rattle.std.proofs.Common.{◌≡◌, ◌+◌, ◌*◌, ◌∙◌, ℕ, List, [], ◌∷◌, ◌++◌, ap, arith, refl, sym, suc, zero, true, false, length, map}
+use Rattle.std.proofs.Common.{◌≡◌, ◌+◌, ◌*◌, ◌∙◌, ℕ, List, [], ◌∷◌, ◌++◌, ap, arith, refl, sym}
+use Rattle.std.proofs.Common.{suc, zero, true, false, length, map}
 use Rattle.std.proofs.Common.{inl, inr, length-append}
 use Rattle.std.specs.Prelude.{Bool, ◌||◌, flat_map, if◌then◌else◌}
 use Rattle.std.specs.List.{list_any}
@@ -92,7 +93,9 @@ longer_many (e ∷ es) rs =
     one_more : (a b : ℕ) → b + a * b ≡ suc a * b
     one_more a b = omega (arith, mul_comm a b, mul_comm (suc a) b)
 
-pub records_many : (n : Text) (ps : List Production) (side : List Symbol) → length (records_of n ps side) ≡ choices_at n (length ps) side
+-- a right side has as many records as there are ways to replace its places
+pub records_many : (n : Text) (ps : List Production) (side : List Symbol) →
+    length (records_of n ps side) ≡ choices_at n (length ps) side
 records_many n ps [] = refl
 records_many n ps (s ∷ side) =
     longer_many (record_entries n ps s) (records_of n ps side) ∙ go (is_place n s) (records_many n ps side)
@@ -115,7 +118,8 @@ other_place n m x apart e = go (bytes_eq x m) refl
     go true f = absurd (apart (sym ((bytes_eq-Decides x m).0 f) ∙ (bytes_eq-Decides x n).0 e))
 
 -- What a record may have for a symbol has as many places of another nonterminal, where the inlined productions have none.
-entry_places : (n m : Text) (ps : List Production) → (m ≡ n → ⊥) → ((p : Production) → Among ps p → places m p.symbols ≡ 0) →
+entry_places : (n m : Text) (ps : List Production) → (m ≡ n → ⊥) →
+    ((p : Production) → Among ps p → places m p.symbols ≡ 0) →
     (s : Symbol) (e : InlinedSymbol) → Among (record_entries n ps s) e → places m (side_of_entry e) ≡ places m (s ∷ [])
 entry_places n m ps apart none (symbols.Terminal t) e (inl same) =
     ap (λ (x : InlinedSymbol). places m (side_of_entry x)) (sym same)
@@ -134,7 +138,8 @@ entry_places n m ps apart none (symbols.Nonterminal x) e i = go (bytes_eq x.0 n)
     go false f (inr j) = absurd j
 
 -- and so has what a record makes of a right side
-pub record_places : (n m : Text) (ps : List Production) → (m ≡ n → ⊥) → ((p : Production) → Among ps p → places m p.symbols ≡ 0) →
+pub record_places : (n m : Text) (ps : List Production) → (m ≡ n → ⊥) →
+    ((p : Production) → Among ps p → places m p.symbols ≡ 0) →
     (side : List Symbol) (r : List InlinedSymbol) → Among (records_of n ps side) r → places m (side_of_record r) ≡ places m side
 record_places n m ps apart none [] r (inl same) = ap (λ (q : List InlinedSymbol). places m (side_of_record q)) (sym same)
 record_places n m ps apart none [] r (inr i) = absurd i

@@ -22,11 +22,13 @@ use Rattle.lalrpop_lr1_inline.specs.InliningSteps.{record_entries, records_of, s
 use Rattle.lalrpop_lr1_inline.specs.NamedProductions.{entry_by_labels, record_by_labels, side_by_names, symbol_by_name}
 use Rattle.lalrpop_lr1_inline.proofs.AmongLemmas.{among_flat_map, among_left, among_right}
 
+-- what a function makes of something in a list stands in the mapped list
 pub map_among : {A B : Type 0} (f : A → B) (xs : List A) (x : A) → Among xs x → Among (map f xs) (f x)
 map_among f [] x h = absurd h
 map_among f (y ∷ xs) x (inl e) = inl (ap f e)
 map_among f (y ∷ xs) x (inr h) = inr (map_among f xs x h)
 
+-- what stands in the list that one of some is mapped to stands in the lists of all, joined
 pub flat_map_among : {A B : Type 0} (f : A → List B) (xs : List A) (a : A) (b : B) → Among xs a → Among (f a) b →
     Among (flat_map f xs) b
 flat_map_among f [] a b i j = absurd i

@@ -25,6 +25,7 @@ pub record IsAround (A : Type 0) (xs : List A) (x : A) : Type 0 where
   pub back : List A
   pub whole : xs ≡ front ++ x ∷ back
 
+-- a list in which something stands is parted around it, into a front and a back
 pub around : {A : Type 0} (xs : List A) (x : A) → Among xs x → IsAround A xs x
 around [] x i = absurd i
 around {A} (y ∷ xs) x (inl e) = record { front = []; back = xs; whole = ap (λ (z : A). z ∷ xs) e }
@@ -32,6 +33,7 @@ around (y ∷ xs) x (inr i) =
     let w = around xs x i in
     record { front = y ∷ w.front; back = w.back; whole = ap (λ l. y ∷ l) w.whole }
 
+-- what stands in a list and passes a test still stands in it once it is filtered by the test
 pub filter_among : {A : Type 0} (test : A → Bool) (xs : List A) (x : A) → Among xs x → test x ≡ true → Among (filter test xs) x
 filter_among test [] x i e = absurd i
 filter_among {A} test (y ∷ xs) x (inl same) e = go (test y) (ap test same ∙ e)

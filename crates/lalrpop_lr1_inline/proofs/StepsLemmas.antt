@@ -30,12 +30,14 @@ pub looked_by : (n : Text) (e : Entry) (rest : NonterminalEntries) (b : Bool) �
     productions_named (e ∷ rest) n ≡ productions_in (cond b (Some e.1) (at_name (name_of_text n) rest))
 looked_by n e rest b f = ap (λ t. productions_in (cond t (Some e.1) (at_name (name_of_text n) rest))) f
 
+-- under the name of the first entry the productions of that entry are found
 pub looked_here : (n : Text) (e : Entry) (rest left : NonterminalEntries) → left ≡ e ∷ rest → e.0.0 ≡ n →
     productions_named left n ≡ e.1.productions
 looked_here n e rest left one same =
     ap (λ l. productions_named l n) one
     ∙ looked_by n e rest true ((same_name (name_of_text n) e.0).1 (ap name_of_text (sym same)))
 
+-- under a name other than the first entry's there is found what the rest has under it
 pub looked_on : (n : Text) (e : Entry) (rest left : NonterminalEntries) → left ≡ e ∷ rest → (e.0.0 ≡ n → ⊥) →
     productions_named left n ≡ productions_named rest n
 looked_on n e rest left one apart =
@@ -50,6 +52,7 @@ looked_on n e rest left one apart =
 pub same_bytes : (a b : Text) → bytes_eq a b ≡ true → a ≡ b
 same_bytes a b e = (bytes_eq-Decides a b).0 e
 
+-- texts that a bytewise test tells apart aren't the same
 pub other_bytes : (a b : Text) → bytes_eq a b ≡ false → a ≡ b → ⊥
 other_bytes a b e same = (let wrong : false ≡ true = sym e ∙ (bytes_eq-Decides a b).1 same in cc)
 
@@ -121,6 +124,7 @@ steps_on n rest left es mid after actions actions_mid actions_after one s more =
     subst (λ (l : List NonterminalString). AreInlineSteps (texts l) es actions after actions_after) (sym one)
     (mid, actions_mid, s, more)
 
+-- entries after a step of inlining have the names that there were before it
 pub names_on : (n : Text) (es after : NonterminalEntries) (actions actions_after : List ActionFnDefn) →
     IsInlineStep n es actions after actions_after → keys_of after ≡ keys_of es
 names_on n es after actions actions_after s =

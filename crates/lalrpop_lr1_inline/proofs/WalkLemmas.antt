@@ -47,6 +47,7 @@ pub record LeadsByWalk (g : NonterminalEntries) (ns : List Text) (ts : List Orde
   pub is_walk : IsOrderWalk g before ns walk
   pub rest : LeadOn g ts (before ++ order_of_walk walk) final
 
+-- where tasks to enter names lead on, with others behind them, the names are walked, then the others lead on
 pub lead_walk : (g : NonterminalEntries) (ns : List Text) (ts : List OrderTask) (before final : List Text) →
     LeadOn g (tasks_to_enter ns ++ ts) before final → LeadsByWalk g ns ts before final
 lead_walk g [] ts before final h = record {

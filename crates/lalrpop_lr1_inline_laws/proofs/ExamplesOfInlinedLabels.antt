@@ -52,7 +52,8 @@ merged_refused lab h =
 
 -- nor is one that has a production twice
 abbrev twice : NonterminalEntries
-twice = rule "Op" marked (production "Op" 0 (t "a" ∷ []) ∷ production "Op" 1 (t "a" ∷ []) ∷ []) ∷ rule "S" [] (only ∷ only ∷ []) ∷ []
+twice = rule "Op" marked (production "Op" 0 (t "a" ∷ []) ∷ production "Op" 1 (t "a" ∷ []) ∷ []) ∷ rule "S" []
+    (only ∷ only ∷ []) ∷ []
 
 twice_refused : (lab : ℕ → Label Text ℕ) → AreInlinedProductions alike twice lab → ⊥
 twice_refused lab h = (h.once (codes "S")).0 (inl refl)

@@ -13,6 +13,7 @@ use Rattle.lalrpop_norm_labels.specs.Steps.{RecordedSymbol, fill_inlinings, fill
 use Rattle.lalrpop_lr1_inline.specs.InliningSteps.{is_place, records_of, side_of_record}
 use Rattle.lalrpop_lr1_inline.specs.NamedProductions.{record_by_labels, symbol_by_name}
 
+-- the record of a right side in which nothing is replaced
 abbrev pub kept_record : List Symbol → List InlinedSymbol
 kept_record side = map inlined.Original side
 
@@ -56,11 +57,13 @@ record_kept : (label_of : ℕ → Label Text ℕ) (side : List Symbol) →
 record_kept label_of [] = refl
 record_kept label_of (s ∷ side) = ap (λ l. RecordedSymbol.original (symbol_by_name s) ∷ l) (record_kept label_of side)
 
+-- a label into which a record that replaces nothing is put stays the same
 pub label_kept : (label_of : ℕ → Label Text ℕ) (label : Label Text ℕ) (side : List Symbol) →
     label_with label (record_by_labels label_of (kept_record side)) ≡ label
 label_kept label_of label side =
     ap (label_with label) (record_kept label_of side) ∙ (label_left label (map symbol_by_name side)).same
 
+-- a record that replaces nothing makes the right side that it is of
 pub side_kept : (side : List Symbol) → side_of_record (kept_record side) ≡ side
 side_kept [] = refl
 side_kept (s ∷ side) = ap (λ l. s ∷ l) (side_kept side)

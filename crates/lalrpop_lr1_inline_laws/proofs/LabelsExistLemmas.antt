@@ -1,5 +1,6 @@
 -- The actions of an inlined grammar have labels: those of productions are given, the others come of smaller ones.
-use Rattle.std.proofs.Common.{◌≡◌, ◌<◌, ◌≤◌, ◌∙◌, ℕ, List, [], ◌∷◌, ◌++◌, ap, arith, refl, sym, subst, suc, zero, true, false}
+use Rattle.std.proofs.Common.{◌≡◌, ◌<◌, ◌≤◌, ◌∙◌, ℕ, List, [], ◌∷◌, ◌++◌, ap, arith, refl}
+use Rattle.std.proofs.Common.{sym, subst, suc, zero, true, false}
 use Rattle.std.proofs.Common.{inl, inr, length, map, ◌⊎◌}
 use Rattle.std.specs.Prelude.{All, Bool, Option, Some, None, eqb, if◌then◌else◌, ltb, slice_get}
 use Rattle.std.specs.Ordering.{is_eq}
@@ -46,7 +47,8 @@ found_label : NonterminalEntries → ℕ → Label Text ℕ
 found_label [] k = label_given [] k []
 found_label (e ∷ es) k = found_in e.0.0 e.1.productions k (found_label es k)
 
-skipped : (n : Text) (ps : List Production) (k : ℕ) (other : Label Text ℕ) → (Among (numbers ps) k → ⊥) → found_in n ps k other ≡ other
+skipped : (n : Text) (ps : List Production) (k : ℕ) (other : Label Text ℕ) → (Among (numbers ps) k → ⊥) →
+    found_in n ps k other ≡ other
 unfolding found_in
 skipped n [] k other h = refl
 skipped n (p ∷ ps) k other h = go (eqb p.action.0 k) refl (skipped n ps k other (λ i. h (inr i)))
@@ -108,7 +110,8 @@ found_given (e ∷ es) own n p i =
         ∙ later j
 
 module _ (es : NonterminalEntries) (whole : List ActionFnDefn) (least : ℕ)
-    (below : (k : ℕ) (d : ActionFnDefn) (i : InlineActionFnDefn) → least ≤ k → slice_get whole k ≡ Some d → d.kind ≡ kinds.Inline i →
+    (below : (k : ℕ) (d : ActionFnDefn) (i : InlineActionFnDefn) → least ≤ k → slice_get whole k ≡ Some d →
+    d.kind ≡ kinds.Inline i →
     MadeBelow k i) where
   -- the label that an action has by those of others
   label_by_kind : (ℕ → Label Text ℕ) → ActionFnDefnKind → Label Text ℕ
@@ -126,7 +129,8 @@ module _ (es : NonterminalEntries) (whole : List ActionFnDefn) (least : ℕ)
   label_within (suc f) k =
       if ltb k least then found_label es k else label_by_action (label_within f) (slice_get whole k)
 
-  same_records : (f g : ℕ → Label Text ℕ) (j : ℕ) → ((k : ℕ) → k < j → f k ≡ g k) → (r : List InlinedSymbol) → RecordBelow j r →
+  same_records : (f g : ℕ → Label Text ℕ) (j : ℕ) → ((k : ℕ) → k < j → f k ≡ g k) → (r : List InlinedSymbol) →
+      RecordBelow j r →
       record_by_labels f r ≡ record_by_labels g r
   same_records f g j same [] h = refl
   same_records f g j same (inlined.Original s ∷ r) h =
@@ -207,6 +211,7 @@ module _ (es : NonterminalEntries) (whole : List ActionFnDefn) (least : ℕ)
       inline_same : (a b : InlineActionFnDefn) → kinds.Inline a ≡ kinds.Inline b → a ≡ b
       inline_same a b g = cc
 
+-- where productions have actions of their own, all of them known, the actions after inlining have labels
 pub labels_exist : (before after : Grammar) → StandOnce (production_actions before.nonterminals) →
     All (λ e. All (λ p. p.action.0 < length before.action_fn_defns) e.1.productions) before.nonterminals →
     IsInlinedGrammar before after → (lab : ℕ → Label Text ℕ) × AreActionLabels before after lab

@@ -35,6 +35,7 @@ LabelsFrom lab k [] = Unit {0}
 LabelsFrom lab k (m ∷ ms) =
     (lab k ≡ label_with (lab m.0.action.0) (record_by_labels lab m.1)) × LabelsFrom lab (k + 1) ms
 
+-- where numbers from one on have the labels of two lists of records, they have those of the first
 pub labels_front : (lab : ℕ → Label Text ℕ) (k : ℕ) (ms ns : List Made) → LabelsFrom lab k (ms ++ ns) → LabelsFrom lab k ms
 labels_front lab k [] ns h = tt
 labels_front lab k (m ∷ ms) ns h = (h.0, labels_front lab (k + 1) ms ns h.1)
@@ -44,13 +45,15 @@ pub labels_back : (lab : ℕ → Label Text ℕ) (k j : ℕ) (ms ns : List Made)
 labels_back lab k j [] ns e h = subst (λ i. LabelsFrom lab i ns) (omega (arith, e)) h
 labels_back lab k j (m ∷ ms) ns e h = labels_back lab (k + 1) j ms ns (omega (arith, e)) h.1
 
+-- what stands right behind a front is found at the length of the front
 pub got_at : {A : Type 0} (front : List A) (x : A) (back : List A) → slice_get (front ++ x ∷ back) (length front) ≡ Some x
 got_at [] x back = refl
 got_at (y ∷ front) x back = got_at front x back
 
 -- the actions that a step adds have such labels
 pub labels_made : (lab : ℕ → Label Text ℕ) (least : ℕ) (whole actions : List ActionFnDefn) →
-    ((k : ℕ) (d : ActionFnDefn) (i : InlineActionFnDefn) → least ≤ k → slice_get whole k ≡ Some d → d.kind ≡ kinds.Inline i →
+    ((k : ℕ) (d : ActionFnDefn) (i : InlineActionFnDefn) → least ≤ k → slice_get whole k ≡ Some d →
+    d.kind ≡ kinds.Inline i →
     lab k ≡ label_with (lab i.action.0) (record_by_labels lab i.symbols)) →
     (ms : List Made) (ds front back : List ActionFnDefn) → AreInlineDefinitions actions ms ds → whole ≡ front ++ (ds ++ back) →
     least ≤ length front → LabelsFrom lab (length front) ms
@@ -72,6 +75,7 @@ pub record NamedAfter (lab : ℕ → Label Text ℕ) (n : Text) (ps : List Produ
     pub productions_are : productions_named after x ≡ productions_after n ps (productions_named es x) first
     pub labels_are : LabelsFrom lab first (records_after n ps (productions_named es x))
 
+-- where a step's records have their labels, so have those of each nonterminal, whose productions it makes
 pub named_after : (lab : ℕ → Label Text ℕ) (n : Text) (ps : List Production) (es : NonterminalEntries) (k : ℕ) (x : Text) →
     LabelsFrom lab k (all_records_after n ps es) → NamedAfter lab n ps es (entries_after n ps es k) x
 named_after lab n ps [] k x h = record { first = 0; productions_are = refl; labels_are = tt }
@@ -130,7 +134,8 @@ module _ (lab : ℕ → Label Text ℕ) (n : Text) (ps : List Production) where
   -- a production that the step leaves is made of itself
   left_made : (q : Production) → list_any (is_place n) q.symbols ≡ false → IsMadeOf q (kept_record q.symbols) q
   left_made q f = record {
-    is_record = subst (λ (l : List (List InlinedSymbol)). Among l (kept_record q.symbols)) (sym (records_kept n ps q.symbols f)) (inl refl);
+    is_record = subst (λ (l : List (List InlinedSymbol)). Among l (kept_record q.symbols))
+        (sym (records_kept n ps q.symbols f)) (inl refl);
     label_is = sym (label_kept lab (lab q.action.0) q.symbols);
     symbols_are = sym (side_kept q.symbols);
   }
@@ -147,7 +152,8 @@ module _ (lab : ℕ → Label Text ℕ) (n : Text) (ps : List Production) where
   }
   each_made q (r ∷ rs) k h all made (inr i) = each_made q rs (k + 1) h.1 (λ s j. all s (inr j)) made i
 
-  pub place_made : (q : Production) (k : ℕ) → LabelsFrom lab k (map (λ r. (q, r)) (records_in_place n ps q)) → (made : Production) →
+  pub place_made : (q : Production) (k : ℕ) → LabelsFrom lab k (map (λ r. (q, r)) (records_in_place n ps q)) →
+      (made : Production) →
       Among (productions_in_place n ps q k) made → IsMade q made
   place_made q k = go (list_any (is_place n) q.symbols) refl
     where
@@ -179,7 +185,8 @@ module _ (lab : ℕ → Label Text ℕ) (n : Text) (ps : List Production) where
       let m = records_make q rs (k + 1) h.1 (λ t j. all t (inr j)) r i in
       record { made = m.made; stands = inr m.stands; is_made = m.is_made }
 
-  place_makes : (q : Production) (k : ℕ) → LabelsFrom lab k (map (λ r. (q, r)) (records_in_place n ps q)) → (r : List InlinedSymbol) →
+  place_makes : (q : Production) (k : ℕ) → LabelsFrom lab k (map (λ r. (q, r)) (records_in_place n ps q)) →
+      (r : List InlinedSymbol) →
       Among (records_of n ps q.symbols) r → Makes q r (productions_in_place n ps q k)
   place_makes q k = go (list_any (is_place n) q.symbols) refl
     where

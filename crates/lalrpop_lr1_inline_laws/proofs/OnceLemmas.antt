@@ -19,10 +19,12 @@ once-append (x ∷ xs) ys a b apart = (
     neither (inl h) f g = f h
     neither (inr h) f g = g h
 
+-- where nothing stands twice in two lists joined, nothing stands twice in the first
 pub once_left : {A : Type 0} (xs ys : List A) → StandOnce (xs ++ ys) → StandOnce xs
 once_left [] ys h = tt
 once_left (x ∷ xs) ys h = (λ i. h.0 (among_left xs ys x i), once_left xs ys h.1)
 
+-- where nothing stands twice in two lists joined, nothing stands twice in the second
 pub once_right : {A : Type 0} (xs ys : List A) → StandOnce (xs ++ ys) → StandOnce ys
 once_right [] ys h = h
 once_right (x ∷ xs) ys h = once_right xs ys h.1

@@ -1,5 +1,6 @@
 -- The labels of an inlined grammar, step by step in the order of inlining: for the law on inlined grammars.
-use Rattle.std.proofs.Common.{◌≡◌, ◌≤◌, ◌∙◌, ◌↔◌, ℕ, List, [], ◌∷◌, ◌++◌, ap, append_assoc, arith, refl, sym, subst, true, inl, inr}
+use Rattle.std.proofs.Common.{◌≡◌, ◌≤◌, ◌∙◌, ◌↔◌, ℕ, List, [], ◌∷◌, ◌++◌, ap, append_assoc}
+use Rattle.std.proofs.Common.{arith, refl, sym, subst, true, inl, inr}
 use Rattle.std.proofs.Common.{length, length-append, ◌⊎◌}
 use Rattle.std.specs.Prelude.{Some, flat_map, slice_get}
 use Rattle.std.specs.List.Sorted.{IsStrictlySortedBy}
@@ -88,7 +89,8 @@ named_there es x choice side y w i marked =
 
 module _ (ds : NonterminalEntries) (order : List Text) (all : HasAllInlined ds order) (once : HasNameOnce order)
     (first : HasNamedFirst ds order) (lab : ℕ → Label Text ℕ) (least : ℕ) (whole : List ActionFnDefn)
-    (says : (k : ℕ) (d : ActionFnDefn) (i : InlineActionFnDefn) → least ≤ k → slice_get whole k ≡ Some d → d.kind ≡ kinds.Inline i →
+    (says : (k : ℕ) (d : ActionFnDefn) (i : InlineActionFnDefn) → least ≤ k → slice_get whole k ≡ Some d →
+    d.kind ≡ kinds.Inline i →
     lab k ≡ label_with (lab i.action.0) (record_by_labels lab i.symbols)) where
   -- what is to be inlined in the nonterminal, or in one before it, is inlined before it
   inlined_first : (front : List Text) (n : Text) (ns : List Text) → order ≡ front ++ n ∷ ns →
@@ -123,7 +125,8 @@ module _ (ds : NonterminalEntries) (order : List Text) (all : HasAllInlined ds o
       let listed : Among order n = subst (λ (a : List Text). Among a n) (sym e) (among_right front (n ∷ ns) n (inl refl)) in
       let never = never_names (ProducesByAction ds) (λ x. Among front x) (λ x. is_inlined_name ds x ≡ true) n ((all n).1 listed)
       (inlined_first front n ns e) in
-      let stepped = step_labels (ProducesByAction ds) (λ x. Among front x) lab n es (once front n ns e).0 never are (length actions) made in
+      let stepped = step_labels (ProducesByAction ds) (λ x. Among front x) lab n es (once front n ns e).0 never are
+      (length actions) made in
       let here : AreProductionsBy (ProducesByAction ds) (λ x. Among (front ++ n ∷ []) x) lab mid =
       subst (λ (a : NonterminalEntries). AreProductionsBy (ProducesByAction ds) (λ x. Among (front ++ n ∷ []) x) lab a)
       (sym s.entries_are)
@@ -132,6 +135,7 @@ module _ (ds : NonterminalEntries) (order : List Text) (all : HasAllInlined ds o
       let many = ap length s.actions_are ∙ length-append actions s.made in
       steps_labels ns (front ++ n ∷ []) (e ∙ sym (append_assoc front (n ∷ []) ns)) mid after h.1 h.3 (omega (arith, many, l)) here
 
+-- by the actions' labels, the productions after inlining are those before it, inlined, each label once
 pub inlined_labels : (before after : Grammar) (lab : ℕ → Label Text ℕ) →
     IsStrictlySortedBy (names.ghosts).cmp (keys_of before.nonterminals) → StandOnce (production_actions before.nonterminals) →
     IsInlinedGrammar before after → AreActionLabels before after lab →

@@ -1,5 +1,6 @@
 -- Each action that inlining adds is made of actions with smaller numbers: so the actions have labels.
-use Rattle.std.proofs.Common.{◌≡◌, ◌+◌, ◌<◌, ◌≤◌, ◌∙◌, ℕ, List, [], ◌∷◌, ◌++◌, ap, append_assoc, arith, refl, sym, subst, true, false}
+use Rattle.std.proofs.Common.{◌≡◌, ◌+◌, ◌<◌, ◌≤◌, ◌∙◌, ℕ, List, [], ◌∷◌, ◌++◌, ap}
+use Rattle.std.proofs.Common.{append_assoc, arith, refl, sym, subst, true, false}
 use Rattle.std.proofs.Common.{inl, inr, length, length-append, map, ◌⊎◌}
 use Rattle.std.specs.Prelude.{All, Bool, Some, if◌then◌else◌, slice_get}
 use Rattle.std.specs.List.{list_any}
@@ -31,6 +32,7 @@ abbrev pub EntryBelow : ℕ → InlinedSymbol → Type 0
 EntryBelow k (inlined.Original s) = Unit {0}
 EntryBelow k (inlined.Inlined action side) = action.0 < k
 
+-- each action that a record names has a number below this one
 abbrev pub RecordBelow : ℕ → List InlinedSymbol → Type 0
 RecordBelow k [] = Unit {0}
 RecordBelow k (e ∷ r) = EntryBelow k e × RecordBelow k r
@@ -57,6 +59,7 @@ each_of_all k (q ∷ ps) h p (inr i) = each_of_all k ps (All-tail (λ (x : Produ
 abbrev pub EntriesBelow : ℕ → NonterminalEntries → Type 0
 EntriesBelow k es = (e : NonterminalString × NonterminalData) → Among es e → EachBelow k e.1.productions
 
+-- where all entries have actions below a number, so has each entry that stands among them
 pub entries_of_all : (k : ℕ) (es : NonterminalEntries) → All (AreBelow k) es → EntriesBelow k es
 entries_of_all k [] h e i = absurd i
 entries_of_all k (d ∷ es) h e (inl same) =
@@ -155,8 +158,10 @@ within_or_later a b = grind arith
 -- so is each action that the steps add
 pub steps_below : (ns : List Text) (es after : NonterminalEntries) (actions whole : List ActionFnDefn) →
     AreInlineSteps ns es actions after whole → ((mid : List ActionFnDefn) (rest : List Text) (ms last : NonterminalEntries) →
-    AreInlineSteps rest ms mid last whole → (back : List ActionFnDefn) × (whole ≡ mid ++ back)) → All (AreBelow (length actions)) es →
-    (k : ℕ) (d : ActionFnDefn) (i : InlineActionFnDefn) → length actions ≤ k → slice_get whole k ≡ Some d → d.kind ≡ kinds.Inline i →
+    AreInlineSteps rest ms mid last whole → (back : List ActionFnDefn) × (whole ≡ mid ++ back)) →
+    All (AreBelow (length actions)) es →
+    (k : ℕ) (d : ActionFnDefn) (i : InlineActionFnDefn) → length actions ≤ k → slice_get whole k ≡ Some d →
+    d.kind ≡ kinds.Inline i →
     MadeBelow k i
 steps_below [] es after actions whole h extend below k d i l g f =
     let within = slice_get_within whole k d g in
@@ -177,7 +182,8 @@ steps_below (n ∷ ns) es after actions whole h extend below k d i l g f =
     many : length h.1 ≡ length actions + length h.2.made
     many = ap length h.2.actions_are ∙ length-append actions h.2.made
 
-    go : (k < length h.1) ⊎ (length h.1 ≤ k) → (All (AreBelow (length h.1)) h.0 → length h.1 ≤ k → MadeBelow k i) → MadeBelow k i
+    go : (k < length h.1) ⊎ (length h.1 ≤ k) →
+        (All (AreBelow (length h.1)) h.0 → length h.1 ≤ k → MadeBelow k i) → MadeBelow k i
     go (inl near) later =
         let back = extend h.1 ns h.0 after h.3 in
         let join : whole ≡ actions ++ (h.2.made ++ back.0) =

@@ -34,7 +34,8 @@ use Rattle.lalrpop_lr1_inline_laws.proofs.OnceLemmas.{once-append}
 pub record AreProductionsBy (M : BaseProductions Text ℕ) (In : Text → Type 0) (lab : ℕ → Label Text ℕ) (es : NonterminalEntries) :
     Type 0 where
   pub sound : (x : Text) (p : Production) → Among (productions_named es x) p → Inlines M In x (lab p.action.0) (side_by_names p.symbols)
-  pub all : (x : Text) (label : Label Text ℕ) (side : GrammarSymbols Text) → Inlines M In x label side → HasLabelled es lab x label side
+  pub all : (x : Text) (label : Label Text ℕ) (side : GrammarSymbols Text) → Inlines M In x label side →
+      HasLabelled es lab x label side
   pub once : (x : Text) → StandOnce (map (λ p. lab p.action.0) (productions_named es x))
 
 abbrev label_by : (ℕ → Label Text ℕ) → Production → Label Text ℕ
@@ -186,7 +187,8 @@ module _ (M : BaseProductions Text ℕ) (In : Text → Type 0) (lab : ℕ → La
 
   -- the labels of what records make of one production stand once
   made_labels_once : (x : Text) (q : Production) → Among (productions_named es x) q → (rs : List (List InlinedSymbol)) (k : ℕ) →
-      LabelsFrom lab k (map (λ r. (q, r)) rs) → ((r : List InlinedSymbol) → Among rs r → Among (records_of n sources q.symbols) r) →
+      LabelsFrom lab k (map (λ r. (q, r)) rs) →
+      ((r : List InlinedSymbol) → Among rs r → Among (records_of n sources q.symbols) r) →
       StandOnce (map (λ r. record_inlinings (record_by_labels lab r)) rs) →
       StandOnce (map (label_by lab) (productions_of_records q rs k))
   made_labels_once x q i [] k h all once = tt
@@ -215,7 +217,8 @@ module _ (M : BaseProductions Text ℕ) (In : Text → Type 0) (lab : ℕ → La
           made_labels_once x q i (records_of n sources q.symbols) k h (λ r j. j) (records_once lab n sources (are.once n) q.symbols)
       go false h = (λ j. j, tt)
 
-  sides_once : (x : Text) (qs : List Production) → ((q : Production) → Among qs q → Among (productions_named es x) q) → (k : ℕ) →
+  sides_once : (x : Text) (qs : List Production) →
+      ((q : Production) → Among qs q → Among (productions_named es x) q) → (k : ℕ) →
       LabelsFrom lab k (records_after n sources qs) → StandOnce (map (label_by lab) qs) →
       StandOnce (map (label_by lab) (productions_after n sources qs k))
   sides_once x [] inside k h once = tt

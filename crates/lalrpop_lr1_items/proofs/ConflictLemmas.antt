@@ -75,6 +75,7 @@ pairs-first state r rs =
     flat_map-append (pair_conflict state) (map (λ s. (r, s)) rs) (later_pairs rs)
     ∙ ap (λ l. l ++ pairs_conflicts state rs) (flat_map-map (pair_conflict state) (λ s. (r, s)) rs)
 
+-- once the conflicts of the first reduction left are added, those of the rest still make up the whole
 pub pairs_go_on : (state : StateIndex) (old new whole : List (Conflict (List ℕ))) (left rest : List ReductionEntry)
     (r : ReductionEntry) → left ≡ r ∷ rest → new ≡ old ++ flat_map (λ s. pair_conflict state (r, s)) rest
     → old ++ pairs_conflicts state left ≡ whole → new ++ pairs_conflicts state rest ≡ whole

@@ -104,6 +104,7 @@ sources_go_on targets x old new left rest whole e first made so n = (λ source. 
 no_element : {X : Type 0} (y : X) → Contains [] y → ⊥
 no_element y c = omega (arith, c.1)
 
+-- once no edges are left to look at, the states found are all from which the symbol leads to a target
 pub sources_end : (targets : List ℕ) (x : Symbol) (old : List ℕ) (left whole : List Edge) → left ≡ []
     → ((n : ℕ) → IsSourceBy targets x whole n ↔ (Contains old n ⊎ IsSourceBy targets x left n)) → (n : ℕ)
     → Contains old n ↔ IsSourceBy targets x whole n
@@ -131,6 +132,7 @@ lead_pop edges n m (y ∷ ys) x lead =
 abbrev pub LeadsInto : List Edge → List Symbol → List ℕ → ℕ → Type 0
 LeadsInto edges xs set n = (m : ℕ) × Contains set m × SymbolsLead edges n xs m
 
+-- one step back: symbols lead into states where those before the last lead into the last one's sources of these
 pub lead_goes_on : (edges : List Edge) (symbols left front : List Symbol) (x : Symbol) (m : ℕ) (old new : List ℕ)
     → left ≡ front ++ x ∷ [] → ((n : ℕ) → Contains new n ↔ IsSourceBy old x edges n)
     → ((n : ℕ) → SymbolsLead edges n symbols m ↔ LeadsInto edges left old n) → (n : ℕ)

@@ -16,9 +16,11 @@ use Rattle.lalrpop_sets.specs.declared.nil.Nil.{Nil}
 use Rattle.lalrpop_lr1_items.specs.Views.{lr_state_view, nil_lookahead, production_view, token_lookahead}
 use Rattle.lalrpop_lr1_items.specs.declared.state.State.{State}
 
+-- a quoted literal as a terminal, for the examples
 abbrev pub quoted : String → TerminalString
 quoted s = terminals.Literal (literals.Quoted (codes s))
 
+-- a nonterminal's name from a string, for the examples
 abbrev pub name : String → NonterminalString
 name s = record { 0 = codes s }
 

@@ -17,6 +17,7 @@ use Rattle.lalrpop_lr1_items.specs.Conflicts.{later_pairs}
 no_element : {X : Type 0} (y : X) → Contains [] y → ⊥
 no_element y c = omega (arith, c.1)
 
+-- each element of a mapped list is the image of an element of the list
 pub in_map : {X Y : Type 0} (f : X → Y) (xs : List X) (y : Y) → Contains (map f xs) y → (x : X) × Contains xs x × (f x ≡ y)
 in_map f [] y c = absurd (no_element y c)
 in_map {X = X} f (z ∷ zs) y c = go (in_map f zs y) (contains_split (f z) y (map f zs) c)
@@ -26,6 +27,7 @@ in_map {X = X} f (z ∷ zs) y c = go (in_map f zs y) (contains_split (f z) y (ma
     go deeper (inl e) = (z, contains_here z zs, e)
     go deeper (inr d) = let r : (x : X) × Contains zs x × (f x ≡ y) = deeper d in (r.0, contains_later z r.0 zs r.1, r.2)
 
+-- a mapped list has the image of each element of the list
 pub map_has : {X Y : Type 0} (f : X → Y) (xs : List X) (x : X) → Contains xs x → Contains (map f xs) (f x)
 map_has f [] x c = absurd (no_element x c)
 map_has f (z ∷ zs) x c = go (map_has f zs x) (contains_split z x zs c)
@@ -34,6 +36,7 @@ map_has f (z ∷ zs) x c = go (map_has f zs x) (contains_split z x zs c)
     go deeper (inl e) = subst (λ y. Contains (f z ∷ map f zs) (f y)) e (contains_here (f z) (map f zs))
     go deeper (inr d) = contains_later (f z) (f x) (map f zs) (deeper d)
 
+-- what a filtered list has passes the test and is in the list
 pub in_filter : {X : Type 0} (p : X → Bool) (xs : List X) (x : X) → Contains (filter p xs) x → (p x ≡ true) × Contains xs x
 in_filter p [] x c = absurd (no_element x c)
 in_filter p (z ∷ zs) x c = go (p z) refl (in_filter p zs x) c
@@ -51,6 +54,7 @@ in_filter p (z ∷ zs) x c = go (p z) refl (in_filter p zs x) c
     go true h deeper d = first h deeper (contains_split z x (filter p zs) d)
     go false h deeper d = further (deeper d)
 
+-- a range has only numbers from its start on and before its end
 pub in_range : (a n k : ℕ) → Contains (range_with_len a n) k → (a ≤ k) × (k < a + n)
 in_range a zero k c = absurd (no_element k c)
 in_range a (suc n) k c = go (in_range (a + 1) n k) (contains_split a k (range_with_len (a + 1) n) c)
@@ -61,6 +65,7 @@ in_range a (suc n) k c = go (in_range (a + 1) n k) (contains_split a k (range_wi
     go deeper (inl e) = (omega arith, omega arith)
     go deeper (inr d) = let r : (a + 1 ≤ k) × (k < a + 1 + n) = deeper d in (omega (arith, r.0), omega (arith, r.1))
 
+-- where two lists joined are empty, both are empty
 pub joined_empty : {X : Type 0} (a b : List X) → a ++ b ≡ [] → (a ≡ []) × (b ≡ [])
 joined_empty [] b e = (refl, e)
 joined_empty (x ∷ xs) b e = let w : ⊥ = cc in absurd w
@@ -90,6 +95,7 @@ pair_there {X = X} (z ∷ zs) zero (suc j) x y e f h =
 pair_there (z ∷ zs) (suc i) (suc j) x y e f h =
     Contains-append_right (map (λ u. (z, u)) zs) (later_pairs zs) (x, y) (pair_there zs i j x y e f (omega arith))
 
+-- an element of a list that passes the test is in the filtered list
 pub filter_has : {X : Type 0} (p : X → Bool) (xs : List X) (x : X) → p x ≡ true → Contains xs x → Contains (filter p xs) x
 filter_has p [] x h c = absurd (no_element x c)
 filter_has p (z ∷ zs) x h c = go (p z) refl (filter_has p zs x h) (contains_split z x zs c)
@@ -101,6 +107,7 @@ filter_has p (z ∷ zs) x h c = go (p z) refl (filter_has p zs x h) (contains_sp
     go false e deeper (inl same) = let w : true ≡ false = sym h ∙ sym (ap p same) ∙ e in let v : ⊥ = cc in absurd v
     go false e deeper (inr d) = deeper d
 
+-- a range has each number from its start on and before its end
 pub range_has : (a n k : ℕ) → a ≤ k → k < a + n → Contains (range_with_len a n) k
 range_has a zero k h g = absurd (omega arith)
 range_has a (suc n) k h g = go (range_has (a + 1) n k) (cases_eq a k)
@@ -153,6 +160,7 @@ inserted_there (x ∷ xs) k n c = go (nat_cmp k x) (inserted_there xs k n) c
         ⊎_elim (λ e. inl (subst (Contains (x ∷ xs)) e (contains_here x xs))) (λ r. further (deeper r))
         (contains_split x n (insert_key nat_cmp xs k) d)
 
+-- a list into which a key is put has that key and all that it had before
 pub inserted_back : (ks : List ℕ) (k n : ℕ) → Contains ks n ⊎ (n ≡ k) → Contains (insert_key nat_cmp ks k) n
 inserted_back [] k n (inl c) = absurd (no_element n c)
 inserted_back [] k n (inr e) = subst (Contains (k ∷ [])) (sym e) (contains_here k [])

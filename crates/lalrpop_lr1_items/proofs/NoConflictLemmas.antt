@@ -53,6 +53,7 @@ no_error : (l : TerminalLiteral) → literal_view l ≡ Terminal.error → ⊥
 no_error (literals.Quoted s) e = cc
 no_error (literals.Regex s) e = cc
 
+-- terminals that are seen as one are one
 pub same_terminal : (t u : TerminalString) → terminal_view t ≡ terminal_view u → t ≡ u
 same_terminal (terminals.Literal a) (terminals.Literal b) e = ap terminals.Literal (same_literal a b e)
 same_terminal (terminals.Literal a) (terminals.Bare n) e = absurd (no_bare a n e)
@@ -211,6 +212,7 @@ next_of_has ts s k h b =
     map_has (next_of_number ts) (filter (has s) (range_with_len 0 (eof_number ts + 1))) k
     (filter_has (has s) (range_with_len 0 (eof_number ts + 1)) k h (range_has 0 (eof_number ts + 1) k (omega arith) (omega arith)))
 
+-- a mapped list has at a place the image of what the list has there
 pub mapped_at : {X Y : Type 0} (f : X → Y) (xs : List X) (k : ℕ) (x : X) → slice_get xs k ≡ Some x
     → slice_get (map f xs) k ≡ Some (f x)
 mapped_at f [] k x e = let w : ⊥ = cc in absurd w

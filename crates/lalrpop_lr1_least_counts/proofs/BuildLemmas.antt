@@ -16,6 +16,7 @@ pub record IsSumOf (a b : Option ℕ) (n : ℕ) : Type 0 where
   pub other_is : b ≡ Some other
   pub sum : n ≡ one + other
 
+-- where two counts have a sum, both are there, and it is their sum
 pub sum_parts : (a b : Option ℕ) (n : ℕ) → add_counts a b ≡ Some n → IsSumOf a b n
 sum_parts None b n e = let z : ⊥ = cc in absurd z
 sum_parts (Some x) None n e = let z : ⊥ = cc in absurd z

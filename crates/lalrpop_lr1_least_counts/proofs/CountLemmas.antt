@@ -21,6 +21,7 @@ pub record IsNodeOf (f : ℕ → Option ℕ) (ss : List ℕ) (c : ℕ) : Type 0 
   pub is : sum_of f ss ≡ Some sum
   pub count : capped_count (suc sum) ≡ c
 
+-- where a node has a count, its symbols have a sum, and the count is one more, up to the greatest number
 pub node_parts : (f : ℕ → Option ℕ) (ss : List ℕ) (c : ℕ) → node_count f ss ≡ Some c → IsNodeOf f ss c
 node_parts f ss c e = go (sum_of f ss) refl e
   where
@@ -34,6 +35,7 @@ node_parts f ss c e = go (sum_of f ss) refl e
               (sym (ap (option_map (λ n. capped_count (suc n))) h) ∙ e);
         }
 
+-- where symbols have a sum, a node over them counts one more, up to the greatest number
 pub node_from : (f : ℕ → Option ℕ) (ss : List ℕ) (n : ℕ) → sum_of f ss ≡ Some n → node_count f ss ≡ Some
     (capped_count (suc n))
 node_from f ss n e = ap (option_map (λ n. capped_count (suc n))) e
@@ -48,6 +50,7 @@ sum_more f (x ∷ xs) s n a e g =
     let r = sum_more f xs s p.other a p.other_is g in
     ap (λ o. add_counts o (sum_of f (xs ++ s ∷ []))) p.one_is ∙ ap (add_counts (Some p.one)) r ∙ ap Some (omega (arith, p.sum))
 
+-- with one symbol more a node counts that symbol's count more, up to the greatest number
 pub node_more : (f : ℕ → Option ℕ) (xs : List ℕ) (s c a d : ℕ) → node_count f xs ≡ Some c → f s ≡ Some a →
     d ≡ min (c + a) (2 ^ 64 - 1) → node_count f (xs ++ s ∷ []) ≡ Some d
 node_more f xs s c a d e g h =
@@ -65,6 +68,7 @@ sum_missing f (x ∷ ss) s n c g e =
     go rest (inl h) p = none_some p.one (sym g ∙ ap f (sym h) ∙ p.one_is)
     go rest (inr d) p = rest p.other d p.other_is
 
+-- a node over symbols of which one has no count has none
 pub node_missing : (f : ℕ → Option ℕ) (ss : List ℕ) (s : ℕ) → Contains ss s → f s ≡ None → node_count f ss ≡ None
 node_missing f ss s c g = go (node_count f ss) refl
   where
@@ -81,6 +85,7 @@ sum_other f g s same (x ∷ ss) out =
     ap (λ o. add_counts o (sum_of g ss)) (same x (λ e. out (0, omega arith, e)))
     ∙ ap (add_counts (f x)) (sum_other f g s same ss (λ c. out (contains_later x s ss c)))
 
+-- where counts change only at a symbol that isn't among those of a node, the node counts the same
 pub node_other : (f g : ℕ → Option ℕ) (s : ℕ) → ((t : ℕ) → (t ≡ s → ⊥) → g t ≡ f t) → (ss : List ℕ) →
     (Contains ss s → ⊥) →
     node_count g ss ≡ node_count f ss
@@ -98,6 +103,7 @@ name_count leaves table s h = go (nat_lt s (length table)) (lt-ltb s (length tab
     go true e = refl
     go false e = let w : ⊥ = cc in absurd w
 
+-- past the table stand terminals: each counts one where leaves are let, else it has no count
 pub leaf_count : (leaves : Bool) (table : List (Option LeastTree)) (s : ℕ) → length table ≤ s →
     count_of leaves table s ≡ (if leaves then Some 1 else None)
 leaf_count leaves table s h = go (nat_lt s (length table)) refl
@@ -114,6 +120,7 @@ entry_there [] s e h = absurd (omega arith)
 entry_there (x ∷ table) zero e h = refl
 entry_there (x ∷ table) (suc s) e h = entry_there table s e (omega arith)
 
+-- where one entry of a table is set, those at other places stay
 pub entry_other : (table : List (Option LeastTree)) (s t : ℕ) (e : Option LeastTree) → (t ≡ s → ⊥) →
     slice_index_or (set table s e) t None ≡ slice_index_or table t None
 entry_other [] s t e h = refl
@@ -122,17 +129,20 @@ entry_other (x ∷ table) zero (suc t) e h = refl
 entry_other (x ∷ table) (suc s) zero e h = refl
 entry_other (x ∷ table) (suc s) (suc t) e h = entry_other table s t e (λ k. h (ap suc k))
 
+-- where one entry of a table is set, the table stays as long as it was
 pub table_long : (table : List (Option LeastTree)) (s : ℕ) (e : Option LeastTree) → length (set table s e) ≡ length table
 table_long [] s e = refl
 table_long (x ∷ table) zero e = refl
 table_long (x ∷ table) (suc s) e = ap suc (table_long table s e)
 
+-- where a tree is set for a symbol in the table, the symbol's count is that of the tree
 pub count_there : (leaves : Bool) (table : List (Option LeastTree)) (s : ℕ) (tree : LeastTree) → s < length table →
     count_of leaves (set table s (Some tree)) s ≡ Some tree.count
 count_there leaves table s tree h =
     name_count leaves (set table s (Some tree)) s (omega (arith, table_long table s (Some tree)))
     ∙ ap entry_count (entry_there table s (Some tree) h)
 
+-- where one entry of a table is set, the counts of all other symbols stay
 pub count_other : (leaves : Bool) (table : List (Option LeastTree)) (s : ℕ) (e : Option LeastTree) (t : ℕ) → (t ≡ s → ⊥) →
     count_of leaves (set table s e) t ≡ count_of leaves table t
 count_other leaves table s e t h = go (cases_lt t (length table))

@@ -13,6 +13,7 @@ one_of_total [] s = omega arith
 one_of_total (l ∷ ls) zero = omega arith
 one_of_total (l ∷ ls) (suc s) = let r = one_of_total ls s in omega arith
 
+-- the measure falls where a count falls, one rule is taken, and no more wait again than stand in one list
 pub falls : (ls : List (List ℕ)) (s old new waited taken pushed : ℕ) → new < old → suc taken ≡ waited →
     pushed ≤ taken + length (slice_index_or ls s []) → suc (total ls) * new + pushed < suc (total ls) * old + waited
 falls ls s old new waited taken pushed less one more =

@@ -27,6 +27,7 @@ pub none_case : (o : Option ℕ) (P : Type 0) (Q : ℕ → Type 0) → MatchOpti
 none_case None P Q m none = m
 none_case (Some x) P Q m none = absurd (none x refl)
 
+-- a list of numbers whose length is zero is empty
 pub none_left : (xs : List ℕ) → length xs ≡ 0 → xs ≡ []
 none_left [] e = refl
 none_left (x ∷ xs) e = absurd (omega arith)

@@ -24,6 +24,7 @@ use Rattle.lalrpop_lr1_least_counts.proofs.CountLemmas.{node_from, node_other, n
 none_some : {X : Type 0} (x : X) → None ≡ Some x → ⊥
 none_some x e = cc
 
+-- two numbers are equal or they aren't: for telling cases apart
 pub cases_eq : (j k : ℕ) → (j ≡ k) ⊎ (j ≡ k → ⊥)
 cases_eq j k = go (cases_lt j k) (cases_lt k j)
   where

@@ -49,6 +49,7 @@ view_read [] s v h e = absurd (omega arith)
 view_read (x ∷ lists) zero v h e = ap (λ (w : Vec ℕ Global). w.items) (sym e)
 view_read (x ∷ lists) (suc s) v h e = view_read lists s v (omega arith) e
 
+-- seen as lists of numbers, there are as many lists as before
 pub view_long : (lists : List (Vec ℕ Global)) → length (number_lists lists) ≡ length lists
 view_long [] = refl
 view_long (x ∷ lists) = ap suc (view_long lists)
@@ -122,6 +123,7 @@ pub record AreFirstUses (rules : List NumberRule) (names count : ℕ) (uses : Li
       Contains (slice_index_or uses s []) r
   pub within : (r s : ℕ) → Contains (slice_index_or uses s []) r → r < count
 
+-- empty lists, one for each name, have the uses on the right sides of no rules yet
 pub uses_start : (rules : List NumberRule) (names : ℕ) (uses : List (List ℕ)) → length uses ≡ names →
     ((s : ℕ) → slice_index_or uses s [] ≡ []) → AreFirstUses rules names 0 uses
 uses_start rules names uses long empty = record {
@@ -130,6 +132,7 @@ uses_start rules names uses long empty = record {
   within = λ r s c. let d = subst (λ l. Contains l r) (empty s) c in absurd (omega (arith, d.1));
 }
 
+-- where to the uses of the first rules those of the next one are added, they are those of one rule more
 pub uses_more : (rules : List NumberRule) (names count : ℕ) (uses new : List (List ℕ)) (rule : NumberRule) →
     slice_get rules count ≡ Some rule → AreFirstUses rules names count uses → AddsUses count rule.right uses new →
     AreFirstUses rules names (count + 1) new
@@ -149,6 +152,7 @@ uses_more rules names count uses new rule at first adds = record {
         subst (λ k. Contains (slice_index_or new s []) k) (sym e)
         (adds.added s (subst (λ (o : NumberRule). Contains o.right s) same c) (omega (arith, below, first.long)))
 
+-- the uses of the first rules, where these are all that there are, are the uses of the rules
 pub uses_end : (rules : List NumberRule) (names count : ℕ) (uses : List (List ℕ)) → length rules ≤ count → count ≤ length
     rules →
     AreFirstUses rules names count uses → AreUses rules names uses

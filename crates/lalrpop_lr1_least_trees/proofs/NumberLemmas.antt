@@ -20,6 +20,7 @@ lent_past [] (suc i) h = refl
 lent_past (x ∷ names) zero h = absurd (omega arith)
 lent_past (x ∷ names) (suc i) h = lent_past names i (omega arith)
 
+-- names with their places, from a place on, are the name there with its place, then those from the next place on
 pub pairs_more : (names : List (Bor NonterminalString)) (i : ℕ) (n : Bor NonterminalString) → i < length names → n ≡ get_or names
     i n →
     pairs_from i (drop i (lent names)) ≡ (n.now, i) ∷ pairs_from (i + 1) (drop (i + 1) (lent names))
@@ -27,6 +28,7 @@ pairs_more names i n h e =
     let more : suc i ≡ i + 1 = omega arith in
     ap (pairs_from i) (lent_from names i n h e) ∙ ap (λ k. (n.now, i) ∷ pairs_from k (drop k (lent names))) more
 
+-- where no names are left, the pairs so far are those of all names with their places
 pub pairs_end : (names : List (Bor NonterminalString)) (i : ℕ) (numbers : List (NonterminalString × ℕ)) → length names ≤ i →
     numbers ++ pairs_from i (drop i (lent names)) ≡ pairs_from 0 (lent names) → numbers ≡ pairs_from 0 (lent names)
 pairs_end names i numbers h e =

@@ -19,6 +19,7 @@ use Rattle.lalrpop_lr1_first.proofs.ListLemmas.{get_slice}
 use Rattle.lalrpop_lr1_first.proofs.TableLemmas.{long_map}
 use Rattle.lalrpop_lr1_least_trees.specs.GrammarTrees.{symbols_by}
 
+-- a production that is read at a place stands there among the productions as they are seen
 pub production_read : (ps : List (Bor Production)) (k : ℕ) (p : Bor Production) → k < length ps → p ≡ get_or ps k p →
     slice_get (map production_view (lent ps)) k ≡ Some (production_view p.now)
 production_read [] k p h e = absurd (omega arith)

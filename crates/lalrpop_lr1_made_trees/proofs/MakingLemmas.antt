@@ -58,6 +58,7 @@ last_trees p ts c =
     let r = spanned_split ts c.kept c.children c.parts in
     record { kept = r.front; children = r.back; parts = r.parts; roots_are = ap roots r.back_is ∙ c.roots_are }
 
+-- where moves lead from one forest to another, the first of them can be made
 pub can_move : (m : Move) (rest : List Move) (f g : Forest) → MovesLead (m ∷ rest) f g → CanMove m f
 can_move (shift t) rest f g l = tt
 can_move (reduce p) rest f g l =
@@ -156,6 +157,7 @@ left_moves (x ∷ moves) (suc i) m h e =
     left_moves moves i m (omega arith) e
     ∙ ap (λ k. tree_move_view m ∷ map tree_move_view (drop k (x ∷ moves))) (let z : suc (i + 1) ≡ suc i + 1 = omega arith in z)
 
+-- past the last move of a list no moves are left
 pub none_left : (moves : List TreeMove) (i : ℕ) → length moves ≤ i → map tree_move_view (drop i moves) ≡ []
 none_left [] zero h = refl
 none_left [] (suc i) h = refl

@@ -84,7 +84,8 @@ module _ (G : theory.Production → Type 0) (it : StatePaths) (count : ℕ) {L :
           }
 
   -- over an item before which so far back no state stands none leads
-  pub adds_past : (n : ℕ) (item : Item L) (steps : List OutStep) (before : ℕ) → ((m : ℕ) → IsBackBy it item.index n m → before ≡ m) →
+  pub adds_past : (n : ℕ) (item : Item L) (steps : List OutStep) (before : ℕ) →
+      ((m : ℕ) → IsBackBy it item.index n m → before ≡ m) →
       count ≤ before → Adds n (item ∷ []) steps steps
   adds_past n item steps before before_is past =
       adds_none n (item ∷ []) steps (λ other name m there out.
@@ -97,7 +98,8 @@ module _ (G : theory.Production → Type 0) (it : StatePaths) (count : ℕ) {L :
       Adds n (item ∷ []) steps steps
   adds_unnumbered n item steps none =
       adds_none n (item ∷ []) steps (λ other name m there out.
-      let number = subst (λ (i : Item L). HasNameNumber it i.production.now.nonterminal) (sym (alone item other there)) out.left_numbered in
+      let number = subst (λ (i : Item L). HasNameNumber it i.production.now.nonterminal)
+      (sym (alone item other there)) out.left_numbered in
       none number.0 number.1 number.2)
 
   -- the same step, over one of more items
@@ -120,7 +122,8 @@ module _ (G : theory.Production → Type 0) (it : StatePaths) (count : ℕ) {L :
       }
 
   -- a step stays where others are added
-  still_there : (old new : List OutStep) → ((k : ℕ) (step : OutStep) → slice_get old k ≡ Some step → slice_get new k ≡ Some step) →
+  still_there : (old new : List OutStep) → ((k : ℕ) (step : OutStep) → slice_get old k ≡ Some step →
+      slice_get new k ≡ Some step) →
       (n : ℕ) (item : Item L) (name : NonterminalString) (m : ℕ) → HasToldStep G it count old n item name m →
       HasToldStep G it count new n item name m
   still_there old new kept n item name m has =
@@ -170,7 +173,8 @@ module _ (G : theory.Production → Type 0) (it : StatePaths) (count : ℕ) {L :
       before k step is =
           record { number = is.number; state = is.state; at = get_front states (state ∷ []) is.number is.state is.at; is = is.is }
 
-      last : (n : ℕ) (other : State L) (item : Item L) (name : NonterminalString) (m : ℕ) → n ≡ length states → state ≡ other →
+      last : (n : ℕ) (other : State L) (item : Item L) (name : NonterminalString) (m : ℕ) →
+          n ≡ length states → state ≡ other →
           Contains other.items.vec item → IsOutItem G it count n item name m → HasToldStep G it count new n item name m
       last n other item name m at same c out =
           let there : Contains state.items.vec item = subst (λ (s : State L). Contains s.items.vec item) (sym same) c in

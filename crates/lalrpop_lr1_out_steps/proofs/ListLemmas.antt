@@ -1,5 +1,6 @@
 -- What stands at the end of a list, and what alone stands in one: for lists that get one element more at a time.
-use Rattle.std.proofs.Common.{◌≡◌, ◌+◌, ◌⊎◌, ℕ, zero, suc, List, [], ◌∷◌, ◌++◌, length, Some, refl, inl, inr, ⊎_elim, arith, Contains}
+use Rattle.std.proofs.Common.{◌≡◌, ◌+◌, ◌⊎◌, ℕ, zero, suc, List, [], ◌∷◌, ◌++◌, length, Some, refl}
+use Rattle.std.proofs.Common.{inl, inr, ⊎_elim, arith, Contains}
 use Rattle.std.specs.Prelude.{slice_get}
 use Rattle.lalrpop_lr1_theory.proofs.ListLemmas.{contains_split, get_split}
 use Rattle.lalrpop_lr1_theory.proofs.StepLemmas.{some_same}

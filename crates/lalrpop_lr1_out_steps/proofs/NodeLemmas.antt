@@ -14,7 +14,8 @@ row_one names n m a b low high e = (
 )
 
 module _ (symbol_at : ℕ → Option theory.Symbol) (names : ℕ) where
-  pub node_one : (node n m : ℕ) (B C : Text) → IsOutNode symbol_at names node n B → IsOutNode symbol_at names node m C → (n ≡ m) × (B ≡ C)
+  pub node_one : (node n m : ℕ) (B C : Text) → IsOutNode symbol_at names node n B → IsOutNode symbol_at names node m C →
+      (n ≡ m) × (B ≡ C)
   node_one node n m B C a b =
       let r = row_one names n m a.number b.number a.below b.below (sym a.is ∙ b.is) in (
         r.0,
@@ -22,7 +23,8 @@ module _ (symbol_at : ℕ → Option theory.Symbol) (names : ℕ) where
             (some_same (theory.nonterminal B) (theory.nonterminal C) (sym a.named ∙ ap symbol_at r.1 ∙ b.named)),
       )
 
-  pub node_same : ((i j : ℕ) (A : Text) → symbol_at i ≡ Some (theory.nonterminal A) → symbol_at j ≡ Some (theory.nonterminal A) → i ≡ j) →
+  pub node_same : ((i j : ℕ) (A : Text) → symbol_at i ≡ Some (theory.nonterminal A) →
+      symbol_at j ≡ Some (theory.nonterminal A) → i ≡ j) →
       (node other n : ℕ) (B : Text) → IsOutNode symbol_at names node n B → IsOutNode symbol_at names other n B → node ≡ other
   node_same once node other n B a b =
       a.is ∙ ap (λ k. n * names + k) (once a.number b.number B a.named b.named) ∙ sym b.is

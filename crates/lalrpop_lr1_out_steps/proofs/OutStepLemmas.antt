@@ -86,7 +86,8 @@ number_there symbol_at (n ∷ ns) (x ∷ ys) zero y b sp e = let z : x ≡ y = c
 number_there symbol_at (n ∷ ns) (x ∷ ys) (suc i) y b sp e = number_there symbol_at ns ys i y b sp.1 e
 
 -- what stands before a state on its path is a state
-back_state : (views : List states.State) (Back : ℕ → theory.Symbol → ℕ → Type 0) → IsPathTree (HasEdge views) Back (IsStateOf views) →
+back_state : (views : List states.State) (Back : ℕ → theory.Symbol → ℕ → Type 0) →
+    IsPathTree (HasEdge views) Back (IsStateOf views) →
     (i n m : ℕ) → IsStateOf views n → IsBack Back i n m → IsStateOf views m
 back_state views Back paths i n m is (here k) = is
 back_state views Back paths i n m is (further {i = j} {n = k} x l e back) =

@@ -18,7 +18,9 @@ module _ (G : theory.Production → Type 0) (s : Text) (states : List State) (ta
       LeadsOut G s (HasItem states) (LedBy table) n B (moves us ++ reduce (step_production step) ∷ ms) (yield us ++ w)
   step_out step is n B node us over us_roots ms w leads =
       let same = node_one symbol_at names step.from is.state n is.name B is.from node in
-      subst (λ k. LeadsOut G s (HasItem states) (LedBy table) k B (moves us ++ reduce (step_production step) ∷ ms) (yield us ++ w)) same.0
+      subst (λ k. LeadsOut G s (HasItem states) (LedBy table) k B (moves us ++ reduce (step_production step) ∷ ms)
+      (yield us ++ w)) same.0
       (subst
-      (λ A. LeadsOut G s (HasItem states) (LedBy table) is.state A (moves us ++ reduce (step_production step) ∷ ms) (yield us ++ w)) same.1
+      (λ A. LeadsOut G s (HasItem states) (LedBy table) is.state A (moves us ++ reduce (step_production step) ∷ ms)
+      (yield us ++ w)) same.1
       (steps (step_production step) is.name (step_rest step) us is.held is.at is.back over us_roots leads))

@@ -23,19 +23,22 @@ none_beside [] b e = (refl, e)
 none_beside (t ∷ a) b e = let z : ⊥ = cc in absurd z
 
 -- a path over one edge more
-pub over_edge : (edges : List Edge) (goals : List Goal) (node e : ℕ) (edge : Edge) → slice_get edges e ≡ Some edge → edge.from ≡ node →
+pub over_edge : (edges : List Edge) (goals : List Goal) (node e : ℕ) (edge : Edge) → slice_get edges e ≡ Some edge →
+    edge.from ≡ node →
     HasPathToGoal edges goals edge.to → HasPathToGoal edges goals node
 over_edge edges goals node e edge at from rest =
     record { edges_of = e ∷ rest.edges_of; goal = rest.goal; is = goes_on node e edge rest.edges_of rest.goal at from rest.is }
 
-at_goal : (edges : List Edge) (goals : List Goal) (node k : ℕ) (goal : Goal) → slice_get goals k ≡ Some goal → goal.node ≡ node →
+at_goal : (edges : List Edge) (goals : List Goal) (node k : ℕ) (goal : Goal) → slice_get goals k ≡ Some goal →
+    goal.node ≡ node →
     HasPathToGoal edges goals node
 at_goal edges goals node k goal at is = record { edges_of = []; goal = k; is = ends node k goal at is }
 
 module _ (G : theory.Production → Type 0) (s : Text) (states : List State) (table : LastSteps) (symbol_at : ℕ → Option theory.Symbol)
     (names : ℕ) (all : List OutStep)
     (are : AreOutSteps G states table symbol_at names (HasItem states) all)
-    (once : (i j : ℕ) (A : Text) → symbol_at i ≡ Some (theory.nonterminal A) → symbol_at j ≡ Some (theory.nonterminal A) → i ≡ j) where
+    (once : (i j : ℕ) (A : Text) → symbol_at i ≡ Some (theory.nonterminal A) →
+    symbol_at j ≡ Some (theory.nonterminal A) → i ≡ j) where
   abbrev Out : ℕ → Text → List Move → List Terminal → Type 0
   Out = LeadsOut G s (HasItem states) (LedBy table)
 
@@ -73,7 +76,8 @@ module _ (G : theory.Production → Type 0) (s : Text) (states : List State) (ta
         record { trees = us; over = over; roots_are = us_roots ∙ sym h.rest_is; wanted = wanted }
 
     over_empty : (goals : List Goal) (p : theory.Production) (B : Text) (b : List theory.Symbol) (n m : ℕ)
-        (h : HasOutStep symbol_at names all n p m B b) (us : Forest) → AreOver G us → roots us ≡ b → yield us ≡ [] → (node : ℕ) →
+        (h : HasOutStep symbol_at names all n p m B b) (us : Forest) → AreOver G us → roots us ≡ b →
+        yield us ≡ [] → (node : ℕ) →
         IsOutNode symbol_at names node n B →
         ((next : ℕ) → IsOutNode symbol_at names next m p.left → HasPathToGoal edges goals next) → HasPathToGoal edges goals node
     over_empty goals p B b n m h us over us_roots nothing node is further =
@@ -82,7 +86,8 @@ module _ (G : theory.Production → Type 0) (s : Text) (states : List State) (ta
         (further e.edge.to (subst (λ k. IsOutNode symbol_at names k m p.left) (sym e.leads.1) h.to))
 
     -- by those behind whose nonterminals nothing comes, where no terminal comes
-    pub empty_path : (goals : List Goal) → EndsAtStart goals → (n : ℕ) (B : Text) (ms : List Move) (w : List Terminal) → Out n B ms w →
+    pub empty_path : (goals : List Goal) → EndsAtStart goals →
+        (n : ℕ) (B : Text) (ms : List Move) (w : List Terminal) → Out n B ms w →
         w ≡ [] → (node : ℕ) → IsOutNode symbol_at names node n B → HasPathToGoal edges goals node
     empty_path goals end n B ms w arrives nothing node is =
         at_goal edges goals node end.number end.goal end.at (node_same symbol_at names once end.goal.node node 0 s end.node is)
@@ -94,8 +99,10 @@ module _ (G : theory.Production → Type 0) (s : Text) (states : List State) (ta
     -- a goal stands at each step with whose trees the terminal comes, and from where moves lead out
     abbrev pub BeginGoals : Terminal → List Goal → Type 0
     BeginGoals t goals =
-        (k : ℕ) (step : OutStep) → slice_get all k ≡ Some step → HasRest G (step_rest step) (BeginsWith t) → (m : ℕ) (ms : List Move)
-        (w : List Terminal) → IsOutNode symbol_at names step.to m (step_production step).left → Out m (step_production step).left ms w →
+        (k : ℕ) (step : OutStep) → slice_get all k ≡ Some step → HasRest G (step_rest step) (BeginsWith t) →
+        (m : ℕ) (ms : List Move)
+        (w : List Terminal) → IsOutNode symbol_at names step.to m (step_production step).left →
+        Out m (step_production step).left ms w →
         (g : ℕ) × (goal : Goal) × (slice_get goals g ≡ Some goal) × (goal.node ≡ step.from)
 
     to_begin : (t : Terminal) (goals : List Goal) → BeginGoals t goals → (p : theory.Production) (B : Text) (b : List theory.Symbol)

@@ -1,5 +1,6 @@
 -- Edges of steps, one more at a time, and that they lead between nodes: for the graphs of steps.
-use Rattle.std.proofs.Common.{◌≡◌, ◌∙◌, ◌+◌, ◌<◌, ◌≤◌, ℕ, List, [], ◌∷◌, ◌++◌, length, Some, sym, ap, subst, inl, inr, ⊎_elim, arith}
+use Rattle.std.proofs.Common.{◌≡◌, ◌∙◌, ◌+◌, ◌<◌, ◌≤◌, ℕ, List, [], ◌∷◌, ◌++◌, length}
+use Rattle.std.proofs.Common.{Some, sym, ap, subst, inl, inr, ⊎_elim, arith}
 use Rattle.std.specs.Prelude.{slice_get}
 use Rattle.std.proofs.lemmas.List.{length_push}
 use Rattle.std.proofs.lemmas.Option.{slice_get_within}
@@ -65,11 +66,13 @@ leads_below : (nodes : ℕ) (step : OutStep) (edge : Edge) → LeadsAsStep step 
     (edge.from < nodes) × (edge.to < nodes)
 leads_below nodes step edge leads below = (omega (arith, leads.0, below.0), omega (arith, leads.1, below.1))
 
+-- where steps lead between nodes below a count, so do their edges
 pub step_edges_below : (nodes : ℕ) (steps : List OutStep) (edges : List Edge) → StepsAreBelow nodes steps →
     AreStepEdges steps edges → EdgesAreBelow nodes edges
 step_edges_below nodes steps edges below are e edge f =
     let r = are.sound e edge f in leads_below nodes r.step edge r.leads (below e r.step r.at_step)
 
+-- where steps lead between nodes below a count, so do the edges of those that are listed
 pub listed_edges_below : (nodes : ℕ) (steps : List OutStep) (numbers : List ℕ) (edges : List Edge) → StepsAreBelow nodes steps →
     AreListedEdges steps numbers edges → EdgesAreBelow nodes edges
 listed_edges_below nodes steps numbers edges below are e edge f =
@@ -82,7 +85,8 @@ pub record AreListedSteps (steps : List OutStep) (it : ListedSteps) : Type 0 whe
 
 -- of the first steps, up to a number, those were listed behind whose nonterminals nothing may come
 pub record AreFirstEmpty (G : theory.Production → Type 0) (steps : List OutStep) (n : ℕ) (it : ListedSteps) : Type 0 where
-  pub sound : (e number : ℕ) (step : OutStep) → slice_get it.numbers.items e ≡ Some number → slice_get steps number ≡ Some step →
+  pub sound : (e number : ℕ) (step : OutStep) → slice_get it.numbers.items e ≡ Some number →
+      slice_get steps number ≡ Some step →
       HasRest G (step_rest step) NoLeaves
   pub all : (k : ℕ) (step : OutStep) → k < n → slice_get steps k ≡ Some step → HasRest G (step_rest step) NoLeaves →
       HasEdgeFor it.edges.items step
@@ -102,7 +106,8 @@ module _ (table : Numbered) (steps : List OutStep) (n : ℕ) (step : OutStep) (a
             (before_or_end old.edges.items listed.edge e edge (subst (λ l. slice_get l e ≡ Some edge) listed.edges f));
       }
     where
-      number_at : (e number : ℕ) → slice_get (old.numbers.items ++ n ∷ []) e ≡ Some number → slice_get new.numbers.items e ≡ Some number
+      number_at : (e number : ℕ) → slice_get (old.numbers.items ++ n ∷ []) e ≡ Some number →
+          slice_get new.numbers.items e ≡ Some number
       number_at e number f = subst (λ l. slice_get l e ≡ Some number) (sym listed.numbers) f
 
       before : (e : ℕ) (edge : Edge) → IsListedEdge steps old.numbers.items e edge → IsListedEdge steps new.numbers.items e edge
@@ -113,12 +118,14 @@ module _ (table : Numbered) (steps : List OutStep) (n : ℕ) (step : OutStep) (a
             is = is.is;
           }
 
-      last : (e : ℕ) (edge : Edge) → e ≡ length old.edges.items → listed.edge ≡ edge → IsListedEdge steps new.numbers.items e edge
+      last : (e : ℕ) (edge : Edge) → e ≡ length old.edges.items → listed.edge ≡ edge →
+          IsListedEdge steps new.numbers.items e edge
       last e edge place same =
           record {
             number = n;
             listed = number_at e n
-                (subst (λ k. slice_get (old.numbers.items ++ n ∷ []) k ≡ Some n) (are.long ∙ sym place) (at_end old.numbers.items n));
+                (subst (λ k. slice_get (old.numbers.items ++ n ∷ []) k ≡ Some n) (are.long ∙ sym place)
+                (at_end old.numbers.items n));
             is = record { step = step; at_step = at; leads = subst (LeadsAsStep step) same listed.leads };
           }
 

@@ -48,7 +48,8 @@ pub record IsOutStep (G : theory.Production → Type 0) (states : List State) (t
   pub rest : HasRest G (step_rest step) AnyLeaves
 
 -- some step is over the item
-pub record HasOutStep (symbol_at : ℕ → Option theory.Symbol) (names : ℕ) (steps : List OutStep) (n : ℕ) (p : theory.Production) (m : ℕ)
+pub record HasOutStep (symbol_at : ℕ → Option theory.Symbol) (names : ℕ) (steps : List OutStep) (n : ℕ)
+    (p : theory.Production) (m : ℕ)
     (B : Text) (b : List theory.Symbol) : Type 0 where
   pub number : ℕ
   pub step : OutStep
@@ -60,7 +61,8 @@ pub record HasOutStep (symbol_at : ℕ → Option theory.Symbol) (names : ℕ) (
 
 -- all steps are over items, and over each item of these states whose dot stands before a nonterminal, and behind which trees may come,
 -- there is one
-pub record AreOutSteps (G : theory.Production → Type 0) (states : List State) (table : LastSteps) (symbol_at : ℕ → Option theory.Symbol)
+pub record AreOutSteps (G : theory.Production → Type 0) (states : List State) (table : LastSteps)
+    (symbol_at : ℕ → Option theory.Symbol)
     (names : ℕ) (Held : ℕ → theory.Production → ℕ → Type 0) (steps : List OutStep) : Type 0 where
   pub sound : (k : ℕ) (step : OutStep) → slice_get steps k ≡ Some step → IsOutStep G states table symbol_at names step
   pub all : (n : ℕ) (p : theory.Production) (i m : ℕ) (B : Text) (b : List theory.Symbol) → Held n p i →

@@ -1,6 +1,7 @@
 -- Computed examples of paths and ways out: in the three states of `__S = S; S = "a"` from `"a"` the only way out is by `__S`, and the
 -- paths, the way and the tree by it are refused where a step is told wrong.
-use Rattle.std.proofs.Common.{◌≡◌, ℕ, zero, suc, List, [], ◌∷◌, ◌++◌, Some, None, Option, refl, sym, ap, ◌∙◌, subst, arith, Contains}
+use Rattle.std.proofs.Common.{◌≡◌, ℕ, zero, suc, List, [], ◌∷◌, ◌++◌, Some, None, Option, refl, sym, ap}
+use Rattle.std.proofs.Common.{◌∙◌, subst, arith, Contains}
 use Rattle.lalrpop_lr1_theory.specs.Productions.{Production, Symbol, nonterminal, terminal}
 use Rattle.lalrpop_lr1_theory.specs.Trees.{Forest, Move, leaf, moves, node, none, reduce, roots, shift}
 use Rattle.lalrpop_lr1_theory.specs.Automata.{Walk, goes, stands}
@@ -98,7 +99,8 @@ not_back_to_one (further x k e (here b)) =
     omega (arith, y)
 
 -- refused: without the reduction by `__S` the moves are no whole tree's, since its last move is by the start
-last_is_start : (ms : List Move) (p : Production) → ms ++ reduce p ∷ [] ≡ shift (quoted letter_a) ∷ reduce s_is_a ∷ [] → s_is_a ≡ p
+last_is_start : (ms : List Move) (p : Production) →
+    ms ++ reduce p ∷ [] ≡ shift (quoted letter_a) ∷ reduce s_is_a ∷ [] → s_is_a ≡ p
 last_is_start [] p e = let z : ⊥ = cc in absurd z
 last_is_start (m ∷ []) p e = cc
 last_is_start (m ∷ n ∷ []) p e = let z : ⊥ = cc in absurd z

@@ -1,5 +1,6 @@
 -- Moves that lead out are those of a whole tree over each forest on the path: for the law on ways out.
-use Rattle.std.proofs.Common.{◌≡◌, ℕ, List, [], ◌∷◌, ◌++◌, drop, take, refl, sym, ap, ap₂, ◌∙◌, subst, append_assoc, arith}
+use Rattle.std.proofs.Common.{◌≡◌, ℕ, List, [], ◌∷◌, ◌++◌, drop, take, refl, sym, ap, ap₂, ◌∙◌, subst}
+use Rattle.std.proofs.Common.{append_assoc, arith}
 use Rattle.std.proofs.lemmas.List.{take-append-drop}
 use Rattle.lalrpop_grammar_symbols.specs.Symbols.{Terminal, Text}
 use Rattle.lalrpop_lr1_theory.specs.Productions.{Production, Symbol, nonterminal}
@@ -16,7 +17,8 @@ use Rattle.lalrpop_lr1_outward_laws.specs.PathTrees.{IsBack, IsPathTree}
 use Rattle.lalrpop_lr1_outward_laws.specs.OutwardMoves.{IsContinued, LeadsOut, arrives, steps}
 use Rattle.lalrpop_lr1_outward_laws.proofs.PathLemmas.{path_back, walk_by_edges}
 
-module _ (G : Production → Type 0) (s : Text) (Item : ℕ → Production → ℕ → Type 0) (Edge Back : ℕ → Symbol → ℕ → Type 0)
+module _ (G : Production → Type 0) (s : Text) (Item : ℕ → Production → ℕ → Type 0)
+    (Edge Back : ℕ → Symbol → ℕ → Type 0)
     (IsState : ℕ → Type 0) (cover : IsCover G s Item Edge) (paths : IsPathTree Edge Back IsState) where
   -- The place behind a forest at which a tree of the nonterminal may stand, with what is left to be done from there.
   pub record IsOpenPlace (f : Forest) (B : Text) (ms : List Move) (w : List Terminal) : Type 0 where
@@ -99,7 +101,8 @@ module _ (G : Production → Type 0) (s : Text) (Item : ℕ → Production → �
       }
 
   -- the whole tree of a place, with trees to its left and at it
-  at_place : (f here us : Forest) (c : Way) → lefts c and here ≡ f → AreOver G here → AreOver G us → IsWayTo G s c (roots (here and us)) →
+  at_place : (f here us : Forest) (c : Way) → lefts c and here ≡ f → AreOver G here → AreOver G us →
+      IsWayTo G s c (roots (here and us)) →
       (ms : List Move) (w : List Terminal) → after c ≡ ms → yield (rights c) ≡ w →
       IsContinued G s f (moves us ++ ms) (yield us ++ w)
   at_place f here us c whole here_over us_over fits ms w moves_are leaves =

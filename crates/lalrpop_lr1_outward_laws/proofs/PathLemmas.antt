@@ -1,5 +1,6 @@
 -- What stands on the path to a state, and what stands before an item's symbols there: for the laws on ways out.
-use Rattle.std.proofs.Common.{◌≡◌, ℕ, zero, suc, List, [], ◌∷◌, ◌++◌, drop, take, refl, sym, ap, ◌∙◌, subst, append_assoc, append-nil, arith}
+use Rattle.std.proofs.Common.{◌≡◌, ℕ, zero, suc, List, [], ◌∷◌, ◌++◌, drop, take, refl, sym, ap, ◌∙◌}
+use Rattle.std.proofs.Common.{subst, append_assoc, append-nil, arith}
 use Rattle.lalrpop_grammar_symbols.specs.Symbols.{Text}
 use Rattle.lalrpop_lr1_theory.specs.Productions.{Production, Symbol}
 use Rattle.lalrpop_lr1_theory.specs.Automata.{Closure, IsBegun, IsCover, IsShifted, Walk, closed, goes, in_kernel, stands}
@@ -29,7 +30,8 @@ module _ (Edge Back : ℕ → Symbol → ℕ → Type 0) (IsState : ℕ → Type
     start_dot p i (closed b q c d u) = refl
 
     -- an item whose dot isn't in front was shifted to the state, by each edge that leads there
-    shifted_item : (n k : ℕ) (x : Symbol) → Edge n x k → (p : Production) (i : ℕ) → Item k p (suc i) → IsShifted Item n x p (suc i)
+    shifted_item : (n k : ℕ) (x : Symbol) → Edge n x k → (p : Production) (i : ℕ) → Item k p (suc i) →
+        IsShifted Item n x p (suc i)
     shifted_item n k x e p i held = go (suc i) ((cover.next n x k e p (suc i)).0 held) refl
       where
         go : (j : ℕ) → Closure G (IsShifted Item n x) p j → j ≡ suc i → IsShifted Item n x p (suc i)
@@ -64,7 +66,8 @@ module _ (Edge Back : ℕ → Symbol → ℕ → Type 0) (IsState : ℕ → Type
         last_back x a m j p (λ h v u. path_back j h a m v p u back) g n w e held
 
     -- and the state there is one
-    pub back_there : (i : ℕ) (g : List Symbol) (n : ℕ) → Walk Back g n → (p : Production) → Item n p i → (m : ℕ) × IsBack Back i n m
+    pub back_there : (i : ℕ) (g : List Symbol) (n : ℕ) → Walk Back g n → (p : Production) → Item n p i →
+        (m : ℕ) × IsBack Back i n m
     back_there zero g n w p held = (n, here n)
     back_there (suc j) g n stands p held = let z = start_dot p (suc j) ((cover.start p (suc j)).0 held) in absurd (omega (arith, z))
     back_there (suc j) g n (goes {g = h} {n = c} y l v d) p held =

@@ -35,7 +35,8 @@ same_front (b ∷ a) (c ∷ h) y x e =
     let u : a ++ y ∷ [] ≡ h ++ x ∷ [] = cc in
     ap₂ (λ v w. v ∷ w) z (same_front a h y x u)
 
-module _ (G : Production → Type 0) (s : Text) (Item : ℕ → Production → ℕ → Type 0) (Edge Back : ℕ → Symbol → ℕ → Type 0)
+module _ (G : Production → Type 0) (s : Text) (Item : ℕ → Production → ℕ → Type 0)
+    (Edge Back : ℕ → Symbol → ℕ → Type 0)
     (IsState : ℕ → Type 0) (cover : IsCover G s Item Edge) (paths : IsPathTree Edge Back IsState) (nb : NoneBarren G s) where
   -- a state so many places back, from which moves lead out before this
   pub record GoesOut (n i : ℕ) (B : Text) (x : Next) : Type 0 where
@@ -43,7 +44,8 @@ module _ (G : Production → Type 0) (s : Text) (Item : ℕ → Production → �
     pub back : IsBack Back i n state
     pub out : HasWayOut G s Item Back state B x
 
-  item_there : (g : List Symbol) (n : ℕ) → Walk Back g n → (p : Production) (i : ℕ) (x : Next) → CarriesOn G s g p i x → Item n p i
+  item_there : (g : List Symbol) (n : ℕ) → Walk Back g n → (p : Production) (i : ℕ) (x : Next) →
+      CarriesOn G s g p i x → Item n p i
   item_there g n w p i x k =
       let r = carried_there G s Item Edge cover g p i x k in
       subst (λ m. Item m p i)

@@ -2,7 +2,8 @@
 use Rattle.std.proofs.Common.{◌≡◌, ℕ, suc, ◌+◌, List, [], ◌∷◌, ap, ◌∙◌, refl, map}
 use Rattle.lalrpop_lr1_parse.specs.declared.expanded_tree.ExpandedTree.{ExpandedTree}
 use Rattle.lalrpop_lr1_parse.specs.declared.expanded_tree.ExpandedTree.TheOpen.{ExpandedTree-F}
-use Rattle.lalrpop_lr1_parse.specs.declared.expanded_tree.ExpandedTree.TheFolds.{fold-ExpandedTree, fold-roll-ExpandedTree, fold_out-ExpandedTree}
+use Rattle.lalrpop_lr1_parse.specs.declared.expanded_tree.ExpandedTree.TheFolds.{fold-ExpandedTree, fold-roll-ExpandedTree}
+use Rattle.lalrpop_lr1_parse.specs.declared.expanded_tree.ExpandedTree.TheFolds.{fold_out-ExpandedTree}
 use Rattle.lalrpop_lr1_parse.specs.declared.expanded_tree.ExpandedTree.TheViews.{out-ExpandedTree, roll-ExpandedTree}
 use Rattle.lalrpop_grammar.proofs.TakingApartLemmas.{total}
 
@@ -21,8 +22,10 @@ all_total : (ts : List ExpandedTree) → all_of (map count ts) ≡ total count t
 all_total [] = refl
 all_total (t ∷ ts) = ap (λ n. count t + n) (all_total ts)
 
+-- a tree has one node more than its children have together
 pub count_is : (t : ExpandedTree) → count t ≡ suc (total count (out-ExpandedTree t).children.items)
 count_is t = fold_out-ExpandedTree ℕ count_step t ∙ ap suc (all_total (out-ExpandedTree t).children.items)
 
+-- a tree made of a layer has one node more than the layer's children have together
 pub count_made : (y : ExpandedTree-F ExpandedTree) → count (roll-ExpandedTree y) ≡ suc (total count y.children.items)
 count_made y = fold-roll-ExpandedTree ℕ count_step y ∙ ap suc (all_total y.children.items)

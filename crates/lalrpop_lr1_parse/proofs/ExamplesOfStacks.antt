@@ -14,6 +14,7 @@ use Rattle.lalrpop_lr1_parse.specs.Rows.{AreNumbersOf, part_at}
 use Rattle.lalrpop_lr1_parse.specs.Stacks.{AreStatesOn, EndsByShift, HasChildren, by_shift, no_moves, ◌beside◌}
 use Rattle.lalrpop_lr1_parse.proofs.StackLemmas.{states_on, without-beside}
 
+-- a terminal for the examples: the regular expression of the digit 1
 abbrev pub one : Terminal
 one = Terminal.regex (49 ∷ [])
 

@@ -58,6 +58,7 @@ labelled_long : (label : TreeLabel) (cs rest : SpannedForest) →
 labelled_long (labels.Leaf t span) cs rest = refl
 labelled_long (labels.Node p) cs rest = refl
 
+-- trees as they are seen have as many roots as there are trees
 pub views_long : (ts : List ExpandedTree) → length (roots (without_spans (expanded_views ts))) ≡ length ts
 views_long [] = refl
 views_long (t ∷ ts) =
@@ -97,6 +98,7 @@ node_seen t p e =
 pub nodes-beside : (ts us : SpannedForest) → nodes (without_spans (ts beside us)) ≡ nodes (without_spans ts) + nodes (without_spans us)
 nodes-beside ts us = ap nodes (without-beside ts us) ∙ nodes-and (without_spans ts) (without_spans us)
 
+-- one more than the capped count of nodes below a node is the capped count of all its nodes
 pub node_counted : (t : ExpandedTree) (p : Bor Production) (count all : ℕ) → (out-ExpandedTree t).label ≡ labels.Node p →
     count ≡ min (nodes (without_spans (expanded_views (out-ExpandedTree t).children.items))) (2 ^ 64 - 1) →
     all ≡ min (count + 1) (2 ^ 64 - 1) → all ≡ min (nodes (without_spans (expanded_view t))) (2 ^ 64 - 1)
@@ -104,6 +106,7 @@ node_counted t p count all e c a =
     let n = ap (λ f. nodes (without_spans f)) (node_seen t p e) in
     omega (arith, c, a, n)
 
+-- the capped counts of the first trees and of the next one add up to that of one tree more
 pub one_more_counted : (ts : List ExpandedTree) (i : ℕ) (t : ExpandedTree) (count one all : ℕ) → i < length ts →
     t ≡ get_or ts i t →
     count ≡ min (nodes (without_spans (expanded_views (take i ts)))) (2 ^ 64 - 1) →
@@ -148,6 +151,7 @@ child_found t x p items n e same h read =
     sym (ap (λ f. nth_tree (root_children f) n) (node_seen t p e) ∙ ap (λ l. nth_tree (expanded_views l) n) (sym same)
     ∙ views_at items n ∙ ap (option_map expanded_view) (slice_get-get_or items n x h) ∙ ap (λ y. Some (expanded_view y)) (sym read))
 
+-- a node has no child at a place past its children
 pub child_missing : (t : ExpandedTree) (p : Bor Production) (items : List ExpandedTree) (n : ℕ) →
     (out-ExpandedTree t).label ≡ labels.Node p →
     items ≡ (out-ExpandedTree t).children.items → length items ≤ n → None ≡ nth_tree (root_children (expanded_view t)) n

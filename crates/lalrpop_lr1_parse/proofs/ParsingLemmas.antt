@@ -31,6 +31,7 @@ pub record Parsing (states : List State) (w : List Terminal) (limit : ℕ) (whol
   pub left_is : length moves + left ≡ limit
   pub last : whole ≡ false → at ≡ length w → EndsByShift moves
 
+-- before the first move only state 0 is on the stack, there is no tree yet, and the whole limit is left
 pub parsing_start : (states : List State) (w : List Terminal) (limit : ℕ) (whole : Bool) →
     Parsing states w limit whole (0 ∷ []) none 0 limit
 parsing_start states w limit whole = record {
@@ -75,6 +76,7 @@ runs_more Edge R (k ∷ ms) f v g w n m h u r a b c d = record {
   rest = runs_more Edge R ms r.made r.left g w n m h u r.rest a b c d;
 }
 
+-- where a terminal comes next, the place is within the word, and behind it comes what is left at the next place
 pub first_drop : (w : List Terminal) (at : ℕ) (t : Terminal) → first (drop at w) ≡ Some t →
     (drop at w ≡ t ∷ drop (suc at) w) × (at < length w)
 first_drop [] zero t e = let z : ⊥ = cc in absurd z

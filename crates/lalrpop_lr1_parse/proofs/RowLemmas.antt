@@ -99,6 +99,7 @@ go_on_same xs ys e = record { more = []; parts = e ∙ sym (nothing xs); apart =
     nothing [] = refl
     nothing (z ∷ zs) = ap (λ l. z ∷ l) (nothing zs)
 
+-- names that go on, and then go on once more, go on from the first to the last
 pub go_on_both : {X : Type 0} (xs ys zs : List X) → GoOn xs ys → GoOn ys zs → GoOn xs zs
 go_on_both xs ys zs a b = record {
   more = a.more ++ b.more;
@@ -135,6 +136,7 @@ still_action names names' (acts.Shift m) (actions.Reduce r) g h = absurd h
 still_action names names' (acts.Reduce p) (actions.Shift k) g h = absurd h
 still_action names names' (acts.Reduce p) (actions.Reduce r) g h = (h.0, still_numbered names names' r g h.1)
 
+-- actions by numbers stay those by names where the names go on
 pub still_actions : (names names' : List NonterminalString) (as_ : List Act) (bs : List TableAction) → GoOn names names' →
     AreActionsOf names as_ bs → AreActionsOf names' as_ bs
 still_actions names names' [] [] g h = tt
@@ -149,6 +151,7 @@ actions_more names [] (y ∷ bs) a b h e = absurd h
 actions_more names (x ∷ as_) [] a b h e = absurd h
 actions_more names (x ∷ as_) (y ∷ bs) a b h e = (h.0, actions_more names as_ bs a b h.1 e)
 
+-- productions with numbers stay so where the names go on
 pub still_productions : (names names' : List NonterminalString) (ps : List (Bor Production)) (rs : List NumberedProduction) →
     GoOn names names' → AreNumberedProductions names ps rs → AreNumberedProductions names' ps rs
 still_productions names names' [] [] g h = tt
@@ -205,6 +208,7 @@ map_more {X} {Y} f xs i x h read =
     mapped [] y = refl
     mapped (z ∷ ys) y = ap (λ l. f z ∷ l) (mapped ys y)
 
+-- where the names go on, a name and its number may be put behind the names and numbers so far
 pub numbers_on : {X : Type 0} (names names' xs xs' : List X) (ks ks' : List ℕ) (x : X) (k : ℕ) → GoOn names names' →
     AreNumbersOf names xs ks → slice_get names' k ≡ Some x → xs' ≡ xs ++ x ∷ [] → ks' ≡ ks ++ k ∷ [] →
     AreNumbersOf names' xs' ks'
@@ -212,6 +216,7 @@ numbers_on names names' xs xs' ks ks' x k g h e a b =
     subst (λ l. AreNumbersOf names' l ks') (sym a) (subst (AreNumbersOf names' (xs ++ x ∷ [])) (sym b)
     (numbers_more names' xs ks x k (still_numbers names names' xs ks g h) e))
 
+-- where the names go on, an action by name and by number may be put behind those so far
 pub actions_on : (names names' : List NonterminalString) (as_ as' : List Act) (bs bs' : List TableAction) (a : Act) (b : TableAction) →
     GoOn names names' → AreActionsOf names as_ bs → IsActionOf names' a b → as' ≡ as_ ++ a ∷ [] → bs' ≡ bs ++ b ∷ [] →
     AreActionsOf names' as' bs'
@@ -219,6 +224,7 @@ actions_on names names' as_ as' bs bs' a b g h e u v =
     subst (λ l. AreActionsOf names' l bs') (sym u) (subst (AreActionsOf names' (as_ ++ a ∷ [])) (sym v)
     (actions_more names' as_ bs a b (still_actions names names' as_ bs g h) e))
 
+-- where the names go on, a production and itself with numbers may be put behind those so far
 pub productions_on : (names names' : List NonterminalString) (ps ps' : List (Bor Production)) (rs rs' : List NumberedProduction)
     (p : Bor Production) (r : NumberedProduction) → GoOn names names' → AreNumberedProductions names ps rs → r.production ≡ p →
     IsNumberedProduction names' r → ps' ≡ ps ++ p ∷ [] → rs' ≡ rs ++ r ∷ [] → AreNumberedProductions names' ps' rs'
@@ -235,6 +241,7 @@ entry_names es seen e = go es ∙ ap (map (λ x. x.0)) e
     go [] = refl
     go (x ∷ xs) = ap (λ l. x.terminal.now ∷ l) (go xs)
 
+-- the actions of entries are the second parts of the entries as they are seen
 pub entry_acts : (es : List TerminalEntry) (seen : List (TerminalString × Act)) → map entry_view es ≡ seen →
     map (λ e. e.act) es ≡ map (λ e. e.1) seen
 entry_acts es seen e = go es ∙ ap (map (λ x. x.1)) e
@@ -243,6 +250,7 @@ entry_acts es seen e = go es ∙ ap (map (λ x. x.1)) e
     go [] = refl
     go (x ∷ xs) = ap (λ l. x.act ∷ l) (go xs)
 
+-- the nonterminals of gotos are the first parts of the gotos as they are seen
 pub goto_names : (es : List GotoEntry) (seen : List (NonterminalString × ℕ)) → map goto_entry_view es ≡ seen →
     map (λ e. e.nonterminal.now) es ≡ map (λ e. e.0) seen
 goto_names es seen e = go es ∙ ap (map (λ x. x.0)) e
@@ -251,6 +259,7 @@ goto_names es seen e = go es ∙ ap (map (λ x. x.0)) e
     go [] = refl
     go (x ∷ xs) = ap (λ l. x.nonterminal.now ∷ l) (go xs)
 
+-- the targets of gotos are the second parts of the gotos as they are seen
 pub goto_targets : (es : List GotoEntry) (seen : List (NonterminalString × ℕ)) → map goto_entry_view es ≡ seen →
     map (λ e. e.target) es ≡ map (λ e. e.1) seen
 goto_targets es seen e = go es ∙ ap (map (λ x. x.1)) e

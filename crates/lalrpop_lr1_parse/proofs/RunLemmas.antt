@@ -51,14 +51,17 @@ pub record IsRunning (table : ActionTable) (tokens : List ScanToken) (limit : �
       Parsing states (terminals_of tokens) limit whole numbers (without_spans trees) at left
 
 -- what is seen of one token more
-taken_more : {A : Type 0} (f : ScanToken → A) (xs : List ScanToken) (i : ℕ) (x : ScanToken) → i < length xs → x ≡ get_or xs i x →
+taken_more : {A : Type 0} (f : ScanToken → A) (xs : List ScanToken) (i : ℕ) (x : ScanToken) → i < length xs →
+    x ≡ get_or xs i x →
     take (suc i) (map f xs) ≡ take i (map f xs) ++ f x ∷ []
 taken_more f [] i x j r = absurd (omega arith)
 taken_more f (y ∷ xs) zero x j r = ap (λ z. f z ∷ []) (sym r)
 taken_more f (y ∷ xs) (suc i) x j r = ap (λ z. f y ∷ z) (taken_more f xs i x (omega arith) r)
 
+-- before the first move a run stands in state 0 at the first token with no tree made
 pub running_start : (table : ActionTable) (tokens : List ScanToken) (limit : ℕ) (whole : Bool)
-    (Made : SpannedForest → List Token → Type 0) (numbers : List ℕ) (next : NextNumber) → Made none_at [] → numbers ≡ 0 ∷ [] →
+    (Made : SpannedForest → List Token → Type 0) (numbers : List ℕ) (next : NextNumber) → Made none_at [] →
+    numbers ≡ 0 ∷ [] →
     IsNextBy table (first (drop 0 (terminals_of tokens))) next → IsRunning table tokens limit whole Made numbers 0 limit next
 running_start table tokens limit whole Made numbers next made e n = record {
   trees = none_at;
@@ -382,5 +385,6 @@ pub read_behind : (ns ns' : List ℕ) (k n j : ℕ) → ns' ≡ take k ns → k 
 read_behind ns ns' k n j e h read i =
     read ∙ ap (λ l. get_or l j n) e ∙ ap (λ l. get_or (take k ns) l n) (i ∙ ap (λ l. l - 1) (sym (length-take-le k ns h)))
 
+-- a test can't be true and false at once
 pub not_both : (b : Bool) → b ≡ true → b ≡ false → ⊥
 not_both b is_true is_false = let z : true ≡ false = sym is_true ∙ is_false in let w : ⊥ = cc in w

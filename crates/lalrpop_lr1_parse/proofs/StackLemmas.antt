@@ -75,17 +75,20 @@ without-beside none_at us = refl
 without-beside (leaf_at t span ts) us = ap (leaf t) (without-beside ts us)
 without-beside (node_at p cs ts) us = ap (node p (without_spans cs)) (without-beside ts us)
 
+-- the spans of two rows of trees beside one another are those of the first, then those of the second
 pub spans-beside : (ts us : SpannedForest) → leaf_spans (ts beside us) ≡ leaf_spans ts ++ leaf_spans us
 spans-beside none_at us = refl
 spans-beside (leaf_at t span ts) us = ap (λ l. span ∷ l) (spans-beside ts us)
 spans-beside (node_at p cs ts) us =
     ap (λ l. leaf_spans cs ++ l) (spans-beside ts us) ∙ sym (append_assoc (leaf_spans cs) (leaf_spans ts) (leaf_spans us))
 
+-- trees with no trees beside them are just these trees
 pub beside-none : (ts : SpannedForest) → ts beside none_at ≡ ts
 beside-none none_at = refl
 beside-none (leaf_at t span ts) = ap (leaf_at t span) (beside-none ts)
 beside-none (node_at p cs ts) = ap (node_at p cs) (beside-none ts)
 
+-- of three rows of trees beside one another it's the same which two are joined first
 pub beside-beside : (ts us vs : SpannedForest) → (ts beside us) beside vs ≡ ts beside (us beside vs)
 beside-beside none_at us vs = refl
 beside-beside (leaf_at t span ts) us vs = ap (leaf_at t span) (beside-beside ts us vs)
@@ -99,6 +102,7 @@ pub record FallsInTwo (ts : SpannedForest) (f g : Forest) : Type 0 where
   pub front_is : without_spans front ≡ f
   pub back_is : without_spans back ≡ g
 
+-- where trees without their spans fall in two rows, the trees with their spans fall in two such rows
 pub falls_in_two : (ts : SpannedForest) (f g : Forest) → without_spans ts ≡ f and g → FallsInTwo ts f g
 falls_in_two ts none g e = record { front = none_at; back = ts; parts = refl; front_is = refl; back_is = e }
 falls_in_two none_at (leaf u f) g e = let z : ⊥ = cc in absurd z

@@ -41,6 +41,7 @@ use Rattle.lalrpop_lr1_parse.specs.declared.entries.Act.TheVariants as acts
 use Rattle.lalrpop_lr1_parse.specs.declared.table_row.NumberedProduction.{NumberedProduction}
 use Rattle.lalrpop_lr1_parse.specs.declared.table_row.TableAction.{TableAction}
 
+-- a list has something at each place before its length
 pub get_there : {X : Type 0} (xs : List X) (n : ℕ) → n < length xs → (x : X) × (slice_get xs n ≡ Some x)
 get_there [] n h = absurd (omega arith)
 get_there (x ∷ xs) zero h = (x, refl)
@@ -134,6 +135,7 @@ numbers_at names (y ∷ xs) [] i x h e = absurd h
 numbers_at names (y ∷ xs) (k ∷ ks) zero x h e = (k, refl, h.0 ∙ e)
 numbers_at names (y ∷ xs) (k ∷ ks) (suc i) x h e = numbers_at names xs ks i x h.1 e
 
+-- each number of a list that stands for names stands for the name at its place
 pub numbers_back : {X : Type 0} (names xs : List X) (ks : List ℕ) (i k : ℕ) → AreNumbersOf names xs ks →
     slice_get ks i ≡ Some k →
     (x : X) × (slice_get xs i ≡ Some x) × (slice_get names k ≡ Some x)
@@ -143,12 +145,14 @@ numbers_back names (y ∷ xs) [] i k h e = absurd h
 numbers_back names (y ∷ xs) (j ∷ ks) zero k h e = (y, refl, ap (slice_get names) (sym (some_same j k e)) ∙ h.0)
 numbers_back names (y ∷ xs) (j ∷ ks) (suc i) k h e = numbers_back names xs ks i k h.1 e
 
+-- numbers that stand for names are as many as the names
 pub numbers_long : {X : Type 0} (names xs : List X) (ks : List ℕ) → AreNumbersOf names xs ks → length ks ≡ length xs
 numbers_long names [] [] h = refl
 numbers_long names [] (j ∷ ks) h = absurd h
 numbers_long names (y ∷ xs) [] h = absurd h
 numbers_long names (y ∷ xs) (j ∷ ks) h = ap suc (numbers_long names xs ks h.1)
 
+-- each action by name has at its place the same action by number
 pub actions_at : (names : List NonterminalString) (as_ : List Act) (bs : List TableAction) (i : ℕ) (a : Act) →
     AreActionsOf names as_ bs →
     slice_get as_ i ≡ Some a → (b : TableAction) × (slice_get bs i ≡ Some b) × IsActionOf names a b
@@ -157,6 +161,7 @@ actions_at names (y ∷ as_) [] i a h e = absurd h
 actions_at names (y ∷ as_) (b ∷ bs) zero a h e = (b, refl, subst (λ x. IsActionOf names x b) (some_same y a e) h.0)
 actions_at names (y ∷ as_) (b ∷ bs) (suc i) a h e = actions_at names as_ bs i a h.1 e
 
+-- each action by number has at its place the same action by name
 pub actions_back : (names : List NonterminalString) (as_ : List Act) (bs : List TableAction) (i : ℕ) (b : TableAction) →
     AreActionsOf names as_ bs → slice_get bs i ≡ Some b → (a : Act) × (slice_get as_ i ≡ Some a) × IsActionOf names a b
 actions_back names [] [] i b h e = let z : ⊥ = cc in absurd z
@@ -165,6 +170,7 @@ actions_back names (y ∷ as_) [] i b h e = absurd h
 actions_back names (y ∷ as_) (c ∷ bs) zero b h e = (y, refl, subst (IsActionOf names y) (some_same c b e) h.0)
 actions_back names (y ∷ as_) (c ∷ bs) (suc i) b h e = actions_back names as_ bs i b h.1 e
 
+-- actions by number are as many as those by name
 pub actions_long : (names : List NonterminalString) (as_ : List Act) (bs : List TableAction) → AreActionsOf names as_ bs →
     length bs ≡ length as_
 actions_long names [] [] h = refl
@@ -172,6 +178,7 @@ actions_long names [] (b ∷ bs) h = absurd h
 actions_long names (y ∷ as_) [] h = absurd h
 actions_long names (y ∷ as_) (b ∷ bs) h = ap suc (actions_long names as_ bs h.1)
 
+-- each production stands at its place with numbers, too
 pub productions_at : (names : List NonterminalString) (ps : List (Bor Production)) (rs : List NumberedProduction) (i : ℕ)
     (p : Bor Production) → AreNumberedProductions names ps rs → slice_get ps i ≡ Some p →
     (r : NumberedProduction) × (slice_get rs i ≡ Some r) × (r.production ≡ p)
@@ -180,6 +187,7 @@ productions_at names (q ∷ ps) [] i p h e = absurd h
 productions_at names (q ∷ ps) (r ∷ rs) zero p h e = (r, refl, h.0 ∙ some_same q p e)
 productions_at names (q ∷ ps) (r ∷ rs) (suc i) p h e = productions_at names ps rs i p h.2 e
 
+-- each production with numbers has right numbers and is the production at its place
 pub productions_back : (names : List NonterminalString) (ps : List (Bor Production)) (rs : List NumberedProduction) (i : ℕ)
     (r : NumberedProduction) → AreNumberedProductions names ps rs → slice_get rs i ≡ Some r →
     (p : Bor Production) × (slice_get ps i ≡ Some p) × (r.production ≡ p) × IsNumberedProduction names r
@@ -190,6 +198,7 @@ productions_back names (q ∷ ps) (s ∷ rs) zero r h e =
     (q, refl, subst (λ x. x.production ≡ q) (some_same s r e) h.0, subst (IsNumberedProduction names) (some_same s r e) h.1)
 productions_back names (q ∷ ps) (s ∷ rs) (suc i) r h e = productions_back names ps rs i r h.2 e
 
+-- productions with numbers are as many as the productions
 pub productions_long : (names : List NonterminalString) (ps : List (Bor Production)) (rs : List NumberedProduction) →
     AreNumberedProductions names ps rs → length rs ≡ length ps
 productions_long names [] [] h = refl
@@ -321,6 +330,7 @@ pub record ReducesBefore (ts : TerminalSet) (state : State (List ℕ)) (t : Term
   pub held : Contains state.reductions (set, p)
   pub token : Contains (tokens_of ts set) (tokens.Terminal t)
 
+-- where an entry reduces before a terminal, a reduction of the state has that terminal in its set
 pub reduction_is : (ts : TerminalSet) (state : State (List ℕ)) (t : TerminalString) (p : Bor Production) →
     Contains (terminal_entries ts state) (t, acts.Reduce p) → ReducesBefore ts state t p
 reduction_is ts state t p c =
@@ -351,12 +361,14 @@ reduction_is ts state t p c =
         (ap (λ x. tokens.Terminal x.0) f, same))
         (λ f. absurd (omega (arith, f.1))) (contains_split (u, acts.Reduce q) (t, acts.Reduce p) [] d)
 
+-- each shift of a state is among what the state does before terminals
 pub shift_there : (ts : TerminalSet) (state : State (List ℕ)) (e : TerminalString × StateIndex) → Contains state.shifts e →
     Contains (terminal_entries ts state) (e.0, acts.Shift e.1.0)
 shift_there ts state e c =
     Contains-append_left (map shift_entry state.shifts) (flat_map (reduction_entries ts) state.reductions) (e.0, acts.Shift e.1.0)
     (map_has shift_entry state.shifts e c)
 
+-- a reduction of a state is among what it does before each terminal of the reduction's set
 pub reduction_there : (ts : TerminalSet) (state : State (List ℕ)) (r : List ℕ × Bor Production) (t : TerminalString) →
     Contains state.reductions r → Contains (tokens_of ts r.0) (tokens.Terminal t) →
     Contains (terminal_entries ts state) (t, acts.Reduce r.1)

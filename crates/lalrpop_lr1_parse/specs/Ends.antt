@@ -45,7 +45,8 @@ pub record MakesTree (states : List State) (s : Text) (tokens : List ScanToken) 
   pub spans_are : leaf_spans trees ≡ spans_of tokens
 
 -- what is done where a run ends well: it accepts, or else, where it isn't to be whole, all tokens are shifted
-abbrev pub IsDone : List State → Text → List ScanToken → ℕ → (SpannedForest → List Token → Type 0) → List ℕ → Bool → Type 0
+abbrev pub IsDone : List State → Text → List ScanToken → ℕ → (SpannedForest → List Token → Type 0) →
+    List ℕ → Bool → Type 0
 IsDone states s tokens limit Made numbers true = MakesTree states s tokens limit Made
 IsDone states s tokens limit Made numbers false = ShiftsAll states (terminals_of tokens) limit numbers
 

@@ -12,7 +12,8 @@ use Rattle.lalrpop_lr1_parse_trees.specs.NamedTrees.{parse_tree_before, parse_tr
 use Rattle.lalrpop_lr1_parse_trees.specs.declared.parse_tree.ParseTree.{ParseTree}
 use Rattle.lalrpop_lr1_parse_trees.specs.declared.parse_tree.ParseTree.TheOpen as layer
 use Rattle.lalrpop_lr1_parse_trees.specs.declared.parse_tree.ParseTree.TheFolds.{fold-roll-ParseTree, fold_out-ParseTree}
-use Rattle.lalrpop_lr1_parse_trees.specs.declared.parse_tree.ParseTree.TheVariants.{Nonterminal, Terminal, rolls-Nonterminal, rolls-Terminal}
+use Rattle.lalrpop_lr1_parse_trees.specs.declared.parse_tree.ParseTree.TheVariants.{Nonterminal, Terminal, rolls-Nonterminal}
+use Rattle.lalrpop_lr1_parse_trees.specs.declared.parse_tree.ParseTree.TheVariants.{rolls-Terminal}
 
 infixr 60 ◌along◌
 -- the trees of one list, then those of the other
@@ -27,11 +28,13 @@ named_count no_trees = 0
 named_count (named_leaf t ts) = suc (named_count ts)
 named_count (named_node n cs ts) = suc (named_count ts)
 
+-- named trees of two forests in a row are those of the first, then those of the second
 pub name_forest-and : (ts us : Forest) → name_forest (ts and us) ≡ name_forest ts along name_forest us
 name_forest-and none us = refl
 name_forest-and (leaf t ts) us = ap (named_leaf t) (name_forest-and ts us)
 name_forest-and (node p cs ts) us = ap (named_node p.left (name_forest cs)) (name_forest-and ts us)
 
+-- a forest has as many named trees as it has roots
 pub named_long : (ts : Forest) → named_count (name_forest ts) ≡ length (roots ts)
 named_long none = refl
 named_long (leaf t ts) = ap suc (named_long ts)
@@ -58,6 +61,7 @@ before-along t us vs =
     let e = fold_out-ParseTree (NamedForest → NamedForest) parse_tree_step t in
     ap (λ f. f (us along vs)) e ∙ step-along _ us vs ∙ ap (λ f. f us along vs) (sym e)
 
+-- parse trees of two lists in a row are seen as those of the first, then those of the second
 pub named_views_more : (ts us : List ParseTree) → parse_tree_views (ts ++ us) ≡ parse_tree_views ts along parse_tree_views us
 named_views_more [] us = refl
 named_views_more (t ∷ ts) us = ap (parse_tree_before t) (named_views_more ts us)
@@ -68,6 +72,7 @@ step_long : (x : layer.ParseTree-F (NamedForest → NamedForest)) (us : NamedFor
 step_long (layer.Nonterminal n trees) us = refl
 step_long (layer.Terminal t) us = refl
 
+-- parse trees are seen as as many trees as there are
 pub named_views_long : (ts : List ParseTree) → named_count (parse_tree_views ts) ≡ length ts
 named_views_long [] = refl
 named_views_long (t ∷ ts) =
@@ -119,6 +124,7 @@ terminal_seen t =
     ap (λ x. parse_tree_before x no_trees) (sym (rolls-Terminal t))
     ∙ ap (λ f. f no_trees) (fold-roll-ParseTree (NamedForest → NamedForest) parse_tree_step (layer.Terminal t))
 
+-- a parse tree of a nonterminal is seen as a node with its name over the trees below it
 pub nonterminal_seen : (n : NonterminalString) (trees : List ParseTree) →
     parse_tree_view (Nonterminal n trees) ≡ named_node n.0 (parse_tree_views trees) no_trees
 nonterminal_seen n trees =

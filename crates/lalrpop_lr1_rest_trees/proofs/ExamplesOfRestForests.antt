@@ -1,6 +1,7 @@
 -- Computed: 2 = nothing; 2 = '8'. Trees of 2 '7' have at least two leaves and nodes, none of them has no leaves, and some begin with '7'
 -- behind the empty tree of 2.
-use Rattle.std.proofs.Common.{◌≡◌, ◌⊎◌, List, [], ◌∷◌, refl, inl, inr, None, Some, ap, arith, length, length-append, min, ◌-◌, ◌^◌}
+use Rattle.std.proofs.Common.{◌≡◌, ◌⊎◌, List, [], ◌∷◌, refl, inl, inr, None, Some, ap, arith, length}
+use Rattle.std.proofs.Common.{length-append, min, ◌-◌, ◌^◌}
 use Rattle.lalrpop_lr1_theory.specs.Productions.{Production, Symbol, nonterminal, terminal}
 use Rattle.lalrpop_lr1_theory.specs.Trees.{Forest, leaf, moves, node, nodes, none, reduce, roots, shift, yield}
 use Rattle.lalrpop_lr1_theory.proofs.ExampleLemmas.{name, production, quoted}

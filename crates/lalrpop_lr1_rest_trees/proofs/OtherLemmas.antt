@@ -8,12 +8,15 @@ use Rattle.lalrpop_lr1_rest_trees.specs.RestForests.{BeginsWith, HasNoRest, NoLe
 use Rattle.lalrpop_lr1_rest_trees.proofs.RestLemmas.{no_begins}
 use Rattle.lalrpop_lr1_rest_trees.proofs.SymbolLemmas.{no_leaf}
 
+-- an answer whose negation is true is false
 pub is_not : (b : Bool) → IsTrue (not b) → b ≡ false
 is_not true h = let z : ⊥ = cc in absurd z
 is_not false h = refl
 
+-- where the first symbol is another terminal, no trees of the symbols begin with the one that is asked for
 pub other_first : {X : Type 0} (view : X → Symbol) (xs : List X) (x : X) (G : Production → Type 0) (own t : Terminal) →
-    slice_get xs 0 ≡ Some x → view x ≡ terminal own → (BeginsWith t (own ∷ []) → ⊥) → HasNoRest G (map view xs) (BeginsWith t)
+    slice_get xs 0 ≡ Some x → view x ≡ terminal own → (BeginsWith t (own ∷ []) → ⊥) →
+    HasNoRest G (map view xs) (BeginsWith t)
 other_first view [] x G own t at is other = let z : ⊥ = cc in absurd z
 other_first view (y ∷ ys) x G own t at is other =
     let one : view y ≡ terminal own = ap view (some_same y x at) ∙ is in

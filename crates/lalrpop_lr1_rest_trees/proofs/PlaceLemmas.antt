@@ -1,5 +1,6 @@
 -- Several symbols, by their places, and the trees in front of a place, at it and behind it: for loops over symbols.
-use Rattle.std.proofs.Common.{◌≡◌, ◌∙◌, ℕ, suc, ◌+◌, ◌-◌, ◌^◌, ◌<◌, ◌≤◌, min, Bool, List, [], ◌∷◌, ◌++◌, length, sym, ap, subst, refl}
+use Rattle.std.proofs.Common.{◌≡◌, ◌∙◌, ℕ, suc, ◌+◌, ◌-◌, ◌^◌, ◌<◌, ◌≤◌, min, Bool, List}
+use Rattle.std.proofs.Common.{[], ◌∷◌, ◌++◌, length, sym, ap, subst, refl}
 use Rattle.std.proofs.Common.{arith, drop, get_or, length-drop, map, take, Option, Some, None, inl, inr}
 use Rattle.std.specs.Prelude.{IfSome}
 use Rattle.std.proofs.Math.Seq.{drop-cons}

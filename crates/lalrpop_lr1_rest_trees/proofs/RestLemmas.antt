@@ -1,6 +1,7 @@
 -- Trees beside each other, with the leaves that are asked for, and the place at which they begin with a terminal: for trees of several
 -- symbols.
-use Rattle.std.proofs.Common.{◌≡◌, ◌∙◌, ℕ, suc, ◌+◌, ◌-◌, ◌^◌, min, Bool, true, false, List, [], ◌∷◌, ◌++◌, refl, sym, ap, subst}
+use Rattle.std.proofs.Common.{◌≡◌, ◌∙◌, ℕ, suc, ◌+◌, ◌-◌, ◌^◌, min, Bool, true, false, List, []}
+use Rattle.std.proofs.Common.{◌∷◌, ◌++◌, refl, sym, ap, subst}
 use Rattle.std.proofs.Common.{arith, Option, Some, None, inl, inr, ◌⊎◌}
 use Rattle.lalrpop_grammar_symbols.specs.Symbols.{Terminal}
 use Rattle.lalrpop_lr1_theory.specs.Productions.{Production, Symbol, first}
@@ -18,14 +19,17 @@ use Rattle.lalrpop_lr1_rest_trees.specs.RestForests.{IsRestCount, LeavesOfKind, 
 abbrev pub Joins : (U V W : List Terminal → Type 0) → Type 0
 Joins U V W = (v w : List Terminal) → U v → V w → W (v ++ w)
 
+-- trees beside each other have the kind of leaves that is let, any or none, where both have it
 pub kinds_join : (leaves : Bool) → Joins (LeavesOfKind leaves) (LeavesOfKind leaves) (LeavesOfKind leaves)
 kinds_join true v w h k = tt
 kinds_join false v w h k = ap (λ l. l ++ w) h ∙ k
 
+-- trees that begin with a terminal still do so with any trees behind them
 pub begins_any : (t : Terminal) → Joins (BeginsWith t) AnyLeaves (BeginsWith t)
 begins_any t [] w h k = let z : ⊥ = cc in absurd z
 begins_any t (x ∷ v) w h k = h
 
+-- trees that begin with a terminal still do so behind trees without leaves
 pub none_begins : (t : Terminal) → Joins NoLeaves (BeginsWith t) (BeginsWith t)
 none_begins t v w h k = ap (λ l. first (l ++ w)) h ∙ k
 
@@ -35,7 +39,8 @@ kinds_split false [] w h = (refl, h)
 kinds_split false (x ∷ v) w h = let z : ⊥ = cc in absurd z
 
 -- the first leaf of two lists of trees is the first one's, or that has none
-pub begins_split : (t : Terminal) (v w : List Terminal) → first (v ++ w) ≡ Some t → (first v ≡ Some t) ⊎ ((v ≡ []) × (first w ≡ Some t))
+pub begins_split : (t : Terminal) (v w : List Terminal) → first (v ++ w) ≡ Some t →
+    (first v ≡ Some t) ⊎ ((v ≡ []) × (first w ≡ Some t))
 begins_split t [] w h = inr (refl, h)
 begins_split t (x ∷ v) w h = inl h
 
@@ -72,7 +77,8 @@ module _ (G : Production → Type 0) where
       wanted = subst W (sym (yield-and a.trees b.trees)) (join (yield a.trees) (yield b.trees) a.wanted b.wanted);
     }
 
-    pub count_beside : (xs ys : List Symbol) (m n k : ℕ) → IsRestCount G xs U m → IsRestCount G ys V n → k ≡ min (m + n) (2 ^ 64 - 1) →
+    pub count_beside : (xs ys : List Symbol) (m n k : ℕ) → IsRestCount G xs U m → IsRestCount G ys V n →
+        k ≡ min (m + n) (2 ^ 64 - 1) →
         IsRestCount G (xs ++ ys) W k
     count_beside xs ys m n k a b e = record {
       rest = beside xs ys a.rest b.rest;
@@ -97,7 +103,8 @@ module _ (G : Production → Type 0) where
     pub back_roots : roots back ≡ ys
     pub wanted : W (yield front ++ yield back)
 
-  pub apart : (xs ys : List Symbol) (W : List Terminal → Type 0) (ts : Forest) → AreOver G ts → roots ts ≡ xs ++ ys → W (yield ts) →
+  pub apart : (xs ys : List Symbol) (W : List Terminal → Type 0) (ts : Forest) → AreOver G ts →
+      roots ts ≡ xs ++ ys → W (yield ts) →
       AreApart xs ys W
   apart xs ys W ts o e w =
       let r = roots_split ts xs ys e in
@@ -216,7 +223,8 @@ module _ (G : Production → Type 0) where
     -- the place with one symbol more in front
     pub place_more : (here empty behind : Option ℕ) (later found : Option BeginPlace) → CountsRest G (x ∷ []) (BeginsWith t) here →
         CountsRest G (x ∷ []) NoLeaves empty → CountsRest G ss AnyLeaves behind → HasBeginPlace G ss t (suc from) later →
-        IsEitherPlace (place_here from (counts_beside here behind)) (place_behind empty later) found → HasBeginPlace G (x ∷ ss) t from found
+        IsEitherPlace (place_here from (counts_beside here behind)) (place_behind empty later) found →
+        HasBeginPlace G (x ∷ ss) t from found
     place_more here empty behind later None h m b l e =
         no_begins (here_none here behind h b e.0) (later_none empty later m l e.1)
     place_more here empty behind later (Some p) h m b l (inl e) = here_some here behind p h b e

@@ -31,6 +31,7 @@ only_leaf t (node p cs ts) e = let z : ⊥ = cc in absurd z
 pub any_kind : (leaves : Bool) (w : List Terminal) → leaves ≡ true → LeavesOfKind leaves w
 any_kind leaves w e = subst (λ b. LeavesOfKind b w) (sym e) tt
 
+-- a leaf isn't what is asked for where no leaves are let
 pub no_kind : (leaves : Bool) (t : Terminal) → leaves ≡ false → LeavesOfKind leaves (t ∷ []) → ⊥
 no_kind leaves t e w = let h : t ∷ [] ≡ [] = subst (λ b. LeavesOfKind b (t ∷ [])) e w in cc
 
@@ -61,7 +62,8 @@ module _ (G : Production → Type 0) (x : Symbol) where
     alone = ap (λ y. y ∷ []) is
 
     -- trees of a nonterminal are those that have its symbol alone at their roots
-    kind_of : (leaves : Bool) (ts : Forest) → AreOver G ts → roots ts ≡ x ∷ [] → LeavesOfKind leaves (yield ts) → IsTreeOfKind G A leaves ts
+    kind_of : (leaves : Bool) (ts : Forest) → AreOver G ts → roots ts ≡ x ∷ [] → LeavesOfKind leaves (yield ts) →
+        IsTreeOfKind G A leaves ts
     kind_of true ts o e w = (e ∙ alone, o)
     kind_of false ts o e w = ((e ∙ alone, o), w)
 
@@ -93,13 +95,15 @@ module _ (G : Production → Type 0) (x : Symbol) where
     kind_count leaves kind e count c =
         subst (λ b. CountsRest G (x ∷ []) (LeavesOfKind b) count) (sym e) (kind_rest_count kind count c)
 
-    pub kind_moves : (leaves kind : Bool) → leaves ≡ kind → (all : Option (List Move)) → HaveLeastMoves (IsTreeOfKind G A kind) all →
+    pub kind_moves : (leaves kind : Bool) → leaves ≡ kind → (all : Option (List Move)) →
+        HaveLeastMoves (IsTreeOfKind G A kind) all →
         HaveRestMoves G (x ∷ []) (LeavesOfKind leaves) all
     kind_moves leaves kind e all c =
         subst (λ b. HaveRestMoves G (x ∷ []) (LeavesOfKind b) all) (sym e) (kind_rest_moves kind all c)
 
     -- and those that begin with a terminal
-    pub begin_rest_count_of : (t : Terminal) (count : Option ℕ) → CountsBegin G A t count → CountsRest G (x ∷ []) (BeginsWith t) count
+    pub begin_rest_count_of : (t : Terminal) (count : Option ℕ) → CountsBegin G A t count →
+        CountsRest G (x ∷ []) (BeginsWith t) count
     begin_rest_count_of t None c = λ ts o e w. c ts ((e ∙ alone, o), w)
     begin_rest_count_of t (Some n) c = record {
       rest = record { trees = c.tree; over = c.begins.0.1; roots_are = c.begins.0.0 ∙ sym alone; wanted = c.begins.1 };

@@ -1,5 +1,6 @@
 -- Places before a terminal among items, and as the theory sees them: for the search for one.
-use Rattle.std.proofs.Common.{◌≡◌, ◌∙◌, ◌+◌, ℕ, zero, suc, List, [], ◌∷◌, ◌++◌, map, drop, Option, Some, None, Contains}
+use Rattle.std.proofs.Common.{◌≡◌, ◌∙◌, ◌+◌, ℕ, zero, suc, List, [], ◌∷◌, ◌++◌, map, drop, Option}
+use Rattle.std.proofs.Common.{Some, None, Contains}
 use Rattle.std.proofs.Common.{sym, ap, subst, arith, ⊎_elim}
 use Rattle.std.specs.Prelude.{slice_get}
 use Rattle.std.proofs.lemmas.List.Elements.{Contains-append_cases}
@@ -29,7 +30,8 @@ one_on i = omega arith
 seen_terminal : (xs : List Symbol) (i : ℕ) (t : TerminalString) → slice_get xs i ≡ Some (symbols.Terminal t) →
     drop i (map production_symbol_view xs) ≡ theory.terminal (terminal_view t) ∷ map production_symbol_view (drop (i + 1) xs)
 seen_terminal [] i t e = let z : ⊥ = cc in absurd z
-seen_terminal (y ∷ xs) zero t e = ap (λ s. production_symbol_view s ∷ map production_symbol_view xs) (some_same y (symbols.Terminal t) e)
+seen_terminal (y ∷ xs) zero t e = ap (λ s. production_symbol_view s ∷ map production_symbol_view xs)
+    (some_same y (symbols.Terminal t) e)
 seen_terminal (y ∷ xs) (suc i) t e =
     seen_terminal xs i t e
     ∙ ap (λ k. theory.terminal (terminal_view t) ∷ map production_symbol_view (drop k (y ∷ xs))) (one_on i)
@@ -91,6 +93,7 @@ module _ {L : Type 0} where
         (ap (λ (v : states.Item). drop v.dot v.production.right) c.2 ∙ e))
 
     -- what was found among the state's items
-    pub found_place : (found : Option ShiftPlace) → IsFirstPlaceIf state.items.vec t found → IsShiftPlaceIf all n (terminal_view t) found
+    pub found_place : (found : Option ShiftPlace) → IsFirstPlaceIf state.items.vec t found →
+        IsShiftPlaceIf all n (terminal_view t) found
     found_place None none = no_place none
     found_place (Some place) r = place_seen place r

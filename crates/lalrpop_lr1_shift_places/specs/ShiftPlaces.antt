@@ -21,7 +21,8 @@ pub record IsShiftPlace (states : List State) (n : ℕ) (t : Terminal) (place : 
 -- such a place, or none where the state has no item whose dot stands before the terminal
 abbrev pub IsShiftPlaceIf : List State → ℕ → Terminal → Option ShiftPlace → Type 0
 IsShiftPlaceIf states n t None =
-    (p : theory.Production) (i : ℕ) (b : List theory.Symbol) → HasItem states n p i → drop i p.right ≡ theory.terminal t ∷ b → ⊥
+    (p : theory.Production) (i : ℕ) (b : List theory.Symbol) → HasItem states n p i →
+    drop i p.right ≡ theory.terminal t ∷ b → ⊥
 IsShiftPlaceIf states n t (Some place) = IsShiftPlace states n t place
 
 -- the place is that of the item, whose dot stands before the terminal

@@ -1,5 +1,6 @@
 -- Trees that are made of shown moves are those that the moves are of, with counted leaves: for the laws on them.
-use Rattle.std.proofs.Common.{◌≡◌, ℕ, zero, suc, List, ◌∷◌, ◌++◌, length, slice_get, refl, sym, ap, ◌∙◌, subst, arith}
+use Rattle.std.proofs.Common.{◌≡◌, ℕ, zero, suc, List, ◌∷◌, ◌++◌, length, slice_get, refl, sym, ap, ◌∙◌}
+use Rattle.std.proofs.Common.{subst, arith}
 use Rattle.lalrpop_grammar_symbols.specs.Symbols.{Text}
 use Rattle.lalrpop_grammar_repr.specs.declared.grammar.Grammar.{Grammar}
 use Rattle.lalrpop_lr1_theory.specs.Productions.{Next}

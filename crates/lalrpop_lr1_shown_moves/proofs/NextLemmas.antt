@@ -14,6 +14,7 @@ nothing_next : (w : List Terminal) → first w ≡ None → w ≡ []
 nothing_next [] e = refl
 nothing_next (t ∷ w) e = let z : ⊥ = cc in absurd z
 
+-- a way out without leaves, or that there is none, answers for ways out where the end comes next
 pub end_told : (g : Grammar) (s : Text) (states : List State) (ways : OutGraphs) (n : ℕ) (B : Text) (found : Option (List Move)) →
     TellsWayOut g s states ways n B NoLeaves found → TellsWayOut g s states ways n B (ComesNext None) found
 end_told g s states ways n B None h = λ ms w out next. h ms w out (nothing_next w next)

@@ -1,5 +1,6 @@
 -- A move behind a forest on the path, with a way out behind it, goes on to a whole tree: for the answers of moves that show one.
-use Rattle.std.proofs.Common.{◌≡◌, ℕ, List, ◌∷◌, ◌++◌, drop, length, map, Some, None, refl, sym, ap, ◌∙◌, subst, arith}
+use Rattle.std.proofs.Common.{◌≡◌, ℕ, List, ◌∷◌, ◌++◌, drop, length, map, Some, None, refl, sym, ap}
+use Rattle.std.proofs.Common.{◌∙◌, subst, arith}
 use Rattle.std.proofs.lemmas.List.{drop_all, map-append}
 use Rattle.lalrpop_grammar_symbols.specs.Symbols.{Terminal, Text}
 use Rattle.lalrpop_grammar_repr.specs.declared.grammar.Grammar.{Grammar}
@@ -18,7 +19,8 @@ use Rattle.lalrpop_lr1_ways_out.specs.PassedOn.{last_steps}
 use Rattle.lalrpop_lr1_ways_out.specs.PassedOn.{StatePaths}
 use Rattle.lalrpop_lr1_ways_out.specs.PassedOn.{OutGraphs}
 use Rattle.lalrpop_lr1_ways_out.specs.OutSearches.{TellsWayOut}
-use Rattle.lalrpop_lr1_shown_moves.specs.ShownMoves.{AreSteppedStates, ComesNext, IsPathForest, LeadsNowhere, ShowsMove, ShowsReduction, ShowsShift}
+use Rattle.lalrpop_lr1_shown_moves.specs.ShownMoves.{AreSteppedStates, ComesNext, IsPathForest, LeadsNowhere, ShowsMove}
+use Rattle.lalrpop_lr1_shown_moves.specs.ShownMoves.{ShowsReduction, ShowsShift}
 
 -- the state that was told stands so many places back on the paths of the steps
 pub back_told : (ways : OutGraphs) (paths : StatePaths) (places i n before : ℕ) → ways.paths.now ≡ paths → places ≡ i →
@@ -65,7 +67,8 @@ module _ (g : Grammar) (s : Text) (states : List State) (ways : OutGraphs) (are 
         left = t ∷ (yield trees.rest.trees ++ leads.left);
         all_are = is;
         whole = λ f on.
-            subst (λ ms. IsContinued (IsProductionOf g) s f (shift t ∷ (ms ++ reduce p ∷ out)) (t ∷ (yield trees.rest.trees ++ leads.left)))
+            subst (λ ms. IsContinued (IsProductionOf g) s f (shift t ∷ (ms ++ reduce p ∷ out))
+            (t ∷ (yield trees.rest.trees ++ leads.left)))
             (sym trees.moves_are)
             (behind (leaf t trees.rest.trees) trees.rest.over (ap (λ z. terminal t ∷ z) trees.rest.roots_are ∙ sym e) out leads.left
             leads.leads f on);
@@ -78,7 +81,8 @@ module _ (g : Grammar) (s : Text) (states : List State) (ways : OutGraphs) (are 
 
 module _ (g : Grammar) (s : Text) (states : List State) (ways : OutGraphs) (are : AreSteppedStates g s states ways) (n : ℕ)
     (p : Production) (before : ℕ) (held : HasItem states n p (length p.right))
-    (told : (m : ℕ) → IsBack (LedBy (last_steps ways.paths.now)) (length p.right) n m → before ≡ m) (front : List Move) (x : Next) where
+    (told : (m : ℕ) → IsBack (LedBy (last_steps ways.paths.now)) (length p.right) n m → before ≡ m) (front : List Move)
+    (x : Next) where
   -- the reduction by the production
   pub reduction_shown : (out all : List Move) → TellsWayOut g s states ways before p.left (ComesNext x) (Some out) →
       all ≡ front ++ reduce p ∷ out → ShowsReduction g s states ways n p front x (Some all)

@@ -72,14 +72,16 @@ LeadsNowhere g s states ways state places B Wanted =
     LeadsOut (IsProductionOf g) s (HasItem states) (LedBy (last_steps ways.paths.now)) m B ms w → Wanted w → ⊥
 
 -- moves that show the reduction, or none where nothing leads out behind it before what comes next
-abbrev pub ShowsReduction : Grammar → Text → List State → OutGraphs → ℕ → theory.Production → List Move → theory.Next → Option (List Move) →
+abbrev pub ShowsReduction : Grammar → Text → List State → OutGraphs → ℕ → theory.Production → List Move → theory.Next →
+    Option (List Move) →
     Type 0
 ShowsReduction g s states ways state p front x None =
     LeadsNowhere g s states ways state (length p.right) p.left (ComesNext x)
 ShowsReduction g s states ways state p front x (Some all) = ShowsMove g s ways state front (reduce p) x all
 
 -- the same of a shift by an item, with these symbols behind the terminal: none where these have no trees, or nothing leads out
-abbrev pub ShowsShift : Grammar → Text → List State → OutGraphs → ℕ → theory.Production → ℕ → List theory.Symbol → List Move → Terminal →
+abbrev pub ShowsShift : Grammar → Text → List State → OutGraphs → ℕ → theory.Production → ℕ → List theory.Symbol →
+    List Move → Terminal →
     Option (List Move) → Type 0
 ShowsShift g s states ways state p dot rest front t None =
     HasRest (IsProductionOf g) rest AnyLeaves → LeadsNowhere g s states ways state dot p.left AnyLeaves
@@ -89,4 +91,5 @@ ShowsShift g s states ways state p dot rest front t (Some all) = ShowsMove g s w
 abbrev pub TellsNextOut : {E : Type 0} → NextOut → ℕ → NonterminalString → Result (Option (Vec TreeMove Global)) E → Type 0
 TellsNextOut next state name told = IfOk told (λ found. (g : Grammar) (s : Text) (states : List State) →
     AreWaysOut g s states (next_ways next) →
-    TellsWayOut g s states (next_ways next) state name.0 (ComesNext (next_of next)) (option_map (λ moves. map tree_move_view moves.items) found))
+    TellsWayOut g s states (next_ways next) state name.0 (ComesNext (next_of next))
+    (option_map (λ moves. map tree_move_view moves.items) found))

@@ -43,7 +43,8 @@ not_unfinished f = go f.trees f.roots_are f.moves_are
     go none e m = cc
     go (leaf t none) e m = cc
     go (leaf t (leaf u ts)) e m = cc
-    go (leaf t (node p cs none)) e m = let rest : moves cs ++ reduce p ∷ [] ≡ shift (quoted 7) ∷ [] = cc in never_shift (moves cs) p rest
+    go (leaf t (node p cs none)) e m =
+        let rest : moves cs ++ reduce p ∷ [] ≡ shift (quoted 7) ∷ [] = cc in never_shift (moves cs) p rest
     go (leaf t (node p cs (leaf u ts))) e m = cc
     go (leaf t (node p cs (node q ds ts))) e m = cc
     go (node p cs ts) e m = cc

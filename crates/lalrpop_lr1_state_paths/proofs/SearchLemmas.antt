@@ -1,5 +1,6 @@
 -- What the search of paths in the graph of edges turned round says of the edges at the states: for new paths.
-use Rattle.std.proofs.Common.{◌≡◌, ◌∙◌, ◌⊎◌, inl, inr, ℕ, zero, suc, ◌<◌, Bool, true, false, List, [], ◌∷◌, length, map, Option, Some, None}
+use Rattle.std.proofs.Common.{◌≡◌, ◌∙◌, ◌⊎◌, inl, inr, ℕ, zero, suc, ◌<◌, Bool, true, false, List, []}
+use Rattle.std.proofs.Common.{◌∷◌, length, map, Option, Some, None}
 use Rattle.std.proofs.Common.{◌+◌, ◌≤◌, ◌++◌, refl, sym, ap, subst, arith, length-append, slice_get}
 use Rattle.std.specs.Option.{option_and_then, unwrap_or}
 use Rattle.std.specs.Prelude.{if◌then◌else◌, nat_lt}
@@ -38,7 +39,8 @@ twin f g (a ∷ xs) (b ∷ ys) e (suc k) x h = let rest : map f xs ≡ map g ys 
     let t = twin f g xs ys rest k x h in record { other = t.other; at = t.at; same = t.same }
 
 -- the edges turned round lead between the nodes
-pub turned_below : (states : ℕ) (edges : List NumberEdge) (turned : List weighed.Edge) → map edge_ends turned ≡ map turned_ends edges →
+pub turned_below : (states : ℕ) (edges : List NumberEdge) (turned : List weighed.Edge) →
+    map edge_ends turned ≡ map turned_ends edges →
     AreBetweenStates states edges → EdgesAreBelow states turned
 turned_below states edges turned e between = λ k edge at.
     let t = twin edge_ends turned_ends turned edges e k edge at in
@@ -58,7 +60,8 @@ goal_first states g goal e = go (nat_lt 0 states) refl e
     one zero f = let same : start ≡ goal = cc in sym (ap (λ (x : Goal). x.node) same)
     one (suc g) f = let w : ⊥ = cc in absurd w
 
-    go : (b : Bool) → nat_lt 0 states ≡ b → slice_get (if b then start ∷ [] else []) g ≡ Some goal → (0 < states) × (goal.node ≡ 0)
+    go : (b : Bool) → nat_lt 0 states ≡ b → slice_get (if b then start ∷ [] else []) g ≡ Some goal →
+        (0 < states) × (goal.node ≡ 0)
     go true h f = (ltb-true 0 states h, one g f)
     go false h f = let w : ⊥ = cc in absurd w
 
@@ -153,7 +156,8 @@ module _ (edges : List NumberEdge) (states : ℕ) (paths : GoalPaths) (search : 
       (subst (HasNumber numbers) (ap (λ (p : ℕ × ℕ). p.1) t.same) has)))
 
   -- a state with a path is state 0, or has a last edge
-  pub first_or_edge : (n : ℕ) → HasNumber numbers n → (n ≡ 0) ⊎ ((edge : NumberEdge) × (last_edge_of edges paths n ≡ Some edge))
+  pub first_or_edge : (n : ℕ) → HasNumber numbers n →
+      (n ≡ 0) ⊎ ((edge : NumberEdge) × (last_edge_of edges paths n ≡ Some edge))
   first_or_edge zero has = inl refl
   first_or_edge (suc n) has =
       let there = search.found (suc n) has.number has.is in
@@ -190,7 +194,8 @@ last_edges_more edges paths n old new are e =
       each = λ m h. ap (λ l. slice_get l m) e ∙ at m (cases_lt m n) h;
     }
   where
-    at : (m : ℕ) → (m < n) ⊎ (n ≤ m) → m < n + 1 → slice_get (old ++ last_edge_of edges paths n ∷ []) m ≡ Some (last_edge_of edges paths m)
+    at : (m : ℕ) → (m < n) ⊎ (n ≤ m) → m < n + 1 →
+        slice_get (old ++ last_edge_of edges paths n ∷ []) m ≡ Some (last_edge_of edges paths m)
     at m (inl l) h = get_front old (last_edge_of edges paths n ∷ []) m (last_edge_of edges paths m) (are.each m l)
     at m (inr g) h =
         let same : m ≡ n = omega (arith, g, h) in

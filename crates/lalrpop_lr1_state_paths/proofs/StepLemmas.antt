@@ -114,7 +114,8 @@ module _ (table : Numbered) (steps : List (Option NumberEdge)) where
     pub walk : Walk Led front edge.source
     pub is : symbols_by table edge.symbol ≡ Some symbol
 
-  pub walk_over : last_edge_at steps 0 ≡ None → (syms : List Symbol) (n : ℕ) (edge : NumberEdge) → last_edge_at steps n ≡ Some edge →
+  pub walk_over : last_edge_at steps 0 ≡ None → (syms : List Symbol) (n : ℕ) (edge : NumberEdge) →
+      last_edge_at steps n ≡ Some edge →
       Walk Led syms n → IsPathOver syms edge
   walk_over none syms n edge e stands =
       let both : None ≡ Some edge = sym none ∙ e in let v : ⊥ = cc in absurd v

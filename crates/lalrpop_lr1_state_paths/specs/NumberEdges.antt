@@ -1,5 +1,6 @@
 -- The edges of states by numbers, where their symbols have numbers: for paths over numbers.
-use Rattle.std.specs.Prelude.{ℕ, ◌+◌, ◌<◌, List, [], ◌∷◌, if◌then◌else◌, nat_lt, ◌≡◌, Option, Some, None, slice_get}
+use Rattle.std.specs.Prelude.{ℕ, ◌+◌, ◌<◌, List, [], ◌∷◌, if◌then◌else◌, nat_lt, ◌≡◌, Option, Some}
+use Rattle.std.specs.Prelude.{None, slice_get}
 use Rattle.std.specs.Option.{option_map}
 use Rattle.lalrpop_grammar_repr.specs.Maps.{at_name, at_terminal}
 use Rattle.lalrpop_grammar_repr.specs.declared.production.Symbol.{Symbol}

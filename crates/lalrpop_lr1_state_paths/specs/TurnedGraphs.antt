@@ -1,5 +1,6 @@
 -- The graph of the edges turned round, and the edge with which each state's path back begins: for paths to states.
-use Rattle.std.specs.Prelude.{ℕ, zero, suc, ◌<◌, List, [], ◌∷◌, length, if◌then◌else◌, nat_lt, ◌≡◌, Option, Some, None, slice_get}
+use Rattle.std.specs.Prelude.{ℕ, zero, suc, ◌<◌, List, [], ◌∷◌, length, if◌then◌else◌, nat_lt, ◌≡◌}
+use Rattle.std.specs.Prelude.{Option, Some, None, slice_get}
 use Rattle.std.specs.Option.{option_and_then}
 use Rattle.lalrpop_lr1_graph_paths.specs.declared.graph.Edge as weighed
 use Rattle.lalrpop_lr1_graph_paths.specs.declared.graph.Goal.{Goal}

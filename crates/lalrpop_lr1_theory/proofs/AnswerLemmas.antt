@@ -269,6 +269,7 @@ module _ (G : Production → Type 0) (s : Text) (Item : ℕ → Production → �
       (ms, e, runs_pass ms none tokens f w r tt),
     )
 
+-- where the start stands on no right side, the end of a run of checked states is the right answer to the tokens
 pub ends_right : (grammar : List Production) (s : Text) (states : List State) → IsStartAlone grammar s →
     AreCheckedStates grammar s states → (w : List Terminal) (limit : ℕ) (a : ParseAnswer) → RunEnds states s w limit a →
     IsRightParseAnswer (Contains grammar) s w limit a

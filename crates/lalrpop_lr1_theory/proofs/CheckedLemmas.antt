@@ -14,6 +14,7 @@ use Rattle.lalrpop_lr1_theory.proofs.CanonicalLemmas.{along_carries}
 use Rattle.lalrpop_lr1_theory.proofs.ListLemmas.{contains_get}
 use Rattle.lalrpop_lr1_theory.proofs.StepLemmas.{some_same}
 
+-- two states with the same number are the same state
 pub same_state : (states : List State) (n : ℕ) (a b : State) → slice_get states n ≡ Some a → slice_get states n ≡ Some b →
     a ≡ b
 same_state states n a b e f = some_same a b (sym e ∙ f)

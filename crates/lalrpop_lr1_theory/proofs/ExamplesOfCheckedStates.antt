@@ -20,25 +20,31 @@ use Rattle.lalrpop_lr1_theory.proofs.ListLemmas.{AllOf, all_of, contains_here, c
 use Rattle.lalrpop_lr1_theory.proofs.PassLemmas.{some_item}
 use Rattle.lalrpop_lr1_theory.proofs.StepLemmas.{some_same}
 
+-- the reduction by `S = "a"` before the end alone
 abbrev pub end_alone : Reduction
 end_alone = reduction_before (None ∷ []) s_is_a
 
+-- the reduction by `S = "a"` before the end and before `"a"`
 abbrev pub end_and_a : Reduction
 end_and_a = reduction_before (None ∷ Some (quoted letter_a) ∷ []) s_is_a
 
 abbrev a_alone : Reduction
 a_alone = reduction_before (Some (quoted letter_a) ∷ []) s_is_a
 
+-- the first state's items hold that of `S = "a"` with its dot in front
 pub has_a : Contains first_items (item_at s_is_a 0)
 has_a = contains_here (item_at s_is_a 0) (item_at starts_s 0 ∷ [])
 
+-- the first state's items hold the start's, with its dot in front
 pub has_s : Contains first_items (item_at starts_s 0)
 has_s = contains_later (item_at s_is_a 0) (item_at starts_s 0) (item_at starts_s 0 ∷ []) (contains_here (item_at starts_s 0) [])
 
+-- where each reduction of a list is by `S = "a"` and not before the token of errors, any that stands in it is so
 pub by_a_alone : (rs : List Reduction) → AllOf (λ r. (r.production ≡ s_is_a) × (r.lookahead.error ≡ false)) rs →
     (r : Reduction) → Contains rs r → (r.production ≡ s_is_a) × (r.lookahead.error ≡ false)
 by_a_alone rs h = all_of (λ r. (r.production ≡ s_is_a) × (r.lookahead.error ≡ false)) rs h
 
+-- two places in a list of one reduction are one place, so none of its lookahead is shared
 pub one_alone : (r : Reduction) (j k : ℕ) (a b : Reduction) (x : Next) → slice_get (r ∷ []) j ≡ Some a →
     slice_get (r ∷ []) k ≡ Some b →
     Contains a.lookahead.nexts x → Contains b.lookahead.nexts x → j ≡ k

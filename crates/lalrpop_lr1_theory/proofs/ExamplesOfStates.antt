@@ -17,9 +17,11 @@ use Rattle.lalrpop_lr1_theory.proofs.ExampleLemmas.{head_same, name, name_same, 
 use Rattle.lalrpop_lr1_theory.proofs.ExampleLemmas.{not_terminal, nothing_in, production, quoted, tail_same}
 use Rattle.lalrpop_lr1_theory.proofs.ListLemmas.{AllPlaces, all_of, all_places, contains_here, contains_split, get_contains}
 
+-- the code of the letter of the one terminal, `"a"`
 abbrev pub letter_a : ℕ
 letter_a = 97
 
+-- the code of the letter of the nonterminal `S`
 abbrev pub letter_s : ℕ
 letter_s = 83
 
@@ -27,12 +29,15 @@ letter_s = 83
 abbrev pub letter_start : ℕ
 letter_start = 95
 
+-- the start's production: `__S = S`
 abbrev pub starts_s : Production
 starts_s = production 0 (name letter_start) (nonterminal (name letter_s) ∷ [])
 
+-- the other production: `S = "a"`
 abbrev pub s_is_a : Production
 s_is_a = production 1 (name letter_s) (terminal (quoted letter_a) ∷ [])
 
+-- the grammar of both productions, whose one sentence is the letter a
 abbrev pub one_letter : List Production
 one_letter = starts_s ∷ s_is_a ∷ []
 
@@ -40,31 +45,40 @@ one_letter = starts_s ∷ s_is_a ∷ []
 abbrev pub before_these : List Next → LookaheadSet
 before_these set = record { nexts = set; error = false }
 
+-- the item by a production with its dot at a place, before the end alone
 abbrev pub item_at : Production → ℕ → Item
 item_at p i = record { production = p; dot = i; lookahead = before_these (None ∷ []) }
 
+-- the reduction by a production before these terminals or the end, and not before the token of errors
 abbrev pub reduction_before : List Next → Production → Reduction
 reduction_before set p = record { production = p; lookahead = before_these set }
 
+-- the reduction by a production with this lookahead
 abbrev pub reduction_with : LookaheadSet → Production → Reduction
 reduction_with set p = record { production = p; lookahead = set }
 
+-- a state with this number, these items, where its terminals and its nonterminals lead, and its reductions
 abbrev pub state_of : ℕ → List Item → List (Terminal × ℕ) → List (Text × ℕ) → List Reduction → State
 state_of n items on_terminals on_names reductions =
     record { index = n; items = items; shifts = on_terminals; gotos = on_names; reductions = reductions }
 
+-- the items of the state where nothing has been read: those of both productions, with their dots in front
 abbrev pub first_items : List Item
 first_items = item_at s_is_a 0 ∷ item_at starts_s 0 ∷ []
 
+-- the state where nothing has been read: `"a"` leads to the third state, `S` to the second
 abbrev pub first_state : State
 first_state = state_of 0 first_items ((quoted letter_a, 2) ∷ []) ((name letter_s, 1) ∷ []) []
 
+-- the state behind `S`, which reduces by the start's production at the end
 abbrev pub second_state : State
 second_state = state_of 1 (item_at starts_s 1 ∷ []) [] [] (reduction_before (None ∷ []) starts_s ∷ [])
 
+-- the state behind `"a"`, which reduces by `S = "a"` at the end
 abbrev pub third_state : State
 third_state = state_of 2 (item_at s_is_a 1 ∷ []) [] [] (reduction_before (None ∷ []) s_is_a ∷ [])
 
+-- the states of the grammar, each at the place of its number
 abbrev pub three_states : List State
 three_states = first_state ∷ second_state ∷ third_state ∷ []
 
@@ -75,6 +89,7 @@ pub data StandsIn : ℕ → Production → ℕ → Type 0 where
   s_done : StandsIn 1 starts_s 1
   a_done : StandsIn 2 s_is_a 1
 
+-- the edges of the three states: from the first by `S` to the second, and by `"a"` to the third
 pub data LeadsOn : ℕ → Symbol → ℕ → Type 0 where
   by_s : LeadsOn 0 (nonterminal (name letter_s)) 1
   by_a : LeadsOn 0 (terminal (quoted letter_a)) 2
@@ -86,9 +101,11 @@ its_production p c = go (contains_split starts_s p (s_is_a ∷ []) c)
     go (inl e) = inl e
     go (inr c) = inr (all_of (λ q. s_is_a ≡ q) (s_is_a ∷ []) (refl, tt) p c)
 
+-- the start's production is one of the grammar
 pub start_given : Contains one_letter starts_s
 start_given = (0, omega arith, refl)
 
+-- `S = "a"` is one of the grammar's productions
 pub a_given : Contains one_letter s_is_a
 a_given = (1, omega arith, refl)
 
@@ -100,6 +117,7 @@ by_start p c e = go (its_production p c)
     go (inl h) = h
     go (inr h) = absurd (omega (arith, name_same letter_s letter_start (ap (λ q. q.left) h ∙ e)))
 
+-- a production of the grammar for `S` is `S = "a"`
 pub by_letter : (p : Production) → Contains one_letter p → name letter_s ≡ p.left → s_is_a ≡ p
 by_letter p c e = go (its_production p c)
   where
@@ -107,6 +125,7 @@ by_letter p c e = go (its_production p c)
     go (inl h) = absurd (omega (arith, name_same letter_s letter_start (e ∙ ap (λ q. q.left) (sym h))))
     go (inr h) = h
 
+-- from no symbols nothing is derived that begins with a terminal
 pub derives_none : (t : Terminal) (ys xs zs : List Symbol) → Derives (Contains one_letter) xs zs → xs ≡ [] →
     zs ≡ terminal t ∷ ys → ⊥
 derives_none t ys xs zs ends e f = cc
@@ -152,6 +171,7 @@ some_edge n p i x b s_first e = (1, subst (λ y. LeadsOn 0 y 1) (head_same (nont
 some_edge n p i x b s_done e = absurd (not_empty x b e)
 some_edge n p i x b a_done e = absurd (not_empty x b e)
 
+-- each nonterminal that the start reaches has a finite tree
 pub none_is_barren : NoneBarren (Contains one_letter) (name letter_start)
 none_is_barren A itself =
     (node starts_s (node s_is_a (leaf (quoted letter_a) none) none) none, (refl, (start_given, refl, (a_given, refl, tt, tt), tt)))
@@ -301,12 +321,15 @@ shape_edges states h k n (terminal t) m e =
 shape_edges states h k n (nonterminal A) m e =
     all_places (λ n st. (e : Text × ℕ) → Contains st.gotos e → LeadsOn n (nonterminal e.0) e.1) states k n e.0 e.1 (A, m) e.2
 
+-- each item of the first state is one of those said to stand in state 0
 pub items_first : (it : Item) → Contains first_items it → StandsIn 0 it.production it.dot
 items_first = all_of (λ j. StandsIn 0 j.production j.dot) first_items (a_first, (s_first, tt))
 
+-- each item of the second state is one of those said to stand in state 1
 pub items_second : (it : Item) → Contains (item_at starts_s 1 ∷ []) it → StandsIn 1 it.production it.dot
 items_second = all_of (λ j. StandsIn 1 j.production j.dot) (item_at starts_s 1 ∷ []) (s_done, tt)
 
+-- each item of the third state is one of those said to stand in state 2
 pub items_third : (it : Item) → Contains (item_at s_is_a 1 ∷ []) it → StandsIn 2 it.production it.dot
 items_third = all_of (λ j. StandsIn 2 j.production j.dot) (item_at s_is_a 1 ∷ []) (a_done, tt)
 

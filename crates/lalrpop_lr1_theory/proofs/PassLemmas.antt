@@ -29,6 +29,7 @@ over-before : (G : Production → Type 0) (x : Next) → AreOver G (before x)
 over-before G None = tt
 over-before G (Some t) = tt
 
+-- where the first root of trees is a terminal, the first of them is its leaf
 pub first_leaf : (t : Terminal) (b : List Symbol) (us : Forest) → roots us ≡ terminal t ∷ b → (vs : Forest) × (us ≡ leaf t vs)
 first_leaf t b none e = let z : ⊥ = cc in absurd z
 first_leaf t b (leaf u us) e = let z : u ≡ t = cc in (us, ap (λ v. leaf v us) z)

@@ -21,6 +21,7 @@ take_more' x b (y ∷ xs) (suc i) e = ap (λ w. y ∷ w) (take_more' x b xs i e)
 abbrev none' : List Symbol
 none' = []
 
+-- a list of trees without roots holds no tree
 pub no_roots : (ts : Forest) → roots ts ≡ [] → ts ≡ none
 no_roots none e = refl
 no_roots (leaf t ts) e = cc

@@ -18,10 +18,12 @@ drop_on X b (y ∷ xs) zero e = cc
 drop_on X b [] (suc i) e = let z : ⊥ = cc in absurd z
 drop_on X b (y ∷ xs) (suc i) e = drop_on X b xs i e
 
+-- two lists joined, without as many symbols as the first has, are the second
 pub drop_past : (a b : List Symbol) → drop (length a) (a ++ b) ≡ b
 drop_past [] b = refl
 drop_past (x ∷ a) b = drop_past a b
 
+-- a list with a symbol in it is not empty
 pub too_many : (Y : Symbol) (a b : List Symbol) → a ++ Y ∷ b ≡ [] → ⊥
 too_many Y [] b e = cc
 too_many Y (x ∷ a) b e = cc

@@ -15,6 +15,7 @@ use Rattle.lalrpop_lr1_theory.proofs.StepLemmas.{some_same}
 use Rattle.lalrpop_lr1_theory.proofs.TreeLemmas.{length-moves}
 use Rattle.lalrpop_lr1_theory.proofs.WalkLemmas.{allows-next, allows_one, walk_one}
 
+-- a list without all of its symbols is empty
 pub drop_all : (xs : List Symbol) → drop (length xs) xs ≡ []
 drop_all [] = refl
 drop_all (x ∷ xs) = drop_all xs

@@ -81,6 +81,7 @@ module _ (G : Production → Type 0) (s : Text) (Item : ℕ → Production → �
       let r = carried_there h q j y k in
       (r.0, r.1, item_closes h r.0 r.1 q j b q' r.2 d u, closes b q' z r.3 d u f)
 
+-- the symbol after the dot is one of the symbols
 pub contains_after : (x : Symbol) (b xs : List Symbol) (i : ℕ) → drop i xs ≡ x ∷ b → Contains xs x
 contains_after x b [] zero e = let z : ⊥ = cc in absurd z
 contains_after x b (y ∷ xs) zero e = let z : y ≡ x = cc in (0, omega arith, z)

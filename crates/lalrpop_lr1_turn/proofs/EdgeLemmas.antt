@@ -28,6 +28,7 @@ get_parts {X} xs x k y e = ⊎_elim (λ h. inl h) (λ h. inr (last h.0 h.1 h.2))
     last zero f g = (omega (arith, f), some_same x y g)
     last (suc j) f g = let z : ⊥ = cc in absurd z
 
+-- an edge in a list with one put behind is one of the list or that one
 pub edge_parts : (edges : List (ℕ × ℕ)) (t n s m : ℕ) → Contains (edges ++ (t, n) ∷ []) (s, m) →
     Contains edges (s, m) ⊎ ((t ≡ s) × (n ≡ m))
 edge_parts edges t n s m c = ⊎_elim
@@ -37,6 +38,7 @@ edge_parts edges t n s m c = ⊎_elim
     (λ e. absurd (no_element (s, m) e)) (contains_split (t, n) (s, m) [] d))
     (Contains-append_cases edges ((t, n) ∷ []) (s, m) c)
 
+-- a list of edges with one put behind has that edge
 pub edge_last : (edges : List (ℕ × ℕ)) (t n : ℕ) → Contains (edges ++ (t, n) ∷ []) (t, n)
 edge_last edges t n = Contains-append_right edges ((t, n) ∷ []) (t, n) (contains_here (t, n) [])
 

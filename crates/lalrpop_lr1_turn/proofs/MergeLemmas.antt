@@ -8,9 +8,11 @@ use Rattle.lalrpop_sets.specs.Bits.{Ascends, AscendsFrom, has}
 use Rattle.lalrpop_lr1_turn.specs.Kernels.{HaveOrderedLookaheads, places_of}
 use Rattle.lalrpop_lr1_turn.specs.Merges.{AddsJoined, AreBefore, Merges, NoneBefore, TakesBefore}
 
+-- nothing is an element of an empty list
 pub no_element : {X : Type 0} (y : X) → Contains [] y → ⊥
 no_element y c = omega (arith, c.1)
 
+-- what ascends from a number on ascends from each smaller one on
 pub ascends_less : (a b : ℕ) (xs : List ℕ) → a ≤ b → AscendsFrom b xs → AscendsFrom a xs
 ascends_less a b [] l h = tt
 ascends_less a b (x ∷ xs) l h = (omega (arith, h.0), h.1)
@@ -270,9 +272,11 @@ pub record TakesSoFar {L : Type 0} (place : ℕ) (kernel old new rest : List (�
   pub added : new ≡ old ++ before
   pub are_before : AreBefore place before
 
+-- before the first step nothing of the kernel is taken, and all of it is left
 pub takes_none : {L : Type 0} (place : ℕ) (kernel old : List (ℕ × L)) → TakesSoFar place kernel old old kernel
 takes_none place kernel old = record { before = []; parts = refl; added = sym (append-nil old); are_before = tt }
 
+-- the next item left is taken, too, where it stands before the place
 pub takes_more : {L : Type 0} (place : ℕ) (kernel old new rest : List (ℕ × L)) (item : ℕ × L) (others : List (ℕ × L)) (l : L)
     (next : List (ℕ × L)) → TakesSoFar place kernel old new rest → rest ≡ item ∷ others → item.0 < place → l ≡ item.1 →
     next ≡ new ++ (item.0, l) ∷ [] → TakesSoFar place kernel old next others

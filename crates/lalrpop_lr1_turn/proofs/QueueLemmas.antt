@@ -54,6 +54,7 @@ module _ {K : Type 0} (eq : K → K → Bool) (exact : (a b : K) → eq a b ≡ 
 abbrev pub item_eq : {L : Type 0} → (L → L → Bool) → ℕ × L → ℕ × L → Bool
 item_eq eq x y = (x.0 == y.0) && eq x.1 y.1
 
+-- kernels are equal where their lists of items are, item by item
 abbrev pub kernel_eq : {L : Type 0} → (L → L → Bool) → StateKernel L → StateKernel L → Bool
 kernel_eq eq a b = pointwise (item_eq eq) a.items b.items
 
@@ -88,6 +89,7 @@ pub record StandsIn {L : Type 0} (kernel : StateKernel L) (target : ℕ) (old ne
   pub at : slice_get new target ≡ Some kernel
   pub kernels : (new ≡ old) ⊎ AddsKernel kernel target old new
 
+-- a kernel that is put behind a queue unless it's there already stands in it at its number
 pub stands_in : {L : Type 0} (eq : StateKernel L → StateKernel L → Bool) → ((a b : StateKernel L) → eq a b ≡ true → a ≡ b) →
     ((a : StateKernel L) → eq a a ≡ true) → (kernel : StateKernel L) (old new : List (StateKernel L)) →
     new ≡ (if list_any (eq kernel) old then old else old ++ kernel ∷ []) → StandsIn kernel (number_in eq old kernel) old new

@@ -1,5 +1,6 @@
 -- Moves that are added step by step lead out along the path that is gone: for the loops that add them.
-use Rattle.std.proofs.Common.{◌≡◌, ◌∙◌, ℕ, Bool, true, false, List, [], ◌∷◌, ◌++◌, map, Some, refl, sym, ap, subst, append_assoc, append-nil}
+use Rattle.std.proofs.Common.{◌≡◌, ◌∙◌, ℕ, Bool, true, false, List, [], ◌∷◌, ◌++◌, map, Some, refl, sym}
+use Rattle.std.proofs.Common.{ap, subst, append_assoc, append-nil}
 use Rattle.std.specs.Prelude.{slice_get}
 use Rattle.std.proofs.lemmas.List.{map-append}
 use Rattle.lalrpop_grammar_symbols.specs.Symbols.{Terminal, Text}
@@ -77,10 +78,12 @@ module _ (it : OutGraphs) (kind : Bool) where
             ∙ ap (λ l. (a ++ l) ++ c) (sym e)
 
     -- one edge of the path further
-    next_along : (goals : List Goal) (n : ℕ) (B : Text) (e : ℕ) (left : List ℕ) (goal : ℕ) (step : OutStep) (added : List TreeMove) →
+    next_along : (goals : List Goal) (n : ℕ) (B : Text) (e : ℕ) (left : List ℕ) (goal : ℕ) (step : OutStep)
+        (added : List TreeMove) →
         ((edge : Edge) → slice_get (step_edges it kind) e ≡ Some edge → LeadsAsStep step edge) →
         IsOutStep (IsProductionOf g) states (last_steps it.paths.now) (symbols_by (ways_table it)) (name_count (ways_table it)) step →
-        AreStepMoves g (LeavesOfKind kind) step added → (ms : List Move) → LeadsSoFar g s states it kind goals n B (e ∷ left) goal ms →
+        AreStepMoves g (LeavesOfKind kind) step added → (ms : List Move) →
+        LeadsSoFar g s states it kind goals n B (e ∷ left) goal ms →
         LeadsSoFar g s states it kind goals n B left goal (ms ++ map tree_move_view added)
     next_along goals n B e left goal step added as_step is moves_of ms so = go so.here so.path so.along
       where

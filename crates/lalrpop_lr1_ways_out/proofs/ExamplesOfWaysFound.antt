@@ -1,6 +1,7 @@
 -- Computed examples of what is told of ways out: in the three states of `__S = S; S = "a"` the way out behind `S` is told of any leaves and
 -- of none, none is told on which `"a"` comes, and wrong answers are refused.
-use Rattle.std.proofs.Common.{◌≡◌, ℕ, false, true, List, [], ◌∷◌, ◌++◌, Some, None, Option, refl, sym, ap, ◌∙◌, arith, Contains}
+use Rattle.std.proofs.Common.{◌≡◌, ℕ, false, true, List, [], ◌∷◌, ◌++◌, Some, None, Option, refl, sym, ap}
+use Rattle.std.proofs.Common.{◌∙◌, arith, Contains}
 use Rattle.lalrpop_grammar_symbols.specs.Symbols.{Terminal, Text}
 use Rattle.lalrpop_lr1_theory.specs.Productions.{Production, Symbol, first, nonterminal, terminal}
 use Rattle.lalrpop_lr1_theory.specs.Trees.{Forest, Move, leaf, node, none, reduce, roots, yield}

@@ -1,5 +1,6 @@
 -- Goals at the steps with whose trees a terminal comes, step by step: for the loop that makes them.
-use Rattle.std.proofs.Common.{◌≡◌, ◌∙◌, ℕ, zero, suc, ◌+◌, ◌<◌, ◌≤◌, List, [], ◌∷◌, ◌++◌, length, Some, refl, sym, ap, subst, inl, inr, ◌⊎◌, arith}
+use Rattle.std.proofs.Common.{◌≡◌, ◌∙◌, ℕ, zero, suc, ◌+◌, ◌<◌, ◌≤◌, List, [], ◌∷◌, ◌++◌}
+use Rattle.std.proofs.Common.{length, Some, refl, sym, ap, subst, inl, inr, ◌⊎◌, arith}
 use Rattle.std.proofs.Common.{length-append}
 use Rattle.std.specs.Prelude.{slice_get}
 use Rattle.std.proofs.lemmas.Bool.{cases_lt}
@@ -78,7 +79,8 @@ module _ (any : AnyOut) (table : Numbered) (t : Terminal) (all : List OutStep) w
             go g of number other less there begins onward (cases_lt number i);
       })
     where
-      go : (g : Grammar) → IsNumberTableOf g table → (number : ℕ) (other : OutStep) → number < i + 1 → slice_get all number ≡ Some other →
+      go : (g : Grammar) → IsNumberTableOf g table → (number : ℕ) (other : OutStep) → number < i + 1 →
+          slice_get all number ≡ Some other →
           HasRest (IsProductionOf g) (step_rest other) (BeginsWith t) → HasAnyPath any other.to → (number < i) ⊎ (i ≤ number) →
           (k : ℕ) × (goal : Goal) × (slice_get old.goals.items k ≡ Some goal) × (goal.node ≡ other.from)
       go g of number other less there begins onward (inl h) = are.every g of number other h there begins onward
@@ -103,7 +105,8 @@ module _ (any : AnyOut) (table : Numbered) (t : Terminal) (all : List OutStep) w
       last = subst (λ n. slice_get new.numbers.items n ≡ Some i) are.long
           (subst (λ l. slice_get l (length old.numbers.items) ≡ Some i) (sym added.numbers) (get_last old.numbers.items i))
 
-      told : (k : ℕ) (goal : Goal) → (slice_get old.goals.items k ≡ Some goal) ⊎ ((k ≡ length old.goals.items) × (added.goal ≡ goal)) →
+      told : (k : ℕ) (goal : Goal) → (slice_get old.goals.items k ≡ Some goal)
+          ⊎ ((k ≡ length old.goals.items) × (added.goal ≡ goal)) →
           IsBeginGoal any all new.numbers.items k goal
       told k goal (inl h) =
           let s = are.sound k goal h in
@@ -134,7 +137,8 @@ module _ (any : AnyOut) (table : Numbered) (t : Terminal) (all : List OutStep) w
           let one : step ≡ other = some_same step other (sym at ∙ ap (slice_get all) h.1 ∙ there) in
           subst (λ s. HasRest (IsProductionOf g) (step_rest s) (BeginsWith t)) one (added.begins g of)
 
-      go : (g : Grammar) → IsNumberTableOf g table → (number : ℕ) (other : OutStep) → number < i + 1 → slice_get all number ≡ Some other →
+      go : (g : Grammar) → IsNumberTableOf g table → (number : ℕ) (other : OutStep) → number < i + 1 →
+          slice_get all number ≡ Some other →
           HasRest (IsProductionOf g) (step_rest other) (BeginsWith t) → HasAnyPath any other.to → (number < i) ⊎ (i ≤ number) →
           (k : ℕ) × (goal : Goal) × (slice_get new.goals.items k ≡ Some goal) × (goal.node ≡ other.from)
       go g of number other less there begins onward (inl h) =
@@ -160,7 +164,8 @@ pub steps_made : (any : Bor AnyOut) (terminal : TerminalString) (begins : BeginT
     AreBeginGoals any.now begins.trees.now.table (terminal_view terminal) found →
     AreWantedSteps (record { any = any; terminal = terminal; begins = begins; numbers = found.numbers; goals = found.goals })
 steps_made any terminal begins found trees is are begun theirs wanted goals =
-    let table : begins.trees.now.table ≡ any.now.ways.now.paths.now.trees.now.table = ap (λ (t : LeastTrees). t.table) (begun ∙ theirs) in
+    let table : begins.trees.now.table ≡ any.now.ways.now.paths.now.trees.now.table =
+    ap (λ (t : LeastTrees). t.table) (begun ∙ theirs) in
     let all = subst (λ (t : Numbered). AreGoalsOf any.now t (terminal_view terminal) any.now.ways.now.steps.items found.numbers.items
     found.goals.items (length any.now.ways.now.steps.items)) table goals in
     record {

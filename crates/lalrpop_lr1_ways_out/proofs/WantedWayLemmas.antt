@@ -1,5 +1,6 @@
 -- Ways out on which a terminal comes next, from the steps with whose trees it does: for the answers of the calls.
-use Rattle.std.proofs.Common.{◌≡◌, ◌∙◌, ℕ, ◌<◌, Bool, true, false, List, [], ◌∷◌, ◌++◌, map, Some, length, sym, ap, subst, append_assoc, arith}
+use Rattle.std.proofs.Common.{◌≡◌, ◌∙◌, ℕ, ◌<◌, Bool, true, false, List, [], ◌∷◌, ◌++◌, map, Some}
+use Rattle.std.proofs.Common.{length, sym, ap, subst, append_assoc, arith}
 use Rattle.std.specs.Prelude.{slice_get}
 use Rattle.std.proofs.lemmas.List.{map-append}
 use Rattle.std.proofs.lemmas.Option.{slice_get_within}
@@ -53,7 +54,8 @@ path_of it is node h =
     subst (λ l. HasPathToGoal l it.ways.now.goals.items node) (ap graph_edges is.graph)
     (subst (λ l. HasPathToGoal (graph_edges it.found.graph.now) l node) is.goals h)
 
-pub path_back : (it : AnyOut) → IsAnyOut it → (node : ℕ) → HasPathToGoal (step_edges it.ways.now true) it.ways.now.goals.items node →
+pub path_back : (it : AnyOut) → IsAnyOut it → (node : ℕ) →
+    HasPathToGoal (step_edges it.ways.now true) it.ways.now.goals.items node →
     HasAnyPath it node
 path_back it is node h =
     subst (λ l. HasPathToGoal (graph_edges it.found.graph.now) l node) (sym is.goals)
@@ -62,7 +64,8 @@ path_back it is node h =
 -- where there is a path moves lead out
 module _ (it : OutGraphs) (graphs : AreOutGraphs it) (g : Grammar) (s : Text) (states : List State) (are : AreWaysOut g s states it)
   where
-    pub path_leads : (node : ℕ) (es : List ℕ) (goal : ℕ) → IsPathTo (step_edges it true) it.goals.items node es goal → (n : ℕ) (B : Text) →
+    pub path_leads : (node : ℕ) (es : List ℕ) (goal : ℕ) → IsPathTo (step_edges it true) it.goals.items node es goal →
+        (n : ℕ) (B : Text) →
         IsNodeIn g s states it node n B → (ms : List Move) × (w : List Terminal) × LeadsBy g s states it n B ms w
     path_leads node es goal (ends k l entry at here) n B there =
         let start = are.end.each goal entry at in
@@ -138,7 +141,8 @@ module _ (it : WantedSteps) (are : AreWantedSteps it) where
         onward = g.onward;
       }
 
-  pub path_step : (node : ℕ) (es : List ℕ) (goal : ℕ) → IsPathTo (step_edges ways false) it.goals.items node es goal → IsGoalStep goal
+  pub path_step : (node : ℕ) (es : List ℕ) (goal : ℕ) →
+      IsPathTo (step_edges ways false) it.goals.items node es goal → IsGoalStep goal
   path_step node es goal path = let e = path_goal (step_edges ways false) it.goals.items node es goal path in goal_step goal e.0 e.1
 
   -- it is the one that is read
@@ -148,7 +152,8 @@ module _ (it : WantedSteps) (are : AreWantedSteps it) where
   step_is goal h numbers steps numbers_are steps_are number step at at_step =
       let same : h.number ≡ number =
       some_same h.number number (sym h.listed ∙ ap (λ l. slice_get l goal) (sym numbers_are) ∙ at) in
-      some_same h.step step (sym h.at_step ∙ ap (slice_get ways.steps.items) same ∙ ap (λ l. slice_get l number) (sym steps_are) ∙ at_step)
+      some_same h.step step (sym h.at_step ∙ ap (slice_get ways.steps.items) same
+      ∙ ap (λ l. slice_get l number) (sym steps_are) ∙ at_step)
 
   pub number_is : (goal : ℕ) (h : IsGoalStep goal) (numbers : List ℕ) → numbers ≡ it.numbers.items → (number : ℕ) →
       slice_get numbers goal ≡ Some number → h.number ≡ number
@@ -191,11 +196,13 @@ module _ (it : WantedSteps) (are : AreWantedSteps it) where
     module _ (node : ℕ) (es : List ℕ) (path : IsPathTo (step_edges ways false) it.goals.items node es goal) where
       -- the moves up to the step, the step's, and those of a way on
       pub wanted_added : (old middle more new : List TreeMove) → AddsSoFar ways false es [] old middle →
-          AddsStep table (BeginsWith t) step middle more → AddsWay ways step.to AnyLeaves more new → AddsWay ways node (BeginsWith t) old new
+          AddsStep table (BeginsWith t) step middle more → AddsWay ways step.to AnyLeaves more new →
+          AddsWay ways node (BeginsWith t) old new
       wanted_added old middle more new so adds way =
           record {
             added = (so.added ++ adds.added) ++ way.added;
-            is = way.is ∙ ap (λ l. l ++ way.added) (adds.is ∙ ap (λ l. l ++ adds.added) so.is ∙ append_assoc old so.added adds.added)
+            is = way.is ∙ ap (λ l. l ++ way.added)
+                (adds.is ∙ ap (λ l. l ++ adds.added) so.is ∙ append_assoc old so.added adds.added)
                 ∙ append_assoc old (so.added ++ adds.added) way.added;
             leads = λ g s states w n B at.
                 let e = all_added ways false es old middle so g s states w it.goals.items node goal path n B at in

@@ -1,5 +1,6 @@
 -- What is told of ways out from what the searches found: for the answers of the calls.
-use Rattle.std.proofs.Common.{◌≡◌, ◌∙◌, ℕ, Bool, true, false, List, [], map, Option, Some, None, sym, ap, subst, append-nil, arith, inl, inr, ◌⊎◌, Contains}
+use Rattle.std.proofs.Common.{◌≡◌, ◌∙◌, ℕ, Bool, true, false, List, [], map, Option, Some, None, sym, ap, subst}
+use Rattle.std.proofs.Common.{append-nil, arith, inl, inr, ◌⊎◌, Contains}
 use Rattle.std.specs.Prelude.{slice_get}
 use Rattle.lalrpop_grammar_symbols.specs.Symbols.{Terminal, Text}
 use Rattle.lalrpop_grammar_repr.specs.declared.grammar.Grammar.{Grammar}
@@ -57,8 +58,10 @@ kind_of_all true all h = tt
 kind_of_all false all h = h
 
 -- a node has one number
-pub number_once : (it : OutGraphs) (g : Grammar) (s : Text) (states : List State) → AreWaysOut g s states it → (i j : ℕ) (A : Text) →
-    symbols_by (ways_table it) i ≡ Some (theory.nonterminal A) → symbols_by (ways_table it) j ≡ Some (theory.nonterminal A) → i ≡ j
+pub number_once : (it : OutGraphs) (g : Grammar) (s : Text) (states : List State) → AreWaysOut g s states it →
+    (i j : ℕ) (A : Text) →
+    symbols_by (ways_table it) i ≡ Some (theory.nonterminal A) →
+    symbols_by (ways_table it) j ≡ Some (theory.nonterminal A) → i ≡ j
 number_once it g s states are i j A a b = (table_numbering (ways_table it) are.of.numbers).name_once i j A a b
 
 module _ (it : OutGraphs) (kind : Bool) (node : ℕ) (es : List ℕ) (goal : ℕ)
@@ -107,13 +110,16 @@ module _ (it : OutGraphs) (graphs : AreOutGraphs it) (g : Grammar) (s : Text) (s
         IsNodeIn g s states it node n B → HasPathToGoal (step_edges it true) it.goals.items node
     any_there n B ms w out node at =
         any_path (IsProductionOf g) s states (last_steps it.paths.now) (symbols_by (ways_table it)) (name_count (ways_table it))
-        it.steps.items are.steps (number_once it g s states are) (step_edges it true) graphs.any it.goals.items end_at_start n B ms w out node at
+        it.steps.items are.steps (number_once it g s states are)
+        (step_edges it true) graphs.any it.goals.items end_at_start n B ms w out node at
 
-    pub empty_there : (n : ℕ) (B : Text) (ms : List Move) (w : List Terminal) → LeadsBy g s states it n B ms w → w ≡ [] → (node : ℕ) →
+    pub empty_there : (n : ℕ) (B : Text) (ms : List Move) (w : List Terminal) → LeadsBy g s states it n B ms w →
+        w ≡ [] → (node : ℕ) →
         IsNodeIn g s states it node n B → HasPathToGoal (step_edges it false) it.goals.items node
     empty_there n B ms w out nothing node at =
         empty_path (IsProductionOf g) s states (last_steps it.paths.now) (symbols_by (ways_table it)) (name_count (ways_table it))
-        it.steps.items are.steps (number_once it g s states are) it.empties.items (step_edges it false) are.empty it.goals.items end_at_start
+        it.steps.items are.steps (number_once it g s states are) it.empties.items
+        (step_edges it false) are.empty it.goals.items end_at_start
         n B ms w out nothing node at
 
     -- a nonterminal behind which moves lead out has a number
@@ -126,7 +132,8 @@ module _ (it : OutGraphs) (graphs : AreOutGraphs it) (g : Grammar) (s : Text) (s
         none h.from.number h.from.below h.from.named
 
 -- the node that was found, by the paths of the graphs
-pub node_by : (it : OutGraphs) (paths : StatePaths) → paths ≡ it.paths.now → (n : ℕ) (B : Text) (found other : Option ℕ) → found ≡ other →
+pub node_by : (it : OutGraphs) (paths : StatePaths) → paths ≡ it.paths.now →
+    (n : ℕ) (B : Text) (found other : Option ℕ) → found ≡ other →
     IsNodeIfSome (symbols_by paths.trees.now.table) (name_count paths.trees.now.table) n B found →
     IsNodeIfSome (symbols_by (ways_table it)) (name_count (ways_table it)) n B other
 node_by it paths same n B found other e h =
@@ -135,7 +142,8 @@ node_by it paths same n B found other e h =
 
 -- the answer where a way was added to no moves
 pub told_way : (it : OutGraphs) (node : ℕ) (Wanted : List Terminal → Type 0) (new : List TreeMove) → AddsWay it node Wanted [] new →
-    (g : Grammar) (s : Text) (states : List State) → AreWaysOut g s states it → (n : ℕ) (B : Text) → IsNodeIn g s states it node n B →
+    (g : Grammar) (s : Text) (states : List State) → AreWaysOut g s states it → (n : ℕ) (B : Text) →
+    IsNodeIn g s states it node n B →
     TellsWayOut g s states it n B Wanted (Some (map tree_move_view new))
 told_way it node Wanted new way g s states are n B at =
     subst (λ l. TellsWayOut g s states it n B Wanted (Some (map tree_move_view l))) (sym way.is) (way.leads g s states are n B at)

@@ -32,19 +32,22 @@ use Rattle.lalrpop_lr1_ways_out.specs.declared.wanted_steps.WantedSteps.{WantedS
 
 -- Some moves lead out, and their leaves are such as are asked for.
 pub record HaveLeadOut (G : theory.Production → Type 0) (s : Text) (Item : ℕ → theory.Production → ℕ → Type 0)
-    (Back : ℕ → theory.Symbol → ℕ → Type 0) (n : ℕ) (B : Text) (Wanted : List Terminal → Type 0) (ms : List Move) : Type 0 where
+    (Back : ℕ → theory.Symbol → ℕ → Type 0) (n : ℕ) (B : Text) (Wanted : List Terminal → Type 0)
+    (ms : List Move) : Type 0 where
   pub left : List Terminal
   pub leads : LeadsOut G s Item Back n B ms left
   pub wanted : Wanted left
 
 -- these moves, or none where no moves lead out so
-abbrev pub LeadOutIfSome : (theory.Production → Type 0) → Text → (ℕ → theory.Production → ℕ → Type 0) → (ℕ → theory.Symbol → ℕ → Type 0) →
+abbrev pub LeadOutIfSome : (theory.Production → Type 0) → Text → (ℕ → theory.Production → ℕ → Type 0) →
+    (ℕ → theory.Symbol → ℕ → Type 0) →
     ℕ → Text → (List Terminal → Type 0) → Option (List Move) → Type 0
 LeadOutIfSome G s Item Back n B Wanted None = (ms : List Move) (w : List Terminal) → LeadsOut G s Item Back n B ms w → Wanted w → ⊥
 LeadOutIfSome G s Item Back n B Wanted (Some ms) = HaveLeadOut G s Item Back n B Wanted ms
 
 -- the same of the states of a grammar, by the paths of the steps
-abbrev pub TellsWayOut : Grammar → Text → List State → OutGraphs → ℕ → Text → (List Terminal → Type 0) → Option (List Move) → Type 0
+abbrev pub TellsWayOut : Grammar → Text → List State → OutGraphs → ℕ → Text → (List Terminal → Type 0) →
+    Option (List Move) → Type 0
 TellsWayOut g s states it = LeadOutIfSome (IsProductionOf g) s (HasItem states) (LedBy (last_steps it.paths.now))
 
 -- the search for any ways out has ended

@@ -1,5 +1,6 @@
 -- Moves of steps that are added to others: for the code that makes ways out.
-use Rattle.std.specs.Prelude.{ℕ, Bool, true, false, List, [], ◌∷◌, ◌++◌, map, ◌≡◌, ⊤, Option, Some, None, Contains, slice_get}
+use Rattle.std.specs.Prelude.{ℕ, Bool, true, false, List, [], ◌∷◌, ◌++◌, map, ◌≡◌, ⊤, Option, Some, None}
+use Rattle.std.specs.Prelude.{Contains, slice_get}
 use Rattle.lalrpop_grammar_symbols.specs.Symbols.{Text, Terminal}
 use Rattle.lalrpop_grammar_repr.specs.declared.grammar.Grammar.{Grammar}
 use Rattle.lalrpop_grammar_repr.specs.declared.production.Production.{Production}
@@ -84,7 +85,8 @@ module _ (g : Grammar) (s : Text) (states : List State) (it : OutGraphs) where
         × ComesInAll kind w all
 
   -- the same of what is left of a path
-  pub record LeadsSoFar (kind : Bool) (goals : List Goal) (n : ℕ) (B : Text) (left : List ℕ) (goal : ℕ) (ms : List Move) : Type 0 where
+  pub record LeadsSoFar (kind : Bool) (goals : List Goal) (n : ℕ) (B : Text) (left : List ℕ) (goal : ℕ)
+      (ms : List Move) : Type 0 where
     pub here : ℕ
     pub path : IsPathTo (step_edges it kind) goals here left goal
     pub along : LeadsAlong kind n B here ms

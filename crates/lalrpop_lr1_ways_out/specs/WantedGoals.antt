@@ -14,7 +14,8 @@ use Rattle.lalrpop_lr1_ways_out.specs.declared.any_out.AnyOut.{AnyOut}
 use Rattle.lalrpop_lr1_ways_out.specs.declared.wanted_steps.BeginGoals.{BeginGoals}
 
 -- the step got a goal: the terminal comes with its trees, and a way leads on
-pub record IsBeginAdded (any : AnyOut) (table : Numbered) (t : Terminal) (step : OutStep) (number : ℕ) (old new : BeginGoals) : Type 0 where
+pub record IsBeginAdded (any : AnyOut) (table : Numbered) (t : Terminal) (step : OutStep) (number : ℕ)
+    (old new : BeginGoals) : Type 0 where
   pub goal : Goal
   pub numbers : new.numbers.items ≡ old.numbers.items ++ number ∷ []
   pub goals : new.goals.items ≡ old.goals.items ++ goal ∷ []
@@ -25,7 +26,8 @@ pub record IsBeginAdded (any : AnyOut) (table : Numbered) (t : Terminal) (step :
 -- it got none: no way leads on, or the terminal doesn't come
 pub record IsBeginPassed (any : AnyOut) (table : Numbered) (t : Terminal) (step : OutStep) (old new : BeginGoals) : Type 0 where
   pub same : new ≡ old
-  pub never : (g : Grammar) → IsNumberTableOf g table → HasAnyPath any step.to → HasNoRest (IsProductionOf g) (step_rest step) (BeginsWith t)
+  pub never : (g : Grammar) → IsNumberTableOf g table → HasAnyPath any step.to →
+      HasNoRest (IsProductionOf g) (step_rest step) (BeginsWith t)
 
 abbrev pub AddsBegin : AnyOut → Numbered → Terminal → OutStep → ℕ → BeginGoals → BeginGoals → Type 0
 AddsBegin any table t step number old new = IsBeginAdded any table t step number old new ⊎ IsBeginPassed any table t step old new

@@ -34,6 +34,7 @@ use Rattle.lalrpop_norm.proofs.ToldLemmas.{later_told, level_told, macro_told, n
 
 -- names
 
+-- a fault of names of the grammar without what is disabled is one of the written grammar, where the checks find nothing
 pub names_told : (finds : Text → Text → Option Bool) (deep : Text → Bool) (features : List Text) (limit : ℕ) (w enabled : Grammar)
     (fault : NormFault) → HasNoCheckFault w → enabled ≡ without_disabled features w → IsNameFault enabled fault
     → TellsOfWritten finds deep features limit w fault
@@ -109,7 +110,8 @@ module _ (features : List Text) (w enabled resolved : Grammar) (p : IsPassedToNa
           → Decides dfa (entry_patterns v.entries) (entry_precedences v.entries)
       entries_decided v dfa h = h no_tokenizer_expanded
 
-      module _ (deep : Text → Bool) (limit : ℕ) (right_macros : IsReadyForMacros finds leveled → HasNoMacroFault finds deep limit leveled)
+      module _ (deep : Text → Bool) (limit : ℕ)
+          (right_macros : IsReadyForMacros finds leveled → HasNoMacroFault finds deep limit leveled)
           (first : FirstPlaces) (places : (l : Terminal) → first l ≡ first_span (uses_in_grammar enabled) l) where
         places_are : (l : Terminal) → first l ≡ enabled_places features w l
         places_are l = places l ∙ ap (λ (g : Grammar). first_span (uses_in_grammar g) l) p.dropped

@@ -1,5 +1,6 @@
 -- What a pass tells stands in the written grammar, and where none tells a fault none stands; for the normalizer.
-use Rattle.std.proofs.Common.{◌≡◌, ℕ, List, [], ◌∷◌, ◌++◌, refl, ap, sym, ◌∙◌, subst, Bool, true, false, inl, inr, ◌⊎◌}
+use Rattle.std.proofs.Common.{◌≡◌, ℕ, List, [], ◌∷◌, ◌++◌, refl, ap, sym, ◌∙◌, subst, Bool, true, false}
+use Rattle.std.proofs.Common.{inl, inr, ◌⊎◌}
 use Rattle.std.specs.Prelude.{Option, map}
 use Rattle.lalrpop_grammar_symbols.specs.Symbols.{Text, TextSpan, Terminal}
 use Rattle.lalrpop_grammar_symbols.specs.Views.{span_view}

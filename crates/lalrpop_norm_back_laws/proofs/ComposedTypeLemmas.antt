@@ -4,6 +4,7 @@ use Rattle.lalrpop_grammar_language.specs.Enabled.{EnabledGrammar}
 use Rattle.lalrpop_grammar_language.specs.Expansion.{Nonterminal, InExpansion}
 use Rattle.lalrpop_norm_expansion.specs.Types.{SameTypes}
 
+-- types that each of two passes keeps, both keep, where the first keeps what is in the expansion
 pub types_composed : (g h k : EnabledGrammar) (f e : Closed → Closed) →
     ((x : Closed) → InExpansion g (Nonterminal.closed x) → InExpansion h (Nonterminal.closed (f x))) →
     SameTypes g h f → SameTypes h k e → SameTypes g k (λ x. e (f x))

@@ -142,6 +142,7 @@ value_there finds g f r args level n =
     ap (λ ps. parameter_value (zip ps (closed_list (all_by_level_names f args))) n) (key_parameters f r level)
     ∙ renamed_value f r.parameters args n
 
+-- a symbol that is well or faulty is well if it is sound
 pub well_if_sound : (finds : Text → Text → Option Bool) (g : Grammar) (x : Closed) → IsWellOrFaulty (before finds g) x →
     IsWellIfSound (before finds g) x
 well_if_sound finds g x (inl e) h = let none : false ≡ true = ap is_sound (sym e) ∙ h in cc

@@ -57,6 +57,7 @@ known keys Closed.lookahead h y e = is_known keys Closed.lookahead y h e
 known keys Closed.lookbehind h y e = is_known keys Closed.lookbehind y h e
 known keys Closed.faulty h y e = absurd h
 
+-- where each nonterminal in a right side is a key, each closed symbol of that side has the rule of its key
 pub listed_keyed : (g h : EnabledGrammar) (f : Closed → Text) (keys : List Closed) → IsMacroExpansion g h f keys →
     (xs : List Closed) →
     ((y : Closed) → Among (map grammar_symbol xs) (nt y) → Among keys y) → (x : Closed) → Among xs x → HasKeyRule keys x

@@ -14,6 +14,7 @@ pub record PutsForth (bares : List Text) (f : Closed → Text) (keys : List Clos
       Q (sound_or_faulty (close t 0 v)) u
   pub unbound : (n : Text) → parameter_value t.binding n ≡ None
 
+-- and back: what the put symbol has as a type, that which it stands for has too, and no name is bound any more
 pub record PutsBack (bares : List Text) (f : Closed → Text) (keys : List Closed) (P Q : Typing) (t : Scope) : Type 0 where
   pub symbols : (x : Closed) (v : WrittenSymbol) → StandsInType bares f keys x v → (u : GroundType) →
       Q (sound_or_faulty (close t 0 v)) u → P x u

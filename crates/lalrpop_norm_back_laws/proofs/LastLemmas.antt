@@ -97,6 +97,7 @@ head_in g x i = reached_head g i.0 x i.1
 abbrev is_digit : ℕ → Bool
 is_digit c = nat_le 48 c && nat_le c 57
 
+-- whether the last character of a text is a decimal digit
 abbrev pub ends_in_digit : Text → Bool
 ends_in_digit [] = false
 ends_in_digit (c ∷ []) = is_digit c

@@ -46,6 +46,7 @@ text_of_rule : (finds : Text → Text → Option Bool) (g : Grammar) (f : Text �
 text_of_rule finds g f w r i j m e =
     ap (λ rs. text_at_level r.name j rs) (own_rule finds g f w r i) ∙ ap (λ o. text_beside r.name j o) e
 
+-- each level of a rule is called and prints as the rule, or is a tighter one that prints with its number
 pub named_level : (finds : Text → Text → Option Bool) (g : Grammar) (f : Text → ℕ → Text) → IsLevelable finds g f →
     (r : Rule) →
     Among (rules_of g.items) r → (level : Option ℕ) → HasLevel (rule_between r) level → IsNamedLevel finds g f r level

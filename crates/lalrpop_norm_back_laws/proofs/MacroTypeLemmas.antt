@@ -39,10 +39,12 @@ chosen-named f Closed.faulty = refl
 
 -- what the step of a derivation rests on, there and back
 
+-- what has a type by the one typing has it by the other under the name of its key, and its key has a rule
 pub record IsForth (h : EnabledGrammar) (f : Closed → Text) (keys : List Closed) (P Q : Typing) : Type 0 where
   pub types : (x : Closed) (t : GroundType) → P x t → Q (by_name f x) t
   pub has_rule : (x : Closed) (t : GroundType) → P x t → HasKeyRule keys x
 
+-- what has a rule for its key has no other types under the key's name, and what is no call and no literal has none
 pub record IsBack (f : Closed → Text) (keys : List Closed) (P Q : Typing) : Type 0 where
   pub types : (x : Closed) → HasKeyRule keys x → (t : GroundType) → Q (by_name f x) t → P x t
   pub untyped : (x : Closed) → IsUnkeyed x → (t : GroundType) → Q x t → ⊥
@@ -52,6 +54,7 @@ pub record IsBack (f : Closed → Text) (keys : List Closed) (P Q : Typing) : Ty
 no_names : (ps : List Text) → ps ≡ [] → (n : Text) → parameter_value (zip ps []) n ≡ None
 no_names ps e n = ap (λ qs. parameter_value (zip qs []) n) e
 
+-- read in the rule of a key, a symbol in a declared type has the types of what it stands for
 pub puts_forth : (g h : EnabledGrammar) (f : Closed → Text) (keys : List Closed) → IsMacroExpansion g h f keys → (P Q : Typing) →
     IsForth h f keys P Q → (q : EnabledRule) → has_levels q ≡ false → q.parameters ≡ [] →
     PutsForth g.bares f keys P Q (type_scope h q Closeds.none)
@@ -67,6 +70,7 @@ puts_forth g h f keys w P Q b q flat none = record {
         i.0 i.1)) (b.types x u p)
     symbol x v (inr i) u p = absurd (i.0 (b.has_rule x u p))
 
+-- and it has no other types than those
 pub puts_back : (g h : EnabledGrammar) (f : Closed → Text) (keys : List Closed) → IsMacroExpansion g h f keys → (P Q : Typing) →
     IsBack f keys P Q → (q : EnabledRule) → has_levels q ≡ false → q.parameters ≡ [] →
     PutsBack g.bares f keys P Q (type_scope h q Closeds.none)
@@ -86,6 +90,7 @@ puts_back g h f keys w P Q b q flat none = record {
 
 -- a default alternative of a key's rule
 
+-- a type of the symbols that a default alternative of a key's rule is made for is a type of the call of that rule
 pub chosen_there : (g h : EnabledGrammar) (f : Closed → Text) (keys : List Closed) → IsMacroExpansion g h f keys → (P Q : Typing) →
     IsForth h f keys P Q → (x : Closed) (q : EnabledRule) → IsRule h (f x) q → IsKeyRule g f x q → q.declared ≡ None →
     (c : Choice) → Among q.choices c → c.condition ≡ None → c.action ≡ Action.default → (xs : List Closed) →
@@ -115,6 +120,7 @@ pub data KeyStep (h : EnabledGrammar) (f : Closed → Text) (Q : Typing) (x : Cl
   chosen : (c : Choice) → Among q.choices c → q.declared ≡ None → c.action ≡ Action.default →
       HaveTupleType Q (chosen_or_all (right_side h q (bind q Closeds.none) (c, None))) t → KeyStep h f Q x q t
 
+-- a type of the call of a key's rule comes from what it declares or from a default alternative
 pub key_step : (h : EnabledGrammar) (f : Closed → Text) (Q : Typing) (x : Closed) (q : EnabledRule) → IsRule h (f x) q →
     has_levels q ≡ false → (t : GroundType) → CallStep h Q (f x) Closeds.none None t → KeyStep h f Q x q t
 key_step h f Q x q is flat t (inl m) =
@@ -131,6 +137,7 @@ key_step h f Q x q is flat t (inr (inl m)) =
     (subst (λ e. HaveTupleType Q (chosen_or_all (right_side h e (bind e Closeds.none) m.choice)) t) same m.type_is))
 key_step h f Q x q is flat t (inr (inr m)) = let e : None ≡ Some m.from = m.from_is in cc
 
+-- a type of an alternative's right side in a key's rule is one of the symbols that it is made for
 pub chosen_back : (g h : EnabledGrammar) (f : Closed → Text) (keys : List Closed) → IsMacroExpansion g h f keys → (P Q : Typing) →
     IsBack f keys P Q → (q : EnabledRule) → has_levels q ≡ false → (c : Choice) (xs : List Closed) →
     ((y : Closed) → Among xs y → HasKeyRule keys y) → AreWrittenFor g.bares f xs c.expr → (t : GroundType) →
@@ -148,6 +155,7 @@ pub record StandsForChoice (g : EnabledGrammar) (f : Closed → Text) (r : Enabl
   pub free : c.condition ≡ None
   pub put : AreWrittenFor g.bares f (right_side g r (bind r args) p) c.expr
 
+-- each alternative of a macro whose condition holds has a choice in the instance that stands for it
 pub instance_there : (g : EnabledGrammar) (f : Closed → Text) (r : EnabledRule) (args : Closeds) (ps : List (Choice × Option Rank))
     (cs : List Choice) → AreInstanceChoices g f r args ps cs → (p : Choice × Option Rank) → Among ps p →
     Holds g (bind r args) p.0.condition → (c : Choice) × Among cs c × StandsForChoice g f r args p c
@@ -164,6 +172,7 @@ instance_there g f r args (q ∷ ps) cs (inr i) p (inl e) holds =
     absurd (i.0 (subst (λ a. Holds g (bind r args) a.0.condition) (sym e) holds))
 instance_there g f r args (q ∷ ps) cs (inr i) p (inr j) holds = instance_there g f r args ps cs i.1 p j holds
 
+-- each choice of an instance stands for an alternative of the macro whose condition holds
 pub instance_only : (g : EnabledGrammar) (f : Closed → Text) (r : EnabledRule) (args : Closeds) (ps : List (Choice × Option Rank))
     (cs : List Choice) → AreInstanceChoices g f r args ps cs → (c : Choice) → Among cs c →
     (p : Choice × Option Rank) × Among ps p × StandsForChoice g f r args p c
@@ -190,6 +199,7 @@ plus_part g h f keys w x i =
     keyed g h f keys w x
     (λ y e. w.closed (Closed.repeat Op.plus x) y Origin.plus_one (grammar_symbol x ∷ []) i (inl (refl, refl)) (inl e))
 
+-- what a repeat that is a key repeats has the rule of its own key
 pub repeat_part : (g h : EnabledGrammar) (f : Closed → Text) (keys : List Closed) → IsMacroExpansion g h f keys →
     (op : Op) (x : Closed) →
     Among keys (Closed.repeat op x) → HasKeyRule keys x
@@ -201,12 +211,14 @@ repeat_part g h f keys w Op.question x i =
     keyed g h f keys w x
     (λ y e. w.closed (Closed.repeat Op.question x) y Origin.opt_some (grammar_symbol x ∷ []) i (inr (refl, refl)) (inl e))
 
+-- each symbol of a group that is a key has the rule of its own key
 pub group_parts : (g h : EnabledGrammar) (f : Closed → Text) (keys : List Closed) → IsMacroExpansion g h f keys → (xs : Closeds) →
     Among keys (Closed.group xs) → (x : Closed) → Among (closed_list xs) x → HasKeyRule keys x
 group_parts g h f keys w xs i =
     listed_keyed g h f keys w (closed_list xs) (λ y j. w.closed (Closed.group xs) y Origin.group (map grammar_symbol (closed_list xs)) i
     (refl, refl) j)
 
+-- each symbol of an alternative that fits a call that is a key has the rule of its own key
 pub call_parts : (g h : EnabledGrammar) (f : Closed → Text) (keys : List Closed) → IsMacroExpansion g h f keys →
     (n : Text) (args : Closeds) →
     Among keys (Closed.call n args None) → (r : EnabledRule) (p : Choice × Option Rank) → Fits g n args r p → p.1 ≡ None →

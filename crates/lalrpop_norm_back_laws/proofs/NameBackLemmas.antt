@@ -208,6 +208,7 @@ next_back finds g f w plain from number x i text e k (IsNextNumber.after_macro q
 
 -- the law
 
+-- names of the leveled grammar's expansion are names of that of the grammar with levels
 pub names_back : (finds : Text → Text → Option Bool) (g : Grammar) (f : Text → ℕ → Text) (prefix : Text)
     (name_of : Nonterminal → Text) → IsLevelable finds g f → TellsOwnRules g → HasNoTildes g →
     IsNaming flat_key_text prefix (after finds g f) name_of →

@@ -15,14 +15,17 @@ use Rattle.lalrpop_norm_level_laws.proofs.WellLeveledLemmas.{IsWell, IsWellOrFau
 
 -- a symbol that is well, if it is sound, is in the one expansion just where it is in the other
 
+-- the symbol is well if it is sound
 abbrev pub IsWellIfSound : EnabledGrammar → Closed → Type 0
 IsWellIfSound g x = is_sound x ≡ true → IsWell g x
 
+-- what is in the expansion is in the leveled one, under the names of the levels
 pub closed_reached : (finds : Text → Text → Option Bool) (g : Grammar) (f : Text → ℕ → Text) → IsLevelable finds g f →
     (x : Closed) → InExpansion (before finds g) (Nonterminal.closed x) →
     InExpansion (after finds g f) (Nonterminal.closed (by_level_names f x))
 closed_reached finds g f w x i = (i.0, reached_there finds g f w i.0 (Nonterminal.closed x) i.1)
 
+-- and what is well if sound is in the expansion where it is in the leveled one under those names
 pub closed_reached_from : (finds : Text → Text → Option Bool) (g : Grammar) (f : Text → ℕ → Text) → IsLevelable finds g f →
     (x : Closed) → IsWellIfSound (before finds g) x → InExpansion (after finds g f) (Nonterminal.closed (by_level_names f x)) →
     InExpansion (before finds g) (Nonterminal.closed x)

@@ -13,6 +13,7 @@ use Rattle.lalrpop_norm_expansion.specs.Types.{GroundType, GroundTypes, is_chose
 use Rattle.lalrpop_norm_expansion.specs.Types.{IsTypeOfName, IsTypeOf, AreTypesOf}
 use Rattle.lalrpop_norm_expansion.proofs.AmongLemmas.{among_left, among_right}
 
+-- which types closed symbols have, as a step of a derivation takes it
 abbrev pub Typing : Type 1
 Typing = Closed → GroundType → Type 0
 

@@ -34,6 +34,7 @@ holds_alone features (Attr.empty place id) e = ap not e
 holds_alone features (Attr.equal place id text) e = ap not e
 holds_alone features (Attr.paren place id parts) e = ap (λ (b : Bool). not b || is_true (only_one features parts)) e
 
+-- attributes that ask for no features hold under any features
 pub all_active : (features : List Text) (l : List Attr) → AreNoCfg l → is_active features l ≡ true
 all_active features [] h = refl
 all_active features (a ∷ l) h =
@@ -78,6 +79,7 @@ resolved_asks g h r i =
 
 -- and so do levels, but for those of levels and sides
 
+-- the first part of a pair of two zipped lists is one of the first list
 pub zip_front : {A B : Type 0} (xs : List A) (ys : List B) (p : A × B) → Among (zip xs ys) p → Among xs p.0
 zip_front [] ys p i = absurd i
 zip_front (x ∷ xs) [] p i = absurd i

@@ -132,6 +132,7 @@ side_symbols g (Nonterminal.closed (Closed.choose x)) o side m = absurd m
 side_symbols g (Nonterminal.closed (Closed.name a n x)) o side m = absurd m
 side_symbols g (Nonterminal.closed Closed.faulty) o side m = absurd m
 
+-- no right side that is produced has the start symbol of a rule in it
 pub no_start_inside : (g : EnabledGrammar) (x : Nonterminal) (o : Origin) (side : RightSide) (n : Text) → Produces g x o side →
     Among side (GrammarSymbol.nonterminal (Nonterminal.start n)) → ⊥
 no_start_inside g x o side n p i =

@@ -162,6 +162,7 @@ alternative_not_added h = h
 abbrev one_or_more : WrittenSymbol
 one_or_more = Sym.repeat (2, 9) Op.plus (Sym.expr (2, 8) (syms (lit "a" ∷ lit "b" ∷ [])))
 
+-- the grammar of the rule S alone: a repeat of a group of "a" and "b"
 abbrev pub grouped : Grammar
 grouped = grammar (rule_of "S" (alt (one_or_more ∷ []) ∷ []) ∷ [])
 
@@ -171,6 +172,7 @@ at_grouped = enabled_grammar finds [] grouped
 abbrev the_rule : Closed
 the_rule = Closed.call (codes "S") Closeds.none None
 
+-- the closed group of "a" and "b"
 abbrev pub the_group : Closed
 the_group =
     Closed.group (Closeds.more (Closed.terminal (Terminal.quoted (codes "a")))
@@ -229,6 +231,7 @@ abbrev nonterminals : List Nonterminal
 nonterminals =
     Nonterminal.start (codes "S") ∷ Nonterminal.closed the_rule ∷ Nonterminal.closed some_groups ∷ Nonterminal.closed the_group ∷ []
 
+-- the group is in the expansion of that grammar
 pub group_made : InExpansion at_grouped (Nonterminal.closed the_group)
 group_made = placed_made at_grouped the_group (2, 8) group_stands
 

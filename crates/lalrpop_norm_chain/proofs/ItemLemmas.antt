@@ -54,6 +54,7 @@ block_leveled f (WrittenItem.nonterminal r ∷ items) =
     rules_alone (leveled_rules f r) (flat_map (leveled_item f) items) ∙ block_leveled f items
 block_leveled f (WrittenItem.import text ∷ items) = block_leveled f items
 
+-- the groups of a grammar's match block stay, without what is disabled, with resolved names and with levels as rules
 pub block_stays : (features : List Text) (w : Grammar) (f : Text → ℕ → Text) →
     block_groups (leveled_grammar f (resolved_grammar (without_disabled features w))).items ≡ block_groups w.items
 block_stays features w f =

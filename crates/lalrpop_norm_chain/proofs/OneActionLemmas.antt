@@ -113,5 +113,6 @@ module _ (finds : Text → Text → Option Bool) (features : List Text) (w : Gra
   one_thing (Nonterminal.closed (Closed.name m n x)) o side a b p h k = absurd h
   one_thing (Nonterminal.closed Closed.faulty) o side a b p h k = absurd h
 
+-- a production of a written grammar under features does one thing: its label tells which
 pub productions_do_one : ProductionsDoOneThing
 productions_do_one finds features w x o side a b p h k = one_thing finds features w x o side a b p h k

@@ -56,6 +56,7 @@ pub record FromRead (w : Grammar) (r : Rule) : Type 0 where
   pub name_is : rule.name ≡ r.name
   pub parameters_are : rule.parameters ≡ r.parameters
 
+-- a rule of the grammar with resolved names has its name and its parameters from a read rule
 pub from_read : (features : List Text) (w : Grammar) (r : Rule) →
     Among (rules_of (resolved_grammar (without_disabled features w)).items) r → FromRead w r
 from_read features w r i =

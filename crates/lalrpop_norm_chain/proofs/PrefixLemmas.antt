@@ -43,6 +43,7 @@ abbrev pub begins_low : Text → Bool
 begins_low [] = false
 begins_low (c ∷ cs) = 95 == c
 
+-- a name that doesn't begin with so many underscores doesn't, when text is put behind that begins with no underscore
 pub free_joined : (u : ℕ) (n s : Text) → begins_low s ≡ false → has_prefix (replicate u 95) n ≡ false →
     has_prefix (replicate u 95) (n ++ s) ≡ false
 free_joined zero n s h e = e
@@ -72,6 +73,7 @@ digits_high (suc k) n acc h =
     let front : begins_low (d ∷ acc) ≡ false = digit_high (n % 10) (omega arith) in
     either_high (n / 10 == 0) (d ∷ acc) (digits_onto k 10 false (n / 10) (d ∷ acc)) front (digits_high k (n / 10) (d ∷ acc) front)
 
+-- a number in decimal digits begins with no underscore
 pub decimal_high : (n : ℕ) → begins_low (decimal n) ≡ false
 unfolding digits
 decimal_high n = digits_high 64 n [] refl
@@ -221,6 +223,7 @@ begins : (p t : Text) → has_prefix p (p ++ t) ≡ true
 begins [] t = refl
 begins (c ∷ p) t = ap (λ (b : Bool). b && has_prefix p (p ++ t)) (eq-eqb c c refl) ∙ begins p t
 
+-- a name that doesn't begin with the prefix isn't the prefix with text behind it
 pub not_begun : (p n t : Text) → has_prefix p n ≡ false → n ≡ p ++ t → ⊥
 not_begun p n t e same = true≢false (sym (ap (has_prefix p) same ∙ begins p t) ∙ e)
 
@@ -233,6 +236,7 @@ begins_from (c ∷ p) (d ∷ n) h =
     let u = begins_from p n parts.1 in
     (u.0, ap (λ l. l ∷ n) (sym (eqb-true c d parts.0)) ∙ ap (λ l. c ∷ l) u.1)
 
+-- a name that isn't the prefix with some text behind it, be it none, doesn't begin with the prefix
 pub begun_nowhere : (p n : Text) → ((t : Text) → n ≡ p ++ t → ⊥) → has_prefix p n ≡ false
 begun_nowhere p n h =
     false_from_ne_true (has_prefix p n) (λ e. let u = begins_from p n e in h u.0 u.1)

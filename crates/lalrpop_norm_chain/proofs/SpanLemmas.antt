@@ -30,6 +30,7 @@ use Rattle.lalrpop_norm_chain.proofs.ToldLemmas.{AreToldBy, leveled_told, resolv
 abbrev pub TellsPlace : Alternative → Type 0
 TellsPlace a = (n : Text) × (place : ℕ) × (a.origin ≡ Origin.alternative n [] place)
 
+-- an alternative of a rule tells its place, or passes to a tighter level and stands where the rule does
 abbrev pub IsLeveledOf : Rule → Alternative → Type 0
 IsLeveledOf r a = TellsPlace a ⊎ (a.origin ≡ Origin.pass_down) × (a.span ≡ r.span)
 

@@ -14,9 +14,11 @@ use Rattle.lalrpop_norm_checks.specs.Names.{names_in_group, names_in_item}
 
 -- a grammar's parts
 
+-- an attribute that is one word, with the place where it stands
 abbrev pub word : ℕ → String → Attr
 word p id = Attr.empty (p, p) (codes id)
 
+-- an attribute that sets a key to a text
 abbrev pub setting : ℕ → String → String → Attr
 setting p key text = Attr.equal (p, p) (codes key) (codes text)
 
@@ -24,16 +26,20 @@ abbrev pub parts_of : List Attr → Attrs
 parts_of [] = Attrs.none
 parts_of (a ∷ more) = Attrs.more a (parts_of more)
 
+-- an attribute with parts in parentheses
 abbrev pub with_parts : ℕ → String → List Attr → Attr
 with_parts p id parts = Attr.paren (p, p) (codes id) (parts_of parts)
 
+-- an alternative whose span is the same in all examples
 abbrev pub alternative : List Attr → Action → Option Condition → List WrittenSymbol → Alternative
 alternative attributes action condition symbols =
     record { span = (90, 91); expr = symbols; condition = condition; action = action; attributes = attributes; origin = Origin.start }
 
+-- an alternative of which attributes alone matter
 abbrev pub plain_alternative : List Attr → Alternative
 plain_alternative attributes = alternative attributes (Action.user (codes "()")) None []
 
+-- a rule by the place and the text of its name, and its parts
 abbrev pub rule : Bool → ℕ → String → List Attr → List Text → Option Ty → List Alternative → Rule
 rule public p n attributes parameters declared alternatives = record {
   public = public;
@@ -45,21 +51,26 @@ rule public p n attributes parameters declared alternatives = record {
   alternatives = alternatives;
 }
 
+-- a public rule of which attributes and alternatives alone matter
 abbrev pub plain_rule : List Attr → List Alternative → WrittenItem
 plain_rule attributes alternatives = WrittenItem.nonterminal (rule true 1 "S" attributes [] None alternatives)
 
+-- a quoted literal, with the place where it stands
 abbrev pub lit : ℕ → String → WrittenSymbol
 lit p s = Sym.terminal (p, p) (Terminal.quoted (codes s))
 
+-- a symbol under a name that is not mutable
 abbrev pub named : ℕ → String → WrittenSymbol → WrittenSymbol
 named p n x = Sym.name (p, p) false (codes n) x
 
+-- a symbol that is chosen, as in angle brackets
 abbrev pub chosen : ℕ → WrittenSymbol → WrittenSymbol
 chosen p x = Sym.choose (p, p) x
 
 abbrev pub group : ℕ → List WrittenSymbol → WrittenSymbol
 group p xs = Sym.expr (p, p) (syms xs)
 
+-- an action with user code, which is a unit
 abbrev pub user : Action
 user = Action.user (codes "()")
 

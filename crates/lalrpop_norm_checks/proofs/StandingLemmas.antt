@@ -17,6 +17,7 @@ pub unknown-stands : (g : Grammar) (a : Attr) (name : Text) (p : TextSpan)
 unknown-stands g a name p first id place =
     record { attribute = a; among = first-Among (unknown_attributes g.attributes g.items) a first; id = sym id; place = sym place }
 
+-- where the search for unknown attributes finds none, no fault of that kind stands in the grammar
 pub no-unknown-stands : (g : Grammar) → first_of (unknown_attributes g.attributes g.items) ≡ None
     → (name : Text) → StandsNowhere (kinds.UnknownAttribute name) g
 no-unknown-stands g none name p standing =
@@ -29,6 +30,7 @@ reserved-stands g p h =
     let found = first-reserved g.prefix (flat_map names_in_item g.items) p h in
     record { told = found.0; among = found.1.0; begins = found.1.1; place = found.1.2 }
 
+-- where the search for names with the prefix finds none, no fault of that kind stands in the grammar
 pub no-reserved-stands : (g : Grammar) → first_reserved g.prefix (flat_map names_in_item g.items) ≡ None
     → StandsNowhere kinds.ReservedPrefix g
 no-reserved-stands g h p standing =

@@ -175,6 +175,7 @@ one-any f (y ∷ ys) x (inr i) h = or-right (f y) (list_any f ys) (one-any f ys 
 abbrev pub has_closed : List Closed → Closed → Bool
 has_closed xs x = list_any (same_closed x) xs
 
+-- whether the list of nonterminals has the one that is asked for
 abbrev pub has_nonterminal : List Nonterminal → Nonterminal → Bool
 has_nonterminal xs x = list_any (same_nonterminal x) xs
 

@@ -42,6 +42,7 @@ abbrev holds_of : EnabledGrammar → Condition → Option Closed → Bool
 holds_of g c (Some (Closed.terminal (Terminal.quoted t))) = passes g c.test t c.against
 holds_of g c _ = false
 
+-- the test of a condition: true where there is none, and else what it says of the value of its parameter
 abbrev pub holds : EnabledGrammar → Binding → Option Condition → Bool
 holds g b None = true
 holds g b (Some c) = holds_of g c (parameter_value b c.parameter)
@@ -76,6 +77,7 @@ holds-true g b (Some c) h = go (parameter_value b c.parameter) h
     go (Some (Closed.terminal (Terminal.quoted t))) e = by_test c.test t e
     go _ e = cc
 
+-- where a condition holds its test is true
 pub true-holds : (g : EnabledGrammar) (b : Binding) (c : Option Condition) → Holds g b c → holds g b c ≡ true
 true-holds g b None h = refl
 true-holds g b (Some c) h = go (parameter_value b c.parameter) h
@@ -100,6 +102,7 @@ true-holds g b (Some c) h = go (parameter_value b c.parameter) h
 abbrev pub Choices : Type 0
 Choices = List (Origin × RightSide)
 
+-- the test of an alternative: it is of that level, ranked just where the rule has levels, and its condition holds
 abbrev pub fits : EnabledGrammar → EnabledRule → Closeds → Option ℕ → Choice × Option Rank → Bool
 fits g r args level p =
     same_bool (is_some p.1) (has_levels r) && (same_level (rank_level p.1) level && holds g (bind r args) p.0.condition)

@@ -37,6 +37,7 @@ use Rattle.lalrpop_norm_fault_chain.specs.MadeConditions.{IsMade, HasConditionWh
 
 -- resolving, as a change of rules
 
+-- what resolving makes of a rule: names in its declared type and its symbols are resolved, and attributes stay
 abbrev pub name_change : DefinedNames → RuleChange
 name_change d = record {
   declared = λ r. option_map (resolved_type d r.parameters) r.declared;
@@ -51,6 +52,7 @@ choices_changed d r [] = refl
 choices_changed d r (a ∷ rest) =
     ap (λ l. changed_choice (name_change d) r (choice_of (a.origin, a)) ∷ l) (choices_changed d r rest)
 
+-- a rule with resolved names is the rule with that change made to it
 pub rule_changed : (d : DefinedNames) (r : Rule) → rule_between (resolved_rule d r) ≡ changed_rule (name_change d) (rule_between r)
 rule_changed d r = ap rule_with (choices_changed d (rule_between r) r.alternatives)
   where
@@ -64,6 +66,7 @@ all_changed d (r ∷ rs) =
     ap (λ q. q ∷ map rule_between (map (resolved_rule d) rs)) (rule_changed d r)
     ∙ ap (λ l. changed_rule (name_change d) (rule_between r) ∷ l) (all_changed d rs)
 
+-- resolving keeps the attributes that say ranks
 pub ranks_stay : (d : DefinedNames) → KeepsRanks (name_change d).attributes
 ranks_stay d = record { marks = λ l. refl; level = λ l. refl; side = λ l. refl }
 

@@ -32,7 +32,8 @@ module _ (q : Rule) (t : HasTwoEquations q) where
   short_alternatives : (a : Alternative) → IsShort (equations_of_alternatives q (a ∷ []))
   short_alternatives a = go (is_default_action a.action)
     where
-      go : (b : Bool) → IsShort (map (λ (x : Alternative). record { rule = q; source = TypeSource.symbols x.expr }) (cond b (a ∷ []) []))
+      go : (b : Bool) → IsShort (map (λ (x : Alternative). record { rule = q; source = TypeSource.symbols x.expr })
+          (cond b (a ∷ []) []))
       go true = tt
       go false = tt
 

@@ -65,6 +65,7 @@ first_among : (fs : List LevelFault) (t : ToldFault) → Some t ≡ first_fault 
 first_among [] t e = cc
 first_among (f ∷ fs) t e = let same : t ≡ told_fault f = cc in inl (sym same)
 
+-- where nothing is wrong with names, a fault of levels told of the resolved grammar stands in the written one
 pub level_stands : (finds : Text → Text → Option Bool) (deep : Text → Bool) (features : List Text) (limit : ℕ) (w : Grammar)
     (error : NormError) → IsRightToNames features w → IsLevelFault (resolved_part features w) (faults.Norm error) →
     IsStandingFault finds deep features limit w error.kind (span_view error.span)
@@ -73,6 +74,7 @@ level_stands finds deep features limit w error right told =
     (first_among (level_faults (without_disabled features w)) (error_view error)
     (told ∙ ap first_fault (level_faults_stay (without_disabled features w))))
 
+-- where the checks and the names are right, and so are levels with names resolved, the grammar is right up to levels
 pub right_levels : (features : List Text) (w : Grammar) → HasNoCheckFault w → HasRightNames (without_disabled features w) →
     HasRightLevels (resolved_part features w) → IsRightToLevels features w
 right_levels features w checks names levels =

@@ -51,6 +51,7 @@ free_joined (suc k) c (d ∷ s) rest other free t e =
 pub free_front : (prefix s rest : Text) → IsFree prefix (s ++ rest) → IsFree prefix s
 free_front prefix s rest free t e = free (t ++ rest) (ap (λ l. l ++ rest) e ∙ append_assoc prefix t rest)
 
+-- a name that doesn't begin with the prefix doesn't begin with it without its tail from the tilde on either
 pub free_cut : (prefix n : Text) → IsFree prefix n → IsFree prefix (before_tilde n)
 free_cut prefix n free =
     let u = cut_front n in free_front prefix (before_tilde n) u.0 (subst (IsFree prefix) u.1 free)

@@ -18,6 +18,7 @@ use Rattle.lalrpop_norm_key_names.specs.KeyNames.{IsNameable, times_by_rules}
 use Rattle.lalrpop_norm_key_names.specs.OrderedNames.{rule_text}
 use Rattle.lalrpop_norm_key_names.proofs.DifferentLemmas.{AreBelow, each_there}
 
+-- the text of a rule's key: a macro's name as it stands, another rule's name without its tail from the tilde on
 abbrev pub text_of : EnabledRule → Text
 text_of r = rule_text r.parameters r.name
 
@@ -93,6 +94,7 @@ some_in (m ∷ ms) n i = omega arith
 
 -- of a grammar whose keys can be named
 
+-- the text of a rule with parameters is its name
 pub macro_text_is : (r : EnabledRule) → r.parameters ≢ [] → text_of r ≡ r.name
 macro_text_is r some = go r.parameters some
   where
@@ -100,6 +102,7 @@ macro_text_is r some = go r.parameters some
     go [] h = absurd (h refl)
     go (p ∷ ps) h = refl
 
+-- the text of a rule without parameters is its name without its tail from the tilde on
 pub plain_text_is : (r : EnabledRule) → r.parameters ≡ [] → text_of r ≡ before_tilde r.name
 plain_text_is r none = ap (λ ps. rule_text ps r.name) none
 

@@ -16,6 +16,7 @@ use Rattle.lalrpop_norm_key_names.specs.OrderedNames.{taken_unless}
 
 -- which keys call a rule alone
 
+-- a key that is a rule alone is the rule's call without arguments, at some level
 pub alone_call : (x : Closed) (n : Text) → rule_alone x ≡ Some n → (level : Option ℕ) × (x ≡ Closed.call n Closeds.none level)
 alone_call (Closed.call m Closeds.none level) n e =
     let same : m ≡ n = cc in (level, ap (λ t. Closed.call t Closeds.none level) same)
@@ -51,6 +52,7 @@ key_grows times x t = go (rule_alone x)
     go None = one (bytes_eq t (flat_key_text x))
     go (Some n) = omega arith
 
+-- behind keys each text is taken at least as often as before them
 pub keys_grow : (times : Times) (xs : List Closed) → IsAtMost times (taken_behind_keys times xs)
 keys_grow times [] t = omega arith
 keys_grow times (x ∷ xs) t =
@@ -63,11 +65,13 @@ abbrev pub StandsAt : Times → List Closed → Closed → Times → Type 0
 StandsAt times [] x before = ⊥
 StandsAt times (y ∷ ys) x before = (y ≡ x) × (times ≡ before) ⊎ StandsAt (taken_behind_key times y) ys x before
 
+-- a key of the list stands somewhere in it, with some count of taken texts before it
 pub key_stands : (times : Times) (xs : List Closed) (x : Closed) → Among xs x → (before : Times) × StandsAt times xs x before
 key_stands times [] x i = absurd i
 key_stands times (y ∷ ys) x (inl e) = (times, inl (e, refl))
 key_stands times (y ∷ ys) x (inr i) = let u = key_stands (taken_behind_key times y) ys x i in (u.0, inr u.1)
 
+-- what stands somewhere in the list is one of its keys
 pub stands_among : (times : Times) (xs : List Closed) (x : Closed) (before : Times) → StandsAt times xs x before → Among xs x
 stands_among times [] x before s = s
 stands_among times (y ∷ ys) x before (inl e) = inl e.0
@@ -164,6 +168,7 @@ module _ (times : Times) (y : Closed) (ys : List Closed) (x : Closed) where
 other_behind : (y x : Closed) (ys : List Closed) → (Among ys y → ⊥) → Among ys x → y ≡ x → ⊥
 other_behind y x ys once i e = once (subst (Among ys) (sym e) i)
 
+-- in a list without a key twice, a key that stands somewhere is named from the count of taken texts before it
 pub name_there : (times : Times) (xs : List Closed) (x : Closed) (before : Times) → HasEachOnce xs →
     StandsAt times xs x before → name_at times xs x ≡ key_name before x
 name_there times [] x before once s = absurd s
@@ -173,6 +178,7 @@ name_there times (y ∷ ys) x before once (inr s) =
     name_behind times y ys x (other_behind y x ys once.0 (stands_among (taken_behind_key times y) ys x before s))
     ∙ name_there (taken_behind_key times y) ys x before once.1 s
 
+-- in a list without a key twice, the number of a key is how often its text is taken before it
 pub number_there : (times : Times) (xs : List Closed) (x : Closed) (before : Times) → HasEachOnce xs →
     StandsAt times xs x before → number_at times xs x ≡ before (flat_key_text x)
 number_there times [] x before once s = absurd s

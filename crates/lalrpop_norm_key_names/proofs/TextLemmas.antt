@@ -71,6 +71,7 @@ decimal_clear n = numbered_stays [] n refl
 number_end : (t : Text) (k : ℕ) → ends_in_digit (with_number t (suc k)) ≡ true
 number_end t k = numbered_end (t ++ codes "~") (k + 2) 0
 
+-- a text with a number above zero is the text, and behind it a tilde and the digits of one number more
 pub spread : (t : Text) (k : ℕ) → with_number t (suc k) ≡ t ++ (126 ∷ decimal (k + 2))
 spread t k = append_assoc t (codes "~") (decimal (k + 2))
 

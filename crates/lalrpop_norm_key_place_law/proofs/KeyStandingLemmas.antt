@@ -16,6 +16,7 @@ use Rattle.lalrpop_norm_key_place_law.specs.MetKeys.{MetKey, all_met_at, key_of_
 use Rattle.lalrpop_norm_key_place_law.specs.KeyPlaces.{IsShapeKey}
 use Rattle.lalrpop_norm_key_place_law.proofs.MetKeyLemmas.{keys_of_op, met_are_keys}
 
+-- a repeat, a group or a lookaround is no call
 pub shape_no_call : (x : Closed) → IsShapeKey x → IsNoCall x
 shape_no_call (Closed.repeat op x) h = tt
 shape_no_call (Closed.group xs) h = tt
@@ -85,6 +86,7 @@ symbol_met s k w x shape true i = met_somewhere (keys_met w (close s k w)) x (su
 symbol_met s k w x shape false (inl e) = absurd (subst IsShapeKey (sym e) shape)
 symbol_met s k w x shape false (inr i) = absurd i
 
+-- a repeat, a group or a lookaround in what a row of symbols closes to is met somewhere in the row
 pub listed_met : (s : Scope) (k : ℕ) (ws : List WrittenSymbol) (x : Closed) → IsShapeKey x →
     Among (keys_in_all (closeds (close_list s k ws))) x →
     IsMetSomewhere (keys_met_in_row (syms ws) (closeds (close_list s k ws))) x
@@ -106,6 +108,7 @@ listed_met s k (w ∷ ws) x shape i =
 
 -- symbols of a right side
 
+-- a list that is made to closed symbols and read back is the list
 pub listed_closeds : (xs : List Closed) → closed_list (closeds xs) ≡ xs
 listed_closeds [] = refl
 listed_closeds (x ∷ xs) = ap (λ l. x ∷ l) (listed_closeds xs)

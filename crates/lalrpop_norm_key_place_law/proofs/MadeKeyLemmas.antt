@@ -18,6 +18,7 @@ use Rattle.lalrpop_norm_key_place_law.proofs.KeyStandingLemmas.{listed_closeds, 
 
 -- what has a place is made
 
+-- a key that has a place in the grammar is in its expansion
 pub placed_made : (g : EnabledGrammar) (x : Closed) (p : TextSpan) → IsKeyPlace g x p → InExpansion g (Nonterminal.closed x)
 placed_made g x p (y, made, m) =
     reach_all g (closeds side) x gives (row_met_stands (syms m.choice.0.expr) (closeds side) (x, p) m.met)
@@ -158,6 +159,7 @@ reached_held g (suc n) x shape (Nonterminal.start a, o, side, r, m, i) =
 reached_held g (suc n) x shape (Nonterminal.closed z, o, side, r, m, i) =
     of_symbol g n (λ v s q. reached_held g n v s q) x shape o side i z m r
 
+-- a repeat, a group or a lookaround of the expansion has a place in the grammar
 pub made_placed : (g : EnabledGrammar) (x : Closed) → IsShapeKey x → InExpansion g (Nonterminal.closed x) →
     (p : TextSpan) × IsKeyPlace g x p
 made_placed g x shape made =

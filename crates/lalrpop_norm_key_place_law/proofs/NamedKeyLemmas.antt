@@ -22,6 +22,7 @@ use_meets NameUse.macro_rule p n c = refl
 use_meets NameUse.mapped p n c = refl
 use_meets NameUse.nothing p n c = refl
 
+-- a key's place in the grammar with resolved names is one in the grammar before
 pub resolved_key_place : (finds : Text → Text → Option Bool) (g : Grammar) (x : Closed) (p : TextSpan) →
     IsKeyPlace (grammar_between finds (resolved_grammar g)) x p → IsKeyPlace (grammar_between finds g) x p
 resolved_key_place finds g x p h =
@@ -31,6 +32,7 @@ resolved_key_place finds g x p h =
     alone : (r : EnabledRule) → MeetsAlone (replacement finds g r)
     alone r q n c = use_meets (use_of_name (defined_names g) r.parameters n) q n c
 
+-- a key's place in the grammar without what is disabled is one in the written grammar
 pub dropped_key_place : (finds : Text → Text → Option Bool) (features : List Text) (w : Grammar) → IsReadGrammar w → (x : Closed)
     (p : TextSpan) → IsKeyPlace (grammar_between finds (without_disabled features w)) x p → IsWrittenKeyPlace finds features w x p
 dropped_key_place finds features w read x p h =

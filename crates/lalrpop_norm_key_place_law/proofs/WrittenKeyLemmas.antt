@@ -13,6 +13,7 @@ use Rattle.lalrpop_norm_key_place_law.specs.KeyPlaces.{IsKeyPlace, IsShapeKey, I
 use Rattle.lalrpop_norm_key_place_law.proofs.LeveledKeyLemmas.{leveled_key_place}
 use Rattle.lalrpop_norm_key_place_law.proofs.NamedKeyLemmas.{dropped_key_place, resolved_key_place}
 
+-- a repeat, a group or a lookaround after levels is a written key under the names of levels, at the same place
 pub key_place_written : (finds : Text → Text → Option Bool) (features : List Text) (w : Grammar) (f : Text → ℕ → Text) →
     IsReadGrammar w → IsLevelable finds (resolved_grammar (without_disabled features w)) f → (y : Closed) (p : TextSpan) →
     IsShapeKey y → IsKeyPlace (grammar_between finds (leveled_grammar f (resolved_grammar (without_disabled features w)))) y p →

@@ -9,6 +9,7 @@ use Rattle.lalrpop_norm_keys.specs.Instances.{kept_from}
 use Rattle.lalrpop_norm_key_places.specs.GrammarPlaces.{PutsMetInChoices}
 use Rattle.lalrpop_norm_key_place_law.specs.MetKeys.{MetKey}
 
+-- the keys of an alternative are met, and then those of the ones behind it: so are those of all of them
 pub met_next : (g : EnabledGrammar) (r : EnabledRule) (b : Binding) (n : Text) (k : ℕ) (o : Option program.Choice)
     (cs : List (Option program.Choice)) (old mid new : List MetKey) → PutsMetInChoices g r b (kept_from n 0 (o ∷ [])) old mid
     → PutsMetInChoices g r b (kept_from n (k + 1) cs) mid new → PutsMetInChoices g r b (kept_from n k (o ∷ cs)) old new

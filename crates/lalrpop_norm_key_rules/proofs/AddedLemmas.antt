@@ -14,6 +14,7 @@ pub ok_from : {T E : Type 0} (P Q : T → Type 0) (r : Result T E) → ((x : T) 
 ok_from P Q (Ok x) to h = to x h
 ok_from P Q (Err e) to h = h
 
+-- a private rule without parameters, with the key's type and alternatives, is the added rule of the key
 pub added_rule : (k : KeyNames) (x : Closed) (n : Text) (p : TextSpan) (declared : Option Ty) (alternatives : List Alternative) (q : Rule)
     → q ≡ record {
       public = false;

@@ -448,6 +448,7 @@ finished_of c finds w spans p ys same are all made m = λ known f named.
     (span_of_key spans p) 0 (table_keys c.names.now.keys.now) made (λ x i. i)
     (subst (λ l. AreRulesFrom (λ i x r. IsRuleOfKey c finds x (f x) (span_of_key spans p i) r) 0 l made) all (m f named))
 
+-- a fault told of a key of the table is told of a call that is made, where the grammar has right keys
 pub told_of : {T : Type 0} (c : KeyRules) (finds : Text → Text → Option Bool) (deep : Text → Bool) (w : Grammar) (ys : List Closed)
     → grammar_view c.rules.now.grammar.now ≡ w → HasWritten c.written.now (rules_of w.items)
     → ys ≡ table_keys c.names.now.keys.now

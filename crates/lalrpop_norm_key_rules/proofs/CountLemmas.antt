@@ -42,6 +42,7 @@ right_count g (Sym.lookahead p) e = tt
 right_count g (Sym.lookbehind p) e = tt
 right_count g (Sym.error p) e = tt
 
+-- a resolved grammar without error recovery is right where no call has a wrong number of arguments
 pub right_by_counts : (finds : Text → Text → Option Bool) (w : Grammar) → IsResolved (grammar_between finds w)
     → HasNoRecovery (grammar_between finds w) → arity_faults (grammar_between finds w) (rules_of w.items) ≡ []
     → IsRightGrammar (grammar_between finds w)

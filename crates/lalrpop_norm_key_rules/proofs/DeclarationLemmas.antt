@@ -152,6 +152,7 @@ put_more k g r b ys zs y z h w = λ f spelled mapped.
     types_on g.bares f _ (declaration_scope g r b) ys (y ∷ []) zs (z ∷ []) (h f spelled mapped)
     (z, Tys.none, refl, w f spelled mapped, refl)
 
+-- one more type with its parameters put in goes behind types that have theirs put in
 pub put_on : (k : KeyNames) (g : EnabledGrammar) (r : EnabledRule) (b : Binding) (ys us zs vs : List Ty) (y z : Ty)
     → us ≡ ys ++ y ∷ []
     → vs ≡ zs ++ z ∷ [] → ArePutUnder k g r b ys zs → IsPutUnder k g r b y z → ArePutUnder k g r b us vs

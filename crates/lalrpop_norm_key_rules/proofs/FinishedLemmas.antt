@@ -27,6 +27,7 @@ use Rattle.lalrpop_norm_key_rules.specs.RuleItems.{other_items}
 
 -- items
 
+-- the rules of a list of items are the new ones, where these stand behind items that are no rules
 pub rules_of_made : (items : List WrittenItem) (rs : List Rule) → rules_of (other_items items ++ map WrittenItem.nonterminal rs) ≡ rs
 rules_of_made [] [] = refl
 rules_of_made [] (r ∷ rs) = ap (λ l. r ∷ l) (rules_of_made [] rs)
@@ -36,6 +37,7 @@ rules_of_made (WrittenItem.extern_token block ∷ items) rs = rules_of_made item
 rules_of_made (WrittenItem.intern_token entries ∷ items) rs = rules_of_made items rs
 rules_of_made (WrittenItem.import text ∷ items) rs = rules_of_made items rs
 
+-- the names that match blocks map stay, when the rules are taken out and new ones put behind
 pub bares_of_made : (items : List WrittenItem) (rs : List Rule)
     → bares_of (other_items items ++ map WrittenItem.nonterminal rs) ≡ bares_of items
 bares_of_made [] [] = refl
@@ -113,6 +115,7 @@ no_levels_in (b ∷ bs) w =
 
 -- finished rules, form by form
 
+-- each alternative of a finished rule has no condition and no attributes, and symbols that are written by name
 pub finished_alternatives : (g : EnabledGrammar) (rs : List Rule)
     (f : Closed → Text) (keys : List Closed) (x : Closed) (p : TextSpan) (q : Rule)
     → IsFinishedRule g rs f keys x p q → (b : Alternative) → Among q.alternatives b → IsPlainAlternative g.bares f keys b
@@ -131,6 +134,7 @@ finished_alternatives g rs f keys (Closed.choose x) p q m b i = absurd m
 finished_alternatives g rs f keys (Closed.name a n x) p q m b i = absurd m
 finished_alternatives g rs f keys Closed.faulty p q m b i = absurd m
 
+-- a finished rule has the name for its key and no parameters, and it is made for a key
 pub finished_name : (g : EnabledGrammar) (rs : List Rule) (f : Closed → Text) (keys : List Closed) (x : Closed) (p : TextSpan) (q : Rule)
     → IsFinishedRule g rs f keys x p q → (q.name ≡ f x) × (q.parameters ≡ []) × IsKey x
 finished_name g rs f keys (Closed.call n args level) p q (written, c, m) = (m.name, m.parameters, tt)
@@ -143,6 +147,7 @@ finished_name g rs f keys (Closed.choose x) p q m = absurd m
 finished_name g rs f keys (Closed.name a n x) p q m = absurd m
 finished_name g rs f keys Closed.faulty p q m = absurd m
 
+-- a finished rule has no levels
 pub finished_levels : (g : EnabledGrammar) (rs : List Rule)
     (f : Closed → Text) (keys : List Closed) (x : Closed) (p : TextSpan) (q : Rule)
     → IsFinishedRule g rs f keys x p q → has_levels (rule_between q) ≡ false

@@ -125,6 +125,7 @@ keyed_rule bares keys Closed.lookahead u w = w Closed.lookahead (inl refl)
 keyed_rule bares keys Closed.lookbehind u w = w Closed.lookbehind (inl refl)
 keyed_rule bares keys Closed.faulty u w = absurd u
 
+-- a bare name in a symbol that can be written back is mapped
 pub usable_mapped : (bares : List Text) (x : Closed) → IsUsable bares x → IsMappedSymbol bares x
 usable_mapped bares (Closed.terminal (Terminal.quoted t)) u = tt
 usable_mapped bares (Closed.terminal (Terminal.regex t)) u = tt
@@ -139,6 +140,7 @@ usable_mapped bares Closed.lookahead u = tt
 usable_mapped bares Closed.lookbehind u = tt
 usable_mapped bares Closed.faulty u = absurd u
 
+-- symbols that can be written back, with each of their keys in the list, have a rule or are mapped terminals
 pub all_keyed : (bares : List Text) (keys xs : List Closed) → ((x : Closed) → Among xs x → IsUsable bares x)
     → ((x z : Closed) → Among xs x → Among (keys_in x) z → Among keys z) → AreKeyed bares keys xs
 all_keyed bares keys [] u w = tt

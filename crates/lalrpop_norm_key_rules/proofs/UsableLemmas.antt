@@ -50,12 +50,14 @@ sound_stays bares x h = subst (λ b. IsUsable bares (cond b x Closed.faulty)) (s
 abbrev BindsUsable : List Text → Binding → Type 0
 BindsUsable bares b = (p : Text × Closed) → Among b p → IsUsable bares p.1
 
+-- each one of a list that can be written back can be written back
 pub listed_usable : (bares : List Text) (xs : Closeds) → AreUsable bares xs → (x : Closed) → Among (closed_list xs) x
     → IsUsable bares x
 listed_usable bares Closeds.none h x i = absurd i
 listed_usable bares (Closeds.more y ys) h x (inl e) = subst (IsUsable bares) e h.0
 listed_usable bares (Closeds.more y ys) h x (inr i) = listed_usable bares ys h.1 x i
 
+-- where each of the symbols can be written back, so can each value of a binding of names to them
 pub zip_usable : (bares : List Text) (ns : List Text) (xs : List Closed) → ((x : Closed) → Among xs x → IsUsable bares x)
     → BindsUsable bares (zip ns xs)
 zip_usable bares [] xs w p i = absurd i

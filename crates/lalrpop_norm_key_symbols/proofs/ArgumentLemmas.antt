@@ -57,5 +57,6 @@ pub group_argument : (f : Text → Text) (x : Closed) (ys : List ClosedSymbol) (
 group_argument f x ys vs v p is e inside =
     ap without_marks e ∙ ap (Sym.expr tt) (arguments_inside f (closeds (map closed_view ys)) vs inside) ∙ ap (as_argument f) (sym is)
 
+-- a group of the program is seen as a group of its symbols in order
 pub seen-Group : (xs : List ClosedSymbol) → closed_view (variant.Group xs) ≡ Closed.group (closeds (map closed_view xs))
 seen-Group xs = ap closed_view (sym (variant.rolls-Group xs)) ∙ fold-roll-ClosedSymbol Closed closed_step (layer.Group xs)

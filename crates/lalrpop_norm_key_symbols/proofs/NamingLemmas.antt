@@ -67,6 +67,7 @@ key_at_place k keys i x all below is =
     ap (λ l. slice_get l i) (sym all) ∙ get_map closed_view keys i
     ∙ ap (option_map closed_view) (slice_get_read keys (length keys) i x refl below is)
 
+-- a table has a key at each place below the number of its keys
 pub key_below : (k : KeyNames) (keys : List ClosedSymbol) (i : ℕ) → map closed_view keys ≡ table_keys k.keys.now → i < length keys
     → (x : Closed) × (slice_get (table_keys k.keys.now) i ≡ Some x)
 key_below k keys i all below = go (slice_get_cases keys i).1
@@ -96,6 +97,7 @@ symbols_on k xs ys vs ws h w = λ bares f spelled keyed.
     let p = keyed_parts bares (table_keys k.keys.now) xs ys keyed in
     (keyed, written_on bares f xs ys vs ws (h bares f spelled p.0).1 (w bares f spelled p.1).1)
 
+-- symbols that are written for closed ones, with one more for one more closed one, are written for all of them
 pub symbols_put : (k : KeyNames) (xs ys : List Closed) (vs ws : List WrittenSymbol) (x : Closed) (v : WrittenSymbol)
     → ys ≡ xs ++ x ∷ []
     → ws ≡ vs ++ v ∷ [] → AreSymbolsFor k xs vs → AreSymbolsFor k (x ∷ []) (v ∷ []) → AreSymbolsFor k ys ws

@@ -12,6 +12,7 @@ use Rattle.lalrpop_grammar.specs.Views.{nonterminal_view}
 use Rattle.lalrpop_grammar.specs.declared.nonterminal.NonterminalData.{NonterminalData}
 use Rattle.lalrpop_norm_key_symbols.specs.WrittenRules.{WrittenByName, first_written, or_rule, written_at}
 
+-- an option of a rule, with nothing to fall back on, is itself
 pub or_nothing : (o : Option Rule) → or_rule o None ≡ o
 or_nothing None = refl
 or_nothing (Some r) = refl

@@ -106,10 +106,12 @@ leaf_place : (w : Symbol) (v : WrittenSymbol) (c x : Closed) (r : Option Span) �
 leaf_place w v c x r e leaf h =
     own_found (symbol_view w) c x r (λ b o k. ap (symbols_within b o k) e ∙ leaf b o k) h
 
+-- no symbol stands inside a name: it is found at its own place where what it closes to has the call, and else nowhere
 pub name_place : (w : Symbol) (n : Text) (c x : Closed) (r : Option Span) → (out-Symbol w).kind ≡ kinds.AmbiguousId n
     → HasOwnPlace (place_of_symbol (symbol_view w)) c x r → IsFoundIn (symbol_view w) c x r
 name_place w n c x r e h = leaf_place w (Sym.ambiguous_id (place_view w) n) c x r (seen_name w n e) (λ b o k. refl) h
 
+-- no symbol counts as inside a macro's call: it is found at its own place where that closes to one with the call
 pub macro_place : (w : Symbol) (m : MacroSymbol) (c x : Closed) (r : Option Span) → (out-Symbol w).kind ≡ kinds.Macro m
     → HasOwnPlace (place_of_symbol (symbol_view w)) c x r → IsFoundIn (symbol_view w) c x r
 macro_place w m c x r e h =
@@ -175,14 +177,17 @@ have_next x all left rest c e out w = (
 
 -- the same of the program's symbols
 
+-- where no closed symbols are left, the call is found nowhere
 pub closed_ended : (ws : List WrittenSymbol) (cs : List ClosedSymbol) (x : Closed) → length cs ≡ 0
     → IsFoundAmong ws (map closed_view cs) x None
 closed_ended ws [] x e = row_closed_ended ws x
 closed_ended ws (c ∷ cs) x e = let wrong : ⊥ = omega (arith, e) in absurd wrong
 
+-- where no written symbols are left, the call is found nowhere
 pub symbols_ended : (ss : List Symbol) (cs : List Closed) (x : Closed) → ss ≡ [] → IsFoundAmong (map symbol_view ss) cs x None
 symbols_ended ss cs x e = subst (λ l. IsFoundAmong (map symbol_view l) cs x None) (sym e) (row_ended cs x)
 
+-- a place that is found in the first symbol that is left is the place among all that are left
 pub first_found : (w : Symbol) (left ws : List Symbol) (c : ClosedSymbol) (others cs : List ClosedSymbol) (x : Closed) (span : Span)
     → left ≡ w ∷ ws → others ≡ c ∷ cs → Among (calls_in (closed_view c)) x
     → IsFoundIn (symbol_view w) (closed_view c) x (Some span)
@@ -192,6 +197,7 @@ first_found w left ws c others cs x span e f there h =
     (subst (λ l. IsFoundAmong (map symbol_view (w ∷ ws)) (map closed_view l) x (Some span)) (sym f)
     (row_here (symbol_view w) (map symbol_view ws) (closed_view c) (map closed_view cs) x span there h))
 
+-- where the first symbol that is left has no place, what is found in the others is found among all
 pub others_found : (w : Symbol) (left ws : List Symbol) (c : ClosedSymbol) (others cs : List ClosedSymbol) (x : Closed)
     (r : Option Span) → left ≡ w ∷ ws → others ≡ c ∷ cs → IsFoundIn (symbol_view w) (closed_view c) x None
     → IsFoundAmong (map symbol_view ws) (map closed_view cs) x r
@@ -201,11 +207,13 @@ others_found w left ws c others cs x r e f none h =
     (subst (λ l. IsFoundAmong (map symbol_view (w ∷ ws)) (map closed_view l) x r) (sym f)
     (row_next (symbol_view w) (map symbol_view ws) (closed_view c) (map closed_view cs) x r none h))
 
+-- a call in the first of the closed symbols is a call in them
 pub there_first : (c : ClosedSymbol) (others cs : List ClosedSymbol) (x : Closed) → others ≡ c ∷ cs
     → Among (calls_in (closed_view c)) x → HaveCall x others
 there_first c others cs x e i =
     subst (HaveCall x) (sym e) (among_left (calls_in (closed_view c)) (calls_in_all (closeds (map closed_view cs))) x i)
 
+-- a call in the closed symbols behind the first is a call in all of them
 pub there_later : (c : ClosedSymbol) (others cs : List ClosedSymbol) (x : Closed) → others ≡ c ∷ cs → HaveCall x cs
     → HaveCall x others
 there_later c others cs x e i =

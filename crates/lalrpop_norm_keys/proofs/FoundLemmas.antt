@@ -164,6 +164,7 @@ occurs_is_call g y x o k = go o.symbol o.call_is
     go (GrammarSymbol.nonterminal (Nonterminal.start n)) i = i
     go (GrammarSymbol.nonterminal (Nonterminal.closed z)) i = calls_are_calls z x i k
 
+-- what a chain of calls leads to is a call
 pub chain_is_call : (g : EnabledGrammar) (k : ℕ) (x : Closed) → HasCallChain g k x → IsNoCall x → ⊥
 chain_is_call g zero x c k = c
 chain_is_call g (suc zero) x (y, r, o) k = occurs_is_call g y x o k
@@ -236,6 +237,7 @@ plain_of r [] y (inl e) = (refl, sym e)
 plain_of r [] y (inr i) = absurd i
 plain_of r (p ∷ ps) y i = absurd i
 
+-- each of the plain calls of rules is the call of one of the rules that has no parameters
 pub plain_call_is : (rs : List Rule) (y : Closed) → Among (plain_calls rs) y → IsPlainCall rs y
 plain_call_is [] y i = absurd i
 plain_call_is (r ∷ rs) y i = go (among_parts (plain_call_of r r.parameters) (plain_calls rs) y i) (λ j. plain_call_is rs y j)
@@ -255,6 +257,7 @@ plain_there : (r : Rule) (ps : List Text) → ps ≡ [] → Among (plain_call_of
 plain_there r [] e = inl refl
 plain_there r (p ∷ ps) e = cc
 
+-- the call of a rule without parameters is one of the plain calls of the rules
 pub plain_call_there : (rs : List Rule) (r : Rule) → Among rs r → r.parameters ≡ []
     → Among (plain_calls rs) (Closed.call r.name Closeds.none None)
 plain_call_there [] r i e = absurd i
@@ -377,6 +380,7 @@ deep_index g ys x (Ok (found.All calls)) h = absurd h
 deep_index g ys x (Ok (found.TooDeep z span)) h = tt
 deep_index g ys x (Err f) h = h
 
+-- a call that is too deep is rightly told with its place in one of the calls, where each of these is made at the limit
 pub deep_found : (g : EnabledGrammar) (features : List Text) (w : Grammar) (limit : ℕ) (ys : List Closed) (x : Closed)
     (r : Result FoundCalls NormFault) → IfOk r (IsToldAt g ys x) → (CanSearch g features w → IsTooDeep g limit x)
     → (CanSearch g features w → (y : Closed) → Among ys y → IsMadeAt g limit y)
@@ -387,6 +391,7 @@ deep_found g features w limit ys x (Ok (found.TooDeep z span)) (same, at) deep m
     (deep can, (at.0, made can at.0 at.1, at.2 can.flat))
 deep_found g features w limit ys x (Err f) h deep made = h
 
+-- a fault that is told of one of the calls is told of a call that is made, where each of them is made
 pub deep_told : {T : Type 0} (g : EnabledGrammar) (features : List Text) (w : Grammar) (limit : ℕ) (ys : List Closed)
     (deep : Text → Bool) (r : Result T NormFault) → IfErr r (TellsOfOneCall g deep ys)
     → (CanSearch g features w → (y : Closed) → Among ys y → IsMadeAt g limit y)

@@ -148,6 +148,7 @@ binding_same r ps as_ e =
     ap (λ l. zip l (map closed_view as_)) (sym e)
     ∙ ap (λ l. zip r.parameters l) (sym (closed_list-closeds (map closed_view as_)))
 
+-- a list of closed symbols is seen with as many members as it has
 pub as_many : (as_ : List ClosedSymbol) → length (closed_list (closeds (map closed_view as_))) ≡ length as_
 as_many as_ = ap length (closed_list-closeds (map closed_view as_)) ∙ length-map as_ closed_view
 
@@ -194,6 +195,7 @@ module _ (g : EnabledGrammar) (n : Text) (args : Closeds) (r : EnabledRule) (is 
       (subst (λ d. AddsSides g r d (ranked_choices r) [] (map closed_view xs)) same h)
   keys_ok (Err e) h = h
 
+-- a fault of a condition of one of the rule's alternatives is one of the call of the rule with these arguments
 pub symbols_err : {T : Type 0} (g : EnabledGrammar) (deep : Text → Bool) (n : Text) (args : Closeds) (r : EnabledRule)
     → IsRule g n r → (b : Binding) → b ≡ bind r args → (res : Result T NormFault)
     → IfErr res (TellsOfSome g.finds deep b (ranked_choices r)) → IfErr res (TellsOfCall g deep n args)

@@ -18,12 +18,15 @@ use Rattle.lalrpop_grammar_language.specs.Closing.{occurrences_in, plain_call, p
 abbrev pub plain_choice : Choice → Choice
 plain_choice c = record c { origin = Origin.start }
 
+-- a rule without the origins of its alternatives
 abbrev pub plain_rule : EnabledRule → EnabledRule
 plain_rule r = record r { choices = map plain_choice r.choices }
 
+-- an alternative and its rank without the origin
 abbrev pub plain_pair : Choice × Option Rank → Choice × Option Rank
 plain_pair p = (plain_choice p.0, p.1)
 
+-- a grammar without origins, in which each name is spelled as it stands
 abbrev pub plain_grammar : EnabledGrammar → EnabledGrammar
 plain_grammar g = record g { rules = map plain_rule g.rules; spelled = λ n. n }
 
@@ -36,6 +39,7 @@ any_plain : (cs : List Choice) → list_any says_level (map plain_choice cs) ≡
 any_plain [] = refl
 any_plain (c ∷ cs) = ap (λ (b : Bool). says_level c || b) (any_plain cs)
 
+-- a rule without origins has levels exactly where it has them with origins
 pub levels_plain : (r : EnabledRule) → has_levels (plain_rule r) ≡ has_levels r
 levels_plain r = any_plain r.choices
 
@@ -52,6 +56,7 @@ unranked_plain : (cs : List Choice) → map without_rank (map plain_choice cs) �
 unranked_plain [] = refl
 unranked_plain (c ∷ cs) = ap (λ l. without_rank (plain_choice c) ∷ l) (unranked_plain cs)
 
+-- the ranks of alternatives stay the same without their origins
 pub ranked_plain : (r : EnabledRule) → ranked_choices (plain_rule r) ≡ map plain_pair (ranked_choices r)
 ranked_plain r = ap left (levels_plain r) ∙ go (has_levels r)
   where
@@ -69,15 +74,18 @@ parts_plain : (ps : List (Choice × Option Rank)) → filter_map level_part (map
 parts_plain [] = refl
 parts_plain (p ∷ ps) = ap (λ l. cons_option (level_part p) l) (parts_plain ps)
 
+-- the levels that are present in a rule stay the same without origins
 pub same_levels : (r : EnabledRule) → levels (plain_rule r) ≡ levels r
 same_levels r = ap (filter_map level_part) (ranked_plain r) ∙ parts_plain (ranked_choices r)
 
 loosest_plain : (r : EnabledRule) → loosest (plain_rule r) ≡ loosest r
 loosest_plain r = ap greatest (same_levels r)
 
+-- the next tighter level stays the same without origins
 pub tighter_plain : (r : EnabledRule) (j : ℕ) → tighter (plain_rule r) j ≡ tighter r j
 tighter_plain r j = ap (λ (ns : List ℕ). greatest (filter (λ (n : ℕ). nat_lt n j) ns)) (same_levels r)
 
+-- the greatest level that an occurrence may have stays the same without origins
 pub allowed_plain : (r : EnabledRule) (rank : Option Rank) (n i : ℕ)
     → allowed_level (plain_rule r) rank n i ≡ allowed_level r rank n i
 allowed_plain r None n i = loosest_plain r
@@ -102,9 +110,11 @@ named_among n (r ∷ rs) = go (has_name n r) (named_among n rs)
     go true e = ap (λ l. plain_rule r ∷ l) e
     go false e = e
 
+-- the rules of a name stay the same, but for origins
 pub named_plain : (g : EnabledGrammar) (n : Text) → rules_named (plain_grammar g) n ≡ map plain_rule (rules_named g n)
 named_plain g n = named_among n g.rules
 
+-- the one rule of a name is still the one of that name without origins
 pub rule_plain : (g : EnabledGrammar) (n : Text) (r : EnabledRule) → IsRule g n r → IsRule (plain_grammar g) n (plain_rule r)
 rule_plain g n r e = named_plain g n ∙ ap (map plain_rule) e
 
@@ -113,6 +123,7 @@ only_of_map f [] y e = cc
 only_of_map f (x ∷ []) y e = (x, refl, cc)
 only_of_map f (x ∷ z ∷ xs) y e = cc
 
+-- the one rule of a name of a grammar without origins comes from the one of the grammar with them
 pub plain_was : (g : EnabledGrammar) (n : Text) (q : EnabledRule) → IsRule (plain_grammar g) n q
     → (r : EnabledRule) × IsRule g n r × (plain_rule r ≡ q)
 plain_was g n q e = only_of_map plain_rule (rules_named g n) q (sym (named_plain g n) ∙ e)

@@ -148,6 +148,7 @@ pass_down_was g n args level o side b =
       }),
     )
 
+-- what a closed nonterminal produces, it produces in the grammar without origins, maybe by another origin
 pub produces_plain : (g : EnabledGrammar) (y : Closed) (o : Origin) (side : RightSide) → Produces g (Nonterminal.closed y) o side
     → ProducesSome (plain_grammar g) y side
 produces_plain g (Closed.call n args level) o side (inl b) = alternative_plain g n args level o side b
@@ -163,6 +164,7 @@ produces_plain g (Closed.choose x) o side m = absurd m
 produces_plain g (Closed.name mutable n x) o side m = absurd m
 produces_plain g Closed.faulty o side m = absurd m
 
+-- what a closed nonterminal produces without origins, it produces with them, maybe by another origin
 pub produces_was : (g : EnabledGrammar) (y : Closed) (o : Origin) (side : RightSide)
     → Produces (plain_grammar g) (Nonterminal.closed y) o side → ProducesSome g y side
 produces_was g (Closed.call n args level) o side (inl b) = alternative_was g n args level o side b
@@ -224,6 +226,7 @@ module _ (g h : EnabledGrammar) (alike : plain_grammar g ≡ plain_grammar h) wh
   pub root_alike : (y : Closed) → IsRoot g (Nonterminal.closed y) → IsRoot h (Nonterminal.closed y)
   root_alike y r = root_was h y (subst (λ k. IsRoot k (Nonterminal.closed y)) alike (root_plain g y r))
 
+-- a chain of calls is one in each grammar that is the same but for origins and for how names are spelled
 pub chain_alike : (g h : EnabledGrammar) → plain_grammar g ≡ plain_grammar h → (k : ℕ) (x : Closed) → HasCallChain g k x
     → HasCallChain h k x
 chain_alike g h e zero x c = c
@@ -245,6 +248,7 @@ calls_alike g h e depth walked next a = record {
     holder y (inl r) = inl (root_alike h g (sym e) y r)
     holder y (inr i) = inr i
 
+-- a call that is too deep is so in each grammar that is the same but for origins and for how names are spelled
 pub too_deep_alike : (g h : EnabledGrammar) → plain_grammar g ≡ plain_grammar h → (limit : ℕ) (x : Closed) → IsTooDeep g limit x
     → IsTooDeep h limit x
 too_deep_alike g h e limit x t = record {

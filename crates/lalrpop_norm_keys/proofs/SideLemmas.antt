@@ -57,6 +57,7 @@ tight_first ls n k (Some c) cs h d (inl e) =
     sym (ap (λ (x : ChoiceDetail). x.1.1) e) ∙ h (choice_view n k c) (inl refl) ∙ ap (λ (x : ChoiceDetail). tighter_in ls x.1.0) e
 tight_first ls n k (Some c) cs h d (inr i) = absurd i
 
+-- where all alternatives have the next tighter one of these levels, those behind the first have it
 pub tight_others : (ls : List ℕ) (n : Text) (k : ℕ) (o : Option program.Choice) (cs : List (Option program.Choice))
     → AreTight ls (choices_view n k (o ∷ cs)) → AreTight ls (choices_view n (k + 1) cs)
 tight_others ls n k None cs h = h

@@ -75,6 +75,7 @@ call_among (y ∷ xs) x c (inl e) j =
     among_left (calls_in y) (calls_in_all (closeds xs)) c (subst (λ z. Among (calls_in z) c) (sym e) j)
 call_among (y ∷ xs) x c (inr i) j = among_right (calls_in y) (calls_in_all (closeds xs)) c (call_among xs x c i j)
 
+-- a key of one of the symbols is a key of all of them together
 pub key_among : (xs : List Closed) (x c : Closed) → Among xs x → Among (keys_in x) c → Among (keys_in_all (closeds xs)) c
 key_among [] x c i j = absurd i
 key_among (y ∷ xs) x c (inl e) j =
@@ -93,6 +94,7 @@ among_call (y ∷ xs) c i = go (among_parts (calls_in y) (calls_in_all (closeds 
     go (inl j) later = (y, inl refl, j)
     go (inr j) later = let w = later j in (w.0, inr w.1, w.2)
 
+-- a key of several symbols is a key of one of them
 pub among_key : (xs : List Closed) (c : Closed) → Among (keys_in_all (closeds xs)) c → (x : Closed) × Among xs x × Among (keys_in x) c
 among_key [] c i = absurd i
 among_key (y ∷ xs) c i = go (among_parts (keys_in y) (keys_in_all (closeds xs)) c i) (λ j. among_key xs c j)

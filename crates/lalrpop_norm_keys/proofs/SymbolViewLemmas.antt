@@ -27,6 +27,7 @@ macro_view =
     folds.fold-MacroSymbol (TextSpan → WrittenSymbol) (Syms TextSpan) (Text × Syms TextSpan) (Op × WrittenSymbol) WrittenSymbol
     kind_step expr_step macro_step repeat_step symbol_step
 
+-- the place of a symbol of the program, as definitions see it
 abbrev pub place_view : Symbol → TextSpan
 place_view w = span_view (out-Symbol w).span
 
@@ -37,6 +38,7 @@ of_kind w k e =
     kind_step expr_step macro_step repeat_step symbol_step (out-Symbol w)
     ∙ ap (λ l. kind_view l (place_view w)) e
 
+-- a name of the program is seen as a name at its place
 pub seen_name : (w : Symbol) (n : Text) → (out-Symbol w).kind ≡ kinds.AmbiguousId n
     → symbol_view w ≡ Sym.ambiguous_id (place_view w) n
 seen_name w n e =
@@ -46,6 +48,7 @@ seen_name w n e =
     (fold-roll-SymbolKind (TextSpan → WrittenSymbol) (Syms TextSpan) (Text × Syms TextSpan) (Op × WrittenSymbol) WrittenSymbol
     kind_step expr_step macro_step repeat_step symbol_step (layer.AmbiguousId n))
 
+-- a macro's call of the program is seen as a macro's call at its place, with some arguments
 pub seen_macro : (w : Symbol) (m : MacroSymbol) → (out-Symbol w).kind ≡ kinds.Macro m
     → (n : Text) × (args : Syms TextSpan) × (symbol_view w ≡ Sym.macro (place_view w) n args)
 seen_macro w m e = (
@@ -58,6 +61,7 @@ seen_macro w m e = (
       kind_step expr_step macro_step repeat_step symbol_step (layer.Macro m)),
 )
 
+-- a group of the program is seen as a group at its place, of the program's symbols in order
 pub seen_group : (w : Symbol) (g : ExprSymbol) → (out-Symbol w).kind ≡ kinds.Expr g
     → symbol_view w ≡ Sym.expr (place_view w) (syms (map symbol_view (out-ExprSymbol g).symbols))
 seen_group w g e =

@@ -29,6 +29,7 @@ levels_said r = said_by_choices r.alternatives
 
 -- the ranks of alternatives
 
+-- the ranks of the alternatives in order, each found with the rank of the one before it, from a last rank on
 abbrev pub ranks_after : Option Rank → List Alternative → List (Option Rank)
 ranks_after last [] = []
 ranks_after last (a ∷ alts) = next_rank_of last a ∷ ranks_after (next_rank_of last a) alts

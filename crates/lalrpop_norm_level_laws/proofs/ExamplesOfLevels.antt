@@ -20,9 +20,11 @@ in_rule n place a = record a { origin = Origin.alternative n [] place }
 abbrev pub at : String → ℕ → Alternative → Alternative
 at n place a = in_rule (codes n) place a
 
+-- a name that is resolved to a rule
 abbrev pub nonterminal : String → WrittenSymbol
 nonterminal n = Sym.nonterminal here (codes n)
 
+-- a rule without attributes and without a declared type, at the one place of the examples
 abbrev pub written_rule : Bool → String → List String → List Alternative → Rule
 written_rule public n parameters alternatives = record {
   public = public;
@@ -34,6 +36,7 @@ written_rule public n parameters alternatives = record {
   alternatives = alternatives;
 }
 
+-- a rule of that kind as an item of a grammar
 abbrev pub item : Bool → String → List String → List Alternative → WrittenItem
 item public n parameters alternatives = WrittenItem.nonterminal (written_rule public n parameters alternatives)
 
@@ -65,6 +68,7 @@ five_levels = grammar (item true "E" [] (at "E" 0 (with (level "1" ∷ []) (lit 
     ∷ at "E" 3 (with (level "4" ∷ side "none" ∷ []) (nonterminal "E" ∷ lit "<" ∷ nonterminal "E" ∷ []))
     ∷ at "E" 4 (with (level "5" ∷ side "all" ∷ []) (nonterminal "E" ∷ lit "," ∷ nonterminal "E" ∷ [])) ∷ []) ∷ [])
 
+-- the names of those levels: each has its number behind it, and the loosest, 5, keeps the name of the rule
 abbrev pub five_names : Text → ℕ → Text
 five_names = names (("E", 1, "E1") ∷ ("E", 2, "E2") ∷ ("E", 3, "E3") ∷ ("E", 4, "E4") ∷ [])
 

@@ -59,11 +59,13 @@ pub key_parameters : (f : Text → ℕ → Text) (r : Rule) (level : Option ℕ)
 key_parameters f r None = refl
 key_parameters f r (Some j) = refl
 
+-- the rule of a level is inlined just where the written rule is
 pub key_inlined : (f : Text → ℕ → Text) (r : Rule) (level : Option ℕ) →
     (rule_between (rule_of_key f r level)).inlined ≡ (rule_between r).inlined
 key_inlined f r None = refl
 key_inlined f r (Some j) = refl
 
+-- the rule of a level declares the type that the written rule declares
 pub key_declared : (f : Text → ℕ → Text) (r : Rule) (level : Option ℕ) →
     (rule_between (rule_of_key f r level)).declared ≡ (rule_between r).declared
 key_declared f r None = refl

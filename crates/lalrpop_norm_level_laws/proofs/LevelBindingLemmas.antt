@@ -72,6 +72,7 @@ bound_names ps cs e n = some_value n (zip ps cs) ∙ any_pair n ps cs e
 pub hide_alike : (ps : List Text) (cs : List Closed) → length cs ≡ length ps → HideAlike (zip ps cs) (parameters_alone ps)
 hide_alike ps cs e n = some_value n (parameters_alone ps) ∙ any_alone n ps ∙ sym (bound_names ps cs e n)
 
+-- where there are as many values as parameters each parameter has one
 pub parameter_bound : (ps : List Text) (cs : List Closed) → length cs ≡ length ps → (n : Text) → has_text n ps ≡ true →
     (c : Closed) × (parameter_value (zip ps cs) n ≡ Some c)
 parameter_bound ps cs e n h = go (parameter_value (zip ps cs) n) (bound_names ps cs e n ∙ h)
@@ -80,6 +81,7 @@ parameter_bound ps cs e n h = go (parameter_value (zip ps cs) n) (bound_names ps
     go None i = absurd (true≢false (sym i))
     go (Some c) i = (c, refl)
 
+-- where there are as many values as parameters no other name has one
 pub other_free : (ps : List Text) (cs : List Closed) → length cs ≡ length ps → (n : Text) → has_text n ps ≡ false →
     parameter_value (zip ps cs) n ≡ None
 other_free ps cs e n h = go (parameter_value (zip ps cs) n) (bound_names ps cs e n ∙ h)

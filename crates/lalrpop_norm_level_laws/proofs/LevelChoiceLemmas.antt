@@ -87,6 +87,7 @@ pub rank_is : (j : ℕ) (rank : Option Rank) → has_rank_level j rank ≡ true 
 rank_is j None e = cc
 rank_is j (Some k) e = (k, refl, eqb-true k.level j e)
 
+-- a rank with that level passes the test of the level
 pub is_rank : (j : ℕ) (k : Rank) → k.level ≡ j → has_rank_level j (Some k) ≡ true
 is_rank j k e = eq-eqb k.level j e
 

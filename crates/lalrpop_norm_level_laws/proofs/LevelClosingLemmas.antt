@@ -37,14 +37,17 @@ use Rattle.lalrpop_norm_level_laws.proofs.LevelBindingLemmas.{value_of_parameter
 
 -- the scopes of an alternative before and after
 
+-- the scope of an alternative of a written rule, called with these arguments
 abbrev pub scope_before : (Text → Text → Option Bool) → Grammar → Rule → Closeds → Choice → Option Rank → Scope
 scope_before finds g r args c rank = scope_of (before finds g) (rule_between r) (bind (rule_between r) args) c rank
 
+-- the scope of an alternative in the leveled grammar, with the arguments under the names of the levels
 abbrev pub scope_after : (Text → Text → Option Bool) → Grammar → (Text → ℕ → Text) → EnabledRule → Closeds →
     Choice → Scope
 scope_after finds g f q args c =
     scope_of (after finds g f) q (bind q (all_by_level_names f args)) c None
 
+-- for a rule with the written one's parameters and without levels, the second scope is that of the first by levels' names
 pub leveled_scope : (finds : Text → Text → Option Bool) (g : Grammar) (f : Text → ℕ → Text) → IsLevelable finds g f →
     (r : Rule)
     (args : Closeds) (c : Choice) (rank : Option Rank) → (q : EnabledRule) → q.parameters ≡ r.parameters →
@@ -61,6 +64,7 @@ leveled_scope finds g f w r args c rank q e flat d names = record {
   no_levels = λ k. no_loosest q flat;
 }
 
+-- with as many arguments as parameters these are bound before, and no other name is bound before or after
 pub binds : (finds : Text → Text → Option Bool) (g : Grammar) (f : Text → ℕ → Text) (r : Rule) (args : Closeds) (c : Choice)
     (rank : Option Rank) (q : EnabledRule) → q.parameters ≡ r.parameters → length (closed_list args) ≡ length r.parameters →
     (d : Choice) →

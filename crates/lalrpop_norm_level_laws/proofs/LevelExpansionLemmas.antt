@@ -41,6 +41,7 @@ abbrev IsWellNonterminal : EnabledGrammar → Nonterminal → Type 0
 IsWellNonterminal g (Nonterminal.start n) = Unit {0}
 IsWellNonterminal g (Nonterminal.closed x) = IsWellOrFaulty g x
 
+-- in the scope of an alternative each call has a level that is there, and arguments that are sound are well
 pub well_scope : (finds : Text → Text → Option Bool) (g : Grammar) (f : Text → ℕ → Text) → IsLevelable finds g f →
     (r : Rule) →
     Among (rules_of g.items) r → (args : Closeds) → AreWell (before finds g) args → (c : Choice) (rank : Option Rank) →
@@ -77,6 +78,7 @@ call_of finds g n args level w =
       u.3,
     )
 
+-- a call of a written rule with well arguments, as many as it has parameters, at a level of the rule, is well
 pub well_call : (finds : Text → Text → Option Bool) (g : Grammar) (f : Text → ℕ → Text) → IsLevelable finds g f →
     (r : Rule) (args : Closeds)
     (level : Option ℕ) → IsCallOf finds g r args level → IsWell (before finds g) (Closed.call r.name args level)
@@ -212,6 +214,7 @@ reached_well finds g f w (suc n) (Nonterminal.closed x) (Nonterminal.closed y, o
     go (inl e) = absurd (faulty_produces (before finds g) y o side e k)
     go (inr h) = produced_well finds g f w y h o side k x i
 
+-- each closed symbol in the expansion is well, or faulty
 pub well_in : (finds : Text → Text → Option Bool) (g : Grammar) (f : Text → ℕ → Text) → IsLevelable finds g f →
     (x : Nonterminal) →
     InExpansion (before finds g) x → IsWellNonterminal (before finds g) x
@@ -345,6 +348,7 @@ closed_back finds g f w Closed.faulty h o side m = absurd m
 
 -- both, of nonterminals that are well
 
+-- each production of a well nonterminal is one in the leveled grammar, under the names of the levels
 pub forth : (finds : Text → Text → Option Bool) (g : Grammar) (f : Text → ℕ → Text) → IsLevelable finds g f →
     (x : Nonterminal) → IsWellNonterminal (before finds g) x → (o : Origin) (side : RightSide) →
     Produces (before finds g) x o side →
@@ -353,6 +357,7 @@ forth finds g f w (Nonterminal.start n) h o side m = start_forth finds g f w n o
 forth finds g f w (Nonterminal.closed x) (inl e) o side m = absurd (faulty_produces (before finds g) x o side e m)
 forth finds g f w (Nonterminal.closed x) (inr h) o side m = closed_forth finds g f w x h o side m
 
+-- each production of a well nonterminal in the leveled grammar comes from one of the grammar with levels
 pub back : (finds : Text → Text → Option Bool) (g : Grammar) (f : Text → ℕ → Text) → IsLevelable finds g f →
     (x : Nonterminal) → IsWellNonterminal (before finds g) x → (o : Origin) (side : RightSide) →
     Produces (after finds g f) (nonterminal_by_level f x) o side → MadeFrom finds g f x o side
@@ -367,6 +372,7 @@ by_start : (g : EnabledGrammar) (n : Text) (o : Origin) (side : RightSide) → P
     Produces g (Nonterminal.start n) Origin.start side
 by_start g n o side m = (m.0, m.1, m.2, m.3, refl, m.5)
 
+-- each root is one in the leveled grammar, under the names of the levels
 pub root_forth : (finds : Text → Text → Option Bool) (g : Grammar) (f : Text → ℕ → Text) → IsLevelable finds g f →
     (x : Nonterminal) →
     IsRoot (before finds g) x → IsRoot (after finds g f) (nonterminal_by_level f x)
@@ -391,6 +397,7 @@ root_forth finds g f w x (inr b) =
           ∙ ap (λ t. Nonterminal.closed (Closed.call t Closeds.none None)) (sym name_is),
     )
 
+-- the nonterminal is that of one in the expansion of the grammar with levels, under the names of the levels
 abbrev pub From : (Text → Text → Option Bool) → Grammar → (Text → ℕ → Text) → Nonterminal → Type 0
 From finds g f y = (x : Nonterminal) × InExpansion (before finds g) x × (y ≡ nonterminal_by_level f x)
 
@@ -398,6 +405,7 @@ no_level_there : (r : EnabledRule) (level : Option ℕ) → has_levels r ≡ fal
 no_level_there r None e h = refl
 no_level_there r (Some l) e h = absurd (subst (λ ls. Among ls l) (no_levels r e) h)
 
+-- each root of the leveled grammar is that of one of the grammar with levels, under the names of the levels
 pub root_back : (finds : Text → Text → Option Bool) (g : Grammar) (f : Text → ℕ → Text) → IsLevelable finds g f →
     (y : Nonterminal) →
     IsRoot (after finds g f) y → (x : Nonterminal) × IsRoot (before finds g) x × (y ≡ nonterminal_by_level f x)
@@ -525,6 +533,7 @@ inlined_alike finds g f w Closed.lookahead h = (λ a. a, λ a. a)
 inlined_alike finds g f w Closed.lookbehind h = (λ a. a, λ a. a)
 inlined_alike finds g f w Closed.faulty h = absurd h
 
+-- a nonterminal in the expansion is inlined just where it is in the leveled grammar, under the names of the levels
 pub levels_inline_alike : (finds : Text → Text → Option Bool) (g : Grammar) (f : Text → ℕ → Text) → IsLevelable finds g f →
     SameInlined (before finds g) (after finds g f) (nonterminal_by_level f)
 levels_inline_alike finds g f w (Nonterminal.start n) i = (λ a. a, λ a. a)

@@ -97,6 +97,7 @@ pub record IsCallOf (finds : Text → Text → Option Bool) (g : Grammar) (r : R
   pub well : AreWell (before finds g) args
   pub has_level : HasLevel (rule_between r) level
 
+-- in a rule without levels each alternative stands without a rank
 pub flat_written : (q : EnabledRule) → has_levels q ≡ false → (c : Choice) → Among q.choices c →
     Among (ranked_choices q) (c, None)
 flat_written q flat c i = subst (λ ps. Among ps (c, None)) (sym (ranked_flat q flat)) (map_among (λ d. (d, None)) q.choices c i)
@@ -109,6 +110,7 @@ level_rule f r level = rule_between (rule_of_key f r level)
 abbrev pub side_here : (Text → Text → Option Bool) → Grammar → Rule → Closeds → Choice × Option Rank → List Closed
 side_here finds g r args p = right_side (before finds g) (rule_between r) (bind (rule_between r) args) p
 
+-- the right side of a choice of the level's rule, with the arguments under the names of the levels
 abbrev pub side_there : (Text → Text → Option Bool) → Grammar → (Text → ℕ → Text) → Rule → Closeds → Option ℕ →
     Choice → List Closed
 side_there finds g f r args level c =
@@ -165,6 +167,7 @@ pub data StandsFor (finds : Text → Text → Option Bool) (g : Grammar) (f : Te
       ≡ Closed.call (f r.name to) (all_by_level_names f args) None ∷ [] →
       StandsFor finds g f r args level c
 
+-- each choice of a level's rule stands for an alternative of the level or for the pass to the next tighter one
 pub choice_back : (finds : Text → Text → Option Bool) (g : Grammar) (f : Text → ℕ → Text) → IsLevelable finds g f →
     (r : Rule) (args : Closeds) (level : Option ℕ) → IsCallOf finds g r args level → (c : Choice) →
     Among (level_rule f r level).choices c → StandsFor finds g f r args level c
@@ -208,6 +211,7 @@ pass_forth finds g f w r args from to call t = (
 
 -- choices that fit
 
+-- a choice of the level's rule whose condition holds fits the call of that rule
 pub fits_there : (finds : Text → Text → Option Bool) (g : Grammar) (f : Text → ℕ → Text) → IsLevelable finds g f →
     (r : Rule) (args : Closeds) (level : Option ℕ) → IsCallOf finds g r args level → (c : Choice) →
     Among (level_rule f r level).choices c →
@@ -223,6 +227,7 @@ fits_there finds g f w r args level call c i holds =
       holds = holds;
     }
 
+-- where the condition of an alternative holds, so does that of the choice that does what it does
 pub holds_there : (finds : Text → Text → Option Bool) (g : Grammar) (f : Text → ℕ → Text) (r : Rule) (args : Closeds)
     (level : Option ℕ) (p : Choice × Option Rank) (c : Choice) → StandsThere finds g f r args level p c →
     Holds (before finds g) (bind (rule_between r) args) p.0.condition →
@@ -231,6 +236,7 @@ holds_there finds g f r args level p c s holds =
     subst (λ x. Holds (after finds g f) (bind (level_rule f r level) (all_by_level_names f args)) x) (sym s.condition)
     (holds_after finds g f (rule_between r) (level_rule f r level) (key_parameters f r level) args p.0.condition holds)
 
+-- an alternative fits the call where the condition of the choice that does what it does holds
 pub fits_here : (finds : Text → Text → Option Bool) (g : Grammar) (f : Text → ℕ → Text) → IsLevelable finds g f →
     (r : Rule) (args : Closeds) (level : Option ℕ) → IsCallOf finds g r args level → (p : Choice × Option Rank) (c : Choice) →
     Among (ranked_choices (rule_between r)) p → is_some p.1 ≡ has_levels (rule_between r) →

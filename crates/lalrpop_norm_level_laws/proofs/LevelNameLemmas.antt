@@ -29,6 +29,7 @@ use Rattle.lalrpop_norm_level_laws.proofs.RenameLemmas.{NamesAreThere}
 abbrev pub before : (Text → Text → Option Bool) → Grammar → EnabledGrammar
 before finds g = grammar_between finds g
 
+-- the grammar after: each level has a rule of its own
 abbrev pub after : (Text → Text → Option Bool) → Grammar → (Text → ℕ → Text) → EnabledGrammar
 after finds g f = grammar_between finds (leveled_grammar f g)
 
@@ -59,6 +60,7 @@ loosest_there finds g f w n m i =
     let u = written_rule finds g n m i in
     subst (λ e. HasLevel e (loosest e)) u.2 (has_loosest g w.right u.0 u.1)
 
+-- the loosest level of each rule has the name of the rule
 pub loosest_name : (finds : Text → Text → Option Bool) (g : Grammar) (f : Text → ℕ → Text) → IsLevelable finds g f →
     (n : Text) (m : EnabledRule) → IsRule (before finds g) n m → level_name f n (loosest m) ≡ n
 loosest_name finds g f w n m i =

@@ -25,6 +25,7 @@ use Rattle.lalrpop_norm_level_laws.proofs.LevelSpellingLemmas.{argument_list_ali
 use Rattle.lalrpop_norm_level_laws.proofs.LevelFitLemmas.{IsCallOf, level_rule, side_here, side_there, choice_forth, StandsFor}
 use Rattle.lalrpop_norm_level_laws.proofs.LevelFitLemmas.{choice_back, pass_forth, fits_there, holds_there, fits_here}
 
+-- the nonterminal of a closed symbol, as a symbol of a right side
 abbrev pub nt : Closed → GrammarSymbol Nonterminal
 nt x = GrammarSymbol.nonterminal (Nonterminal.closed x)
 
@@ -37,6 +38,7 @@ terminal-kept f (Terminal.regex t) = refl
 terminal-kept f (Terminal.bare t) = refl
 terminal-kept f Terminal.error = refl
 
+-- a closed symbol under the names of the levels becomes the renamed symbol of the right side
 pub symbol-by_level : (f : Text → ℕ → Text) (x : Closed) →
     grammar_symbol (by_level_names f x) ≡ rename_symbol (nonterminal_by_level f) (grammar_symbol x)
 symbol-by_level f (Closed.terminal t) = terminal-kept f t
@@ -49,6 +51,7 @@ symbol-by_level f Closed.lookahead = refl
 symbol-by_level f Closed.lookbehind = refl
 symbol-by_level f Closed.faulty = refl
 
+-- closed symbols under the names of the levels become the renamed right side
 pub side-by_level : (f : Text → ℕ → Text) (xs : List Closed) →
     map grammar_symbol (map (by_level_names f) xs) ≡ rename_side (nonterminal_by_level f) (map grammar_symbol xs)
 side-by_level f [] = refl
@@ -72,6 +75,7 @@ arguments_there finds g f args = origin_with (argument_list (after finds g f).sp
 abbrev arguments_here : (Text → Text → Option Bool) → Grammar → Closeds → Origin → Origin
 arguments_here finds g args = origin_with (argument_list (before finds g).spelled args)
 
+-- each production of such a call is one in the leveled grammar, under the names of the levels
 pub call_forth : (finds : Text → Text → Option Bool) (g : Grammar) (f : Text → ℕ → Text) → IsLevelable finds g f →
     (r : Rule) (args : Closeds) (level : Option ℕ) → IsCallOf finds g r args level → (o : Origin) (side : RightSide) →
     Produces (before finds g) (Nonterminal.closed (Closed.call r.name args level)) o side →
@@ -121,6 +125,7 @@ call_forth finds g f w r args level call o side (inr m) =
 
 -- and back
 
+-- there is a production before with that right side but for names, and its origin where alternatives tell their rule
 abbrev pub MadeFrom : (Text → Text → Option Bool) → Grammar → (Text → ℕ → Text) → Nonterminal → Origin → RightSide →
     Type 0
 MadeFrom finds g f x o side =
@@ -165,6 +170,7 @@ choice_made finds g f w r args level call c o side told e holds (StandsFor.pass_
   λ tells. sym (told ∙ ap (arguments_there finds g f args) passes),
 )
 
+-- each alternative of the call in the leveled grammar comes from a production of the call at its level
 pub call_back : (finds : Text → Text → Option Bool) (g : Grammar) (f : Text → ℕ → Text) → IsLevelable finds g f →
     (r : Rule) (args : Closeds) (level : Option ℕ) → IsCallOf finds g r args level → (o : Origin) (side : RightSide) →
     ByAlternative (after finds g f) (level_name f r.name level) (all_by_level_names f args) None o side →

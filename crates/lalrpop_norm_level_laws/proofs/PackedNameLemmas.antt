@@ -132,6 +132,7 @@ packed_after h f taken (l ∷ ks) w used each k (inr i) =
     packed_after h f (numbered_text l.0 l.1 ∷ taken) ks w.1 (used_more h taken (numbered_text l.0 l.1) used one)
     (λ z j. each z (inr j)) k i
 
+-- each level that is numbered in order is called by its text with some number
 pub numbered_as : (f : Text → ℕ → Text) (taken : List Text) (ks : List (Text × ℕ)) → AreNumberedInOrder f taken ks →
     (k : Text × ℕ) → Among ks k →
     (m : ℕ) × (f k.0 k.1 ≡ with_number (numbered_text k.0 k.1) m)

@@ -157,6 +157,7 @@ pub record NamesAreThere (f : Text → ℕ → Text) (s : Scope) (h : EnabledGra
 abbrev pub IsResolvedInside : EnabledGrammar → EnabledRule → WrittenSymbol → Type 0
 IsResolvedInside g r x = (y : WrittenSymbol) → Among (subsymbols x) y → IsResolvedIn g r y
 
+-- each symbol inside one of these is resolved
 abbrev pub AreResolvedInside : EnabledGrammar → EnabledRule → Syms TextSpan → Type 0
 AreResolvedInside g r xs = (y : WrittenSymbol) → Among (subsymbols_of xs) y → IsResolvedIn g r y
 

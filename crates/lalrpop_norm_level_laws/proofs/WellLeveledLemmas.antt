@@ -49,6 +49,7 @@ abbrev mutual
   AreWell g Closeds.none = Unit {0}
   AreWell g (Closeds.more x xs) = IsWell g x × AreWell g xs
 
+-- each of a list of symbols that are well is well
 pub well_listed : (g : EnabledGrammar) (xs : Closeds) → AreWell g xs → (x : Closed) → Among (closed_list xs) x → IsWell g x
 well_listed g Closeds.none w x i = absurd i
 well_listed g (Closeds.more y ys) w x (inl e) = subst (IsWell g) e w.0
@@ -86,6 +87,7 @@ inner_well g Closed.faulty w = w
 abbrev pub IsWellOrFaulty : EnabledGrammar → Closed → Type 0
 IsWellOrFaulty g x = (x ≡ Closed.faulty) ⊎ IsWell g x
 
+-- where each symbol is well or faulty, so is each nonterminal in the right side that they make
 pub part_well : (g : EnabledGrammar) (xs : List Closed) → ((x : Closed) → Among xs x → IsWellOrFaulty g x) → (y : Closed) →
     Among (map grammar_symbol xs) (GrammarSymbol.nonterminal (Nonterminal.closed y)) → IsWellOrFaulty g y
 part_well g xs w y i =
@@ -252,10 +254,12 @@ values_well g ps args w n c e h = go (map (λ p. p.1) (filter test pairs)) all e
 
 -- the levels' names tell such symbols apart
 
+-- the first key that is called so; where none is, the name itself without a level
 abbrev pub key_named : (Text → ℕ → Text) → List LeveledKey → Text → LeveledKey
 key_named f [] m = (m, None)
 key_named f (k ∷ ks) m = if bytes_eq (name_of_leveled_key f k) m then k else key_named f ks m
 
+-- where no two keys share a name each is found by its own
 pub key_found : (f : Text → ℕ → Text) (ks : List LeveledKey) (k : LeveledKey) → AreDifferent (map (name_of_leveled_key f) ks) →
     Among ks k →
     key_named f ks (name_of_leveled_key f k) ≡ k
@@ -279,6 +283,7 @@ key_found f (l ∷ ks) k d (inr i) =
         absurd (true≢false (sym (subst (λ t. has_text t (map (name_of_leveled_key f) ks) ≡ true) (sym same) there) ∙ d.0))
     go false g ih = ih
 
+-- a rule and a level that it has are one of its keys
 pub key_of_rule : (r : Rule) (level : Option ℕ) → HasLevel (rule_between r) level →
     Among {A = LeveledKey} (leveled_keys_of r) (r.name, level)
 key_of_rule r None h =

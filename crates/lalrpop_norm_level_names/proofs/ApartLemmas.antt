@@ -27,6 +27,7 @@ use Rattle.lalrpop_norm_level_names.proofs.GivenLemmas.{order_of, levels_by, nam
 
 -- times grow
 
+-- the first count is at most the second one, for each text
 abbrev pub IsAtMost : Times → Times → Type 0
 IsAtMost a b = (t : Text) → a t ≤ b t
 
@@ -50,6 +51,7 @@ behind-grows r times j t =
     let b = once-grows (numbered_text r.name j) (beside_parameters r.parameters (numbered_text r.name j) times) t in
     omega (arith, a, b)
 
+-- behind several levels of a rule each text is taken at least as often as before them
 pub all-grows : (r : Rule) (times : Times) (js : List ℕ) → IsAtMost times (taken_behind_all r times js)
 all-grows r times [] t = omega arith
 all-grows r times (j ∷ js) t =
@@ -57,6 +59,7 @@ all-grows r times (j ∷ js) t =
     let b = all-grows r (taken_behind r times j) js t in
     omega (arith, a, b)
 
+-- of three counts, each at most the next, the first is at most the last
 pub at_most-trans : (a b c : Times) → IsAtMost a b → IsAtMost b c → IsAtMost a c
 at_most-trans a b c h k t = let x = h t in let y = k t in omega (arith, x, y)
 
@@ -72,6 +75,7 @@ pub record IsBetween (low high : Times) (n : Text) : Type 0 where
   pub below : number < high text
   pub small : number + 1 < 2 ^ 64
 
+-- a name between two counts is between a lower and a higher one too
 pub between-wider : (low lower high higher : Times) (n : Text) → IsAtMost lower low → IsAtMost high higher → IsBetween low high n →
     IsBetween lower higher n
 between-wider low lower high higher n a b w = record {
@@ -120,11 +124,13 @@ name-apart low high n m plain taken w = never (bytes_eq n m) go
 
 -- lists of names that differ
 
+-- a text that differs from each one of a list isn't in the list
 pub none-among : (n : Text) (ns : List Text) → ((m : Text) → Among ns m → bytes_eq n m ≡ false) → has_text n ns ≡ false
 none-among n [] h = refl
 none-among n (m ∷ ms) h =
     ap (λ b. b || has_text n ms) (h m (inl refl)) ∙ none-among n ms (λ k i. h k (inr i))
 
+-- two lists, each without a text twice and with no text in common, have none twice when they are joined
 pub different-parts : (ns ms : List Text) → AreDifferent ns → AreDifferent ms →
     ((n m : Text) → Among ns n → Among ms m → bytes_eq n m ≡ false) → AreDifferent (ns ++ ms)
 different-parts [] ms d e h = e

@@ -26,6 +26,7 @@ use Rattle.lalrpop_norm_level_names.specs.GivenNames.{taken_behind_macros}
 use Rattle.lalrpop_norm_level_names.proofs.OrderLemmas.{Falls, falling-falls}
 use Rattle.lalrpop_norm_level_names.proofs.RankLevelLemmas.{flat_order}
 
+-- the levels of a written rule, from the loosest on
 abbrev pub order_of : Rule → List ℕ
 order_of r = levels_in_order (rule_between r)
 
@@ -104,6 +105,7 @@ abbrev pub name_at : List (ℕ × Text) → Text → ℕ → Text
 name_at [] n j = numbered_text n j
 name_at (l ∷ ls) n j = if l.0 == j then l.1 else name_at ls n j
 
+-- the name for a level of the rule with this name: the given one, or the rule's name and the number where none is given
 abbrev pub name_of_level : List Rule → List (List (ℕ × Text)) → Text → ℕ → Text
 name_of_level [] ts n j = numbered_text n j
 name_of_level (r ∷ rs) [] n j = numbered_text n j

@@ -46,6 +46,7 @@ pub same_text_told : (t u : Text) (k m : ℕ) → before_tilde t ≡ t → befor
     t ≡ u
 same_text_told t u k m h g e = sym (number_cut t k h) ∙ ap before_tilde e ∙ number_cut u m g
 
+-- two texts without a tilde that are the same with numbers behind them have the same number
 pub same_number_told : (t u : Text) (k m : ℕ) → before_tilde t ≡ t → before_tilde u ≡ u → k + 1 < 2 ^ 64 → m + 1 < 2 ^ 64 →
     with_number t k ≡ with_number u m → k ≡ m
 same_number_told t u k m h g a b e =

@@ -43,6 +43,7 @@ flat_levels r e =
     (c, None)) r.choices)) e
     ∙ no_levels r.choices
 
+-- a rule without levels has no levels to put in order
 pub flat_order : (r : EnabledRule) → has_levels r ≡ false → levels_in_order r ≡ []
 flat_order r e = ap falling_levels (flat_levels r e)
 

@@ -58,6 +58,7 @@ module _ (f : Text → ℕ → Text) (r : Rule) (times : Times) where
 
 -- the tighter levels of plain rules are numbered in order
 
+-- the count says of each text how often it stands in the list of taken ones
 abbrev pub AreTimesOf : Times → List Text → Type 0
 AreTimesOf times taken = (t : Text) → times t ≡ times_taken t taken
 

@@ -34,6 +34,7 @@ pub holds_anyway : {T E : Type 0} (r : Result T E) (P : Type 0) → P → OnOk r
 holds_anyway (Ok x) P h = h
 holds_anyway (Err e) P h = tt
 
+-- where an answer is no fault, what follows from a property of it and two facts beside holds of it
 pub holds_where_ok : {T E : Type 0} (r : Result T E) (P Q : T → Type 0) (A B : Type 0) → ((x : T) → P x → A → B → Q x) →
     IfOk r P → OnOk r A → OnOk r B → IfOk r Q
 holds_where_ok (Ok x) P Q A B to p a b = to x p a b
@@ -136,6 +137,7 @@ or_over : (a b c : Bool) → (a || (b || c)) ≡ ((a || b) || c)
 or_over true b c = refl
 or_over false b c = refl
 
+-- when one more parameter is put among the known names, these and the parameters left are the same names together
 pub parameter_known : (before after : Names) (name : Text) (rest left whole : List Text) → left ≡ name ∷ rest →
     ((n : Text) → get_by (λ k. bytes_eq n k.now) after
     ≡ update bytes_eq (λ m. get_by (λ k. bytes_eq m k.now) before) name (Some tt) n) →

@@ -6,6 +6,7 @@ use Rattle.lalrpop_grammar_language.specs.Enabled.{EnabledRule}
 use Rattle.lalrpop_grammar_language.specs.Levels.{greatest, larger, levels, loosest, tighter}
 use Rattle.lalrpop_norm_level_laws.specs.LeveledGrammar.{put_level, falling_levels, levels_in_order}
 
+-- the first number of a list, if it has one
 abbrev pub front : List ℕ → Option ℕ
 front [] = None
 front (n ∷ ns) = Some n

@@ -20,6 +20,7 @@ pub ok_from : {T E : Type 0} (P Q : T → Type 0) (r : Result T E) → ((x : T) 
 ok_from P Q (Ok x) to h = to x h
 ok_from P Q (Err e) to h = h
 
+-- what follows from a thing that holds where an answer is no fault holds there too
 pub on_ok_from : {T E : Type 0} (P Q : Type 0) (r : Result T E) → (P → Q) → OnOk r P → OnOk r Q
 on_ok_from P Q (Ok x) to h = to h
 on_ok_from P Q (Err e) to h = h

@@ -134,6 +134,7 @@ module _ (r : Rule) (f : Text → ℕ → Text) (most : ℕ) (loose : loosest (r
 pub no_cons : {A B : Type 0} (x : A) (xs : List A) → [] ≡ x ∷ xs → B
 no_cons x xs e = cc
 
+-- two lists that are equal begin with the same member
 pub same_first : {A : Type 0} (x y : A) (xs ys : List A) → x ∷ xs ≡ y ∷ ys → x ≡ y
 same_first x y xs ys e = cc
 

@@ -26,6 +26,7 @@ behind_front (x ∷ front) back k i e = go k e (behind_front front back)
         let number : k + i ≡ suc (length front + i) = omega (arith, f) in
         ap (slice_get (x ∷ front ++ back)) number ∙ later (length front) i refl
 
+-- what stands at a place of a list stands there when more is put behind
 pub in_front : {A : Type 0} (front back : List A) (i : ℕ) (x : A) → slice_get front i ≡ Some x
     → slice_get (front ++ back) i ≡ Some x
 in_front [] back i x e = cc
@@ -38,6 +39,7 @@ mapped_at f [] i x e = cc
 mapped_at f (y ∷ xs) zero x e = let g : y ≡ x = cc in ap (λ z. Some (f z)) g
 mapped_at f (y ∷ xs) (suc i) x e = mapped_at f xs i x e
 
+-- a mapped list is as long as before
 pub length_mapped : {A B : Type 0} (f : A → B) (xs : List A) → length (map f xs) ≡ length xs
 length_mapped f [] = refl
 length_mapped f (x ∷ xs) = ap suc (length_mapped f xs)
@@ -136,6 +138,7 @@ made_of_rule k [] v i = absurd i
 made_of_rule k (r ∷ rs) v (inl e) = (r, k, inl refl, sym e)
 made_of_rule k (r ∷ rs) v (inr i) = let w = made_of_rule (k + length r.alternatives) rs v i in (w.0, w.1, inr w.2, w.3)
 
+-- each entry of start symbols is that of one of the rules, under some number
 pub made_of_start : (prefix : Text) (k : ℕ) (ss : List Rule) (v : LoweredNonterminal) → Among (start_entries prefix k ss) v
     → (r : Rule) × (n : ℕ) × Among ss r × (v ≡ entry_of_start prefix n r)
 made_of_start prefix k [] v i = absurd i

@@ -25,18 +25,22 @@ use Rattle.lalrpop_norm_lower.specs.Lowered.{AreChoicesInOrder}
 use Rattle.lalrpop_norm_lower.specs.LoweredLists.{gets_start, rules_with_starts}
 use Rattle.lalrpop_norm_lower.specs.LoweredSymbols.{lowered_name}
 
+-- the row by which the start symbol of a rule produces the rule
 abbrev pub start_row : Rule → Row
 start_row r = (
   record { head = Nonterminal.start r.name; choice = Origin.start },
   GrammarSymbol.nonterminal (rule_nonterminal r.name) ∷ [],
 )
 
+-- the row by which the rule of this name produces the symbols of an alternative
 abbrev pub alternative_row : Text → Alternative → Row
 alternative_row n a = (record { head = rule_nonterminal n; choice = a.origin }, side_by_rules a.expr)
 
+-- the rows of a rule, one for each alternative
 abbrev pub rule_rows : Rule → List Row
 rule_rows r = map (alternative_row r.name) r.alternatives
 
+-- the rows of rules in lowered order: first those of start symbols, then those of alternatives, rule by rule
 abbrev pub lowered_rows : List Rule → List Row
 lowered_rows rs = map start_row (rules_with_starts rs) ++ flat_map rule_rows rs
 
@@ -79,6 +83,7 @@ own_names (r ∷ rs) h = (
         (keeps (has_name q.name) (map rule_between rs) (rule_between q) (map_among rule_between rs q i) (same_text-refl q.name)))
     later q i false f = f
 
+-- where each is related to each later one, so it is among those that a filter keeps
 pub earlier_kept : {A : Type 0} (R : A → A → Type 0) (f : A → Bool) (xs : List A) → Earlier R xs → Earlier R (filter f xs)
 earlier_kept R f [] h = tt
 earlier_kept R f (x ∷ xs) h = go (f x) (earlier_kept R f xs h.1)
@@ -95,6 +100,7 @@ earlier_mapped R f (x ∷ xs) h = (
   earlier_mapped R f xs h.1,
 )
 
+-- two texts are the same where they are so behind the same front
 pub append_same : (front : Text) (m n : Text) → front ++ m ≡ front ++ n → m ≡ n
 append_same [] m n e = e
 append_same (c ∷ front) m n e = append_same front m n (let f : front ++ m ≡ front ++ n = cc in f)

@@ -124,6 +124,7 @@ module _ (w : Grammar) (apart : Earlier HaveOwnNames (rules_of w.items)) where
 key_there : (es : List (TerminalString × TypeRepr)) (t : TerminalString) (u : TypeRepr) → Among es (t, u) → Among (keys_of es) t
 key_there es t u i = map_among (λ (e : TerminalString × TypeRepr). e.0) es (t, u) i
 
+-- a set made of a table that types the grammar's terminals has just these, in order and numbered by place
 pub terminals_lowered : (w : Grammar) (table : List (TerminalString × TypeRepr)) (set : TerminalSet) → HasTerminalTypes w table
     → IsMadeTerminalSet table set → AreLoweredTerminals w set
 terminals_lowered w table set h m = record {

@@ -92,6 +92,7 @@ from_on f k [] p i = absurd i
 from_on f k (row ∷ rows) p (inl e) = let same : k + 1 ≡ p.action = ap (λ (q : NamedProduction). q.action) e in omega (arith, same)
 from_on f k (row ∷ rows) p (inr i) = let later : k + 1 < p.action = from_on f (k + 1) rows p i in omega (arith, later)
 
+-- each production of rows that are numbered in order has a lower action than each later one
 pub numbers_rise : (f : Nonterminal → Text) (k : ℕ) (rows : List Row) → Earlier HasLowerAction (productions_from f k rows)
 numbers_rise f k [] = tt
 numbers_rise f k (row ∷ rows) = (λ q i. from_on f k rows q i, numbers_rise f (k + 1) rows)

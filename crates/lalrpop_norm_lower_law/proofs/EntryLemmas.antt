@@ -85,6 +85,7 @@ module _ {X : Type 0} (es : List (NonterminalString × X)) where
 
 -- algorithms
 
+-- a program's attributes ask for LALR exactly where their views have an attribute of that name
 pub lalr_is : (as_ : List Attribute) → has_lalr as_ ≡ has_attr (codes "LALR") (map attribute_view as_)
 lalr_is [] = refl
 lalr_is (a ∷ as_) = ap (λ b. is_lalr a || b) (lalr_is as_)

@@ -22,10 +22,12 @@ use Rattle.lalrpop_norm_lower.specs.LoweredSymbols.{named_productions}
 use Rattle.lalrpop_norm_lower.specs.declared.lowering.Normalized.{Normalized}
 use Rattle.lalrpop_norm_lower_law.specs.LoweredViews.{production_spans}
 
+-- an option that holds something with the property holds a value that has it
 pub some_there : {A : Type 0} (P : A → Type 0) (o : Option A) → IsSomeAnd o P → (x : A) × (o ≡ Some x) × P x
 some_there P None h = absurd h
 some_there P (Some x) h = (x, refl, h)
 
+-- an option holds one value: two that it holds are equal
 pub one_value : {A : Type 0} (x y : A) (o : Option A) → o ≡ Some x → o ≡ Some y → x ≡ y
 one_value x y o e f = let same : Some x ≡ Some y = sym e ∙ f in cc
 
@@ -46,6 +48,7 @@ terminal_in_symbol (Sym.lookahead p) t i = absurd i
 terminal_in_symbol (Sym.lookbehind p) t i = absurd i
 terminal_in_symbol (Sym.error p) t i = absurd i
 
+-- each terminal of the symbols stands in the lowered right side
 pub terminal_in_side : (xs : List WrittenSymbol) (t : Terminal) → Among (terminals_of_symbols xs) t
     → Among (lowered_side xs) (GrammarSymbol.terminal t)
 terminal_in_side xs t i =
@@ -77,6 +80,7 @@ firsts_of : (ps : List Production) (l : List (NamedProduction × TextSpan))
 firsts_of [] l = refl
 firsts_of (p ∷ ps) l = ap (λ (k : List NamedProduction). named_production p ∷ k) (firsts_of ps l)
 
+-- the list of productions with spans has the grammar's productions, in their order
 pub spans_are_each : (es : List (NonterminalString × NonterminalData))
     → map (λ (x : NamedProduction × TextSpan). x.0) (production_spans es) ≡ named_productions es
 spans_are_each [] = refl
@@ -84,12 +88,14 @@ spans_are_each (e ∷ es) =
     firsts_of e.1.productions (production_spans es)
     ∙ ap (λ (k : List NamedProduction). map named_production e.1.productions ++ k) (spans_are_each es)
 
+-- the list of nonterminals with places has the names of the nonterminals, in their order
 pub places_are_each : (es : List (NonterminalString × NonterminalData))
     → map (λ (x : Text × TextSpan). x.0) (map (λ (e : NonterminalString × NonterminalData). (e.0.0, span_view e.1.span)) es)
     ≡ map (λ (e : NonterminalString × NonterminalData). e.0.0) es
 places_are_each [] = refl
 places_are_each (e ∷ es) = ap (λ (k : List Text). e.0.0 ∷ k) (places_are_each es)
 
+-- an option that holds a production with its span holds the production when the span is dropped
 pub same_first : (o : Option (NamedProduction × TextSpan)) (p : NamedProduction) (s : TextSpan) → o ≡ Some (p, s)
     → option_map (λ (x : NamedProduction × TextSpan). x.0) o ≡ Some p
 same_first o p s e = ap (option_map (λ (x : NamedProduction × TextSpan). x.0)) e

@@ -1,6 +1,7 @@
 -- Spans of keys that are looked for are places where these are met, and what is told meanwhile is told of a call that is made; for the
 -- pass.
-use Rattle.std.proofs.Common.{◌≡◌, ℕ, zero, suc, ◌+◌, List, [], ◌∷◌, ◌++◌, refl, ap, sym, ◌∙◌, subst, inl, inr, arith, map}
+use Rattle.std.proofs.Common.{◌≡◌, ℕ, zero, suc, ◌+◌, List, [], ◌∷◌, ◌++◌, refl, ap, sym, ◌∙◌}
+use Rattle.std.proofs.Common.{subst, inl, inr, arith, map}
 use Rattle.std.specs.Prelude.{◌⊎◌, Bool, Option, None, slice_get, unwrap_or}
 use Rattle.lalrpop_grammar_symbols.specs.Symbols.{Text, TextSpan, Closed, Closeds}
 use Rattle.lalrpop_grammar_symbols.specs.Views.{span_view}

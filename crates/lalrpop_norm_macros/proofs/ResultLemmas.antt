@@ -35,6 +35,7 @@ use Rattle.lalrpop_norm_macros.proofs.SpanLemmas.{finished_place, finished_stand
 
 -- what lies beside rules
 
+-- the items that are no rules stay, when the rules are taken out and new ones put behind
 pub others_stay : (items : List WrittenItem) (rs : List Rule) → other_items (other_items items ++ map WrittenItem.nonterminal rs)
     ≡ other_items items
 others_stay [] [] = refl

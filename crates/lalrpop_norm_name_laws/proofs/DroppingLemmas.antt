@@ -136,6 +136,7 @@ sides_kept g h k n r i args p =
     side_kept cfg_change g h k r name_itself (λ c. sym (listed_stay name_itself c.expr (λ q m j. refl))) (bind r args) (λ q m. refl)
     (λ e j q m. ap (name_or (parameter_value (bind r args) m)) (name_closed cfg_change g h k (bind r args) r.name e j m)) p
 
+-- what is left of a grammar that was read has the expansion of its enabled grammar
 pub dropping_expansion : (finds : Text → Text → Option Bool) (features : List Text) (g : Grammar) → IsReadGrammar g →
     SameExpansion (enabled_grammar finds features g) (grammar_between finds (without_disabled features g)) (λ x. x)
 dropping_expansion finds features g w =
@@ -143,6 +144,7 @@ dropping_expansion finds features g w =
     changed_expansion cfg_change (enabled_grammar finds features g) (grammar_between finds (without_disabled features g)) k
     (sides_kept (enabled_grammar finds features g) (grammar_between finds (without_disabled features g)) k)
 
+-- what is left of a grammar that was read inlines the nonterminals that its enabled grammar inlines
 pub dropping_inlined : (finds : Text → Text → Option Bool) (features : List Text) (g : Grammar) → IsReadGrammar g →
     SameInlined (enabled_grammar finds features g) (grammar_between finds (without_disabled features g)) (λ x. x)
 dropping_inlined finds features g w x i =
@@ -162,6 +164,7 @@ types_kept g h k n r i = record {
     all_mapped None = refl
     all_mapped (Some y) = ap Some (sym (mapped_by_itself y))
 
+-- symbols have the same types in what is left of a grammar that was read as in its enabled grammar
 pub dropping_types : (finds : Text → Text → Option Bool) (features : List Text) (g : Grammar) → IsReadGrammar g →
     SameTypes (enabled_grammar finds features g) (grammar_between finds (without_disabled features g)) (λ x. x)
 dropping_types finds features g w =
@@ -170,6 +173,7 @@ dropping_types finds features g w =
     (sides_kept (enabled_grammar finds features g) (grammar_between finds (without_disabled features g)) k) (λ r x. x)
     (types_kept (enabled_grammar finds features g) (grammar_between finds (without_disabled features g)) k)
 
+-- chains of macro calls are the same in what is left of a grammar that was read as in its enabled grammar
 pub dropping_chains : (finds : Text → Text → Option Bool) (features : List Text) (g : Grammar) → IsReadGrammar g →
     (k : ℕ) (x : Closed) →
     HasCallChain (enabled_grammar finds features g) k x ↔ HasCallChain (grammar_between finds (without_disabled features g)) k x
@@ -178,6 +182,7 @@ dropping_chains finds features g w n x =
     changed_chains cfg_change (enabled_grammar finds features g) (grammar_between finds (without_disabled features g)) k
     (sides_kept (enabled_grammar finds features g) (grammar_between finds (without_disabled features g)) k) n x
 
+-- names of what is left of a grammar that was read are names of its enabled grammar
 pub dropped_names : (finds : Text → Text → Option Bool) (features : List Text) (g : Grammar) (prefix : Text)
     (name_of : Nonterminal → Text) → IsReadGrammar g →
     IsNaming (leveled_key_text (grammar_between finds (without_disabled features g))) prefix

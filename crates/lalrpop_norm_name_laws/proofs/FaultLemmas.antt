@@ -16,15 +16,18 @@ use Rattle.lalrpop_norm_name_laws.proofs.NameUseLemmas.{IsUse, use_is, use_witho
 
 -- joined lists are empty where each is
 
+-- where two joined lists are empty each of them is
 pub nil_parts : {A : Type 0} (xs ys : List A) → xs ++ ys ≡ [] → (xs ≡ []) × (ys ≡ [])
 nil_parts [] ys e = (refl, e)
 nil_parts (x ∷ xs) ys e = cc
 
+-- where the joined lists of all elements are empty each element has an empty list
 pub flat_nil : {A B : Type 0} (f : A → List B) (xs : List A) → flat_map f xs ≡ [] → (x : A) → Among xs x → f x ≡ []
 flat_nil f [] e x i = absurd i
 flat_nil f (y ∷ ys) e x (inl same) = ap f (sym same) ∙ (nil_parts (f y) (flat_map f ys) e).0
 flat_nil f (y ∷ ys) e x (inr i) = flat_nil f ys (nil_parts (f y) (flat_map f ys) e).1 x i
 
+-- where each element has an empty list the joined lists of all are empty
 pub nil_from : {A B : Type 0} (f : A → List B) (xs : List A) → ((x : A) → Among xs x → f x ≡ []) → flat_map f xs ≡ []
 nil_from f [] h = refl
 nil_from f (x ∷ xs) h = ap (λ l. l ++ flat_map f xs) (h x (inl refl)) ∙ nil_from f xs (λ y i. h y (inr i))
@@ -39,6 +42,7 @@ pub record DefinesNames (d : DefinedNames) (h : EnabledGrammar) : Type 0 where
 abbrev pub IsRight : DefinedNames → EnabledGrammar → EnabledRule → WrittenSymbol → Type 0
 IsRight d h r x = (own_name_fault d r.parameters x ≡ []) × IsResolvedIn h r x
 
+-- what a name becomes where names are resolved in a rule with these parameters
 abbrev pub replacement : DefinedNames → List Text → TextSpan → Text → WrittenSymbol
 replacement d ps p n = resolved_name (use_of_name d ps n) p n
 

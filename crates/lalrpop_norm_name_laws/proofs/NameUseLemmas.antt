@@ -74,6 +74,7 @@ none_bound (p ∷ ps) (x ∷ xs) n e =
     go true f h = absurd (true≢false f)
     go false f h = h
 
+-- a name that is no parameter has no value, whatever values parameters have
 pub no_value : (ps : List Text) (xs : List Closed) (n : Text) → has_text n ps ≡ false → parameter_value (zip ps xs) n ≡ None
 no_value ps xs n e = ap (λ (b : Binding). only_value (map (λ (p : Text × Closed). p.1) b)) (none_bound ps xs n e)
 
@@ -89,6 +90,7 @@ IsUse d ps n NameUse.mapped =
 IsUse d ps n NameUse.nothing =
     (has_text n ps ≡ false) × (has_text n d.plain ≡ false) × (has_text n d.macros ≡ false) × (has_text n d.bares ≡ false)
 
+-- the use of a name is what the tests of it say
 pub use_is : (d : DefinedNames) (ps : List Text) (n : Text) → IsUse d ps n (use_of_name d ps n)
 use_is d ps n = by_parameters (has_text n ps) refl
   where
@@ -130,6 +132,7 @@ use_without_parameters d ps n e =
 
 -- rules by their names
 
+-- a rule that the test tells to be no macro has no parameters
 pub no_parameters : (r : Rule) → not (has_parameters r) ≡ true → r.parameters ≡ []
 no_parameters r e = go r.parameters e
   where
@@ -137,6 +140,7 @@ no_parameters r e = go r.parameters e
     go [] h = refl
     go (p ∷ ps) h = cc
 
+-- a rule that the test tells to be a macro has parameters
 pub some_parameters : (r : Rule) → has_parameters r ≡ true → r.parameters ≡ [] → ⊥
 some_parameters r e none = true≢false (sym e ∙ ap has_any_name none)
 
@@ -166,6 +170,7 @@ either_name (q ∷ qs) n r i p m = go (has_parameters q) p m i (λ j. either_nam
     go false p m (inl e) later = same e (or_parts (bytes_eq n q.name) (has_text n (map (λ (t : Rule). t.name) plain)) p).0
     go false p m (inr j) later = later j (or_parts (bytes_eq n q.name) (has_text n (map (λ (t : Rule). t.name) plain)) p).1 m
 
+-- where no rule has the name the search for its rules gives none
 pub none_of_name : (n : Text) (rs : List EnabledRule) → ((r : EnabledRule) → Among rs r → has_name n r ≡ false) →
     filter (has_name n) rs ≡ []
 none_of_name n [] h = refl

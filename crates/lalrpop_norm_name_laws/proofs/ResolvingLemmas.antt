@@ -238,30 +238,35 @@ types_kept finds g n r i = record {
       (closes_alike finds g n r i args) x;
 }
 
+-- a grammar has the same expansion once its names are resolved, whatever is wrong with them
 pub resolving_expansion : (finds : Text → Text → Option Bool) (g : Grammar) →
     SameExpansion (grammar_between finds g) (grammar_between finds (resolved_grammar g)) (λ x. x)
 resolving_expansion finds g =
     changed_expansion (name_change (defined_names g)) (grammar_between finds g) (grammar_between finds (resolved_grammar g))
     (rules_changed finds g) (sides_kept finds g)
 
+-- a grammar inlines the same nonterminals once its names are resolved
 pub resolving_inlined : (finds : Text → Text → Option Bool) (g : Grammar) →
     SameInlined (grammar_between finds g) (grammar_between finds (resolved_grammar g)) (λ x. x)
 resolving_inlined finds g x i =
     changed_inlined (name_change (defined_names g)) (grammar_between finds g) (grammar_between finds (resolved_grammar g))
     (rules_changed finds g) x
 
+-- symbols have the same types once names are resolved
 pub resolving_types : (finds : Text → Text → Option Bool) (g : Grammar) →
     SameTypes (grammar_between finds g) (grammar_between finds (resolved_grammar g)) (λ x. x)
 resolving_types finds g =
     changed_types (name_change (defined_names g)) (grammar_between finds g) (grammar_between finds (resolved_grammar g))
     (rules_changed finds g) (sides_kept finds g) (λ r. resolved_symbol (defined_names g) r.parameters) (types_kept finds g)
 
+-- chains of macro calls are the same once names are resolved
 pub resolving_chains : (finds : Text → Text → Option Bool) (g : Grammar) (k : ℕ) (x : Closed) →
     HasCallChain (grammar_between finds g) k x ↔ HasCallChain (grammar_between finds (resolved_grammar g)) k x
 resolving_chains finds g k x =
     changed_chains (name_change (defined_names g)) (grammar_between finds g) (grammar_between finds (resolved_grammar g))
     (rules_changed finds g) (sides_kept finds g) k x
 
+-- names of the grammar with its names resolved are names of the written one
 pub resolved_names : (finds : Text → Text → Option Bool) (g : Grammar) (prefix : Text) (name_of : Nonterminal → Text) →
     IsNaming (leveled_key_text (grammar_between finds (resolved_grammar g))) prefix (grammar_between finds (resolved_grammar g)) name_of →
     IsNaming (leveled_key_text (grammar_between finds g)) prefix (grammar_between finds g) name_of

@@ -19,6 +19,7 @@ use Rattle.lalrpop_norm_name_laws.proofs.NameUseLemmas.{text_test-sym, not_among
 use Rattle.lalrpop_norm_name_laws.proofs.ResolvingLemmas.{rules_resolved, bares_resolved}
 use Rattle.lalrpop_norm_name_laws.proofs.FaultLemmas.{DefinesNames}
 
+-- the name of a rule, to be mapped over lists of rules
 abbrev pub name_of : Rule → Text
 name_of r = r.name
 
@@ -36,6 +37,7 @@ later_twin n (q ∷ qs) e = go (bytes_eq n q.name) refl e (later_twin n qs)
     go true same h later = ([], q, qs, refl, same_text-eq n q.name same)
     go false same h later = let w = later h in (q ∷ w.0, w.1, w.2, ap (λ l. q ∷ l) w.3, w.4)
 
+-- the names of a list have another rule's name where a rule of the list bears it
 pub has_earlier : (pre b : List Rule) (r q : Rule) → q.name ≡ r.name → has_text q.name (map name_of (pre ++ r ∷ b)) ≡ true
 has_earlier [] b r q e =
     ap (λ (m : Text). bytes_eq q.name m || has_text q.name (map name_of b)) (sym e)
@@ -51,6 +53,7 @@ joined_once : {A : Type 0} (xs : List A) (y : A) (ys zs : List A) → xs ++ y �
 joined_once [] y ys zs = refl
 joined_once (x ∷ xs) y ys zs = ap (λ l. x ∷ l) (joined_once xs y ys zs)
 
+-- where the grammar has no duplicates the names of the last so many of its rules are different
 pub different : (g : Grammar) → ((n : Text) (p : TextSpan) → IsDuplicate g n p → ⊥) → (pre rs : List Rule) →
     rules_of g.items ≡ pre ++ rs → AreDifferent (map name_of rs)
 different g d pre [] e = tt
@@ -64,6 +67,7 @@ different g d pre (r ∷ rs) e =
         absurd (d w.1.name w.1.span (IsDuplicate.of_rules (pre ++ r ∷ w.0) w.1 w.2
         (e ∙ ap (λ l. pre ++ r ∷ l) w.3 ∙ joined_once pre r w.0 (w.1 ∷ w.2)) (has_earlier pre w.0 r w.1 (sym w.4))))
 
+-- a list of parameters in which no name is twice has different names
 pub different_parameters : (ps : List Text) → ((n : Text) → IsTwice n ps → ⊥) → AreDifferent ps
 different_parameters [] h = tt
 different_parameters (p ∷ ps) h = (go (has_text p ps) refl, different_parameters ps (λ n t. h n (inr t)))
@@ -93,6 +97,7 @@ only_rule (t ∷ ts) d q (inr i) =
     ap (λ (b : Bool). cond b (rule_between t ∷ filter (has_name q.name) (map rule_between ts))
     (filter (has_name q.name) (map rule_between ts))) (not_among name_of t.name ts q d.0 i) ∙ only_rule ts d.1 q i
 
+-- rules keep their own names where names in them are resolved
 pub same_names : (d : DefinedNames) (rs : List Rule) → map name_of (map (resolved_rule d) rs) ≡ map name_of rs
 same_names d [] = refl
 same_names d (r ∷ rs) = ap (λ l. r.name ∷ l) (same_names d rs)

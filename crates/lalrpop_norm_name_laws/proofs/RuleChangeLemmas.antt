@@ -26,12 +26,15 @@ pub record RuleChange : Type 0 where
   pub expr : EnabledRule → Choice → List WrittenSymbol
   pub attributes : List Attr → List Attr
 
+-- an alternative with its symbols and attributes as the change makes them
 abbrev pub changed_choice : RuleChange → EnabledRule → Choice → Choice
 changed_choice w r c = record c { expr = w.expr r c; attributes = w.attributes c.attributes }
 
+-- a rule with its declared type and its alternatives as the change makes them
 abbrev pub changed_rule : RuleChange → EnabledRule → EnabledRule
 changed_rule w r = record r { declared = w.declared r; choices = map (changed_choice w r) r.choices }
 
+-- an alternative with its rank: the alternative is changed, the rank stays
 abbrev pub changed_pair : RuleChange → EnabledRule → Choice × Option Rank → Choice × Option Rank
 changed_pair w r p = (changed_choice w r p.0, p.1)
 
@@ -67,6 +70,7 @@ any_kept w k r (c ∷ cs) =
     ap (λ (b : Bool). b || list_any says_level (map (changed_choice w r) cs)) (k.marks c.attributes)
     ∙ ap (λ (b : Bool). says_level c || b) (any_kept w k r cs)
 
+-- where attributes keep ranks a changed rule has levels just where it had them
 pub levels_kept : (w : RuleChange) → KeepsRanks w.attributes → (r : EnabledRule) → has_levels (changed_rule w r) ≡ has_levels r
 levels_kept w k r = any_kept w k r r.choices
 
@@ -119,12 +123,15 @@ parts_kept : (w : RuleChange) (r : EnabledRule) (ps : List (Choice × Option Ran
 parts_kept w r [] = refl
 parts_kept w r (p ∷ ps) = ap (λ l. cons_option (level_part p) l) (parts_kept w r ps)
 
+-- where attributes keep ranks a changed rule has the same levels
 pub same_levels : (w : RuleChange) → KeepsRanks w.attributes → (r : EnabledRule) → levels (changed_rule w r) ≡ levels r
 same_levels w k r = ap (filter_map level_part) (ranked_kept w k r) ∙ parts_kept w r (ranked_choices r)
 
+-- so its loosest level is the same
 pub loosest_kept : (w : RuleChange) → KeepsRanks w.attributes → (r : EnabledRule) → loosest (changed_rule w r) ≡ loosest r
 loosest_kept w k r = ap greatest (same_levels w k r)
 
+-- and from each level the next tighter one is the same
 pub tighter_kept : (w : RuleChange) → KeepsRanks w.attributes → (r : EnabledRule) (j : ℕ) →
     tighter (changed_rule w r) j ≡ tighter r j
 tighter_kept w k r j = ap (λ (ns : List ℕ). greatest (filter (λ (n : ℕ). nat_lt n j) ns)) (same_levels w k r)
@@ -152,6 +159,7 @@ pub named_kept : (w : RuleChange) (g h : EnabledGrammar) → HasChangedRules w g
     rules_named h n ≡ map (changed_rule w) (rules_named g n)
 named_kept w g h k n = ap (filter (has_name n)) k.rules ∙ among_named w n g.rules
 
+-- the rule of a name in the first grammar, changed, is the rule of that name in the second
 pub rule_after : (w : RuleChange) (g h : EnabledGrammar) → HasChangedRules w g h → (n : Text) (r : EnabledRule) → IsRule g n r →
     IsRule h n (changed_rule w r)
 rule_after w g h k n r e = named_kept w g h k n ∙ ap (map (changed_rule w)) e
@@ -165,6 +173,7 @@ only_of_map f [] y e = cc
 only_of_map f (x ∷ []) y e = (x, refl, ap (first_or y) e)
 only_of_map f (x ∷ z ∷ xs) y e = cc
 
+-- each rule of a name in the second grammar is the changed rule of that name in the first
 pub rule_before : (w : RuleChange) (g h : EnabledGrammar) → HasChangedRules w g h → (n : Text) (q : EnabledRule) → IsRule h n q →
     (r : EnabledRule) × IsRule g n r × (changed_rule w r ≡ q)
 rule_before w g h k n q e = only_of_map (changed_rule w) (rules_named g n) q (sym (named_kept w g h k n) ∙ e)
@@ -196,6 +205,7 @@ holds_with g h e b (Some c) m = of_value (parameter_value b c.parameter) m
     of_value (Some Closed.faulty) p = p
     of_value None p = p
 
+-- an alternative that fits a call in the first grammar fits it, changed, in the second
 pub fits_after : (w : RuleChange) (g h : EnabledGrammar) → HasChangedRules w g h → (n : Text) (args : Closeds) (r : EnabledRule)
     (p : Choice × Option Rank) → Fits g n args r p → Fits h n args (changed_rule w r) (changed_pair w r p)
 fits_after w g h k n args r p f = record {
@@ -207,6 +217,7 @@ fits_after w g h k n args r p f = record {
   holds = holds_with g h k.finds (bind r args) p.0.condition f.holds;
 }
 
+-- a changed alternative that fits a call in the second grammar fits it, unchanged, in the first
 pub fits_before : (w : RuleChange) (g h : EnabledGrammar) → HasChangedRules w g h → (n : Text) (args : Closeds) (r : EnabledRule)
     (p : Choice × Option Rank) → IsRule g n r → Among (ranked_choices r) p
     → Fits h n args (changed_rule w r) (changed_pair w r p) → Fits g n args r p
@@ -289,6 +300,7 @@ pass_down_before w g h k n args level o side b =
       side_is = b.side_is;
     }
 
+-- each production in the first grammar is one in the second
 pub produces_after : (w : RuleChange) (g h : EnabledGrammar) → HasChangedRules w g h → KeepsSides w g h → (x : Nonterminal)
     (o : Origin) (side : RightSide) → Produces g x o side → Produces h x o side
 produces_after w g h k s (Nonterminal.start n) o side m = (
@@ -315,6 +327,7 @@ produces_after w g h k s (Nonterminal.closed (Closed.choose x)) o side m = m
 produces_after w g h k s (Nonterminal.closed (Closed.name mutable n x)) o side m = m
 produces_after w g h k s (Nonterminal.closed Closed.faulty) o side m = m
 
+-- each production in the second grammar is one in the first
 pub produces_before : (w : RuleChange) (g h : EnabledGrammar) → HasChangedRules w g h → KeepsSides w g h → (x : Nonterminal)
     (o : Origin) (side : RightSide) → Produces h x o side → Produces g x o side
 produces_before w g h k s (Nonterminal.start n) o side m =
@@ -356,12 +369,14 @@ level_before : (w : RuleChange) → KeepsRanks w.attributes → (r : EnabledRule
 level_before w k r None m = sym (levels_kept w k r) ∙ m
 level_before w k r (Some l) m = subst (λ ls. Among ls l) (same_levels w k r) m
 
+-- each root of the first grammar is one of the second
 pub root_after : (w : RuleChange) (g h : EnabledGrammar) → HasChangedRules w g h → KeepsSides w g h → (x : Nonterminal) →
     IsRoot g x → IsRoot h x
 root_after w g h k s x (inl (n, side, e, m)) = inl (n, side, e, produces_after w g h k s (Nonterminal.start n) Origin.start side m)
 root_after w g h k s x (inr (r, level, i, p, l, e)) =
     inr (changed_rule w r, level, rule_after w g h k r.name r i, p, level_after w k.ranks r level l, e)
 
+-- each root of the second grammar is one of the first
 pub root_before : (w : RuleChange) (g h : EnabledGrammar) → HasChangedRules w g h → KeepsSides w g h → (x : Nonterminal) →
     IsRoot h x → IsRoot g x
 root_before w g h k s x (inl (n, side, e, m)) = inl (n, side, e, produces_before w g h k s (Nonterminal.start n) Origin.start side m)

@@ -89,6 +89,7 @@ items_stay d (WrittenItem.extern_token block ∷ items) h = ap (λ l. WrittenIte
 items_stay d (WrittenItem.intern_token entries ∷ items) h = ap (λ l. WrittenItem.intern_token entries ∷ l) (items_stay d items h)
 items_stay d (WrittenItem.import text ∷ items) h = ap (λ l. WrittenItem.import text ∷ l) (items_stay d items h)
 
+-- a resolved grammar stays as it is where its names are resolved again
 pub resolved_stays : (finds : Text → Text → Option Bool) (g : Grammar) → IsResolved (grammar_between finds g) →
     resolved_grammar g ≡ g
 resolved_stays finds g w = ap with_items (items_stay (defined_names g) g.items (λ r i. rule_stays (defined_names g) r

@@ -107,6 +107,7 @@ pub record DeclaresAlike (w : RuleChange) (g h : EnabledGrammar) (r : EnabledRul
   pub declared : w.declared r ≡ option_map (mapped_type m) r.declared
   pub closed : (args : Closeds) → CloseAlike m (type_scope g r args) (type_scope h (changed_rule w r) args)
 
+-- each rule declares its type with the symbols replaced, and these close as they did
 abbrev pub KeepsDeclared : RuleChange → EnabledGrammar → EnabledGrammar → (EnabledRule → WrittenSymbol → WrittenSymbol) → Type 0
 KeepsDeclared w g h m = (n : Text) (r : EnabledRule) → IsRule g n r → DeclaresAlike w g h r (m r)
 

@@ -81,12 +81,14 @@ module _ {A : Type 0} (name : A → Text) (known : Text → Bool) (y : A) (ys : 
       record { before = []; after = ys; split = ap (λ z. z ∷ ys) same; shared = inl (ap (λ z. known (name z)) (sym same) ∙ k) }
   found_at false k e later = found_behind (later e)
 
+-- what the search gives is found: it stands in the list, and its name is known or stands before it
 pub found_known : {A : Type 0} (name : A → Text) (known : Text → Bool) (xs : List A) (x : A)
     → first_known name known xs ≡ Some x → IsFound name known xs x
 found_known name known [] x e = cc
 found_known name known (y ∷ ys) x e =
     found_at name known y ys x (known (name y)) refl e (λ h. found_known name (knowing (name y) known) ys x h)
 
+-- what is found is an element of the list
 pub found_among : {A : Type 0} (name : A → Text) (known : Text → Bool) (xs : List A) (x : A) → IsFound name known xs x → Among xs x
 found_among name known xs x w = subst (λ l. Among l x) (sym w.split) (among_right w.before (x ∷ w.after) x (inl refl))
 

@@ -56,6 +56,7 @@ pub right_alone : (d : DefinedNames) (r : Rule) → HasRightRule d r → HasRigh
 right_alone d r w q (inl e) = subst (HasRightRule d) e w
 right_alone d r w q (inr i) = absurd i
 
+-- a fault that stands in a rule stands in the list of that rule alone
 pub fault_alone : (d : DefinedNames) (r : Rule) (e : NormFault) → TellsOneOf (StandsInRule d r) e
     → TellsOneOf (StandsInRules d (r ∷ [])) e
 fault_alone d r e h = one_of-map (StandsInRule d r) (StandsInRules d (r ∷ [])) (λ f s. (r, inl refl, s)) e h
@@ -67,6 +68,7 @@ twice_stands d r (FoundFault.duplicate n p) h = h
 twice_stands d r (FoundFault.misnamed f) h = absurd h
 twice_stands d r FoundFault.other h = h
 
+-- a name that two parameters of the rule share is a fault that stands in the rule
 pub twice_in_rule : (d : DefinedNames) (r : Rule) (e : NormFault) → TellsOneOf (IsTwiceIn r) e → TellsOneOf (StandsInRule d r) e
 twice_in_rule d r e h = one_of-map (IsTwiceIn r) (StandsInRule d r) (twice_stands d r) e h
 
@@ -75,6 +77,7 @@ listed_stands d r (FoundFault.duplicate n p) h = absurd h
 listed_stands d r (FoundFault.misnamed f) h = h
 listed_stands d r FoundFault.other h = h
 
+-- a fault that is listed for the rule stands in the rule
 pub listed_in_rule : (d : DefinedNames) (r : Rule) (e : NormFault) → TellsOneOf (AmongFaults (name_faults_in_rule d r)) e
     → TellsOneOf (StandsInRule d r) e
 listed_in_rule d r e h = one_of-map (AmongFaults (name_faults_in_rule d r)) (StandsInRule d r) (listed_stands d r) e h

@@ -10,10 +10,12 @@ use Rattle.lalrpop_grammar_language.specs.Enabled.{has_text}
 use Rattle.lalrpop_norm_name_laws.specs.Resolving.{has_any_name, has_parameters}
 use Rattle.lalrpop_norm_names.specs.Searches.{macro_names, plain_names}
 
+-- a truth value is what it is where `false` comes behind it
 pub nothing_more : (b : Bool) → (b || false) ≡ b
 nothing_more true = refl
 nothing_more false = refl
 
+-- of three truth values joined by `||` either two may be joined first
 pub three_ors : (a b c : Bool) → (a || (b || c)) ≡ ((a || b) || c)
 three_ors true b c = refl
 three_ors false b c = refl
@@ -46,6 +48,7 @@ macro_by false r rs = refl
 pub plain_front : (r : Rule) (rs : List Rule) → plain_names (r ∷ rs) ≡ plain_names (r ∷ []) ++ plain_names rs
 plain_front r rs = plain_by (has_parameters r) r (filter (λ q. not (has_parameters q)) rs)
 
+-- the name of the first rule, if it is a macro, stands in front of those of the other macros
 pub macro_front : (r : Rule) (rs : List Rule) → macro_names (r ∷ rs) ≡ macro_names (r ∷ []) ++ macro_names rs
 macro_front r rs = macro_by (has_parameters r) r (filter has_parameters rs)
 
@@ -76,6 +79,7 @@ pub holds_anyway : {T E : Type 0} (r : Result T E) (P : Type 0) → P → OnOk r
 holds_anyway (Ok x) P h = h
 holds_anyway (Err e) P h = tt
 
+-- what follows from what holds where nothing is refused holds there too
 pub holds_where_ok : {T E : Type 0} (r : Result T E) (P Q : Type 0) → (P → Q) → OnOk r P → OnOk r Q
 holds_where_ok (Ok x) P Q to h = to h
 holds_where_ok (Err e) P Q to h = h

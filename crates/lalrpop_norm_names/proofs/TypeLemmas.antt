@@ -16,6 +16,7 @@ joined f (x ∷ xs) ys = ap (λ l. f x ++ l) (joined f xs ys) ∙ sym (append_as
 abbrev pub faults_in_type : DefinedNames → List Text → Ty → List NameFault
 faults_in_type d ps t = name_faults_in d ps (symbols_of_type t)
 
+-- the faults of names in a list of types are those of each type in turn
 pub faults_in_types : (d : DefinedNames) (ps : List Text) (ts : List Ty)
     → name_faults_in d ps (symbols_of_types (tys ts)) ≡ flat_map (faults_in_type d ps) ts
 faults_in_types d ps [] = refl
@@ -23,6 +24,7 @@ faults_in_types d ps (t ∷ ts) =
     joined (own_name_fault d ps) (symbols_of_type t) (symbols_of_types (tys ts))
     ∙ ap (λ l. faults_in_type d ps t ++ l) (faults_in_types d ps ts)
 
+-- names in a list of types are resolved type by type
 pub resolved_types-each : (d : DefinedNames) (ps : List Text) (ts : List Ty)
     → tys (map (resolved_type d ps) ts) ≡ resolved_types d ps (tys ts)
 resolved_types-each d ps [] = refl

@@ -421,6 +421,7 @@ has_key g h f keys w (suc n) (Nonterminal.closed x) (Nonterminal.start m, o, sid
 has_key g h f keys w (suc n) (Nonterminal.closed x) (Nonterminal.closed y, o, side, r, mk, i) =
     w.closed y x o side (has_key g h f keys w n (Nonterminal.closed y) r) mk i
 
+-- each closed symbol in the expansion of a grammar whose macros are expanded is a key
 pub in_keys : (g h : EnabledGrammar) (f : Closed → Text) (keys : List Closed) → IsMacroExpansion g h f keys → (x : Closed) →
     InExpansion g (Nonterminal.closed x) → Among keys x
 in_keys g h f keys w x i = has_key g h f keys w i.0 (Nonterminal.closed x) i.1
@@ -518,6 +519,7 @@ made_there_so g h f keys w (Nonterminal.closed x) o side i m =
               (λ y j. w.closed x y t.0 (map grammar_symbol t.1) k t.2 j) t.3.symbols,
         )
 
+-- the rule that a grammar has by a name bears that name
 pub rule_name : (h : EnabledGrammar) (n : Text) (q : EnabledRule) → IsRule h n q → q.name ≡ n
 rule_name h n q i =
     let w = among_filter (has_name n) h.rules q (subst (λ l. Among l q) (sym i) (inl refl)) in

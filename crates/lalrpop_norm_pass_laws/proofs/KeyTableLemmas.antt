@@ -23,6 +23,7 @@ use Rattle.lalrpop_norm_pass_laws.proofs.KeyRuleLemmas.{expanded, rule_name}
 abbrev nt : Closed → GrammarSymbol Nonterminal
 nt x = GrammarSymbol.nonterminal (Nonterminal.closed x)
 
+-- the nonterminal that a symbol becomes in a right side is one of the keys that stand in the symbol
 pub part_stands : (x y : Closed) → grammar_symbol x ≡ nt y → Among (keys_in x) y
 part_stands (Closed.terminal (Terminal.quoted t)) y e = cc
 part_stands (Closed.terminal (Terminal.regex t)) y e = cc

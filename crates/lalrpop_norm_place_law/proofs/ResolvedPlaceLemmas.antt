@@ -23,6 +23,7 @@ use Rattle.lalrpop_norm_place_law.proofs.ReplacedNameLemmas.{ReplacesNames, Stan
 
 -- resolving, as a change of rules
 
+-- what resolving makes of a rule: names in its declared type and its symbols are resolved, and attributes stay
 abbrev pub name_change : DefinedNames → RuleChange
 name_change d = record {
   declared = λ r. option_map (resolved_type d r.parameters) r.declared;

@@ -36,6 +36,7 @@ closed_ground_type table Closed.lookahead = None
 closed_ground_type table Closed.lookbehind = None
 closed_ground_type table Closed.faulty = None
 
+-- by the table of the rules' types the closed symbol has this type
 abbrev pub HasGroundType : RuleTypes → Closed → GroundType → Type 0
 HasGroundType table x t = closed_ground_type table x ≡ Some t
 

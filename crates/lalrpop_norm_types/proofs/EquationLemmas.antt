@@ -1,6 +1,7 @@
 -- Equations of rules as steps of derivations of types, both ways; for the search for types.
 use Rattle.std.specs.Prelude.{Option, Some, None, option_map, map, filter, length}
-use Rattle.std.proofs.Common.{◌≡◌, ℕ, zero, suc, List, [], ◌∷◌, refl, ap, sym, ◌∙◌, subst, Bool, true, false, cond, inl, inr}
+use Rattle.std.proofs.Common.{◌≡◌, ℕ, zero, suc, List, [], ◌∷◌, refl, ap, sym, ◌∙◌, subst, Bool, true}
+use Rattle.std.proofs.Common.{false, cond, inl, inr}
 use Rattle.lalrpop_grammar_symbols.specs.Symbols.{Text, Terminal, Closed, Closeds, syms}
 use Rattle.lalrpop_grammar.specs.WrittenGrammar.{Action, Alternative, Condition, Grammar, Rule, Ty, rules_of}
 use Rattle.lalrpop_grammar_language.specs.Among.{Among}
@@ -55,6 +56,7 @@ equation_of_rule r None e i =
     (filter (λ (a : Alternative). is_default_action a.action) r.alternatives) e i in
     sym (ap (λ (x : TypeEquation). x.rule) m.2)
 
+-- the rule of a type equation of the grammar is one of its rules
 pub equation_rule : (h : Grammar) (e : TypeEquation) → Among (type_equations h) e → Among (rules_of h.items) e.rule
 equation_rule h e i =
     let m = among_flat_map equations_of_rule (rules_of h.items) e i in

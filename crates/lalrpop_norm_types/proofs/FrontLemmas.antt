@@ -40,6 +40,7 @@ all_count : (xs : List WrittenSymbol) → filter (counts_for false) xs ≡ xs
 all_count [] = refl
 all_count (x ∷ xs) = ap (λ l. x ∷ l) (all_count xs)
 
+-- the symbols that count are the chosen ones where those alone do, and else all
 pub counted_symbols : (b : Bool) (xs : List WrittenSymbol)
     → filter (counts_for b) xs ≡ (if b then filter is_chosen_symbol xs else xs)
 counted_symbols true xs = refl

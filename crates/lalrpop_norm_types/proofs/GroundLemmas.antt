@@ -20,11 +20,13 @@ use Rattle.lalrpop_norm_types.specs.TypesByTable.{symbol_ground_type, symbols_gr
 use Rattle.lalrpop_norm_types.specs.TypesByTable.{written_ground_types}
 use Rattle.lalrpop_norm_types.proofs.FrontLemmas.{counted_symbols}
 
+-- a reference type of the program is seen as one to the seen type
 pub view-ref : (l : Option Text) (m : Bool) (t : TypeRepr) → type_repr_view (types.Ref l m t) ≡ GroundType.ref l m (type_repr_view t)
 view-ref l m t =
     ap type_repr_view (sym (types.rolls-Ref l m t))
     ∙ fold-roll-TypeRepr GroundType GroundType ground_step ground_nominal_step (layer.Ref l m t)
 
+-- a named type of the program is seen with its path and its seen arguments in order
 pub view-nominal : (path : Text) (ts : List TypeRepr)
     → type_repr_view (types.Nominal (roll-NominalTypeRepr (record { path = path; types = ts })))
     ≡ GroundType.nominal path (ground_types (map type_repr_view ts))

@@ -19,6 +19,7 @@ readable g h = record {
   items = each_image (λ _. IsReadableItem) IsReadItem item_view item_read 0 g.items h.items;
 }
 
+-- a grammar that bytes give is one for which the task's reply is promised, whatever the task
 pub grammar_read : (t : Task) (bytes : List ℕ) (g : Grammar) → GivesGrammar bytes (Ok g) → IsGrammarFor t g
 grammar_read tasks.Judge bytes g given = tt
 grammar_read tasks.Tokens bytes g given = readable g (grammar_takes given.0 g given.1.1).1

@@ -29,7 +29,7 @@ IsTaskReply tasks.Parse q g text reply = IsParseReply q g text reply
 abbrev pub IsReplyTo : Question → Grammar → Text → Reply → Type 0
 IsReplyTo q g text reply = IsTaskReply q.task q g text reply
 
--- the grammars for which a task's reply is promised: for `tokens`, `check` and `parse` those that look as one that was read, with any prefix
+-- the grammars for which a task's reply is promised: for `tokens`, `check` and `parse` those that look as one that was read, any prefix
 -- of two or more underscores
 abbrev pub IsGrammarFor : Task → Grammar → Type 0
 IsGrammarFor tasks.Judge g = Unit {0}

@@ -26,6 +26,7 @@ use Rattle.lalrpop_run_answer_laws.specs.NamedGrammars.{StandUnderNames}
 abbrev Entry : Type 0
 Entry = NonterminalString × NonterminalData
 
+-- the names of the entries ascend, and none stands twice
 abbrev pub AreSorted : NonterminalEntries → Type 0
 AreSorted es = IsStrictlySortedBy (names.ghosts).cmp (keys_of es)
 
@@ -102,6 +103,7 @@ steps_own (n ∷ ns) es after actions actions_after h own =
     steps_own ns h.0 after h.1 actions_after h.3
     (subst StandUnderNames (sym h.2.entries_are) (entries_own n (productions_named es n) es (length actions) own))
 
+-- after steps of inlining the names of the entries still ascend
 pub steps_sorted : (ns : List Text) (es after : NonterminalEntries) (actions actions_after : List ActionFnDefn) →
     AreInlineSteps ns es actions after actions_after → AreSorted es → AreSorted after
 steps_sorted [] es after actions actions_after h sorted = subst AreSorted (sym h.0) sorted

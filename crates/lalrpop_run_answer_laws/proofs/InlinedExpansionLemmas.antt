@@ -81,6 +81,7 @@ pub record IsSeen (es : NonterminalEntries) (p : theory.Production) : Type 0 whe
   pub in_entry : Among entry.1.productions production
   pub seen_is : production_view production ≡ p
 
+-- what the theory sees of entries it sees of some production that stands in one of them
 pub is_seen : (es : NonterminalEntries) (p : theory.Production) → Contains (seen_in es) p → IsSeen es p
 is_seen es p c =
     let u = among_map production_view (flat_map (λ (d : NonterminalString × NonterminalData). d.1.productions) es) p

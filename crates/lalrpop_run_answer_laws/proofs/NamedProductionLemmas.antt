@@ -56,6 +56,7 @@ production_entry es q i =
     let v = among_map named_production u.0.1.productions q u.2 in
     (u.0, v.0, u.1, v.1, v.2)
 
+-- a production that stands in an entry is, under its name, one of the grammar's productions
 pub entry_production : (es : NonterminalEntries) (e : NonterminalString × NonterminalData) (p : Production) → Among es e →
     Among e.1.productions p → Among (named_productions es) (named_production p)
 entry_production es e p i j =

@@ -12,9 +12,11 @@ use Rattle.lalrpop_lr1_theory.specs.Trees.{nodes, yield}
 use Rattle.lalrpop_lr1_theory.specs.Spans.{SpannedForest, none_at, leaf_at, node_at, leaf_spans, without_spans}
 use Rattle.lalrpop_run_answers.specs.ExpansionTrees.{trees_by_labels, expanded_sizes}
 
+-- the terminals of tokens, in their order
 abbrev pub token_terminals : List Token → List Terminal
 token_terminals tokens = map (λ (k : Token). k.terminal) tokens
 
+-- the spans of tokens, in their order
 abbrev pub token_spans : List Token → List TextSpan
 token_spans tokens = map (λ (k : Token). k.span) tokens
 

@@ -42,7 +42,8 @@ pub record IsPreparedFor (q : Question) (g : Grammar) (v : PreparedGrammar) : Ty
 -- canonical states of that, in their order, a certificate of it is told, its trees unfolded to written ones. That memory ran out is no such
 -- reason.
 pub data IsNoParserReply (q : Question) (g : Grammar) (reply : Reply) : Type 0 where
-  refused : (error : GenerateError) → error ≢ errors.Memory → IsRefusedFor q (grammar_view g) error → reply ≡ replies.Refused error
+  refused : (error : GenerateError) → error ≢ errors.Memory → IsRefusedFor q (grammar_view g) error →
+      reply ≡ replies.Refused error
       → IsNoParserReply q g reply
   conflicting : (v : PreparedGrammar) (certificates : List Certificate) (shown : Vec WrittenConflict Global) → IsPreparedFor q g v
       → HasConflicts v certificates → AreWrittenConflicts v certificates shown.items → reply ≡ replies.Conflicts shown

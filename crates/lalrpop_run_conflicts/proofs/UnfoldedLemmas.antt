@@ -1,5 +1,6 @@
 -- One conflict more that is told with its written trees, and certificates of a prepared grammar's conflicts have trees to tell.
-use Rattle.std.proofs.Common.{◌≡◌, ◌∙◌, ◌+◌, ◌++◌, ◌∷◌, ◌⊎◌, ℕ, List, [], length, length-append, inl, inr, Some, ap, arith, subst, sym}
+use Rattle.std.proofs.Common.{◌≡◌, ◌∙◌, ◌+◌, ◌++◌, ◌∷◌, ◌⊎◌, ℕ, List, [], length}
+use Rattle.std.proofs.Common.{length-append, inl, inr, Some, ap, arith, subst, sym}
 use Rattle.std.proofs.lemmas.Option.{slice_get_within}
 use Rattle.std.specs.Prelude.{slice_get}
 use Rattle.lalrpop_grammar.specs.Views.{grammar_view}
@@ -15,6 +16,7 @@ use Rattle.lalrpop_norm_expansion.specs.Premises.{IsReadGrammar}
 use Rattle.lalrpop_run_fold.specs.PassedOn.{PreparedGrammar}
 use Rattle.lalrpop_run_witness.specs.Witnesses.{AreWitnessesOf}
 
+-- the written conflicts of the first certificates, with the next one's behind them, are those of one more
 pub written_more : (v : PreparedGrammar) (certificates : List Certificate) (n : ℕ) (old new : List WrittenConflict) (c : Certificate)
     (it : WrittenConflict) → AreWrittenOf v certificates n old → slice_get certificates n ≡ Some c →
     IsWrittenConflict v (certificate_view c) it → new ≡ old ++ it ∷ [] → AreWrittenOf v certificates (n + 1) new

@@ -1,5 +1,6 @@
 -- The written trees that stand after some steps of unfolding, and that by the trees still to come they come to the whole: for unfolding.
-use Rattle.std.proofs.Common.{◌≡◌, ◌∙◌, ◌+◌, ◌-◌, ◌<◌, ◌≤◌, ℕ, List, [], ◌∷◌, ◌++◌, length, length-append, map, refl, ap, ap₂, sym}
+use Rattle.std.proofs.Common.{◌≡◌, ◌∙◌, ◌+◌, ◌-◌, ◌<◌, ◌≤◌, ℕ, List, [], ◌∷◌, ◌++◌}
+use Rattle.std.proofs.Common.{length, length-append, map, refl, ap, ap₂, sym}
 use Rattle.std.proofs.Common.{add-one, append_assoc, arith, drop, drop-cons, get_or, subst, take}
 use Rattle.std.specs.Prelude.{flat_map}
 use Rattle.std.proofs.Math.Seq.{drop-append_seam, take-append_seam}
@@ -117,7 +118,8 @@ module _ (actions : List ActionFnDefn) (origins : List choices.Origin) where
       comes : ComesTo (single_trees whole) coming standing
       count : length made ≡ length standing
       told : (label_of : ℕ → ChoiceLabel) → AreTold label_of whole → IsEachTold label_of coming
-      shown : (label_of : ℕ → ChoiceLabel) → AreTold label_of whole → map tree_view made ≡ flat_map (shown_trees label_of) standing
+      shown : (label_of : ℕ → ChoiceLabel) → AreTold label_of whole →
+          map tree_view made ≡ flat_map (shown_trees label_of) standing
 
     -- nothing yet
     pub built_none : (order : List SpannedForest) → order ≡ post_ordered whole → AreBuilt order []
@@ -147,7 +149,8 @@ module _ (actions : List ActionFnDefn) (origins : List choices.Origin) where
 
     -- and it is put in their place
     pub built_more : (v : SpannedForest) (coming : List SpannedForest) (made front back more : List WrittenTree) (m : WrittenTree)
-        (k : ℕ) → k ≡ length made - length (roots (without_spans (root_children v))) → front ≡ take k made → back ≡ drop k made →
+        (k : ℕ) → k ≡ length made - length (roots (without_spans (root_children v))) → front ≡ take k made →
+        back ≡ drop k made →
         more ≡ front ++ m ∷ [] →
         ((label_of : ℕ → ChoiceLabel) → AreTold label_of v → map tree_view back ≡ shown_trees label_of (root_children v) →
         tree_view m ∷ [] ≡ shown_trees label_of v) →
@@ -186,7 +189,8 @@ module _ (actions : List ActionFnDefn) (origins : List choices.Origin) where
         }
 
     -- at the end one tree stands, the whole
-    pub built_one : (made : List WrittenTree) → length made ≡ 0 → AreBuilt [] made → length (roots (without_spans whole)) ≡ 1 → ⊥
+    pub built_one : (made : List WrittenTree) → length made ≡ 0 → AreBuilt [] made →
+        length (roots (without_spans whole)) ≡ 1 → ⊥
     built_one made e b one = omega (arith, e, b.count, ap length b.comes, single_count whole, one)
 
     pub built_all : (made rest : List WrittenTree) (m : WrittenTree) → made ≡ rest ++ m ∷ [] → AreBuilt [] made →

@@ -1,5 +1,5 @@
--- Trees over the productions of an expansion have written trees that fit: at each node the children of each choice are those that the choice
--- takes apart. So what folding looks for, it can find.
+-- Trees over the productions of an expansion have written trees that fit: at each node the children of each choice are those that
+-- the choice takes apart. So what folding looks for, it can find.
 use Rattle.std.proofs.Common.{◌≡◌, ◌+◌, ◌⊎◌, List, [], ◌∷◌, ◌++◌, refl, ap, sym, ◌∙◌, subst, inl, inr}
 use Rattle.lalrpop_grammar.specs.Trees.{Tree, Trees, trees}
 use Rattle.lalrpop_grammar.specs.WrittenGrammar.{Origin}
@@ -63,8 +63,13 @@ none_fits side us e h = subst (λ s. FitSide s us) e h
 two_fit : (p q : GrammarSymbol Nonterminal) (side : RightSide) (us : List Tree) → side ≡ p ∷ q ∷ [] → FitSide side us →
     (u : Tree) × (v : Tree) × (us ≡ u ∷ v ∷ []) × FitsSymbol p u
 two_fit p q side us e h =
-    let k : FitSide (p ∷ q ∷ []) us = subst (λ s. FitSide s us) e h in
-    (k.first, k.rest.first, k.trees_are ∙ ap (λ l. k.first ∷ l) (k.rest.trees_are ∙ ap (λ l. k.rest.first ∷ l) k.rest.rest), k.fits)
+    let k : FitSide (p ∷ q ∷ []) us = subst (λ s. FitSide s us) e h in (
+      k.first,
+      k.rest.first,
+      k.trees_are ∙ ap (λ l. k.first ∷ l)
+          (k.rest.trees_are ∙ ap (λ l. k.rest.first ∷ l) k.rest.rest),
+      k.fits,
+    )
 
 -- what a choice says of trees that fit its right side
 abbrev ChoiceFits : Nonterminal → Origin → List Tree → Type 0
@@ -72,7 +77,8 @@ ChoiceFits x o us =
     AreChildrenBy o (tree_by_origin o (trees us)) us × FitsSymbol (GrammarSymbol.nonterminal x) (tree_by_origin o (trees us))
 
 -- for a nonterminal that isn't `X+`
-unrepeated : (x : Nonterminal) (o : Origin) (us : List Tree) → (IsRepeated x → ⊥) → AreChildrenBy o (tree_by_origin o (trees us)) us →
+unrepeated : (x : Nonterminal) (o : Origin) (us : List Tree) → (IsRepeated x → ⊥) →
+    AreChildrenBy o (tree_by_origin o (trees us)) us →
     ChoiceFits x o us
 unrepeated x o us isnt h = (h, λ r. absurd (isnt r))
 

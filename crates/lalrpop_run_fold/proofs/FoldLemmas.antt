@@ -1,5 +1,6 @@
 -- Trees to which written trees are folded, put together and taken apart: for the search.
-use Rattle.std.proofs.Common.{◌≡◌, ◌+◌, ◌<◌, ◌≤◌, ◌⊎◌, ℕ, zero, suc, List, [], ◌∷◌, ◌++◌, Bool, true, false, length, refl, ap, ap₂, sym, ◌∙◌}
+use Rattle.std.proofs.Common.{◌≡◌, ◌+◌, ◌<◌, ◌≤◌, ◌⊎◌, ℕ, zero, suc, List, [], ◌∷◌, ◌++◌}
+use Rattle.std.proofs.Common.{Bool, true, false, length, refl, ap, ap₂, sym, ◌∙◌}
 use Rattle.std.proofs.Common.{arith, subst, inl, inr, map}
 use Rattle.std.specs.Prelude.{drop}
 use Rattle.std.proofs.lemmas.Bool.{true≢false}
@@ -209,7 +210,8 @@ module _ (G : Production → Type 0) (label_of : ℕ → ChoiceLabel) where
           are_of = (
             [],
             ap (λ z. shown_part z ∷ []) (sym here.0)
-                ∙ ap (λ z. z ∷ []) (same_trees (shown_part p) (Tree.terminal (leaf_token t span)) (map shown_part qs) h.are_of.0 h.are_of.1).0,
+                ∙ ap (λ z. z ∷ []) (same_trees (shown_part p) (Tree.terminal (leaf_token t span))
+                (map shown_part qs) h.are_of.0 h.are_of.1).0,
             refl,
           );
         };
@@ -265,7 +267,8 @@ module _ (G : Production → Type 0) (label_of : ℕ → ChoiceLabel) where
   -- where of one part there is no tree, there are none of all
   pub none_at_place : (most : ℕ) (side : List Symbol) (qs : List TreePart) (i : ℕ) (s : Symbol) (q : TreePart) (ss : List Symbol)
       (rest : List TreePart) → drop i side ≡ s ∷ ss → drop i qs ≡ q ∷ rest →
-      ((t : SpannedForest) → AreFoldedTo G label_of (s ∷ []) (shown_part q ∷ []) t → AreRankedUnder label_of most (q ∷ []) t → ⊥) →
+      ((t : SpannedForest) → AreFoldedTo G label_of (s ∷ []) (shown_part q ∷ []) t →
+      AreRankedUnder label_of most (q ∷ []) t → ⊥) →
       (ts : SpannedForest) → AreFoldedTo G label_of side (map shown_part qs) ts → AreRankedUnder label_of most qs ts → ⊥
   none_at_place most side qs i s q ss rest e f without ts h r =
       let a = folded_at most ts side qs i s q ss rest e f h r in without a.tree a.folded a.ranked
@@ -285,7 +288,8 @@ module _ (G : Production → Type 0) (label_of : ℕ → ChoiceLabel) where
       let k : IsLower G label_of rank (nonterminal p.left) = subst (λ x. IsLower G label_of rank x) (sym e) h in k p belongs refl
 
   pub ranked_under : (whole : TreePart) (rank most : ℕ) (side : List Symbol) (qs : List TreePart) (ts : SpannedForest) →
-      whole.is_inside ≡ false → rank ≤ most → AllWithin whole qs → FallsAlong G label_of rank (shown_part whole) side (map shown_part qs) →
+      whole.is_inside ≡ false → rank ≤ most → AllWithin whole qs →
+      FallsAlong G label_of rank (shown_part whole) side (map shown_part qs) →
       roots (without_spans ts) ≡ side → AreOver G (without_spans ts) → AreRankedUnder label_of most qs ts
   ranked_under whole rank most side [] none_at outside le within falls e o = tt
   ranked_under whole rank most side [] (leaf_at t span ts) outside le within falls e o = tt

@@ -1,11 +1,13 @@
 -- Measures of a search in a written tree: a part has less to search than the whole; so that the search ends.
-use Rattle.std.proofs.Common.{◌≡◌, ◌+◌, ◌*◌, ◌<◌, ◌≤◌, ◌⊎◌, ℕ, zero, suc, List, [], ◌∷◌, Bool, true, false, cond, refl, ap, sym, ◌∙◌, arith}
+use Rattle.std.proofs.Common.{◌≡◌, ◌+◌, ◌*◌, ◌<◌, ◌≤◌, ◌⊎◌, ℕ, zero, suc, List, [], ◌∷◌}
+use Rattle.std.proofs.Common.{Bool, true, false, cond, refl, ap, sym, ◌∙◌, arith}
 use Rattle.std.proofs.Common.{subst, inl, inr}
 use Rattle.std.specs.Prelude.{drop, max}
 use Rattle.lalrpop_run_parts.specs.PartViews.{AllWithin, IsInside, shown_part}
 use Rattle.lalrpop_run_parts.specs.TreeSizes.{tree_size}
 use Rattle.lalrpop_run_parts.specs.declared.tree_part.TreePart.{TreePart}
 
+-- how many trees stand in a part, each counted more than what passing an inner part down counts
 abbrev pub size_measure : TreePart → ℕ
 size_measure q = tree_size (shown_part q) * 68719476736
 
@@ -18,6 +20,7 @@ abbrev pub parts_measure : List TreePart → ℕ → ℕ
 parts_measure [] passes = 0
 parts_measure (q ∷ qs) passes = max (part_measure q passes) (parts_measure qs passes)
 
+-- no part of a list measures more than the most that is left of its parts
 pub part_below : (qs rest : List TreePart) (i : ℕ) (q : TreePart) (passes : ℕ) → drop i qs ≡ q ∷ rest →
     part_measure q passes ≤ parts_measure qs passes
 part_below [] rest zero q passes e = absurd (cc)
@@ -40,6 +43,7 @@ within_part whole q passes outside (inl same) =
     omega (arith, equal, outside_measure whole passes outside)
 within_part whole q passes outside (inr inside) = omega (arith, inside.smaller, inside_measure q passes inside.marked)
 
+-- parts that lie within the whole measure no more than the whole does
 pub within_measure : (whole : TreePart) (qs : List TreePart) (passes : ℕ) → whole.is_inside ≡ false → AllWithin whole qs →
     parts_measure qs passes ≤ size_measure whole + 8 * passes
 within_measure whole [] passes outside h = omega arith

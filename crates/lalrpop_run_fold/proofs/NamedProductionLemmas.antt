@@ -29,7 +29,8 @@ module _ (g : Grammar) (named : HasNamedProductions g) where
   found_named n p None e c = absurd (no_element p c)
   found_named n p (Some d) e c =
       let there = entry_found g.nonterminals n d e in (
-        flat_has (λ (x : NonterminalString × NonterminalData). x.1.productions) g.nonterminals (n, d) p (among_contained g.nonterminals (n, d) there)
+        flat_has (λ (x : NonterminalString × NonterminalData). x.1.productions) g.nonterminals (n, d) p
+            (among_contained g.nonterminals (n, d) there)
             c,
         named.under (n, d) p there (contained_among d.productions p c),
       )

@@ -1,5 +1,6 @@
 -- What stands in trees, each leaf and node after those below it, and the trees that are still pending: for the walk of unfolding.
-use Rattle.std.proofs.Common.{◌≡◌, ◌∙◌, ◌+◌, ◌<◌, ◌≤◌, ℕ, zero, suc, List, [], ◌∷◌, ◌++◌, length, refl, reverse, ap, sym}
+use Rattle.std.proofs.Common.{◌≡◌, ◌∙◌, ◌+◌, ◌<◌, ◌≤◌, ℕ, zero, suc, List, [], ◌∷◌, ◌++◌}
+use Rattle.std.proofs.Common.{length, refl, reverse, ap, sym}
 use Rattle.std.proofs.Common.{append_assoc, arith, get_or, take}
 use Rattle.std.specs.Prelude.{Some, flat_map, slice_get}
 use Rattle.std.proofs.lemmas.List.{append-nil, map-append, reverse-append, take_all, take_more}

@@ -1,5 +1,6 @@
--- Where a production of an expansion passes a tree down as it is, ranks fall, and none is greater than that of a start; so that folding ends.
-use Rattle.std.proofs.Common.{◌≡◌, ◌+◌, ◌-◌, ◌*◌, ◌⊎◌, ◌<◌, ◌≤◌, ℕ, suc, List, [], ◌∷◌, ◌++◌, refl, ap, sym, ◌∙◌, arith, subst, inl, inr}
+-- Where a production of an expansion passes a tree down as it is, ranks fall, and none is greater than a start's: so that folding ends.
+use Rattle.std.proofs.Common.{◌≡◌, ◌+◌, ◌-◌, ◌*◌, ◌⊎◌, ◌<◌, ◌≤◌, ℕ, suc, List, []}
+use Rattle.std.proofs.Common.{◌∷◌, ◌++◌, refl, ap, sym, ◌∙◌, arith, subst, inl, inr}
 use Rattle.std.proofs.Common.{Some, None, true, false, cond, Bool, length, length-append}
 use Rattle.std.specs.Prelude.{Option, codes, filter, map, max, min, nat_le, nat_lt, option_and_then, option_map, if◌then◌else◌}
 use Rattle.lalrpop_grammar.specs.Trees.{Tree, Trees, trees}
@@ -10,7 +11,8 @@ use Rattle.lalrpop_grammar_language.specs.Expansion.{GrammarSymbol, InExpansion,
 use Rattle.lalrpop_grammar_language.specs.Admitting.{argument_list}
 use Rattle.std.specs.List.{cons_option, filter_map}
 use Rattle.std.proofs.lemmas.Bool.{leb-false, leb-true, ltb-true}
-use Rattle.lalrpop_grammar_language.specs.Levels.{Assoc, Rank, digits, first_attr, greatest, has_levels, larger, level_in, level_of, loosest}
+use Rattle.lalrpop_grammar_language.specs.Levels.{Assoc, Rank, digits, first_attr, greatest, has_levels, larger, level_in}
+use Rattle.lalrpop_grammar_language.specs.Levels.{level_of, loosest}
 use Rattle.lalrpop_grammar_language.specs.Levels.{levels, ranked_choices, value_of}
 use Rattle.lalrpop_grammar_language.specs.Levels.{rank_after, tighter, with_ranks, written_assoc, written_level}
 use Rattle.lalrpop_grammar_language.specs.Among.{Among}
@@ -45,6 +47,7 @@ rank_bound (Nonterminal.closed Closed.lookahead) = omega arith
 rank_bound (Nonterminal.closed Closed.lookbehind) = omega arith
 rank_bound (Nonterminal.closed Closed.faulty) = omega arith
 
+-- no label has a rank above this number: so that folding ends
 pub label_bound : (label : ChoiceLabel) → label_rank label ≤ 4294967298
 label_bound (Label.choose x o inlinings) = rank_bound x
 
@@ -144,7 +147,8 @@ greatest_among (n ∷ ns) m e = go (greatest ns) refl e (λ b f. greatest_among 
     some_same : (x y : ℕ) → ◌≡◌ {A = Option ℕ} (Some x) (Some y) → x ≡ y
     some_same x y k = cc
 
-    go : (o : Option ℕ) → greatest ns ≡ o → larger n o ≡ Some m → ((b : ℕ) → greatest ns ≡ Some b → Among ns b) → Among (n ∷ ns) m
+    go : (o : Option ℕ) → greatest ns ≡ o → larger n o ≡ Some m → ((b : ℕ) → greatest ns ≡ Some b → Among ns b) →
+        Among (n ∷ ns) m
     go None f k later = inl (some_same n m k)
     go (Some b) f k later = either (nat_le b n) refl
       where
@@ -203,7 +207,8 @@ start_lower (Some l) n = omega arith
 by_choice : {o p : Origin} (t : Tree) (us : List Tree) → o ≡ p → AreChildrenBy o t us → AreChildrenBy p t us
 by_choice t us e h = subst (λ c. AreChildrenBy c t us) e h
 
-more_lower : (rank : ℕ) (t : Tree) (side : RightSide) (us front : List Tree) (v : Tree) → us ≡ Tree.list (trees front) ∷ v ∷ [] →
+more_lower : (rank : ℕ) (t : Tree) (side : RightSide) (us front : List Tree) (v : Tree) →
+    us ≡ Tree.list (trees front) ∷ v ∷ [] →
     t ≡ Tree.list (trees (front ++ v ∷ [])) → AreLower rank (tree_size t) side us
 more_lower rank t side us front v e f = subst (λ l. AreLower rank (tree_size t) side l) (sym e) (each side)
   where
@@ -257,7 +262,8 @@ module _ (g : EnabledGrammar) (places : TellPlaces g) where
   children_lower (Nonterminal.closed Closed.faulty) o side t us m h = absurd m
 
   -- smaller ones don't come to the size
-  small_fall : (rank size : ℕ) (side : RightSide) (us : List Tree) (n : ℕ) → AllAtMost n us → n < size → FallBySize rank size side us
+  small_fall : (rank size : ℕ) (side : RightSide) (us : List Tree) (n : ℕ) → AllAtMost n us → n < size →
+      FallBySize rank size side us
   small_fall rank size [] us n h less = tt
   small_fall rank size (p ∷ side) [] n h less = tt
   small_fall rank size (p ∷ side) (u ∷ us) n h less =
@@ -267,7 +273,8 @@ module _ (g : EnabledGrammar) (places : TellPlaces g) where
   lower_symbol (GrammarSymbol.terminal z) r s less h = absurd h
   lower_symbol (GrammarSymbol.nonterminal y) r s less h = omega (arith, less, h)
 
-  lower_fall : (r s m n : ℕ) (side : RightSide) (us : List Tree) → r < s → m ≤ n → FallBySize r m side us → FallBySize s n side us
+  lower_fall : (r s m n : ℕ) (side : RightSide) (us : List Tree) → r < s → m ≤ n → FallBySize r m side us →
+      FallBySize s n side us
   lower_fall r s m n [] us less le h = tt
   lower_fall r s m n (p ∷ side) [] less le h = tt
   lower_fall r s m n (p ∷ side) (u ∷ us) less le h =

@@ -1,5 +1,6 @@
 -- What one production, all of a nonterminal, and one part after the other say of the trees to which a part is folded; for the search.
-use Rattle.std.proofs.Common.{◌≡◌, ◌∙◌, ◌+◌, ◌-◌, ◌<◌, ◌≤◌, ◌⊎◌, ℕ, zero, suc, List, [], ◌∷◌, ◌++◌, true, false, length, refl, ap, ap₂, sym, arith}
+use Rattle.std.proofs.Common.{◌≡◌, ◌∙◌, ◌+◌, ◌-◌, ◌<◌, ◌≤◌, ◌⊎◌, ℕ, zero, suc, List, []}
+use Rattle.std.proofs.Common.{◌∷◌, ◌++◌, true, false, length, refl, ap, ap₂, sym, arith}
 use Rattle.std.proofs.Common.{subst, inl, inr, map, take, drop, Contains}
 use Rattle.std.specs.Prelude.{None, Option, Some}
 use Rattle.std.proofs.lemmas.Bool.{true≢false}
@@ -66,7 +67,8 @@ module _ (g : Grammar) (origins : List choices.Origin) (label_of : ℕ → Choic
   pub none_by_parts : (p : theory.Production) (q whole : TreePart) (parts : List TreePart) (most : ℕ) →
       shown_part whole ≡ shown_part q → whole.is_inside ≡ false → AllWithin whole parts →
       AreKeptBy (label_of p.action) (shown_part whole) (map shown_part parts) →
-      ((ts : SpannedForest) → AreFoldedTo G label_of p.right (map shown_part parts) ts → AreRankedUnder label_of most parts ts → ⊥) →
+      ((ts : SpannedForest) → AreFoldedTo G label_of p.right (map shown_part parts) ts →
+      AreRankedUnder label_of most parts ts → ⊥) →
       TellsFoldedBy G label_of p q most None
   none_by_parts p q whole parts most same outside within are none = λ cs h low.
       let n = node_parts G label_of p (shown_part q) cs h in
@@ -80,7 +82,8 @@ module _ (g : Grammar) (origins : List choices.Origin) (label_of : ℕ → Choic
 
   -- of a nonterminal: none, where none of its productions has one
   pub none_of_name : (name : NonterminalString) (q : TreePart) (most : ℕ) (ps : List Production) →
-      ps ≡ productions_of g.nonterminals name → ((p : Production) → Contains ps p → TellsFoldedBy G label_of (production_view p) q most None) →
+      ps ≡ productions_of g.nonterminals name →
+      ((p : Production) → Contains ps p → TellsFoldedBy G label_of (production_view p) q most None) →
       TellsFolded G label_of (theory.nonterminal name.0) q most None
   none_of_name name q most ps ps_are none = λ ts h low.
       let n = node_only G label_of name.0 (shown_part q) ts h in
@@ -89,7 +92,8 @@ module _ (g : Grammar) (origins : List choices.Origin) (label_of : ℕ → Choic
       let node : ts ≡ node_at (production_view m.0) n.children none_at =
       n.is_node ∙ ap (λ p. node_at p n.children none_at) (sym m.2) in
       none m.0 (subst (λ l. Contains l m.0) (sym ps_are) m.1) n.children
-      (subst (λ s. AreFoldedTo G label_of (theory.nonterminal s ∷ []) (shown_part q ∷ []) (node_at (production_view m.0) n.children none_at))
+      (subst (λ s. AreFoldedTo G label_of (theory.nonterminal s ∷ []) (shown_part q ∷ [])
+      (node_at (production_view m.0) n.children none_at))
       (sym n.left_is ∙ ap (λ p. p.left) (sym m.2))
       (subst (λ x. AreFoldedTo G label_of (theory.nonterminal name.0 ∷ []) (shown_part q ∷ []) x) node h))
       (subst (λ x. IsRankedWithin label_of most x) node low)
@@ -128,7 +132,8 @@ module _ (G : theory.Production → Type 0) (label_of : ℕ → ChoiceLabel) (s 
   pub part_spent : (most : ℕ) → q.is_inside ≡ false → most ≡ 0 → TellsPartFolded G label_of s q most None
   part_spent most out e = λ ts folded low. go ts folded low
     where
-      go : (ts : SpannedForest) → AreFoldedTo G label_of (s ∷ []) (shown_part q ∷ []) ts → AreRankedUnder label_of most (q ∷ []) ts →
+      go : (ts : SpannedForest) → AreFoldedTo G label_of (s ∷ []) (shown_part q ∷ []) ts →
+          AreRankedUnder label_of most (q ∷ []) ts →
           ⊥
       go none_at folded low = absurd (no_one folded.roots_are)
         where
@@ -164,7 +169,8 @@ one_more_none G label_of ps i q part most next before one p c = go (one_or_more 
 
 -- one more of the parts
 module _ (G : theory.Production → Type 0) (label_of : ℕ → ChoiceLabel) where
-  pub parts_more : (side : List theory.Symbol) (qs : List TreePart) (i : ℕ) (s : theory.Symbol) (q : TreePart) (made new : List ExpandedTree)
+  pub parts_more : (side : List theory.Symbol) (qs : List TreePart) (i : ℕ) (s : theory.Symbol) (q : TreePart)
+      (made new : List ExpandedTree)
       (tree : ExpandedTree) → take (i + 1) side ≡ take i side ++ s ∷ [] → take (i + 1) qs ≡ take i qs ++ q ∷ [] →
       new ≡ made ++ tree ∷ [] → AreFoldedTo G label_of (take i side) (map shown_part (take i qs)) (expanded_views made) →
       AreFoldedTo G label_of (s ∷ []) (shown_part q ∷ []) (expanded_view tree) →

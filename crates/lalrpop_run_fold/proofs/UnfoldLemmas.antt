@@ -1,5 +1,6 @@
 -- Trees over productions from their roots down, and the written trees that are shown of them; for unfolding.
-use Rattle.std.proofs.Common.{◌≡◌, ◌∙◌, ◌<◌, ℕ, zero, suc, List, [], ◌∷◌, length, refl, ap, ap₂, sym, arith, subst, map}
+use Rattle.std.proofs.Common.{◌≡◌, ◌∙◌, ◌<◌, ℕ, zero, suc, List, [], ◌∷◌, length, refl, ap, ap₂, sym}
+use Rattle.std.proofs.Common.{arith, subst, map}
 use Rattle.std.specs.Prelude.{None, Option, Some, flat_map}
 use Rattle.std.proofs.lemmas.List.{append-nil}
 use Rattle.std.proofs.lemmas.Grind.{flat_map-append}
@@ -23,9 +24,11 @@ use Rattle.lalrpop_run_parts.specs.KeptTrees.{forest_tokens}
 abbrev IsAlone : SpannedForest → Type 0
 IsAlone v = length (roots (without_spans v)) ≡ 1
 
+-- an expanded tree is seen as one tree alone
 pub alone : (t : ExpandedTree) → IsAlone (expanded_view t)
 alone t = views_long (t ∷ [])
 
+-- trees over productions that have no root are none
 pub no_more : (ts : SpannedForest) → length (roots (without_spans ts)) ≡ 0 → ts ≡ none_at
 no_more none_at e = refl
 no_more (leaf_at t span ts) e = absurd (omega (arith, e))

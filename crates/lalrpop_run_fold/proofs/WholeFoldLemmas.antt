@@ -1,5 +1,6 @@
 -- What folding and unfolding say of whole trees from the start of a prepared grammar; for their contracts.
-use Rattle.std.proofs.Common.{◌≡◌, ◌∙◌, ◌+◌, ℕ, List, [], ◌∷◌, ◌++◌, length, refl, ap, ap₂, sym, arith, subst, map, inl, inr, Contains}
+use Rattle.std.proofs.Common.{◌≡◌, ◌∙◌, ◌+◌, ℕ, List, [], ◌∷◌, ◌++◌, length, refl, ap, ap₂, sym}
+use Rattle.std.proofs.Common.{arith, subst, map, inl, inr, Contains}
 use Rattle.std.specs.Prelude.{Err, IfOk, None, Ok, Option, Result, Some, flat_map}
 use Rattle.std.proofs.lemmas.List.{append-nil, map-append}
 use Rattle.std.proofs.lemmas.Simd.{map-map}
@@ -55,7 +56,8 @@ use Rattle.lalrpop_run_fold.proofs.SearchLemmas.{ranked_any}
 use Rattle.lalrpop_run_fold.proofs.UnfoldLemmas.{shown_already, shown_part_of}
 
 -- what holds of each production of a grammar holds over trees over it
-over_each : (G H : theory.Production → Type 0) → ((p : theory.Production) → G p → H p) → (ts : Forest) → AreOver G ts → AreOver H ts
+over_each : (G H : theory.Production → Type 0) → ((p : theory.Production) → G p → H p) → (ts : Forest) →
+    AreOver G ts → AreOver H ts
 over_each G H f none h = h
 over_each G H f (leaf t ts) h = over_each G H f ts h
 over_each G H f (node p cs ts) h = (f p h.0, h.1, over_each G H f cs h.2, over_each G H f ts h.3)
@@ -84,7 +86,8 @@ one_shown (v ∷ w ∷ l) e = absurd (omega (arith, e))
 head_same : (x y : Tree) → x ∷ [] ≡ y ∷ [] → x ≡ y
 head_same x y e = cc
 
-module _ (forests : ForestsAreAdmitted) (v : PreparedGrammar) (read : IsReadGrammar (grammar_view v.written)) (p : IsPrepared finds is_too_deep v)
+module _ (forests : ForestsAreAdmitted) (v : PreparedGrammar) (read : IsReadGrammar (grammar_view v.written))
+    (p : IsPrepared finds is_too_deep v)
     (told : AreToldExpansion (enabled_grammar finds v.session.features.items (grammar_view v.written)) v.written.prefix
     v.expansion.action_fn_defns v.origins (theory_grammar v.expansion)) where
   abbrev w : Grammar
@@ -228,7 +231,8 @@ module _ (forests : ForestsAreAdmitted) (v : PreparedGrammar) (read : IsReadGram
   -- and where none was
   pub none_told : AdmittedHaveForests → (g : repr.Grammar) (origins : List choices.Origin) (name : NonterminalString) (q : TreePart)
       (t : Tree) → g ≡ v.expansion → origins ≡ v.origins → name ≡ v.start_name → TellsSearch g origins name q None →
-      shown_part q ≡ with_shown t → v.start_name.0 ≡ v.written.prefix ++ v.start → HasNamedProductions v.expansion → AdmitsFrom finds features w v.start t (leaves t) → ⊥
+      shown_part q ≡ with_shown t → v.start_name.0 ≡ v.written.prefix ++ v.start → HasNamedProductions v.expansion →
+      AdmitsFrom finds features w v.start t (leaves t) → ⊥
   none_told have g origins name q t grammar_is origins_are name_is h shown prefixed named =
       let own = told_own g origins name q None grammar_is origins_are name_is h label_of (foldable named) in
       none_admitted have t prefixed
@@ -251,7 +255,8 @@ AreToldOf v =
     v.expansion.action_fn_defns v.origins (theory_grammar v.expansion)
 
 -- what is unfolded, by the trees that were made for any labels that the actions tell
-pub unfold_told : ForestsAreAdmitted → (v : PreparedGrammar) → IsReadGrammar (grammar_view v.written) → IsPrepared finds is_too_deep v →
+pub unfold_told : ForestsAreAdmitted → (v : PreparedGrammar) → IsReadGrammar (grammar_view v.written) →
+    IsPrepared finds is_too_deep v →
     (actions : List ActionFnDefn) (origins : List choices.Origin) → actions ≡ v.expansion.action_fn_defns → origins ≡ v.origins →
     v.start_name.0 ≡ v.written.prefix ++ v.start → (ts : SpannedForest) →
     IsTreeOf (Contains (theory_grammar v.expansion)) v.start_name.0 (without_spans ts) → {E : Type 0} (r : Result WrittenTree E) →

@@ -1,5 +1,6 @@
 -- What productions have to be, so that a search for the trees to which written trees are folded finds them, and what the search tells.
-use Rattle.std.specs.Prelude.{◌≡◌, ◌↔◌, ◌<◌, ◌≤◌, ℕ, List, [], ◌∷◌, Option, Some, None, Contains, Vec, length, map}
+use Rattle.std.specs.Prelude.{◌≡◌, ◌↔◌, ◌<◌, ◌≤◌, ℕ, List, [], ◌∷◌, Option, Some, None, Contains}
+use Rattle.std.specs.Prelude.{Vec, length, map}
 use Rattle.std.specs.declared.alloc.Global.{Global}
 use Rattle.lalrpop_grammar.specs.Trees.{Tree}
 use Rattle.lalrpop_grammar.specs.declared.origin.Origin as choices
@@ -30,13 +31,15 @@ pub record AreFoldable (g : Grammar) (origins : List choices.Origin) (label_of :
       → FallsAlong (Contains (theory_grammar g)) label_of (label_rank (label_of p.action)) t p.right us
 
 -- it is a tree of the symbol to which the part is folded; or there is none, of at most this rank
-abbrev pub TellsFolded : (Production → Type 0) → (ℕ → ChoiceLabel) → Symbol → TreePart → ℕ → Option ExpandedTree → Type 0
+abbrev pub TellsFolded : (Production → Type 0) → (ℕ → ChoiceLabel) → Symbol → TreePart → ℕ →
+    Option ExpandedTree → Type 0
 TellsFolded G label_of s q most None =
     (ts : SpannedForest) → AreFoldedTo G label_of (s ∷ []) (shown_part q ∷ []) ts → IsRankedWithin label_of most ts → ⊥
 TellsFolded G label_of s q most (Some tree) = AreFoldedTo G label_of (s ∷ []) (shown_part q ∷ []) (expanded_view tree)
 
 -- the same by one production
-abbrev pub TellsFoldedBy : (Production → Type 0) → (ℕ → ChoiceLabel) → Production → TreePart → ℕ → Option ExpandedTree → Type 0
+abbrev pub TellsFoldedBy : (Production → Type 0) → (ℕ → ChoiceLabel) → Production → TreePart → ℕ →
+    Option ExpandedTree → Type 0
 TellsFoldedBy G label_of p q most None =
     (cs : SpannedForest) → AreFoldedTo G label_of (nonterminal p.left ∷ []) (shown_part q ∷ []) (node_at p cs none_at)
     → label_rank (label_of p.action) ≤ most → ⊥
@@ -52,7 +55,9 @@ TellsAllFolded G label_of side qs rank (Some made) =
     AreFoldedTo G label_of side (map shown_part qs) (expanded_views made.items)
 
 -- the same of one part
-abbrev pub TellsPartFolded : (Production → Type 0) → (ℕ → ChoiceLabel) → Symbol → TreePart → ℕ → Option ExpandedTree → Type 0
+abbrev pub TellsPartFolded : (Production → Type 0) → (ℕ → ChoiceLabel) → Symbol → TreePart → ℕ →
+    Option ExpandedTree → Type 0
 TellsPartFolded G label_of s q rank None =
-    (ts : SpannedForest) → AreFoldedTo G label_of (s ∷ []) (shown_part q ∷ []) ts → AreRankedUnder label_of rank (q ∷ []) ts → ⊥
+    (ts : SpannedForest) → AreFoldedTo G label_of (s ∷ []) (shown_part q ∷ []) ts →
+    AreRankedUnder label_of rank (q ∷ []) ts → ⊥
 TellsPartFolded G label_of s q rank (Some tree) = AreFoldedTo G label_of (s ∷ []) (shown_part q ∷ []) (expanded_view tree)

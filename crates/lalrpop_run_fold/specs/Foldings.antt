@@ -1,4 +1,4 @@
--- The expanded tree of a written tree, over the productions of a prepared grammar: what folding and unfolding answer, and what the laws say.
+-- The expanded tree of a written tree over the productions of a prepared grammar: what folding and unfolding answer; what the laws say.
 use Rattle.std.specs.Prelude.{◌≡◌, Result, Ok, Err}
 use Rattle.lalrpop_grammar.specs.Trees.{Tree, leaves}
 use Rattle.lalrpop_grammar.specs.Views.{grammar_view}

@@ -7,8 +7,8 @@ use Rattle.lalrpop_lr1_theory.specs.Productions.{Production, Symbol, nonterminal
 use Rattle.lalrpop_norm_labels.specs.Labels.{Label}
 use Rattle.lalrpop_run_written.specs.ActionLabels.{ChoiceLabel}
 
--- How many productions at most pass a tree of the nonterminal down as it is: one from each level, which are below 2^32, to a tighter one; one
--- from a list that may be empty to one that isn't; one from a start.
+-- How many productions at most pass a tree of the nonterminal down as it is: one from each level, which are below 2^32, to a tighter
+-- one; one from a list that may be empty to one that isn't; one from a start.
 abbrev pub passing_rank : Nonterminal → ℕ
 passing_rank (Nonterminal.start n) = 4294967298
 passing_rank (Nonterminal.closed (Closed.call n args None)) = 0

@@ -1,6 +1,7 @@
 -- Computed examples of labels that actions tell, and of labels that they don't.
 use Prim.Native.String.{String}
-use Rattle.std.proofs.Common.{◌≡◌, ◌∙◌, ◌+◌, ◌<◌, ◌≤◌, ℕ, List, [], ◌∷◌, ap, arith, false, inl, inr, length, refl, subst, suc, sym, ◌⊎◌}
+use Rattle.std.proofs.Common.{◌≡◌, ◌∙◌, ◌+◌, ◌<◌, ◌≤◌, ℕ, List, [], ◌∷◌, ap, arith, false}
+use Rattle.std.proofs.Common.{inl, inr, length, refl, subst, suc, sym, ◌⊎◌}
 use Rattle.std.specs.Prelude.{None, Some, codes, slice_get}
 use Rattle.lalrpop_grammar.specs.Views.{origin_view}
 use Rattle.lalrpop_grammar.specs.WrittenGrammar.{Origin}
@@ -66,9 +67,11 @@ module _ (actions : List ActionFnDefn) (given : List choices.Origin) where
   abbrev EntriesAre : ℕ → List InlinedSymbol → ℕ → ChoiceInlinings → Type 0
   EntriesAre below [] count entries = (count ≡ 0) × (entries ≡ Inlinings.none)
   EntriesAre below (inlined.Original s ∷ r) count entries =
-      (c : ℕ) × (rest : ChoiceInlinings) × (count ≡ suc c) × (entries ≡ Inlinings.kept rest) × TellEntries actions given below r c rest
+      (c : ℕ) × (rest : ChoiceInlinings) × (count ≡ suc c) × (entries ≡ Inlinings.kept rest)
+      × TellEntries actions given below r c rest
   EntriesAre below (inlined.Inlined action side ∷ r) count entries =
-      (label : ChoiceLabel) × (c : ℕ) × (rest : ChoiceInlinings) × (count ≡ length side + c) × (entries ≡ Inlinings.inlined label rest)
+      (label : ChoiceLabel) × (c : ℕ) × (rest : ChoiceInlinings) × (count ≡ length side + c)
+      × (entries ≡ Inlinings.inlined label rest)
       × (action.0 < below) × TellEntries actions given below r c rest
 
   entries_parts : (below : ℕ) (r : List InlinedSymbol) (count : ℕ) (entries : ChoiceInlinings) →
@@ -260,7 +263,8 @@ made_of_itself = user ∷ made_of 1 (same (t "a") ∷ []) ∷ []
 itself_refused : (count : ℕ) (l : ChoiceLabel) → TellsLabel made_of_itself (first_of_rule "A" ∷ []) 1 count l → ⊥
 itself_refused count l h = go (label_parts made_of_itself (first_of_rule "A" ∷ []) 1 count l h)
   where
-    go : IsGivenLabel made_of_itself (first_of_rule "A" ∷ []) 1 count l ⊎ IsMadeLabel made_of_itself (first_of_rule "A" ∷ []) 1 count l → ⊥
+    go : IsGivenLabel made_of_itself (first_of_rule "A" ∷ []) 1 count l
+        ⊎ IsMadeLabel made_of_itself (first_of_rule "A" ∷ []) 1 count l → ⊥
     go (inl g) = (let wrong = g.has_origin in cc)
     go (inr m) =
         let own = made_is (made_of 1 (same (t "a") ∷ [])) (record { action = record { 0 = 1 }; symbols = same (t "a") ∷ [] }) m.made
@@ -275,7 +279,8 @@ names_itself = user ∷ made_of 0 (by 1 (t "a" ∷ []) ∷ []) ∷ []
 name_refused : (count : ℕ) (l : ChoiceLabel) → TellsLabel names_itself (first_of_rule "A" ∷ []) 1 count l → ⊥
 name_refused count l h = go (label_parts names_itself (first_of_rule "A" ∷ []) 1 count l h)
   where
-    go : IsGivenLabel names_itself (first_of_rule "A" ∷ []) 1 count l ⊎ IsMadeLabel names_itself (first_of_rule "A" ∷ []) 1 count l → ⊥
+    go : IsGivenLabel names_itself (first_of_rule "A" ∷ []) 1 count l
+        ⊎ IsMadeLabel names_itself (first_of_rule "A" ∷ []) 1 count l → ⊥
     go (inl g) = (let wrong = g.has_origin in cc)
     go (inr m) =
         let r = by 1 (t "a" ∷ []) ∷ [] in

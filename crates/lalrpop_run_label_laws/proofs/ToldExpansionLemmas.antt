@@ -78,7 +78,8 @@ module _ (g : EnabledGrammar) (prefix : Text) (before : Grammar) (sorted : AreSo
       ∙ ap (λ (count : ℕ). all_kept count) (length-map p.symbols symbol_by_name) in
       let label_is : label_back names_back (lab k) ≡ Label.choose (names_back k).0 (origin_view o.origin) (all_kept (length p.symbols)) =
       ap (label_back names_back) (given e.0.0 p (stands_named before.nonterminals sorted e p i j))
-      ∙ ap (λ (c : Origin). Label.choose (names_back k).0 c (inlinings_back names_back (keeps_all (side_by_names p.symbols)))) o.origin_is
+      ∙ ap (λ (c : Origin). Label.choose (names_back k).0 c
+      (inlinings_back names_back (keeps_all (side_by_names p.symbols)))) o.origin_is
       ∙ ap (Label.choose (names_back k).0 (origin_view o.origin)) kept in
       subst (λ (label : ChoiceLabel). TellsLabel whole origins k (length p.symbols) label) (sym label_is)
       (TellsLabel.given k (length p.symbols) (names_back k).0 o.origin o.has_origin)

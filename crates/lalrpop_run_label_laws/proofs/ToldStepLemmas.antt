@@ -1,5 +1,6 @@
 -- After each step of inlining the action of each production tells its label, where it did before the step: for the law on labels.
-use Rattle.std.proofs.Common.{◌≡◌, ◌∙◌, ◌+◌, ◌≤◌, ℕ, List, [], ◌∷◌, ◌++◌, ap, append_assoc, arith, inl, inr, length, length-append}
+use Rattle.std.proofs.Common.{◌≡◌, ◌∙◌, ◌+◌, ◌≤◌, ℕ, List, [], ◌∷◌, ◌++◌, ap, append_assoc}
+use Rattle.std.proofs.Common.{arith, inl, inr, length, length-append}
 use Rattle.std.proofs.Common.{map, ◌⊎◌, refl, subst, sym, true, false}
 use Rattle.std.specs.Prelude.{Bool, Some, if◌then◌else◌, slice_get}
 use Rattle.std.specs.List.{list_any}
@@ -55,7 +56,8 @@ module _ (Holds : Production → Type 0) where
   back_holds k j [] ns e h = subst (λ i. HoldsOfMade i ns) (omega (arith, e)) h
   back_holds k j (m ∷ ms) ns e h = back_holds (k + 1) j ms ns (omega (arith, e)) h.1
 
-  records_hold : (q : Production) (rs : List (List InlinedSymbol)) (k : ℕ) → HoldsOfMade k (map (λ r. (q, r)) rs) → (p : Production) →
+  records_hold : (q : Production) (rs : List (List InlinedSymbol)) (k : ℕ) → HoldsOfMade k (map (λ r. (q, r)) rs) →
+      (p : Production) →
       Among (productions_of_records q rs k) p → Holds p
   records_hold q [] k h p i = absurd i
   records_hold q (r ∷ rs) k h p (inl e) = subst Holds e h.0
@@ -152,9 +154,11 @@ is_recorded n ps es m i =
 
 module _ (whole : List ActionFnDefn) (origins : List choices.Origin) (lab : ℕ → Label Text ℕ) (back : ℕ → Nonterminal × Origin)
     (least : ℕ) (from : length origins ≤ least)
-    (says : (k : ℕ) (d : ActionFnDefn) (i : InlineActionFnDefn) → least ≤ k → slice_get whole k ≡ Some d → d.kind ≡ kinds.Inline i →
+    (says : (k : ℕ) (d : ActionFnDefn) (i : InlineActionFnDefn) → least ≤ k → slice_get whole k ≡ Some d →
+    d.kind ≡ kinds.Inline i →
     lab k ≡ label_with (lab i.action.0) (record_by_labels lab i.symbols))
-    (below : (k : ℕ) (d : ActionFnDefn) (i : InlineActionFnDefn) → least ≤ k → slice_get whole k ≡ Some d → d.kind ≡ kinds.Inline i →
+    (below : (k : ℕ) (d : ActionFnDefn) (i : InlineActionFnDefn) → least ≤ k → slice_get whole k ≡ Some d →
+    d.kind ≡ kinds.Inline i →
     MadeBelow k i) where
   -- the action of each production tells its label
   abbrev pub EachTold : NonterminalEntries → Type 0

@@ -93,7 +93,8 @@ module _ (v : PreparedGrammar)
 
   -- by canonical states no run passes the limit there
   none_past : (states : List State) → NoneBarren (Contains grammar) s → IsStartAlone grammar s →
-      AreCanonicalStates grammar s states → AreCheckedStates grammar s states → (tokens : List Token) (place limit : ℕ) → IsFaultAt v tokens place →
+      AreCanonicalStates grammar s states → AreCheckedStates grammar s states → (tokens : List Token) (place limit : ℕ) →
+      IsFaultAt v tokens place →
       BeginsSmallSentence v (take place (terminals_of_tokens tokens)) limit →
       PassesLimit states (terminals_of_tokens tokens) limit → ⊥
   none_past states nb alone can ok tokens place limit fault small passes =
@@ -106,6 +107,7 @@ module _ (v : PreparedGrammar)
       (without_spans f.0) (sym (take-append-drop place all)) f.1.is_tree (f.1.terminals ∙ small.begins) passes in
       omega (arith, size, ap expanded_size f.2, small.within.small, larger)
 
+-- by canonical states the limit isn't told where a small sentence begins with what stands before the fault
 pub tells_faults_first : (v : PreparedGrammar) (table : ActionTable) (count : ℕ) → IsPrepared finds is_too_deep v →
     IsReadGrammar (grammar_view v.written) → v.start_name.0 ≡ v.written.prefix ++ v.start →
     MayBeParsedFrom v.expansion v.start_name → HasTableBy Canonical v table count →

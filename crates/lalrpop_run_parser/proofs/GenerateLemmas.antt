@@ -59,7 +59,8 @@ module _ (v : PreparedGrammar) (g : Grammar) (start : NonterminalString) (same :
 
   pub states_counted : (method : Method) (built : List (State (List ℕ))) (count : ℕ)
       → AreCheckedStates (theory_grammar v.expansion) v.start_name.0 (states_over v.expansion.terminals built)
-      → AreLr1By method g start built → MayBeParsedFrom v.expansion v.start_name → count ≡ length built → HasStatesBy method v count
+      → AreLr1By method g start built → MayBeParsedFrom v.expansion v.start_name → count ≡ length built →
+      HasStatesBy method v count
   states_counted method built count checked by_method m many = record {
     states = built;
     by_method = handed (λ h n. AreLr1By method h n built) by_method;
@@ -105,7 +106,8 @@ module _ (v : PreparedGrammar) (built : List (State (List ℕ)))
       subst (λ (xs : List (State (List ℕ))). IsTableOf table (states_over v.expansion.terminals xs)) all
       (subst (λ (h : Grammar). IsTableOf table (states_over h.terminals given)) same made)
 
-  pub is_table : (table : ActionTable) (g : Grammar) (given : List (State (List ℕ))) (count : ℕ) → g ≡ v.expansion → given ≡ built
+  pub is_table : (table : ActionTable) (g : Grammar) (given : List (State (List ℕ))) (count : ℕ) →
+      g ≡ v.expansion → given ≡ built
       → IsTableOf table (states_over g.terminals given) → count ≡ length built → IsParserTable v table count
   is_table table g given count same all made many = record {
     states = states_over v.expansion.terminals built;

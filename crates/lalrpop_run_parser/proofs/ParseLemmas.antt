@@ -1,5 +1,6 @@
 -- What a parse onto a stack of written trees says of the written grammar: the right answer to tokens, and to a text; for the parser.
-use Rattle.std.proofs.Common.{◌≡◌, ◌<◌, ◌≤◌, ◌∙◌, ◌++◌, ◌∷◌, [], ℕ, zero, suc, List, length, refl, ap, sym, subst, arith, length-append}
+use Rattle.std.proofs.Common.{◌≡◌, ◌<◌, ◌≤◌, ◌∙◌, ◌++◌, ◌∷◌, [], ℕ, zero, suc, List, length}
+use Rattle.std.proofs.Common.{refl, ap, sym, subst, arith, length-append}
 use Rattle.std.proofs.Common.{Contains, Err, Ok, Some}
 use Rattle.std.specs.Prelude.{Option, Result, map, option_map, slice_get}
 use Rattle.std.proofs.lemmas.List.{length-map}

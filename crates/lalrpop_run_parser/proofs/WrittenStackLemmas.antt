@@ -1,5 +1,6 @@
 -- What written trees on a stack stand for once a leaf is put beside them, and once a node is put over the last of them; for the stack.
-use Rattle.std.proofs.Common.{◌≡◌, ◌+◌, ◌-◌, ◌≤◌, ℕ, List, [], ◌∷◌, ◌++◌, length, refl, ap, ap₂, sym, ◌∙◌, arith, subst}
+use Rattle.std.proofs.Common.{◌≡◌, ◌+◌, ◌-◌, ◌≤◌, ℕ, List, [], ◌∷◌, ◌++◌, length, refl, ap}
+use Rattle.std.proofs.Common.{ap₂, sym, ◌∙◌, arith, subst}
 use Rattle.std.proofs.Common.{length-append}
 use Rattle.std.specs.Prelude.{drop, flat_map, map, take}
 use Rattle.std.proofs.Math.Seq.{drop-append_seam, take-append_seam}
@@ -53,7 +54,8 @@ module _ (actions : List ActionFnDefn) (origins : List choices.Origin) where
       StandByActions actions origins ts tokens us →
       StandByActions actions origins (ts beside leaf_at k.terminal k.span none_at) (tokens ++ k ∷ []) (us ++ Tree.terminal k ∷ [])
   stands_with_leaf ts tokens us k s = record {
-    count = length-append us (Tree.terminal k ∷ []) ∙ ap (λ n. n + 1) s.count ∙ sym (roots_beside ts (leaf_at k.terminal k.span none_at));
+    count = length-append us (Tree.terminal k ∷ []) ∙ ap (λ n. n + 1) s.count
+        ∙ sym (roots_beside ts (leaf_at k.terminal k.span none_at));
     stand = λ label_of over.
         let is_over = over-split (Tells label_of) (without_spans ts) (without_spans (leaf_at k.terminal k.span none_at))
         (subst (AreOver (Tells label_of)) (without-beside ts (leaf_at k.terminal k.span none_at)) over) in
@@ -155,7 +157,8 @@ module _ (actions : List ActionFnDefn) (origins : List choices.Origin) where
 
   -- the stack with a leaf more
   pub leaf_on : (ts : SpannedForest) (tokens : List Token) (items new : List WrittenTree) (tree : WrittenTree) (k : Token) →
-      StandByActions actions origins ts tokens (map tree_view items) → tree_view tree ≡ Tree.terminal k → new ≡ items ++ tree ∷ [] →
+      StandByActions actions origins ts tokens (map tree_view items) → tree_view tree ≡ Tree.terminal k →
+      new ≡ items ++ tree ∷ [] →
       StandByActions actions origins (ts beside leaf_at k.terminal k.span none_at) (tokens ++ k ∷ []) (map tree_view new)
   leaf_on ts tokens items new tree k s is more =
       subst (λ l. StandByActions actions origins (ts beside leaf_at k.terminal k.span none_at) (tokens ++ k ∷ []) l)

@@ -56,7 +56,8 @@ answer_of_result (Err errors.Memory) = None
 abbrev pub KeepsAnswers : ParserView → Type 0
 KeepsAnswers p =
     (text : List ℕ) (limit greater : ℕ) (one other : Result WrittenTree ParseError) (a b : TextAnswer) → limit ≤ greater
-    → IsParseOf p text limit one → IsParseOf p text greater other → answer_of_result one ≡ Some a → answer_of_result other ≡ Some b
+    → IsParseOf p text limit one → IsParseOf p text greater other → answer_of_result one ≡ Some a →
+    answer_of_result other ≡ Some b
     → a ≢ TextAnswer.over_limit → a ≡ b
 
 -- The place of the fault of tokens that are no sentence: the first token with which they begin none, or the end.

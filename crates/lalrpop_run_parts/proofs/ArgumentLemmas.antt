@@ -31,6 +31,7 @@ arguments_view xs = map (λ s. without_marks (symbol_view s)) xs
 abbrev pub symbols_view : List Symbol → Syms (Unit {0})
 symbols_view xs = all_without_marks (syms (map symbol_view xs))
 
+-- symbols that are the same within a symbol, marks aside, are the same as arguments one by one
 pub same_arguments : (xs ys : List Symbol) → symbols_view xs ≡ symbols_view ys → arguments_view xs ≡ arguments_view ys
 same_arguments [] [] e = refl
 same_arguments [] (y ∷ ys) e = cc
@@ -40,6 +41,7 @@ same_arguments (x ∷ xs) (y ∷ ys) e =
     let rest : arguments_view xs ≡ arguments_view ys = same_arguments xs ys (cc) in
     ap₂ (λ a l. a ∷ l) first rest
 
+-- symbols that are the same as arguments one by one are the same within a symbol, marks aside
 pub same_symbols : (xs ys : List Symbol) → arguments_view xs ≡ arguments_view ys → symbols_view xs ≡ symbols_view ys
 same_symbols [] [] e = refl
 same_symbols [] (y ∷ ys) e = cc

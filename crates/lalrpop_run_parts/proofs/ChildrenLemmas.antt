@@ -19,6 +19,7 @@ trees_once (u ∷ us) (v ∷ vs) e =
     let rest : us ≡ vs = trees_once us vs (cc) in
     ap₂ (λ x l. x ∷ l) first rest
 
+-- a list with a tree at its end is, as trees, those of the list joined with this one
 pub trees_joined : (us : List Tree) (t : Tree) → trees (us ++ t ∷ []) ≡ join_trees (trees us) (Trees.more t Trees.none)
 trees_joined [] t = refl
 trees_joined (u ∷ us) t = ap (Trees.more u) (trees_joined us t)
@@ -73,7 +74,8 @@ children_once Origin.plus_one t us vs (u, e, h) (v, f, k) =
     list_same xs ys q = cc
 children_once Origin.plus_more t us vs (front, u, e, h) (other, v, f, k) =
     let both = last_same front other u v
-    (trees_once (front ++ u ∷ []) (other ++ v ∷ []) (list_same (trees (front ++ u ∷ [])) (trees (other ++ v ∷ [])) (sym h ∙ k))) in
+    (trees_once (front ++ u ∷ []) (other ++ v ∷ [])
+    (list_same (trees (front ++ u ∷ [])) (trees (other ++ v ∷ [])) (sym h ∙ k))) in
     e ∙ ap₂ (λ l x. Tree.list (trees l) ∷ x ∷ []) both.0 both.1 ∙ sym f
   where
     list_same : (xs ys : Trees) → Tree.list xs ≡ Tree.list ys → xs ≡ ys

@@ -48,6 +48,7 @@ mutual
       ∙ all_trees_before inlinings h.others h.left vs h.rest)
       ∙ sym h.children_are
 
+-- a tree is what its label makes of the trees that the label keeps of it
 pub kept_tree : (label : ChoiceLabel) (t : Tree) (us : List Tree) → AreKeptBy label t us → tree_by_label label us ≡ t
 kept_tree label t us h = ap (λ l. tree_by_label label l) (sym (append-nil us)) ∙ kept_tree_before label t us [] h
 

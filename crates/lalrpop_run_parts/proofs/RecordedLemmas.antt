@@ -1,5 +1,6 @@
 -- What is still to be kept of parts while the symbols of a record are gone through, and what one symbol keeps; for the code.
-use Rattle.std.proofs.Common.{◌≡◌, ◌+◌, ◌<◌, ◌≤◌, ℕ, zero, suc, List, [], ◌∷◌, ◌++◌, length, refl, ap, sym, ◌∙◌, arith, subst, append_assoc, map}
+use Rattle.std.proofs.Common.{◌≡◌, ◌+◌, ◌<◌, ◌≤◌, ℕ, zero, suc, List, [], ◌∷◌, ◌++◌, length}
+use Rattle.std.proofs.Common.{refl, ap, sym, ◌∙◌, arith, subst, append_assoc, map}
 use Rattle.std.specs.Prelude.{Err, IfOk, None, Ok, Option, Result, Some, Vec, drop, slice_get}
 use Rattle.std.specs.declared.alloc.Global.{Global}
 use Rattle.std.proofs.lemmas.List.{append-nil, length-map, map-append}
@@ -31,7 +32,8 @@ use Rattle.lalrpop_run_parts.proofs.KeptLemmas.{cons_same, kept_once}
 module _ (actions : List ActionFnDefn) (origins : List choices.Origin) (below : ℕ) where
   -- With these symbols left, and these parts: what was kept, and what is kept of these, is what the entries keep of all; and all that
   -- they keep is of this form.
-  pub record AreToKeep (left : List InlinedSymbol) (parts kept : List TreePart) (whole : ChoiceInlinings) (all : List TreePart) : Type 0 where
+  pub record AreToKeep (left : List InlinedSymbol) (parts kept : List TreePart) (whole : ChoiceInlinings)
+      (all : List TreePart) : Type 0 where
     pub entries : ChoiceInlinings
     pub count : ℕ
     pub told : TellEntries actions origins below left count entries
@@ -131,7 +133,8 @@ module _ (actions : List ActionFnDefn) (origins : List choices.Origin) (below : 
       }
 
   -- behind a symbol of which something is kept
-  pub keep_on : (s : InlinedSymbol) (left : List InlinedSymbol) (q : TreePart) (parts kept more new : List TreePart) (whole : ChoiceInlinings)
+  pub keep_on : (s : InlinedSymbol) (left : List InlinedSymbol) (q : TreePart) (parts kept more new : List TreePart)
+      (whole : ChoiceInlinings)
       (all : List TreePart) → AreToKeep (s ∷ left) (q ∷ parts) kept whole all →
       ((count : ℕ) (entries : ChoiceInlinings) → TellEntries actions origins below (s ∷ []) count entries →
       AreAllKeptBy entries (shown_part q ∷ []) (map shown_part more)) → new ≡ kept ++ more → AreToKeep left parts new whole all
@@ -200,7 +203,8 @@ module _ (actions : List ActionFnDefn) (origins : List choices.Origin) (below : 
       subst (λ l. AreAllKeptBy whole (map shown_part all) l) (append-nil (map shown_part kept))
       (k.onward [] (subst (λ e. AreAllKeptBy e [] []) (sym none) (refl, refl)))
 
-  pub keep_end : (all : List InlinedSymbol) (parts : List TreePart) (i : ℕ) → length all ≤ i → length parts ≤ i → (kept : List TreePart) →
+  pub keep_end : (all : List InlinedSymbol) (parts : List TreePart) (i : ℕ) → length all ≤ i → length parts ≤ i →
+      (kept : List TreePart) →
       (whole : ChoiceInlinings) → AreToKeep (drop i all) (drop i parts) kept whole parts →
       AreAllKeptBy whole (map shown_part parts) (map shown_part kept)
   keep_end all parts i past beyond kept whole k =
@@ -293,7 +297,8 @@ given_label actions origins k count label (TellsLabel.made k2 n d i outer entrie
 module _ (actions : List ActionFnDefn) (origins : List choices.Origin) (k count : ℕ) (label : ChoiceLabel) (q : TreePart)
     (told : TellsLabel actions origins k count label) where
   -- of a given action
-  pub given_kept : {E : Type 0} (o : choices.Origin) → slice_get origins k ≡ Some o → (r : Result (Option (Vec TreePart Global)) E) →
+  pub given_kept : {E : Type 0} (o : choices.Origin) → slice_get origins k ≡ Some o →
+      (r : Result (Option (Vec TreePart Global)) E) →
       ((x : Nonterminal) → IfOk r (TellsKept (Label.choose x (origin_view o) (all_kept count)) q)) → IfOk r (TellsKept label q)
   given_kept o e r h =
       let g = given_label actions origins k count label told o e in

@@ -1,5 +1,6 @@
 -- Parts of written trees as they are seen, form by form, and what lists of parts are; for taking a part's children.
-use Rattle.std.proofs.Common.{◌≡◌, ◌+◌, ◌<◌, ◌⊎◌, ℕ, zero, suc, List, [], ◌∷◌, ◌++◌, Bool, true, refl, ap, ap₂, sym, ◌∙◌, arith, subst, length, map}
+use Rattle.std.proofs.Common.{◌≡◌, ◌+◌, ◌<◌, ◌⊎◌, ℕ, zero, suc, List, [], ◌∷◌, ◌++◌, Bool, true}
+use Rattle.std.proofs.Common.{refl, ap, ap₂, sym, ◌∙◌, arith, subst, length, map}
 use Rattle.std.proofs.Common.{inl, inr, rules}
 use Rattle.std.specs.Prelude.{IfNone, IfSome, IsTrue, None, Option, Some, Vec, drop, take}
 use Rattle.std.specs.declared.alloc.Global.{Global}
@@ -49,16 +50,19 @@ rule_parts n m a b i j ts us e =
     (names, args, places)
 
 -- one more part inside
-pub inside_more : (size : ℕ) (qs : List TreePart) (q : TreePart) → AllInside size qs → IsInside size q → AllInside size (qs ++ q ∷ [])
+pub inside_more : (size : ℕ) (qs : List TreePart) (q : TreePart) → AllInside size qs → IsInside size q →
+    AllInside size (qs ++ q ∷ [])
 inside_more size [] q h k = (k, tt)
 inside_more size (p ∷ qs) q h k = (h.0, inside_more size qs q h.1 k)
 
+-- where all parts of a list stand inside a part, they lie within it
 pub within_inside : (p : TreePart) (qs : List TreePart) → AllInside (tree_size (shown_part p)) qs → AllWithin p qs
 within_inside p [] h = tt
 within_inside p (q ∷ qs) h = (inr h.0, within_inside p qs h.1)
 
 -- parts within parts
-pub within_within : (p : TreePart) (q : TreePart) (qs : List TreePart) → (q ≡ p) ⊎ IsInside (tree_size (shown_part p)) q → AllWithin q qs →
+pub within_within : (p : TreePart) (q : TreePart) (qs : List TreePart) → (q ≡ p) ⊎ IsInside (tree_size (shown_part p)) q →
+    AllWithin q qs →
     AllWithin p qs
 within_within p q [] h k = tt
 within_within p q (r ∷ qs) (inl same) k =
@@ -79,19 +83,23 @@ within_there p q (r ∷ qs) rest zero e h =
     let same : r ≡ q = cc in subst (λ x. (x ≡ p) ⊎ IsInside (tree_size (shown_part p)) x) same h.0
 within_there p q (r ∷ qs) rest (suc i) e h = within_there p q qs rest i e h.1
 
+-- where the parts of two lists lie within a part, so do those of the lists joined
 pub within_joined : (p : TreePart) (qs rs : List TreePart) → AllWithin p qs → AllWithin p rs → AllWithin p (qs ++ rs)
 within_joined p [] rs h k = k
 within_joined p (q ∷ qs) rs h k = (h.0, within_joined p qs rs h.1 k)
 
 -- one more of some trees
-pub same_more : (all : List WrittenTree) (i : ℕ) (t : WrittenTree) → take (i + 1) all ≡ take i all ++ t ∷ [] → (qs new : List TreePart)
+pub same_more : (all : List WrittenTree) (i : ℕ) (t : WrittenTree) → take (i + 1) all ≡ take i all ++ t ∷ [] →
+    (qs new : List TreePart)
     (q : TreePart) → new ≡ qs ++ q ∷ [] → map shown_part qs ≡ map shown_tree (take i all) → shown_part q ≡ shown_tree t →
     map shown_part new ≡ map shown_tree (take (i + 1) all)
 same_more all i t next qs new q more before one =
     ap (λ l. map shown_part l) more ∙ map-append shown_part qs (q ∷ []) ∙ ap₂ (λ l x. l ++ x ∷ []) before one
     ∙ sym (map-append shown_tree (take i all) (t ∷ [])) ∙ ap (λ l. map shown_tree l) (sym next)
 
-pub inside_pushed : (size : ℕ) (qs new : List TreePart) (q : TreePart) → new ≡ qs ++ q ∷ [] → AllInside size qs → IsInside size q →
+-- where parts stand inside a tree of some size, and one more does, all do once it is pushed
+pub inside_pushed : (size : ℕ) (qs new : List TreePart) (q : TreePart) → new ≡ qs ++ q ∷ [] → AllInside size qs →
+    IsInside size q →
     AllInside size new
 inside_pushed size qs new q more h k = subst (λ l. AllInside size l) (sym more) (inside_more size qs q h k)
 
@@ -101,7 +109,8 @@ size_joined (u ∷ us) vs = omega (arith, size_joined us vs)
 
 -- a tree of some is no larger than all together
 pub inside_one : (all : List WrittenTree) (i : ℕ) (t : WrittenTree) → take (i + 1) all ≡ take i all ++ t ∷ [] → (size : ℕ) →
-    trees_size (trees (map shown_tree all)) < size → (q : TreePart) → shown_part q ≡ shown_tree t → q.is_inside ≡ true → IsInside size q
+    trees_size (trees (map shown_tree all)) < size → (q : TreePart) → shown_part q ≡ shown_tree t →
+    q.is_inside ≡ true → IsInside size q
 inside_one all i t next size less q one marked =
     let whole : map shown_tree all ≡ (map shown_tree (take i all) ++ shown_tree t ∷ []) ++ map shown_tree (drop (i + 1) all) =
     ap (λ l. map shown_tree l) (sym (take-append-drop (i + 1) all))
@@ -187,7 +196,8 @@ module _ (q : TreePart) (cs : List WrittenTree) (is_list : shown_part q ≡ Tree
       go (t ∷ l) f = absurd (not_none (shown_tree t) (trees (map shown_tree l)) f)
 
   -- nothing, where the list is empty
-  pub nothing_told : (b : Bool) (r : Option (Vec TreePart Global)) → (b ≡ true → length cs ≡ 0) → (length cs ≡ 0 → b ≡ true) →
+  pub nothing_told : (b : Bool) (r : Option (Vec TreePart Global)) → (b ≡ true → length cs ≡ 0) →
+      (length cs ≡ 0 → b ≡ true) →
       IfSome r (λ parts. IsTrue b × (parts.items ≡ [])) → IfNone r (IsTrue b → ⊥) → TellsChildren Origin.star_none q r
   nothing_told b None to back some none = λ us h. none (search (back (none_of h.1), rules))
   nothing_told b (Some parts) to back some none = (ap (λ l. map shown_part l) some.1, empty_list (to (search (some.0, rules))))

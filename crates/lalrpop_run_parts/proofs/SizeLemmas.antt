@@ -7,6 +7,7 @@ use Rattle.lalrpop_run_written.specs.ActionLabels.{ChoiceInlinings, ChoiceLabel}
 use Rattle.lalrpop_run_parts.specs.KeptTrees.{AreAllKeptBy, AreChildrenBy, AreKeptBy}
 use Rattle.lalrpop_run_parts.specs.TreeSizes.{tree_size, trees_size}
 
+-- a written tree has at least one tree in it, which is itself
 pub tree_positive : (t : Tree) → 0 < tree_size t
 tree_positive (Tree.rule n args place ts) = omega arith
 tree_positive (Tree.list ts) = omega arith

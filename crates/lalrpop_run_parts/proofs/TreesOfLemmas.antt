@@ -1,5 +1,5 @@
--- Written trees that are those of trees over productions: they are what these show, they have their leaves, and each of them is one of one of
--- these; for folding.
+-- Written trees that are those of trees over productions: they are what these show, they have their leaves, and each of them is one
+-- of one of these; for folding.
 use Rattle.std.proofs.Common.{◌≡◌, ℕ, List, ◌∷◌, ◌++◌, refl, ap, ap₂, sym, ◌∙◌}
 use Rattle.std.specs.Prelude.{flat_map, map}
 use Rattle.std.proofs.lemmas.List.{map-append}
@@ -36,6 +36,7 @@ trees_tokens label_of (node_at p cs ts) us h =
     (kept_leaves (label_of p.action) h.first h.kept h.are_kept ∙ trees_tokens label_of cs h.kept h.children)
     (trees_tokens label_of ts h.others h.rest)
 
+-- the terminals of the tokens at the leaves of trees are the yield of the trees
 pub tokens_terminals : (ts : SpannedForest) → map (λ (k : Token). k.terminal) (forest_tokens ts) ≡ yield (without_spans ts)
 tokens_terminals none_at = refl
 tokens_terminals (leaf_at t span ts) = ap (λ l. t ∷ l) (tokens_terminals ts)
@@ -43,6 +44,7 @@ tokens_terminals (node_at p cs ts) =
     map-append (λ (k : Token). k.terminal) (forest_tokens cs) (forest_tokens ts)
     ∙ ap₂ (λ a b. a ++ b) (tokens_terminals cs) (tokens_terminals ts)
 
+-- the spans of the tokens at the leaves of trees are the spans of their leaves
 pub tokens_spans : (ts : SpannedForest) → map (λ (k : Token). k.span) (forest_tokens ts) ≡ leaf_spans ts
 tokens_spans none_at = refl
 tokens_spans (leaf_at t span ts) = ap (λ l. span ∷ l) (tokens_spans ts)

@@ -34,6 +34,7 @@ module _ (g : Grammar) (name : NonterminalString) where
   is_parsed None e alone none = record { alone = alone_seen g name alone; none_barren = none }
   is_parsed (Some b) e alone least = let wrong : ⊥ = cc in absurd wrong
 
+-- the least barren nonterminal that a start reaches, where one is found, is told as the refusal of its expansion
 pub barren_told : (whole : Span) (g : Grammar) (start : Text) (name : NonterminalString) (after : Grammar)
     (found : Option NonterminalString) (n : NonterminalString) → found ≡ Some n → name.0 ≡ start → IsInlinedGrammar g after
     → IsLeastBarren (Contains (theory_grammar g)) name.0 found → IsRefusedExpansion whole g start (errors.Barren n.0)
@@ -43,6 +44,7 @@ barren_told whole g start name after found n e same i least =
     (subst (IsLeastBarren (Contains (theory_grammar g)) name.0) e least) in
     IsRefusedExpansion.barren n after i told refl
 
+-- after inlining a start is refused where it can't be parsed from, or where memory ran out
 pub start_told : (whole : Span) (g : Grammar) (prefix start : Text) (name : NonterminalString) (after : Grammar)
     (error : GenerateError) → IsInlinedGrammar g after → NoneBarren (Contains (theory_grammar g)) start → name.0 ≡ prefix ++ start
     → (error ≡ errors.Memory) ⊎ (MayBeParsedFrom after name → ⊥) → IsRefusedStart whole g prefix start error

@@ -24,7 +24,8 @@ both_of : {A : Type 0} (P : A → Type 0) (xs ys : List A) → AllOf P xs → Al
 both_of P [] ys h k = k
 both_of P (x ∷ xs) ys h k = (h.0, both_of P xs ys h.1 k)
 
-joined_of : {A B : Type 0} (P : B → Type 0) (f : A → List B) (xs : List A) → AllOf (λ x. AllOf P (f x)) xs → AllOf P (flat_map f xs)
+joined_of : {A B : Type 0} (P : B → Type 0) (f : A → List B) (xs : List A) → AllOf (λ x. AllOf P (f x)) xs →
+    AllOf P (flat_map f xs)
 joined_of P f [] h = tt
 joined_of P f (x ∷ xs) h = both_of P (f x) (flat_map f xs) h.0 (joined_of P f xs h.1)
 
@@ -51,7 +52,8 @@ module _ (P : Symbol → Type 0) where
   IsRecordOf r = AllOf P (side_of_record r)
 
   -- the productions that a look-up finds
-  found_of : (o : Option NonterminalData) (es : NonterminalEntries) (test : NonterminalString → Bool) → lookup test es ≡ o → AreSidesOf es
+  found_of : (o : Option NonterminalData) (es : NonterminalEntries) (test : NonterminalString → Bool) →
+      lookup test es ≡ o → AreSidesOf es
       → AllOf IsSideOf (productions_in o)
   found_of None es test e h = tt
   found_of (Some d) [] test e h = absurd (let wrong : ⊥ = cc in wrong)

@@ -1,6 +1,7 @@
 -- Terminals that ascend, numbered by their places; for what tables ask of a grammar.
 use Rattle.std.specs.Prelude.{Bool, true, false, Some, cond, slice_get}
-use Rattle.std.proofs.Common.{◌≡◌, ◌∙◌, ℕ, zero, suc, ◌+◌, List, [], ◌∷◌, refl, ap, sym, subst, inl, inr, arith, Ordering}
+use Rattle.std.proofs.Common.{◌≡◌, ◌∙◌, ℕ, zero, suc, ◌+◌, List, [], ◌∷◌, refl, ap, sym, subst, inl}
+use Rattle.std.proofs.Common.{inr, arith, Ordering}
 use Rattle.std.specs.declared.cmp.Ordering.TheVariants.{Less, Equal, Greater}
 use Rattle.std.specs.BTreeMap.{is_at}
 use Rattle.std.specs.List.{AllByRecursion}
@@ -30,7 +31,8 @@ apart true e f = let wrong : ⊥ = cc in wrong
 apart false e f = let wrong : ⊥ = cc in wrong
 
 -- what stands behind a terminal is another one
-later_differs : (x : TerminalString) (xs : List TerminalString) → AllByRecursion (λ y. R x y ≡ Less) xs → (j : ℕ) (t : TerminalString)
+later_differs : (x : TerminalString) (xs : List TerminalString) → AllByRecursion (λ y. R x y ≡ Less) xs →
+    (j : ℕ) (t : TerminalString)
     → slice_get xs j ≡ Some t → is_eq (R t x) ≡ false
 later_differs x [] all j t e = absurd (let wrong : ⊥ = cc in wrong)
 later_differs x (y ∷ ys) all zero t e =

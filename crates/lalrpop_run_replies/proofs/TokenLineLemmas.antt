@@ -13,6 +13,7 @@ lines-behind (x ∷ xs) t =
     append_assoc (line (token_text (token_view x))) (tokens_text xs) (line (token_text (token_view t)))
     ∙ ap (λ r. line (token_text (token_view x)) ++ r) (lines-behind xs t)
 
+-- the lines of the first tokens, with the next one's behind them, are those of one token more
 pub lines-more : (ts : List ScanToken) (i : ℕ) (d : ScanToken) → i < length ts
     → tokens_text (take i ts) ++ line (token_text (token_view (get_or ts i d))) ≡ tokens_text (take (i + 1) ts)
 lines-more ts i d h = lines-behind (take i ts) (get_or ts i d) ∙ ap tokens_text (sym (take_more ts i d h))

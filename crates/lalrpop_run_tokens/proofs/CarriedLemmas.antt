@@ -1,5 +1,6 @@
 -- What isn't carried, as the program finds it and as definitions say it; for the refusal of what isn't carried.
-use Rattle.std.proofs.Common.{◌≡◌, ◌⊎◌, ℕ, ◌+◌, Bool, true, false, ◌&&◌, List, [], ◌∷◌, map, refl, ap, sym, subst, inl, inr, filter}
+use Rattle.std.proofs.Common.{◌≡◌, ◌⊎◌, ℕ, ◌+◌, Bool, true, false, ◌&&◌, List, [], ◌∷◌, map, refl}
+use Rattle.std.proofs.Common.{ap, sym, subst, inl, inr, filter}
 use Rattle.std.specs.Borrow.{Bor}
 use Rattle.std.specs.Option.{option_copied}
 use Rattle.std.specs.Prelude.{Option, Some, None, is_some}
@@ -57,11 +58,13 @@ module _ (P : WrittenItem → Type 0) (rule : (r : Rule) → P (WrittenItem.nont
 no_extern : (g : program.Grammar) → first_in extern_in g.items ≡ None → HasNoExtern (grammar_view g)
 no_extern g h = each_other _ (λ r. tt) (λ gs p. tt) (λ es. tt) (λ t. tt) g.items h
 
+-- where the search for an extern block has found one, the grammar has one
 pub has_extern : (g : program.Grammar) (o : Option (Bor ExternToken)) → option_copied o ≡ first_in extern_in g.items
     → is_some o ≡ true → HasExtern (grammar_view g)
 has_extern g None e h = cc
 has_extern g (Some b) e h = (extern_view b.now, extern_found g.items b.now (sym e))
 
+-- where the search for an extern block has found none, the grammar has none
 pub lacks_extern : (g : program.Grammar) (o : Option (Bor ExternToken)) → option_copied o ≡ first_in extern_in g.items
     → is_some o ≡ false → HasNoExtern (grammar_view g)
 lacks_extern g None e h = no_extern g (sym e)

@@ -18,7 +18,8 @@ abbrev pub scan_entries : List InternEntry → List ScanEntry
 scan_entries = map scan_entry
 
 -- The grammar is not refused. The lowered one is its normalized grammar, and the automaton decides the patterns of the tokenizer's entries.
-pub record IsNormalizedFor (finds : Text → Text → Option Bool) (deep : Text → Bool) (features : List Text) (limit : ℕ) (start : Text)
+pub record IsNormalizedFor (finds : Text → Text → Option Bool) (deep : Text → Bool) (features : List Text)
+    (limit : ℕ) (start : Text)
     (w : Grammar) (made : Normalized) (dfa : List StateView) : Type 0 where
   pub generable : IsGenerable finds deep features limit start w
   pub normalized : IsNormalized finds features w (lowered_view made)

@@ -1,5 +1,6 @@
 -- What is known of a prepared grammar's conflicts for their certificates: for the calls that hand these on.
-use Rattle.std.proofs.Common.{◌≡◌, ◌∙◌, ◌++◌, ◌∷◌, ℕ, zero, suc, List, [], length, length-append, drop, take, Some, ap, arith, refl, subst, sym, Contains}
+use Rattle.std.proofs.Common.{◌≡◌, ◌∙◌, ◌++◌, ◌∷◌, ℕ, zero, suc, List, [], length, length-append, drop}
+use Rattle.std.proofs.Common.{take, Some, ap, arith, refl, subst, sym, Contains}
 use Rattle.std.specs.Prelude.{slice_get}
 use Rattle.lalrpop_grammar_symbols.specs.declared.names.NonterminalString.{NonterminalString}
 use Rattle.lalrpop_grammar.specs.Views.{grammar_view}
@@ -30,7 +31,9 @@ one_at (y ∷ xs) zero zero x e = (refl, e)
 one_at (y ∷ xs) zero (suc i) x e = let z : ⊥ = cc in absurd z
 one_at (y ∷ xs) (suc n) i x e = one_at xs n i x e
 
-pub at_one : {X : Type 0} (xs : List X) (number : ℕ) (x : X) → slice_get xs number ≡ Some x → slice_get (take 1 (drop number xs)) 0 ≡ Some x
+-- what stands at a place of a list is the first of the one that is taken from there on
+pub at_one : {X : Type 0} (xs : List X) (number : ℕ) (x : X) → slice_get xs number ≡ Some x →
+    slice_get (take 1 (drop number xs)) 0 ≡ Some x
 at_one [] number x e = let z : ⊥ = cc in absurd z
 at_one (y ∷ xs) zero x e = e
 at_one (y ∷ xs) (suc n) x e = at_one xs n x e
@@ -41,14 +44,17 @@ only_last all [] x e one = ap (λ l. slice_get l 0) e
 only_last all (y ∷ rest) x e one = absurd (omega (arith, ap length e, one, length-append rest (x ∷ [])))
 
 module _ (v : PreparedGrammar) (error : TableConstructionError (List ℕ)) (g : Grammar) (start : NonterminalString)
-    (states : List (State (List ℕ))) (same : g ≡ v.expansion) (named : start ≡ v.start_name) (all : states ≡ error.states.items) where
+    (states : List (State (List ℕ))) (same : g ≡ v.expansion) (named : start ≡ v.start_name)
+    (all : states ≡ error.states.items) where
   -- what is said of the expansion, its start and its states is said of those that are handed on, and the other way round
-  handed : (P : Grammar → NonterminalString → List (State (List ℕ)) → Type 0) → P v.expansion v.start_name error.states.items → P g start states
+  handed : (P : Grammar → NonterminalString → List (State (List ℕ)) → Type 0) →
+      P v.expansion v.start_name error.states.items → P g start states
   handed P p =
       subst (P g start) (sym all)
       (subst (λ n. P g n error.states.items) (sym named) (subst (λ h. P h v.start_name error.states.items) (sym same) p))
 
-  given_back : (P : Grammar → NonterminalString → List (State (List ℕ)) → Type 0) → P g start states → P v.expansion v.start_name error.states.items
+  given_back : (P : Grammar → NonterminalString → List (State (List ℕ)) → Type 0) → P g start states →
+      P v.expansion v.start_name error.states.items
   given_back P p =
       subst (P v.expansion v.start_name) all
       (subst (λ n. P v.expansion n states) named (subst (λ h. P h start states) same p))
@@ -84,9 +90,11 @@ module _ (v : PreparedGrammar) (error : TableConstructionError (List ℕ)) (g : 
     own_actions prepared = handed (λ h n l. HaveOwnActions h)
         (λ p q one other e. prepared.told.expansion.once p q one other (ap prepared.told.expansion.label_of e))
 
-    pub are_witnesses : (conflicts : List (Conflict (List ℕ))) → conflicts ≡ error.conflicts.items → (certificates : List Certificate) →
+    pub are_witnesses : (conflicts : List (Conflict (List ℕ))) → conflicts ≡ error.conflicts.items →
+        (certificates : List Certificate) →
         (IsReadGrammar (grammar_view v.written) → IsPrepared finds is_too_deep v) → length certificates ≡ length conflicts →
-        (HaveOwnActions g → AreCertificatesOf g start.0 (shown_states g states) conflicts certificates) → AreWitnessesOf v error certificates
+        (HaveOwnActions g → AreCertificatesOf g start.0 (shown_states g states) conflicts certificates) →
+        AreWitnessesOf v error certificates
     are_witnesses conflicts list certificates prepared many certified = record {
       count = many ∙ ap length list;
       each = λ number c there read conflict at.
@@ -97,7 +105,8 @@ module _ (v : PreparedGrammar) (error : TableConstructionError (List ℕ)) (g : 
     pub is_witness : (conflicts : List (Conflict (List ℕ))) (number : ℕ) (certificates : List Certificate) (c : Certificate) →
         (IsReadGrammar (grammar_view v.written) → IsPrepared finds is_too_deep v) →
         (HaveOwnActions g → AreCertificatesOf g start.0 (shown_states g states) conflicts certificates) →
-        ((conflict : Conflict (List ℕ)) → slice_get error.conflicts.items number ≡ Some conflict → slice_get conflicts 0 ≡ Some conflict) →
+        ((conflict : Conflict (List ℕ)) → slice_get error.conflicts.items number ≡ Some conflict →
+        slice_get conflicts 0 ≡ Some conflict) →
         slice_get certificates 0 ≡ Some c → IsWitnessOf v error number c
     is_witness conflicts number certificates c prepared certified one there read conflict at =
         given_back (λ h n l. IsCertificateOf h n.0 (shown_states h l) conflict (certificate_view c))

@@ -19,7 +19,8 @@ AreItsConflicts v error = IsCanonicalFault v.expansion v.start_name (faults.Conf
 -- For a grammar as one is read, it is a certificate of the conflict with this number.
 abbrev pub IsWitnessOf : PreparedGrammar → TableConstructionError (List ℕ) → ℕ → Certificate → Type 0
 IsWitnessOf v error number c =
-    IsReadGrammar (grammar_view v.written) → (conflict : Conflict (List ℕ)) → slice_get error.conflicts.items number ≡ Some conflict →
+    IsReadGrammar (grammar_view v.written) → (conflict : Conflict (List ℕ)) →
+    slice_get error.conflicts.items number ≡ Some conflict →
     IsCertificateOf v.expansion v.start_name.0 (shown_states v.expansion error.states.items) conflict (certificate_view c)
 
 -- one for each conflict, in their order

@@ -1,5 +1,6 @@
 -- What is still to come of the trees of a record while its symbols are gone through, and the trees of one symbol; for the code.
-use Rattle.std.proofs.Common.{◌≡◌, ◌+◌, ◌<◌, ◌≤◌, ℕ, List, [], ◌∷◌, ◌++◌, length, refl, ap, sym, ◌∙◌, arith, subst, append_assoc, map}
+use Rattle.std.proofs.Common.{◌≡◌, ◌+◌, ◌<◌, ◌≤◌, ℕ, List, [], ◌∷◌, ◌++◌, length, refl, ap, sym}
+use Rattle.std.proofs.Common.{◌∙◌, arith, subst, append_assoc, map}
 use Rattle.std.specs.Prelude.{IfOk, None, Result, Ok, Err, Some, drop, slice_get, take}
 use Rattle.std.proofs.Math.ListN.{drop_of_length-le}
 use Rattle.std.proofs.lemmas.Result.{IfOk-weaker}
@@ -86,7 +87,8 @@ module _ (actions : List ActionFnDefn) (origins : List choices.Origin) (below : 
       TellEntries actions origins below (symbols.Inlined action side ∷ []) count entries → count ≤ length items →
       children ≡ take (length side) items →
       ((label : ChoiceLabel) → TellsLabel actions origins action.0 (length children) label →
-      tree_view t ≡ tree_by_label label (map tree_view children)) → tree_view t ∷ [] ≡ trees_by_inlinings entries (map tree_view items)
+      tree_view t ≡ tree_by_label label (map tree_view children)) →
+      tree_view t ∷ [] ≡ trees_by_inlinings entries (map tree_view items)
   inlined_tree action side count entries items children t told enough front made =
       let e = inlined_entry actions origins below action side count entries told in
       let as_many : length children ≡ length side =
@@ -117,7 +119,8 @@ module _ (actions : List ActionFnDefn) (origins : List choices.Origin) (below : 
       (made new : List WrittenTree) (t : WrittenTree) → new ≡ made ++ t ∷ [] → (items left : List WrittenTree) →
       left ≡ drop (symbols_after_entry s) items → (whole : List Tree) →
       IsToCome (drop i all) (map tree_view made) (map tree_view items) whole →
-      ((count : ℕ) (entries : ChoiceInlinings) → TellEntries actions origins below (s ∷ []) count entries → count ≤ length items →
+      ((count : ℕ) (entries : ChoiceInlinings) → TellEntries actions origins below (s ∷ []) count entries →
+      count ≤ length items →
       tree_view t ∷ [] ≡ trees_by_inlinings entries (map tree_view items)) →
       IsToCome (drop (i + 1) all) (map tree_view new) (map tree_view left) whole
   come_on all i s here made new t more items left less whole c one =

@@ -1,5 +1,6 @@
 -- Parts of lists, and that the leaves of a label's tree are a part of those of its children, in order: for the trees that a parse makes.
-use Rattle.std.proofs.Common.{◌≡◌, ◌+◌, ◌≤◌, ℕ, zero, suc, List, [], ◌∷◌, ◌++◌, length, refl, ap, sym, ◌∙◌, arith, subst}
+use Rattle.std.proofs.Common.{◌≡◌, ◌+◌, ◌≤◌, ℕ, zero, suc, List, [], ◌∷◌, ◌++◌, length, refl, ap}
+use Rattle.std.proofs.Common.{sym, ◌∙◌, arith, subst}
 use Rattle.std.proofs.Common.{append_assoc}
 use Rattle.std.proofs.lemmas.List.{append-nil}
 use Rattle.std.specs.Prelude.{drop, flat_map, take}
@@ -16,6 +17,7 @@ pub part_none : {A : Type 0} (ys : List A) → IsPart {A = A} [] ys
 part_none [] = IsPart.nothing
 part_none (y ∷ ys) = IsPart.without_first y [] ys (part_none ys)
 
+-- each list is a part of itself, with nothing left out
 pub part_same : {A : Type 0} (xs : List A) → IsPart xs xs
 part_same [] = IsPart.nothing
 part_same (x ∷ xs) = IsPart.with_first x xs xs (part_same xs)
@@ -28,6 +30,7 @@ parts_joined _ _ us vs (IsPart.with_first x xs ys p) h =
 parts_joined _ _ us vs (IsPart.without_first y xs ys p) h =
     IsPart.without_first y (xs ++ us) (ys ++ vs) (parts_joined xs ys us vs p h)
 
+-- a part of a part of a list is a part of the list
 pub part_of_part : {A : Type 0} (xs ys zs : List A) → IsPart xs ys → IsPart ys zs → IsPart xs zs
 part_of_part xs ys _ p IsPart.nothing = p
 part_of_part xs _ _ p (IsPart.without_first z ys zs q) = IsPart.without_first z xs zs (part_of_part xs ys zs p q)

@@ -6,6 +6,7 @@ use Rattle.lalrpop_grammar_repr.specs.declared.action.ActionFnDefnKind.TheVarian
 use Rattle.lalrpop_grammar_repr.specs.declared.action.InlineActionFnDefn.{InlineActionFnDefn}
 use Rattle.lalrpop_run_written.specs.ActionLabels.{IsRecordOf}
 
+-- an action number at which no definition stands has no record
 pub no_definition : (actions : List ActionFnDefn) (k : ℕ) → slice_get actions k ≡ None → (i : InlineActionFnDefn) →
     IsRecordOf actions k i → ⊥
 no_definition actions k e i is = never is.definition (sym is.at ∙ e)
@@ -13,6 +14,7 @@ no_definition actions k e i is = never is.definition (sym is.at ∙ e)
     never : (d : ActionFnDefn) → ◌≡◌ {A = Option ActionFnDefn} (Some d) None → ⊥
     never d h = absurd (cc)
 
+-- an action whose definition isn't one that inlining added has no record
 pub no_inline : (actions : List ActionFnDefn) (k : ℕ) (d : ActionFnDefn) → slice_get actions k ≡ Some d →
     ((i : InlineActionFnDefn) → d.kind ≡ kinds.Inline i → ⊥) → (i : InlineActionFnDefn) → IsRecordOf actions k i → ⊥
 no_inline actions k d at other i is = other i (ap (λ e. e.kind) (same d is.definition (sym at ∙ is.at)) ∙ is.kind_is)

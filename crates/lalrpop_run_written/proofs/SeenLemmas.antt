@@ -14,18 +14,22 @@ use Rattle.lalrpop_grammar.specs.declared.tree.WrittenTree.TheVariants as varian
 use Rattle.lalrpop_grammar.specs.declared.tree.WrittenTree.TheOpen as layer
 use Rattle.lalrpop_grammar_language.specs.Derivations.{append_tree, join_trees, plus_more_tree}
 
+-- a rule's tree is seen with its name, its arguments without marks, its place, and its children as they are seen
 pub of_rule : (n : NonterminalString) (args : List Symbol) (place : ℕ) (cs : List WrittenTree) →
     tree_view (variant.Rule n args place cs)
     ≡ Tree.rule n.0 (map (λ s. without_marks (symbol_view s)) args) place (trees (map tree_view cs))
 of_rule n args place cs =
     ap tree_view (sym (variant.rolls-Rule n args place cs)) ∙ fold-roll-WrittenTree Tree tree_step (layer.Rule n args place cs)
 
+-- a list is seen as the list of its trees as they are seen
 pub of_list : (cs : List WrittenTree) → tree_view (variant.List cs) ≡ Tree.list (trees (map tree_view cs))
 of_list cs = ap tree_view (sym (variant.rolls-List cs)) ∙ fold-roll-WrittenTree Tree tree_step (layer.List cs)
 
+-- a group is seen as the group of its trees as they are seen
 pub of_group : (cs : List WrittenTree) → tree_view (variant.Group cs) ≡ Tree.group (trees (map tree_view cs))
 of_group cs = ap tree_view (sym (variant.rolls-Group cs)) ∙ fold-roll-WrittenTree Tree tree_step (layer.Group cs)
 
+-- an option with a tree is seen as one, with its tree as it is seen
 pub of_some : (t : WrittenTree) → tree_view (variant.Opt (Some t)) ≡ Tree.opt_some (tree_view t)
 of_some t = ap tree_view (sym (variant.rolls-Opt (Some t))) ∙ fold-roll-WrittenTree Tree tree_step (layer.Opt (Some t))
 
@@ -44,11 +48,13 @@ trees_joined : (us : List Tree) (t : Tree) → trees (us ++ t ∷ []) ≡ join_t
 trees_joined [] t = refl
 trees_joined (u ∷ us) t = ap (Trees.more u) (trees_joined us t)
 
+-- with one written tree more, one tree more is seen, at the end
 pub viewed_more : (ts : List WrittenTree) (t : WrittenTree) → map tree_view (ts ++ t ∷ []) ≡ map tree_view ts ++ tree_view t ∷ []
 viewed_more [] t = refl
 viewed_more (u ∷ ts) t = ap (λ l. tree_view u ∷ l) (viewed_more ts t)
 
-append_elements : (v u : Tree) (ts : Trees) → Some ts ≡ elements v → Tree.list (join_trees ts (Trees.more u Trees.none)) ≡ append_tree v u
+append_elements : (v u : Tree) (ts : Trees) → Some ts ≡ elements v →
+    Tree.list (join_trees ts (Trees.more u Trees.none)) ≡ append_tree v u
 append_elements (Tree.list us) u ts e = let same : ts ≡ us = cc in ap (λ l. Tree.list (join_trees l (Trees.more u Trees.none))) same
 append_elements (Tree.rule n args place us) u ts e = let no : ⊥ = cc in absurd no
 append_elements Tree.opt_none u ts e = let no : ⊥ = cc in absurd no
@@ -67,14 +73,16 @@ append_none (Tree.terminal token) u e = refl
 append_none Tree.look u e = refl
 
 -- the list with one more element
-pub of_longer : (l : WrittenTree) (ts : List WrittenTree) (t : WrittenTree) → Some (trees (map tree_view ts)) ≡ elements (tree_view l) →
+pub of_longer : (l : WrittenTree) (ts : List WrittenTree) (t : WrittenTree) →
+    Some (trees (map tree_view ts)) ≡ elements (tree_view l) →
     tree_view (variant.List (ts ++ t ∷ [])) ≡ append_tree (tree_view l) (tree_view t)
 of_longer l ts t e =
     of_list (ts ++ t ∷ []) ∙ ap Tree.list (ap trees (viewed_more ts t) ∙ trees_joined (map tree_view ts) (tree_view t))
     ∙ append_elements (tree_view l) (tree_view t) (trees (map tree_view ts)) e
 
 -- what is no list has no longer one
-pub of_no_list : (l : WrittenTree) (u : Tree) → None ≡ elements (tree_view l) → tree_view (variant.Opt None) ≡ append_tree (tree_view l) u
+pub of_no_list : (l : WrittenTree) (u : Tree) → None ≡ elements (tree_view l) →
+    tree_view (variant.Opt None) ≡ append_tree (tree_view l) u
 of_no_list l u e = of_none ∙ append_none (tree_view l) u e
 
 -- the first two of some trees
@@ -82,10 +90,12 @@ pub of_two : (l t : WrittenTree) (rest : List WrittenTree) (ts : List WrittenTre
     append_tree (tree_view l) (tree_view t) ≡ plus_more_tree (trees (map tree_view ts))
 of_two l t rest ts e = ap (λ us. plus_more_tree (trees (map tree_view us))) (sym e)
 
+-- where there is just one tree, there is no list with one more: it is seen as an option without a tree
 pub of_one : (l : WrittenTree) (ts : List WrittenTree) → ts ≡ l ∷ [] →
     tree_view (variant.Opt None) ≡ plus_more_tree (trees (map tree_view ts))
 of_one l ts e = of_none ∙ ap (λ us. plus_more_tree (trees (map tree_view us))) (sym e)
 
+-- where there are no trees, there is no list with one more: it is seen as an option without a tree
 pub of_nothing : (ts : List WrittenTree) → ts ≡ [] → tree_view (variant.Opt None) ≡ plus_more_tree (trees (map tree_view ts))
 of_nothing ts e = of_none ∙ ap (λ us. plus_more_tree (trees (map tree_view us))) (sym e)
 
@@ -94,5 +104,7 @@ pub no_item : (ts : List WrittenTree) → length ts ≡ 0 → ts ≡ []
 no_item [] e = refl
 no_item (t ∷ ts) e = absurd (omega (arith, e))
 
-pub one_item : (ts : List WrittenTree) (t : WrittenTree) (rest : List WrittenTree) → ts ≡ t ∷ rest → length ts ≡ 1 → ts ≡ t ∷ []
+-- a list of length one that begins with a tree is that tree alone
+pub one_item : (ts : List WrittenTree) (t : WrittenTree) (rest : List WrittenTree) → ts ≡ t ∷ rest →
+    length ts ≡ 1 → ts ≡ t ∷ []
 one_item ts t rest e h = e ∙ ap (λ us. t ∷ us) (no_item rest (omega (arith, ap length e, h)))

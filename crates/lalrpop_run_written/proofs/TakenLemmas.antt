@@ -1,5 +1,5 @@
--- The written tree of an expanded tree, taken apart, is that of its label over the written trees of its children: for the trees that a parse
--- makes.
+-- The written tree of an expanded tree, taken apart, is that of its label over the written trees of its children: for the trees that
+-- a parse makes.
 use Rattle.std.proofs.Common.{◌≡◌, ◌+◌, ℕ, suc, List, [], ◌∷◌, length, refl, ap, ap₂, sym, ◌∙◌, arith}
 use Rattle.std.specs.Prelude.{drop}
 use Rattle.std.proofs.lemmas.List.{drop-drop}
@@ -83,6 +83,7 @@ mutual
 abbrev pub KeepSymbols : (ℕ → ChoiceLabel) → SpannedForest → Type 0
 KeepSymbols label_of ts = AreOver (λ p. kept_count (label_of p.action) ≡ length p.right) (without_spans ts)
 
+-- trees over productions have as many roots as written trees are shown of them
 pub shown_count : (label_of : ℕ → ChoiceLabel) (ts : SpannedForest) →
     length (shown_trees label_of ts) ≡ length (roots (without_spans ts))
 shown_count label_of none_at = refl

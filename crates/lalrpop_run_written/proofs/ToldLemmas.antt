@@ -1,5 +1,6 @@
 -- What follows where an action tells a label: how many symbols it keeps, and what its tree is by the parts of its record; for the code.
-use Rattle.std.proofs.Common.{◌≡◌, ◌+◌, ◌<◌, ℕ, suc, List, [], ◌∷◌, ◌++◌, length, refl, ap, ap₂, sym, ◌∙◌, arith}
+use Rattle.std.proofs.Common.{◌≡◌, ◌+◌, ◌<◌, ℕ, suc, List, [], ◌∷◌, ◌++◌, length, refl, ap, ap₂}
+use Rattle.std.proofs.Common.{sym, ◌∙◌, arith}
 use Rattle.std.proofs.Common.{subst}
 use Rattle.std.specs.Prelude.{None, Option, Some, drop, slice_get}
 use Rattle.std.proofs.lemmas.Option.{slice_get_within}
@@ -73,6 +74,7 @@ pub record IsMadeNode (actions : List ActionFnDefn) (origins : List choices.Orig
   pub entries_told : TellEntries actions origins k record_of.symbols count entries
   pub tree_is : (ts : List Tree) → tree_by_label label ts ≡ tree_by_label outer (trees_by_inlinings entries ts)
 
+-- an action that tells a label and has no origin was added by inlining, and its record tells its parts
 pub made_node : (actions : List ActionFnDefn) (origins : List choices.Origin) (k count : ℕ) (label : ChoiceLabel) →
     TellsLabel actions origins k count label → slice_get origins k ≡ None → IsMadeNode actions origins k count label
 made_node actions origins k count label (TellsLabel.given k2 n x o at) e = absurd (cc)
@@ -91,7 +93,8 @@ made_node actions origins k count label (TellsLabel.made k2 n d i outer entries 
     }
 
 -- an action has one record
-pub one_record : (actions : List ActionFnDefn) (k : ℕ) (i j : InlineActionFnDefn) → IsRecordOf actions k i → IsRecordOf actions k j →
+pub one_record : (actions : List ActionFnDefn) (k : ℕ) (i j : InlineActionFnDefn) → IsRecordOf actions k i →
+    IsRecordOf actions k j →
     i ≡ j
 one_record actions k i j a b =
     let same : a.definition ≡ b.definition = some_one a.definition b.definition (sym a.at ∙ b.at) in
@@ -119,6 +122,7 @@ kept_trees_parted : (entries : ChoiceInlinings) (ts : List Tree) →
 kept_trees_parted entries [] = refl
 kept_trees_parted entries (t ∷ ts) = refl
 
+-- the entries of a record fall into that of its first symbol and those of the others
 pub parted : (actions : List ActionFnDefn) (origins : List choices.Origin) (below : ℕ) (s : InlinedSymbol)
     (rest : List InlinedSymbol) (count : ℕ) (entries : ChoiceInlinings) →
     TellEntries actions origins below (s ∷ rest) count entries → AreParted actions origins below s rest count entries
@@ -168,6 +172,7 @@ pub record IsInlinedEntry (actions : List ActionFnDefn) (origins : List choices.
   pub count_is : count ≡ length side
   pub entries_are : entries ≡ Inlinings.inlined label Inlinings.none
 
+-- of one symbol that was inlined there is one entry, with the label that its action tells
 pub inlined_entry : (actions : List ActionFnDefn) (origins : List choices.Origin) (below : ℕ) (action : ActionFn)
     (side : List Symbol) (count : ℕ) (entries : ChoiceInlinings) →
     TellEntries actions origins below (inlined.Inlined action side ∷ []) count entries →

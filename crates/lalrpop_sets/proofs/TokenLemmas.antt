@@ -43,10 +43,12 @@ left_step ts ws k b h e =
     go true = refl
     go false = refl
 
+-- where the bit k is set, the tokens left from k on are the one with this number, then those left from k + 1 on
 pub left_has : (ts : TerminalSet) (ws : List ℕ) (k : ℕ) → k < eof_number ts + 2 → has_bit ws k ≡ true
     → left_from ts ws k ≡ token_of_number ts k ∷ left_from ts ws (k + 1)
 left_has ts ws k h e = left_step ts ws k true h e
 
+-- where the bit k isn't set, the tokens left from k on are those left from k + 1 on
 pub left_lacks : (ts : TerminalSet) (ws : List ℕ) (k : ℕ) → k < eof_number ts + 2 → has_bit ws k ≡ false
     → left_from ts ws k ≡ left_from ts ws (k + 1)
 left_lacks ts ws k h e = left_step ts ws k false h e

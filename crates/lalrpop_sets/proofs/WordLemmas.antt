@@ -17,6 +17,7 @@ eqb_self k = grind arith
 pub eqb_not : (j k : ℕ) → (j ≡ k → ⊥) → eqb j k ≡ false
 eqb_not j k h = grind arith
 
+-- any two numbers are equal, or they are not
 pub cases_eq : (j k : ℕ) → (j ≡ k) ⊎ (j ≡ k → ⊥)
 cases_eq j k = go (cases_lt j k) (cases_lt k j)
   where
@@ -25,6 +26,7 @@ cases_eq j k = go (cases_lt j k) (cases_lt k j)
     go (inr a) (inl b) = inr (λ e. omega arith)
     go (inr a) (inr b) = inl (omega arith)
 
+-- numbers picked from a range hold none that is below the range
 pub has_below : (p : ℕ → Bool) (a n k : ℕ) → k < a → has (filter p (range_with_len a n)) k ≡ false
 has_below p a zero k h = refl
 has_below p a (suc n) k h = go (p a) (has_below p (a + 1) n k (omega arith))
@@ -34,6 +36,7 @@ has_below p a (suc n) k h = go (p a) (has_below p (a + 1) n k (omega arith))
     go true r = rw (eqb_not a k (λ e. omega arith)) r
     go false r = r
 
+-- numbers picked from a range hold none that is past the range
 pub has_above : (p : ℕ → Bool) (a n k : ℕ) → a + n ≤ k → has (filter p (range_with_len a n)) k ≡ false
 has_above p a zero k h = refl
 has_above p a (suc n) k h = go (p a) (has_above p (a + 1) n k (omega arith))
@@ -43,6 +46,7 @@ has_above p a (suc n) k h = go (p a) (has_above p (a + 1) n k (omega arith))
     go true r = rw (eqb_not a k (λ e. omega arith)) r
     go false r = r
 
+-- of the numbers picked from a range by a test, a number of the range is one just where it passes the test
 pub has_within : (p : ℕ → Bool) (a n k : ℕ) → a ≤ k → k < a + n → has (filter p (range_with_len a n)) k ≡ p k
 has_within p a zero k h g = absurd (omega arith)
 has_within p a (suc n) k h g = go (cases_eq a k) (λ e. has_within p (a + 1) n k (omega arith) (omega arith))
@@ -61,6 +65,7 @@ has_within p a (suc n) k h g = go (cases_eq a k) (λ e. has_within p (a + 1) n k
     go (inl e) r = subst (λ j. has (filter p (range_with_len a (suc n))) j ≡ p j) e (at (p a))
     go (inr e) r = past (p a) e (r e)
 
+-- the bit k of words is bit k % 64 of the word at place k / 64
 pub bit_is : (ws : List ℕ) (k : ℕ) → has_bit ws k ≡ eqb (bit_at (get_or ws (k / 64) 0) (k % 64)) 1
 unfolding has_bit
 bit_is ws k = refl
@@ -87,6 +92,7 @@ asc_more : (a b : ℕ) (xs : List ℕ) → b ≤ a → AscendsFrom a xs → Asce
 asc_more a b [] h k = tt
 asc_more a b (x ∷ xs) h k = (let z : a ≤ x = k.0 in omega arith, k.1)
 
+-- the numbers picked from a range ascend, from where the range begins
 pub asc_filter : (p : ℕ → Bool) (a n : ℕ) → AscendsFrom a (filter p (range_with_len a n))
 asc_filter p a zero = tt
 asc_filter p a (suc n) = go (p a) (subst
@@ -136,6 +142,7 @@ asc_same a b (x ∷ xs) (y ∷ ys) h g e =
         (λ i. sym (has_tail x k xs i) ∙ e k ∙ has_tail y k ys (λ j. i (same ∙ j)))
         (cases_eq x k)
 
+-- the list of the bits that are set ascends
 pub asc_listed : (ws : List ℕ) → AscendsFrom 0 (bit_numbers ws)
 unfolding bit_numbers
 asc_listed ws = asc_filter (has_bit ws) 0 (64 * length ws)
@@ -145,6 +152,7 @@ pub same_listed : (ws vs : List ℕ) → ((k : ℕ) → has_bit ws k ≡ has_bit
 same_listed ws vs h = asc_same 0 0 (bit_numbers ws) (bit_numbers vs) (asc_listed ws) (asc_listed vs) (λ k. has_listed ws k ∙ h k
     ∙ sym (has_listed vs k))
 
+-- past the last word no bit is set
 pub bit_past : (ws : List ℕ) (k : ℕ) → length ws ≤ k / 64 → has_bit ws k ≡ false
 bit_past ws k h = bit_is ws k ∙ ap (λ w. eqb (bit_at w (k % 64)) 1) (get_past ws (k / 64) h) ∙ ap
     (λ b. eqb b 1) (bit_at-zero (k % 64))
@@ -155,6 +163,7 @@ get_zero [] (suc i) = refl
 get_zero (w ∷ ws) zero = refl
 get_zero (w ∷ ws) (suc i) = get_zero ws i
 
+-- one more word that is 0 changes no bit
 pub bit_zero : (ws : List ℕ) (k : ℕ) → has_bit (ws ++ 0 ∷ []) k ≡ has_bit ws k
 bit_zero ws k = bit_is (ws ++ 0 ∷ []) k ∙ ap (λ w. eqb (bit_at w (k % 64)) 1) (get_zero ws (k / 64)) ∙ sym (bit_is ws k)
 
@@ -226,6 +235,7 @@ length_set [] i v = refl
 length_set (w ∷ ws) zero v = refl
 length_set (w ∷ ws) (suc i) v = ap suc (length_set ws i v)
 
+-- before any word is joined, the words are the old ones, and nothing has changed
 pub joined_start : (old other : List ℕ) → ((j : ℕ) → get_or old j 0 < 2 ^ 64) → JoinedTo 0 old other old false
 joined_start old other fit = record {
   fit = fit;
@@ -237,6 +247,7 @@ joined_start old other fit = record {
   grown = λ e. let z : ⊥ = cc in absurd z;
 }
 
+-- one more word is joined by writing the union of both words where it differs, and then something has changed
 pub joined_write : (i : ℕ) (old other new : List ℕ) (changed : Bool) (v : ℕ) → JoinedTo i old other new changed → i < length new
     → v ≡ bit_or (get_or new i 0) (get_or other i 0) → (v ≡ get_or new i 0 → ⊥)
     → JoinedTo (i + 1) old other (set new i v) true
@@ -258,6 +269,7 @@ joined_write i old other new changed v k h e d =
         (λ x. bit_or x (get_or other i 0)) (k.above i (omega arith)))
     go j (inr z) l = get_set_other new i j v z ∙ k.below j (omega arith)
 
+-- one more word is joined by leaving it as it is where the union of both words is the word itself
 pub joined_skip : (i : ℕ) (old other new : List ℕ) (changed : Bool) → JoinedTo i old other new changed
     → get_or new i 0 ≡ bit_or (get_or new i 0) (get_or other i 0) → JoinedTo (i + 1) old other new changed
 joined_skip i old other new changed k e =
@@ -289,6 +301,7 @@ or_bits a b i = ap (λ x. eqb x 1) (bit_at_or a b i) ∙ go (bit_at a i) (bit_at
     go x y (inr p) (inl q) = rw (p, q) refl
     go x y (inr p) (inr q) = rw (p, q) refl
 
+-- once all of the other's words are joined, a bit is set just where the old or the other had it
 pub joined_bits : (i : ℕ) (old other new : List ℕ) (changed : Bool) → JoinedTo i old other new changed → length other ≤ i
     → (k : ℕ) → has_bit new k ≡ has_bit old k || has_bit other k
 joined_bits i old other new changed j h k = go (cases_lt (k / 64) i)
@@ -340,6 +353,7 @@ high_bits a b i p q h =
     let y = bit_at_above b 64 i q h in
     bit_at_or a b i ∙ ap (λ z. max z (bit_at b i)) x ∙ ap (λ z. max 0 z) y ∙ sym x
 
+-- where joining changed something, some bit is set that was not set in the old words
 pub joined_grown : (i : ℕ) (old other new : List ℕ) (changed : Bool) → JoinedTo i old other new changed → ((j : ℕ)
     → get_or other j 0 < 2 ^ 64) → changed ≡ true → (k : ℕ) × (has_bit new k ≡ true) × (has_bit old k ≡ false)
 joined_grown i old other new changed j fit' e =
@@ -429,14 +443,17 @@ pub listed_joined : (new old mid other : List ℕ) → ((k : ℕ) → has_bit ne
 listed_joined new old mid other h g k = has_listed new k ∙ h k ∙ ap (λ x. x || has_bit other k) (g k ∙ sym (has_listed old k))
     ∙ ap (λ x. has (bit_numbers old) k || x) (sym (has_listed other k))
 
+-- no words have no bits to list
 pub listed_nil : bit_numbers [] ≡ []
 unfolding bit_numbers
 listed_nil = refl
 
+-- a truth value negated twice is itself
 pub not_not : (b : Bool) → not (not b) ≡ b
 not_not true = refl
 not_not false = refl
 
+-- what holds of every error holds of the error that a result may have
 pub if_err : {A E : Type 0} (r : Result A E) (P : E → Type 0) → ((e : E) → P e) → IfErr r P
 if_err (Ok x) P h = tt
 if_err (Err e) P h = h e
@@ -490,6 +507,7 @@ find_common (suc n) a b = go (find_common n a b) (bit_cases a n) (bit_cases b n)
     go (inr r) (inl p) q = let m = bit_at_and a b n in inr (more r (omega arith))
     go (inr r) (inr p) (inl q) = let m = bit_at_and a b n in inr (more r (omega arith))
 
+-- where two words at one place have a bitwise and that is not 0, some bit is set in both lists of words
 pub meet_bits : (ws vs : List ℕ) (j : ℕ) → ((i : ℕ) → get_or ws i 0 < 2 ^ 64) → (bit_and (get_or ws j 0) (get_or vs j 0) ≡ 0
     → ⊥) → (k : ℕ) × (has_bit ws k ≡ true) × (has_bit vs k ≡ true)
 meet_bits ws vs j fit h =
@@ -509,10 +527,12 @@ meet_bits ws vs j fit h =
     (cases_lt i 64)))))
     (find_common 64 a b)
 
+-- a truth value whose negation is true is false
 pub not_true : (b : Bool) → IsTrue (not b) → IsFalse b
 not_true true h = let z : ⊥ = cc in absurd z
 not_true false h = refl
 
+-- a truth value whose negation is false is true
 pub not_false : (b : Bool) → IsFalse (not b) → IsTrue b
 not_false true h = refl
 not_false false h = let z : ⊥ = cc in absurd z
@@ -539,12 +559,14 @@ len_more p a (suc n) = go (p a) (subst (λ m. length (filter p (range_with_len (
 abbrev pub bits_below : List ℕ → ℕ → ℕ
 bits_below ws k = length (filter (has_bit ws) (range_with_len 0 k))
 
+-- below k + 1 as many bits are set as below k, and one more where the bit k is set: a step of counting
 pub below_more : (ws : List ℕ) (k : ℕ) → bits_below ws (k + 1) ≡ bits_below ws k + cond (has_bit ws k) 1 0
 below_more ws k =
     let e : k + 1 ≡ suc k = omega arith in
     let z : 0 + k ≡ k = omega arith in
     ap (bits_below ws) e ∙ len_more (has_bit ws) 0 k ∙ ap (λ m. bits_below ws k + cond (has_bit ws m) 1 0) z
 
+-- below the end of the words as many bits are set as the list of them is long: what counting all of them gives
 pub below_all : (ws : List ℕ) → bits_below ws (64 * length ws) ≡ length (bit_numbers ws)
 unfolding bit_numbers
 below_all ws = refl
@@ -596,6 +618,7 @@ met_more n ws vs new v m e =
         subst (λ i. get_or (new ++ v ∷ []) i 0 ≡ bit_and (get_or ws i 0) (get_or vs i 0)) z (get_pushed new v n m.len ∙ e)
     go j (inr z) h = get_before new v j (let l = m.len in omega arith) ∙ m.below j (omega arith)
 
+-- once the words of the shorter have been met, a bit is set just where both had it
 pub met_bits : (n : ℕ) (ws vs new : List ℕ) → MetTo n ws vs new → (length ws ≤ n) ⊎ (length vs ≤ n) → (k : ℕ)
     → has_bit new k ≡ has_bit ws k && has_bit vs k
 met_bits n ws vs new m short k = go (cases_lt (k / 64) n)
@@ -617,9 +640,11 @@ filter_all : (xs : List ℕ) → filter (λ _. true) xs ≡ xs
 filter_all [] = refl
 filter_all (x ∷ xs) = ap (λ l. x ∷ l) (filter_all xs)
 
+-- the numbers of a range ascend, from where it begins
 pub asc_range : (a n : ℕ) → AscendsFrom a (range_with_len a n)
 asc_range a n = subst (AscendsFrom a) (filter_all (range_with_len a n)) (asc_filter (λ _. true) a n)
 
+-- a range from 0 holds just the numbers below its length
 pub has_range : (n k : ℕ) → has (range_with_len 0 n) k ≡ nat_lt k n
 has_range n k = subst (λ l. has l k ≡ nat_lt k n) (filter_all (range_with_len 0 n)) (go (cases_lt k n))
   where
@@ -643,6 +668,7 @@ range_step old new k j h g = g ∙ ap (λ b. eqb j k || b) h ∙ go (cases_eq j 
     go (inr e) (inl l) = grind arith
     go (inr e) (inr l) = grind arith
 
+-- whether two numbers are equal does not depend on which comes first
 pub eqb_flip : (j k : ℕ) → eqb j k ≡ eqb k j
 eqb_flip j k = go (cases_eq j k)
   where

@@ -9,7 +9,8 @@ use Rattle.lalrpop_lr1_outward_laws.proofs.lookaheads_have_ways_out.Goals as goa
 pub returns : goal.returns
 returns c = λ grammar s states table nb can paths n p i x look.
     let walk = paths.all n (look.state, look.at) in
-    let r = carried_out (Contains grammar) s (HasItem states) (HasEdge states) (LedBy table) (IsStateOf states) can.automaton.cover paths nb walk.0 n
+    let r = carried_out (Contains grammar) s (HasItem states) (HasEdge states) (LedBy table)
+    (IsStateOf states) can.automaton.cover paths nb walk.0 n
     walk.1 p i x
     (look_carried (Contains grammar) s (HasItem states) (HasEdge states) (HasLookahead states) can.automaton nb walk.0 n
     (walk_by_edges (HasEdge states) (LedBy table) (IsStateOf states) paths walk.0 n walk.1) p i x look) in

@@ -6,5 +6,6 @@ use Rattle.lalrpop_lr1_outward_laws.proofs.ways_out_make_trees.Goals as goal
 
 pub returns : goal.returns
 returns c = λ grammar s states table cover paths g n w f over e p i m us held back us_over us_roots ms left leads.
-    continued (Contains grammar) s (HasItem states) (HasEdge states) (LedBy table) (IsStateOf states) cover paths g n w f over e p i m us held back
+    continued (Contains grammar) s (HasItem states) (HasEdge states) (LedBy table)
+    (IsStateOf states) cover paths g n w f over e p i m us held back
     us_over us_roots ms left leads

@@ -22,7 +22,8 @@ returns-in-Reduce g c =
     ShowsReduction grammar s states ways c.args.number p front x (option_map (λ moves. map tree_move_view moves.items) found)))
     c.requires.ways c.with_reduction.ensures in
     IfOk-weaker c.with_reduction.result _ _
-    (λ found h grammar s look states are at. subst (λ action. ShowsAction grammar s states c.args.any.now.ways.now c.args.number front x action
+    (λ found h grammar s look states are at. subst
+    (λ action. ShowsAction grammar s states c.args.any.now.ways.now c.args.number front x action
     (option_map (λ moves. map tree_move_view moves.items) found)) (sym c.in-Reduce.is) (h grammar s states are)) told
 
 pub returns-in-Some : goal.returns-in-Some
@@ -30,7 +31,8 @@ returns-in-Some g c =
     let front = map tree_move_view c.args.front.now in
     let x = next_of c.args.next.now in
     IfOk-weaker c.with_shift.result _ _
-    (λ found h grammar s look states are at. subst (λ action. ShowsAction grammar s states c.args.any.now.ways.now c.args.number front x action
+    (λ found h grammar s look states are at. subst
+    (λ action. ShowsAction grammar s states c.args.any.now.ways.now c.args.number front x action
     (option_map (λ moves. map tree_move_view moves.items) found)) (sym c.in-Shift.is)
     (shift_told grammar s states c.args.any.now.ways.now c.args.number front (terminal_view c.in-Shift.terminal) c.in-Some.place
     (subst (IsShiftPlaceIf states c.args.number (terminal_view c.in-Shift.terminal)) c.in-Some.is

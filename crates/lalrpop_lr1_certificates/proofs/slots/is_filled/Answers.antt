@@ -5,5 +5,6 @@ use Rattle.lalrpop_lr1_certificates.proofs.slots.is_filled.Goals as goal
 pub returns-in-Some : goal.returns-in-Some
 returns-in-Some c = λ yes. (
   c.in-Some.field-0,
-  slice_get_read c.args.slots.now _ c.args.number c.index-slots-number.result refl c.requires c.index-slots-number.is ∙ ap Some c.in-Some.is,
+  slice_get_read c.args.slots.now _ c.args.number c.index-slots-number.result refl c.requires c.index-slots-number.is
+      ∙ ap Some c.in-Some.is,
 )

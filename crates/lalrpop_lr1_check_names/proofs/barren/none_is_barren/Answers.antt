@@ -48,7 +48,8 @@ returns-in_ok-reached-in-Some c =
     let reached = c.in_ok-reached-in-Some.reached.items in
     let productive = c.in_ok-productive-in-Some.productive.items in
     let says : (c.are_all_marked-none.result ≡ true) ↔ ((n : ℕ) → IsMarked reached n → IsMarked productive n) =
-    subst (λ a. (c.are_all_marked-none.result ≡ true) ↔ ((n : ℕ) → IsMarked a n → IsMarked productive n)) c.as_slice.ensures.value
+    subst (λ a. (c.are_all_marked-none.result ≡ true) ↔ ((n : ℕ) → IsMarked a n → IsMarked productive n))
+    c.as_slice.ensures.value
     (subst (λ b. (c.are_all_marked-none.result ≡ true) ↔ ((n : ℕ) → IsMarked c.as_slice.result.now n → IsMarked b n))
     c.as_slice-in-Some.ensures.value c.are_all_marked-none.ensures) in (
       λ e. (none_barren_productive G start.0).1 (λ A r.

@@ -23,5 +23,6 @@ returns c =
     λ n m. let both : true ≡ false = sym m ∙ c.in_ok-marks.ensures.empty n in let w : ⊥ = cc in w in
     λ s A e. (
       λ m. tree_productive t c.requires none empty (subst (λ cs. Follows cs none s) eq ((c.in_ok-closed.ensures.follows s).0 m)) A e,
-      λ p. (c.in_ok-closed.ensures.follows s).1 (subst (λ cs. Follows cs none s) (sym eq) (productive_tree t c.requires none empty p s e)),
+      λ p. (c.in_ok-closed.ensures.follows s).1 (subst (λ cs. Follows cs none s) (sym eq)
+          (productive_tree t c.requires none empty p s e)),
     )

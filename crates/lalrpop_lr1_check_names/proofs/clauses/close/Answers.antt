@@ -1,4 +1,5 @@
-use Rattle.std.proofs.Common.{◌≡◌, ◌∙◌, ◌++◌, ◌<◌, List, Some, ap, arith, length, map, slice_get, subst, sym, false, ℕ}
+use Rattle.std.proofs.Common.{◌≡◌, ◌∙◌, ◌++◌, ◌<◌, List, Some, ap, arith, length, map, slice_get, subst}
+use Rattle.std.proofs.Common.{sym, false, ℕ}
 use Rattle.std.specs.Option.{is_some}
 use Rattle.lalrpop_lr1_least_counts.specs.LeastTrees.{AreLeast}
 use Rattle.lalrpop_lr1_least_counts.specs.NumberedTrees.{NumberRule, rule_views}
@@ -18,8 +19,10 @@ least_trees-requires c =
     ∙ c.in_ok-add_seeds.ensures
     ∙ ap (λ (rs : List NumberRule). rs ++ marked_rules c.as_slice.result.now (length c.as_slice.result.now)) c.in_ok-rules.ensures
     ∙ ap (λ ms. map rule_of_clause clauses ++ marked_rules ms (length ms)) c.as_slice.ensures.value in
-    subst (λ (rs : List NumberRule). (r : ℕ) → (rule : NumberRule) → slice_get rs r ≡ Some rule → rule.left < c.len.result) (sym all)
-    (subst (λ n. (r : ℕ) → (rule : NumberRule) → slice_get (closing_rules clauses marks) r ≡ Some rule → rule.left < n) (sym long)
+    subst (λ (rs : List NumberRule). (r : ℕ) → (rule : NumberRule) → slice_get rs r ≡ Some rule →
+    rule.left < c.len.result) (sym all)
+    (subst (λ n. (r : ℕ) → (rule : NumberRule) → slice_get (closing_rules clauses marks) r ≡ Some rule →
+    rule.left < n) (sym long)
     (rules_within clauses marks c.requires))
 
 pub returns-clause-follows : goal.returns-clause-follows

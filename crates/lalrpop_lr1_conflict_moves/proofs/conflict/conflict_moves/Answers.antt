@@ -30,7 +30,8 @@ returns-in_default-2 g c = λ grammar s look states are at held. inr (
       let p = production_view c.args.conflict.now.production.now in
       let front = map tree_move_view c.as_slice-front.result.now in
       let x = next_of c.args.next.now in
-      subst (λ found. ShowsReduction grammar s states ways c.args.number p front x (option_map (λ moves. map tree_move_view moves.items) found))
+      subst (λ found. ShowsReduction grammar s states ways c.args.number p front x
+      (option_map (λ moves. map tree_move_view moves.items) found))
       c.in_default-2.is
       (reduction_told grammar s states ways are c.args.number (next_ways c.args.next.now) c.requires.ways p front x
       (option_map (λ moves. map tree_move_view moves.items) c.in_ok-reducing.field-0) (c.in_ok-reducing.ensures grammar s states) held)),
@@ -67,7 +68,8 @@ returns g c = λ grammar s look states are at held.
           (option_map (λ moves. map tree_move_view moves.items) found)) c.in-Some-2.is
           (reduction_told grammar s states ways are c.args.number (next_ways c.args.next.now) c.requires.ways p
           (map tree_move_view c.as_slice-front.result.now) x
-          (option_map (λ moves. map tree_move_view moves.items) c.in_ok-reducing.field-0) (c.in_ok-reducing.ensures grammar s states) held));
+          (option_map (λ moves. map tree_move_view moves.items) c.in_ok-reducing.field-0)
+          (c.in_ok-reducing.ensures grammar s states) held));
       acts = subst (λ front. ShowsAction grammar s states ways c.args.number (map tree_move_view front) x c.args.conflict.now.action
           (Some (map tree_move_view c.in-Some-3.other.items))) c.as_slice-front.ensures.value
           (subst (λ found. ShowsAction grammar s states ways c.args.number (map tree_move_view c.as_slice-front.result.now) x

@@ -19,5 +19,6 @@ loop-number-preserved c =
 
 pub returns : goal.returns
 returns c =
-    subst (λ l. AreFirstEntering l (edges_at c.loop-number.lists)) (take_all c.loop-number.number c.args.edges.now c.loop-number-test.false)
+    subst (λ l. AreFirstEntering l (edges_at c.loop-number.lists))
+    (take_all c.loop-number.number c.args.edges.now c.loop-number-test.false)
     c.loop-number.invariant

@@ -78,7 +78,8 @@ node-requires g c κs =
       kept = k.kept;
       children = k.children;
       tokens = take c.moves.at (token_views c.args.tokens.now);
-      stands = subst (λ ts. g.S.TreeStack.stands c.moves.stack ts (take c.moves.at (token_views c.args.tokens.now))) k.stands c.moves.invariant.running.stands;
+      stands = subst (λ ts. g.S.TreeStack.stands c.moves.stack ts (take c.moves.at (token_views c.args.tokens.now))) k.stands
+          c.moves.invariant.running.stands;
       roots_are = k.roots_are;
     } in ((refl, tt), made)
 
@@ -191,13 +192,15 @@ moves-preserved g c =
           (g.S.TreeStack.stands c.moves.stack) c.moves.numbers.items c.moves.at
           c.moves.left c.moves.next c.moves.invariant.running c.index-state.result.now
           (as_read c.moves.numbers.items c.index-state.result.now (c.len.result - 1) c.index-state.ensures
-          (omega arith)) c.requires.checked c.in-Some-Reduce.by (subst (IsActionBefore c.args.table.now c.index-state.result.now c.moves.next)
+          (omega arith)) c.requires.checked c.in-Some-Reduce.by
+          (subst (IsActionBefore c.args.table.now c.index-state.result.now c.moves.next)
           (ap Some c.in-Some-Reduce.field-0-is) c.in-Some-Reduce.ensures) k.kept k.children k.stands k.roots_are
           left c.index.result.now c.in-Some.target (c.moves.left - 1) c.push_number-in-Some.new.numbers.items
           (g.S.TreeStack.stands c.node.new.self) (omega (arith, c.if-left-eq0-2.false)) kept read c.in-Some.ensures.found
           (c.in_ok-push_number-in-Some.ensures ∙ ap (λ l. l ++ c.in-Some.target ∷ []) c.truncate.ensures.items)
           (c.in_ok-node-in-Some-Reduce.ensures.node_stands k.kept k.children (take c.moves.at (token_views c.args.tokens.now))
-          (subst (λ ts. g.S.TreeStack.stands c.moves.stack ts (take c.moves.at (token_views c.args.tokens.now))) k.stands c.moves.invariant.running.stands) k.roots_are)
+          (subst (λ ts. g.S.TreeStack.stands c.moves.stack ts (take c.moves.at (token_views c.args.tokens.now))) k.stands
+          c.moves.invariant.running.stands) k.roots_are)
           (elim c.else-not-whole.branch [
             | else-not-whole-via-then-not-whole+else-at-tokens w ↦ λ partly ended. w.if-at-tokens.false ended
             | else-not-whole-via-else-not-whole w ↦ λ partly ended. not_both c.args.whole w.if-not-whole.false partly
@@ -231,7 +234,8 @@ returns-in-None-goto-clause-ends g c = λ grammar s states alone ok is.
     grammar s states ok is left c.index.result.now (c.moves.left - 1) c.truncate.new.self.items
     (g.S.TreeStack.stands c.node.new.self) (omega (arith, c.if-left-eq0-2.false)) kept read c.in-None-goto.ensures.none
     (c.in_ok-node-in-Some-Reduce.ensures.node_stands k.kept k.children (take c.moves.at (token_views c.args.tokens.now))
-    (subst (λ ts. g.S.TreeStack.stands c.moves.stack ts (take c.moves.at (token_views c.args.tokens.now))) k.stands c.moves.invariant.running.stands) k.roots_are)
+    (subst (λ ts. g.S.TreeStack.stands c.moves.stack ts (take c.moves.at (token_views c.args.tokens.now))) k.stands
+    c.moves.invariant.running.stands) k.roots_are)
     (elim c.else-not-whole.branch [
       | else-not-whole-via-then-not-whole+else-at-tokens w ↦ λ partly ended. w.if-at-tokens.false ended
       | else-not-whole-via-else-not-whole w ↦ λ partly ended. not_both c.args.whole w.if-not-whole.false partly

@@ -1,4 +1,5 @@
-use Rattle.std.proofs.Common.{◌≡◌, ◌∙◌, ◌+◌, ◌-◌, ◌∷◌, ◌++◌, [], Global, Vec, ap, append_assoc, drop, length, map, subst, sym, take}
+use Rattle.std.proofs.Common.{◌≡◌, ◌∙◌, ◌+◌, ◌-◌, ◌∷◌, ◌++◌, [], Global, Vec, ap, append_assoc}
+use Rattle.std.proofs.Common.{drop, length, map, subst, sym, take}
 use Rattle.std.proofs.lemmas.List.{map-append}
 use Rattle.lalrpop_grammar_symbols.specs.Views.{terminal_view}
 use Rattle.lalrpop_lr1_items.specs.Views.{production_symbol_view}

@@ -1,4 +1,5 @@
-use Rattle.std.proofs.Common.{◌≡◌, ◌∙◌, List, ◌∷◌, [], ◌++◌, ◌<◌, ap, arith, get_or, length, map, subst, sym, Some, Vec, Global}
+use Rattle.std.proofs.Common.{◌≡◌, ◌∙◌, List, ◌∷◌, [], ◌++◌, ◌<◌, ap, arith, get_or, length, map}
+use Rattle.std.proofs.Common.{subst, sym, Some, Vec, Global}
 use Rattle.std.specs.Option.{option_map}
 use Rattle.lalrpop_grammar_symbols.specs.Views.{terminal_view}
 use Rattle.lalrpop_lr1_theory.specs.Productions as theory

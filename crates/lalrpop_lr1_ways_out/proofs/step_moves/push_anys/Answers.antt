@@ -19,7 +19,8 @@ returns-then-not-branch c = λ g s states are.
     let h = any_step c.args.ways.now c.requires.graphs c.args.edges.now c.requires.edges c.loop-edge.edge-index c.loop-edge-test.true in
     has_moves c.args.ways.now c.requires.graphs true e e h c.steps-steps.result.now c.steps-steps.ensures c.step_at.result
     c.step_at.ensures c.trees-trees.result.now.table
-    (ap (λ t. t.table) (c.trees-trees.ensures ∙ ap (λ p. p.trees.now) c.paths.ensures)) c.loop-edge.moves.items c.push_any.new.moves.items
+    (ap (λ t. t.table) (c.trees-trees.ensures ∙ ap (λ p. p.trees.now) c.paths.ensures)) c.loop-edge.moves.items
+    c.push_any.new.moves.items
     (subst (AddsStepIf c.trees-trees.result.now.table AnyLeaves c.step_at.result c.loop-edge.moves.items
     c.push_any.new.moves.items) c.if-not-branch.true c.in_ok-push_any.ensures) g s states are
 

@@ -93,7 +93,8 @@ loop-choice-preserved g c =
     let here : drop i cs ≡ x ∷ rest =
     drop_more cs i x c.loop-choice-test.true ∙ ap (λ y. y ∷ rest) (sym c.choice-item.is) in
     record {
-      tight = tight_others (levels r) n i x rest (subst (λ l. AreTight (levels r) (choices_view n i l)) here c.loop-choice.invariant.tight);
+      tight = tight_others (levels r) n i x rest (subst
+          (λ l. AreTight (levels r) (choices_view n i l)) here c.loop-choice.invariant.tight);
       left = λ new w. c.loop-choice.invariant.left new (subst (λ l. PutsMetInChoices t r b (kept_from n i l) old new) (sym here)
           (met_next t r b n i x rest old mid new c.in_ok-note_choice.ensures.added w));
       faults = λ f h. c.loop-choice.invariant.faults f (subst (λ l. TellsOfSome t.finds deep b (kept_from n i l) f) (sym here)

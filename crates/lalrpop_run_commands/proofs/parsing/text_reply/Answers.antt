@@ -14,7 +14,8 @@ returns-in_ok-reply-in-Ok c = λ q g same prepared read.
     let v = c.args.prepared.now in
     sentence q g v prepared (parser_for q g v prepared c.in-Ok.ensures.lr1 c.in-Ok.ensures.one_tree read) read
     c.args.text.now c.args.limit c.in_ok-reply-in-Ok.reply same
-    (subst (λ (w : PreparedGrammar). IsReadGrammar (grammar_view w.written) → (entries : List ScanEntry) → IsScannerOf w.scanner entries
+    (subst (λ (w : PreparedGrammar). IsReadGrammar (grammar_view w.written) → (entries : List ScanEntry) →
+    IsScannerOf w.scanner entries
     → IsAnswerTold w entries (chars c.args.text.now) c.args.limit c.in_ok-reply-in-Ok.reply) c.in-Ok.ensures.prepared
     c.in_ok-reply-in-Ok.ensures)
 

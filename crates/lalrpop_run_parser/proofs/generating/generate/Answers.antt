@@ -1,6 +1,7 @@
 use Rattle.std.proofs.Common.{◌∙◌, ap, length, subst, sym}
 use Rattle.lalrpop_grammar_symbols.specs.declared.names.NonterminalString.{NonterminalString}
-use Rattle.lalrpop_run_parser.proofs.GenerateLemmas.{conflicts_stand, conflicts_told, is_table, one_tree_each, states_checked, states_counted}
+use Rattle.lalrpop_run_parser.proofs.GenerateLemmas.{conflicts_stand, conflicts_told, is_table, one_tree_each, states_checked}
+use Rattle.lalrpop_run_parser.proofs.GenerateLemmas.{states_counted}
 use Rattle.lalrpop_grammar_repr.specs.declared.grammar.Grammar.{Grammar}
 use Rattle.lalrpop_lane.specs.BuilderAnswers.{AreLr1By}
 use Rattle.lalrpop_run_parser.proofs.GenerateLemmas.{states_lr1, table_built}
@@ -66,4 +67,5 @@ returns-in_ok-certificates-in-Err-Conflicts-clause-refused c =
     conflicts_told c.args.prepared.now c.expansion.result.now c.in_ok-start.start c.expansion.ensures
     (c.in_ok-start.ensures ∙ c.start_name.ensures.name) c.in-Err-Conflicts.field-0 c.in-Err-Conflicts.error
     c.in_ok-certificates-in-Err-Conflicts.certificates.items c.in-Err-Conflicts.field-0-is
-    c.in_ok-certificates-in-Err-Conflicts.ensures c.in-Err-Conflicts.ensures.fault c.in-Err-Conflicts.ensures.lr1 c.start_name.ensures.parsed
+    c.in_ok-certificates-in-Err-Conflicts.ensures c.in-Err-Conflicts.ensures.fault c.in-Err-Conflicts.ensures.lr1
+    c.start_name.ensures.parsed

@@ -1,4 +1,5 @@
-use Rattle.std.proofs.Common.{◌≡◌, ◌∙◌, ◌+◌, ◌∷◌, [], ℕ, List, ap, arith, drop, length, length-append, refl, subst, sym, take}
+use Rattle.std.proofs.Common.{◌≡◌, ◌∙◌, ◌+◌, ◌∷◌, [], ℕ, List, ap, arith, drop, length, length-append}
+use Rattle.std.proofs.Common.{refl, subst, sym, take}
 use Rattle.std.specs.Prelude.{slice_get}
 use Rattle.std.specs.Vec.Iter.{into_iter_items}
 use Rattle.std.proofs.lemmas.List.{drop_more}
@@ -84,5 +85,6 @@ trees_of_record-loop-symbol-preserved t c =
 
 pub trees_of_record-returns-clause-trees : goal.trees_of_record-returns-clause-trees
 trees_of_record-returns-clause-trees t c = λ entries told.
-    come_end c.args.actions.now c.args.origins.now c.args.below c.args.symbols.now c.loop-symbol.symbol-index (omega (arith, c.loop-symbol-test.false)) _ _ _
+    come_end c.args.actions.now c.args.origins.now c.args.below c.args.symbols.now c.loop-symbol.symbol-index
+    (omega (arith, c.loop-symbol-test.false)) _ _ _
     (c.loop-symbol.invariant.come entries told)

@@ -2,8 +2,12 @@ use Rattle.std.proofs.Common.{◌≡◌, get_or, suc, ◌+◌, ◌≤◌, sym, a
 use Rattle.lalrpop_grammar.proofs.DropLemmas.{IsBelow, below-none, below-some, count, count_kept, count-Group, count-List, count-Rule}
 use Rattle.lalrpop_grammar.proofs.TakingApartLemmas.{fewer_are_less, first-within, has_first, smaller_is_less, total, total-last, total-set}
 use Rattle.lalrpop_grammar.proofs.tree.WrittenTree.drop.Goals as goal
-use Rattle.lalrpop_grammar.proofs.tree.WrittenTree.drop.Goals.{in-Rule, in-List, in-Opt+in-None, in-Group, in-Look, in-Terminal+in-Literal+in-Quoted-1, in-Terminal+in-Literal+in-Regex-1, in-Terminal+in-Bare-1, in-Terminal+in-Error-1}
-use Rattle.lalrpop_grammar.proofs.tree.WrittenTree.drop.Goals.{in-Some-below+then-is_empty, in-Some-below+else-is_empty+in-None-kept, in_default}
+use Rattle.lalrpop_grammar.proofs.tree.WrittenTree.drop.Goals.{in-Rule, in-List, in-Opt+in-None, in-Group, in-Look}
+use Rattle.lalrpop_grammar.proofs.tree.WrittenTree.drop.Goals.{in-Terminal+in-Literal+in-Quoted-1}
+use Rattle.lalrpop_grammar.proofs.tree.WrittenTree.drop.Goals.{in-Terminal+in-Literal+in-Regex-1, in-Terminal+in-Bare-1}
+use Rattle.lalrpop_grammar.proofs.tree.WrittenTree.drop.Goals.{in-Terminal+in-Error-1}
+use Rattle.lalrpop_grammar.proofs.tree.WrittenTree.drop.Goals.{in-Some-below+then-is_empty}
+use Rattle.lalrpop_grammar.proofs.tree.WrittenTree.drop.Goals.{in-Some-below+else-is_empty+in-None-kept, in_default}
 
 pub loop-self-smaller-in-Some-kept : goal.loop-self-smaller-in-Some-kept
 loop-self-smaller-in-Some-kept c =

@@ -32,4 +32,5 @@ returns c =
     gains_tokens c.args.self.now mid new (slot_key c.args.slot) n c.union_with.new.self c.args.tokens.now
     c.in_ok-number.ensures.gained c.in_ok-number.ensures.at refl refl
     (λ k. c.in_ok-union_with.ensures.joined k
-    ∙ ap (λ l. has l k || has c.args.tokens.now k) (at_read_set (slot_sets mid) n c.index_mut.result.now within c.index_mut.ensures.value))
+    ∙ ap (λ l. has l k || has c.args.tokens.now k)
+    (at_read_set (slot_sets mid) n c.index_mut.result.now within c.index_mut.ensures.value))

@@ -12,7 +12,8 @@ returns-in-None c = λ m b.
 pub loop-preserved : goal.loop-preserved
 loop-preserved c = λ j m e b.
     let self = c.args.self.now in
-    back_goes_on self.trees.now.table self.steps.items (suc j) j c.loop.place m c.in-Some.edge (sym c.last_edge.ensures ∙ c.in-Some.is) refl
+    back_goes_on self.trees.now.table self.steps.items (suc j) j c.loop.place m c.in-Some.edge
+    (sym c.last_edge.ensures ∙ c.in-Some.is) refl
     (c.loop.invariant (suc j) m (omega (arith, e)) b)
 
 pub returns : goal.returns

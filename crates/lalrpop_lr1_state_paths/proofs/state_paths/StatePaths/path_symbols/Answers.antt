@@ -18,7 +18,8 @@ loop-edge-smaller c =
     let walked = c.loop-edge.invariant in
     omega (
       arith,
-      few c.args.self.now walked.0 c.args.state c.loop-edge.place symbols walked.1 c.in-Some.edge (sym c.last_edge.ensures ∙ c.in-Some.is),
+      few c.args.self.now walked.0 c.args.state c.loop-edge.place symbols walked.1 c.in-Some.edge
+          (sym c.last_edge.ensures ∙ c.in-Some.is),
       ap length c.in_ok-push.ensures.items,
       length-append symbols (c.in-Some.edge.symbol ∷ []),
     )

@@ -17,7 +17,8 @@ returns-in_default-2 c = λ g s states are ms w out wanted.
     let it = c.args.self.now in
     let none = none_in (graph_edges it.found.graph.now) (graph_edges it.ways.now.empty) it.found.goals.now it.ways.now.goals.items
     (ap graph_edges c.requires.graph) c.requires.goals c.in-Some.node c.in_ok-path.field-0 c.in_default-2.is c.in_ok-path.ensures.path in
-    let there = empty_there it.ways.now c.requires.graphs g s states are c.args.state c.args.nonterminal.now.0 ms w out wanted c.in-Some.node
+    let there = empty_there it.ways.now c.requires.graphs g s states are c.args.state c.args.nonterminal.now.0 ms w out wanted
+    c.in-Some.node
     (node_by it.ways.now c.paths.result.now c.paths.ensures c.args.state c.args.nonterminal.now.0 c.in_ok-node.field-0 (Some c.in-Some.node)
     c.in-Some.is c.in_ok-node.ensures) in
     none there.edges_of there.goal there.is

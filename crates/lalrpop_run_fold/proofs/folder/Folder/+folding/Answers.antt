@@ -1,4 +1,5 @@
-use Rattle.std.proofs.Common.{◌≡◌, ◌∙◌, ◌+◌, ◌⊎◌, ◌∷◌, [], ◌++◌, ℕ, List, ap, arith, drop, inl, inr, length, map, refl, subst, sym, take, Contains}
+use Rattle.std.proofs.Common.{◌≡◌, ◌∙◌, ◌+◌, ◌⊎◌, ◌∷◌, [], ◌++◌, ℕ, List, ap, arith, drop}
+use Rattle.std.proofs.Common.{inl, inr, length, map, refl, subst, sym, take, Contains}
 use Rattle.std.specs.Prelude.{IfOk, None, false}
 use Rattle.std.proofs.lemmas.List.{drop-map, drop_more, length-map, map-append, take-map, take_all, take_more}
 use Rattle.lalrpop_lr1_build.specs.BuiltStates.{theory_grammar}
@@ -104,7 +105,8 @@ tree_of_nonterminal-returns t c = λ label_of f.
     c.productions_for-production-items.ensures
     (λ p there.
     c.loop-production.invariant label_of f p
-    (subst (λ l. Contains l p) (sym (take_all c.loop-production.production-index all (omega (arith, c.loop-production-test.false)))) there))
+    (subst (λ l. Contains l p) (sym (take_all c.loop-production.production-index all
+    (omega (arith, c.loop-production-test.false)))) there))
 
 pub tree_of_part-returns-then-passes-eq0 : goal.tree_of_part-returns-then-passes-eq0
 tree_of_part-returns-then-passes-eq0 t c = λ label_of f.
