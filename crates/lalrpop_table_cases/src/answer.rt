@@ -3,7 +3,7 @@
 ghost use Rattle.lalrpop_lr1_first.specs.NumberedGrammars.{HasItsTerminals};
 
 use crate::case::{Call, Case};
-use crate::checks::check_text;
+use crate::checks::{check_text, text_of_written};
 use crate::conflicts::{canonical_conflicts, collapsed_conflicts};
 use crate::firsts::first_text;
 use crate::leasts::{begin_text, empty_text, least_text};
@@ -63,7 +63,7 @@ fn answer_call(
         Call::Tree => tree_text(alloc, grammar, start, tokens),
         Call::Parse => parse_text(alloc, grammar, start, tokens, case.limit),
         Call::Onto => onto_text(alloc, grammar, start, tokens, case.limit),
-        Call::Check => Ok(check_text(alloc, grammar, start, case.change.as_str())?),
+        Call::Check => check_answer(alloc, case, grammar, start),
         Call::Conflicts => Ok(canonical_conflicts(alloc, grammar, start)?),
         Call::CollapsedConflicts => Ok(collapsed_conflicts(alloc, grammar, start)?),
         Call::First => Ok(first_text(alloc, grammar, case.names.as_str())?),
@@ -71,6 +71,23 @@ fn answer_call(
         Call::Empty => Ok(empty_text(alloc, grammar, start)?),
         Call::Begin => begin_text(alloc, grammar, start, tokens),
     }
+}
+
+/// Whether the states that the case writes, or else the canonical ones, changed, may be parsed with, as text.
+fn check_answer(
+    alloc: Global,
+    case: &Case,
+    grammar: &Grammar,
+    start: &NonterminalString,
+) -> Result<String, AnswerFault>
+    requires { HasItsTerminals grammar.now }
+{
+    let Some(states) = &case.states else {
+        return Ok(check_text(alloc, grammar, start, case.change.as_str())?);
+    };
+    let text = text_of(alloc, case.others.as_slice())?;
+    let others = read_productions(alloc, text.as_str())?;
+    Ok(text_of_written(alloc, grammar, &others, start, states.as_slice())?)
 }
 
 /// How many states and conflicts there are, as text.

@@ -1,17 +1,22 @@
-//! Tests of states, as the tables make them or with one thing changed, as text.
+//! Tests of states, as the tables make them or with one thing changed, or as a case writes them, as text.
 
 ghost use Rattle.lalrpop_lr1_first.specs.NumberedGrammars.{HasItsTerminals};
 
+use crate::case::WrittenState;
+use crate::states::states_of;
 use lalrpop_grammar_repr::{Grammar, Map, Production, TerminalSet};
 use lalrpop_grammar_symbols::{List, NonterminalString};
 use lalrpop_lr1_answers::canonical_states;
 use lalrpop_lr1_check::check_states;
-use lalrpop_lr1_items::{Items, Lr1State, State};
+use lalrpop_lr1_items::{Items, Lr1State, State, StateIndex};
 use lalrpop_sets::TokenSet;
 use std::alloc::{AllocError, Global};
 
 /// A reduction of a state, with what may follow.
 type Reduction<'g> = (TokenSet, &'g Production);
+
+/// What state 0 may say instead of its number.
+const OTHER_NUMBER: StateIndex = StateIndex(7);
 
 /// Whether one of the reductions isn't before the end.
 fn some_not_at_end(reductions: &[Reduction<'_>], terminals: &TerminalSet) -> bool {
@@ -31,6 +36,7 @@ fn has_it(state: &Lr1State<'_>, change: &str, terminals: &TerminalSet) -> bool {
         "no reductions" | "before all tokens" => !state.reductions.is_empty(),
         "before the end too" => some_not_at_end(state.reductions.as_slice(), terminals),
         "no items" => !state.items.vec.is_empty(),
+        "another number" => true,
         _ => false,
     }
 }
@@ -85,7 +91,7 @@ fn change_state<'g>(
     terminals: &TerminalSet,
 ) -> Result<Lr1State<'g>, AllocError> {
     let State {
-        index,
+        mut index,
         mut items,
         mut shifts,
         reductions,
@@ -93,6 +99,7 @@ fn change_state<'g>(
     } = state;
     let reductions = change_reductions(alloc, reductions, change, terminals)?;
     match change {
+        "another number" => index = OTHER_NUMBER,
         "no shifts" => shifts = Map::new(alloc),
         "no gotos" => gotos = Map::new(alloc),
         "no items" => {
@@ -142,9 +149,28 @@ pub(crate) fn check_text(
 {
     let canonical = canonical_states(alloc, grammar, start)?;
     let states = change_first(alloc, canonical.states, change, &grammar.terminals)?;
-    if check_states(alloc, grammar, start, states.as_slice())? {
-        String::from_str(alloc, "right")
-    } else {
-        String::from_str(alloc, "wrong")
-    }
+    let passes = check_states(alloc, grammar, start, states.as_slice())?;
+    verdict_text(alloc, passes)
+}
+
+/// Whether the states that a case writes may be parsed with.
+pub(crate) fn text_of_written(
+    alloc: Global,
+    grammar: &Grammar,
+    others: &Grammar,
+    start: &NonterminalString,
+    written: &[WrittenState],
+) -> Result<String, AllocError>
+    requires { HasItsTerminals grammar.now }
+{
+    let Some(states) = states_of(alloc, grammar, others, written)? else {
+        return String::from_str(alloc, "no such production");
+    };
+    let passes = check_states(alloc, grammar, start, states.as_slice())?;
+    verdict_text(alloc, passes)
+}
+
+/// What the test says.
+fn verdict_text(alloc: Global, passes: bool) -> Result<String, AllocError> {
+    String::from_str(alloc, if passes { "right" } else { "wrong" })
 }

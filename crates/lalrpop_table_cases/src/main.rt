@@ -12,6 +12,7 @@ mod firsts;
 mod leasts;
 mod onto;
 mod parses;
+mod states;
 
 use crate::answer::answer_of;
 use crate::case::Case;
