@@ -1,0 +1,87 @@
+//! The token check: entries, places of literals, and the automaton.
+
+use crate::grammars::{COMMAS, checked_grammar, expanded_grammar, places_of};
+use crate::parts::{is_quoted, is_terminal};
+use lalrpop_grammar::{Atom, Grammar, MatchEntry, MatchMapping, Span, TerminalLiteral};
+use lalrpop_lexer::dfa::{Dfa, NfaIndex, interpret};
+use lalrpop_norm::{LiteralPlaces, token_check};
+use std::alloc::{AllocError, Global};
+use std::process::Abort;
+use std::test::Fail;
+
+/// Where the quoted literal stands first.
+fn place_in(alloc: Global, places: &LiteralPlaces, text: &str) -> Result<Option<Span>, AllocError> {
+    let literal = TerminalLiteral::Quoted(Atom::new(alloc, text)?);
+    Ok(places.get(&literal))
+}
+
+#[test]
+fn literals_stand_where_they_are_written(rt: HostRuntime) -> Result<(), Fail> {
+    let places = places_of(rt.alloc(), COMMAS)?;
+    for (text, place) in [
+        ("n", Some(Span(14, 17))),
+        (",", Some(Span(39, 42))),
+        ("T", None),
+    ] {
+        assert!(rt; place_in(rt.alloc(), &places, text)? == place, "{text}");
+    }
+    Ok(())
+}
+
+/// Whether it is an entry of the quoted literal, which gives itself, in the only group.
+fn is_entry(entry: &MatchEntry, text: &str) -> bool {
+    match &entry.user_name {
+        MatchMapping::Terminal(terminal) => {
+            entry.precedence == 3
+                && is_quoted(&entry.match_literal, text)
+                && is_terminal(terminal, text)
+        }
+        MatchMapping::Skip => false,
+    }
+}
+
+/// Whether they are the entries of the comma grammar, in order of their bytes.
+pub(crate) fn are_entries(entries: &[MatchEntry]) -> bool {
+    match entries {
+        [first, second] => is_entry(first, ",") && is_entry(second, "n"),
+        _ => false,
+    }
+}
+
+/// Whether the six rules and the entries are the items.
+fn ends_with_entries(grammar: &Grammar) -> bool {
+    match grammar.intern_token() {
+        Some(token) => grammar.items.len() == 7 && are_entries(token.match_entries.as_slice()),
+        None => false,
+    }
+}
+
+/// That the automaton is that of the entries of the comma grammar.
+pub(crate) fn tells_entries(rt: &impl Abort, dfa: &Dfa) {
+    assert!(rt; interpret(dfa, ",n") == Some((NfaIndex(0), ",")));
+    assert!(rt; interpret(dfa, "n,") == Some((NfaIndex(1), "n")));
+    assert!(rt; interpret(dfa, "T").is_none());
+}
+
+/// Whether the entries are there where no automaton is asked for.
+fn has_entries_alone(alloc: Global) -> Result<bool, Fail> {
+    let checked = checked_grammar(alloc, COMMAS)?;
+    Ok(ends_with_entries(&checked))
+}
+
+/// The comma grammar with its entries, and their automaton.
+fn checked_with_dfa(alloc: Global) -> Result<(Grammar, Dfa), Fail> {
+    let places = places_of(alloc, COMMAS)?;
+    let expanded = expanded_grammar(alloc, COMMAS)?;
+    let checked = token_check::validate_with_dfa(alloc, expanded, &places)?;
+    Ok(checked)
+}
+
+#[test]
+fn literals_become_entries_of_the_tokenizer(rt: HostRuntime) -> Result<(), Fail> {
+    assert!(rt; has_entries_alone(rt.alloc())?);
+    let (checked, dfa) = checked_with_dfa(rt.alloc())?;
+    assert!(rt; ends_with_entries(&checked));
+    tells_entries(&rt, &dfa);
+    Ok(())
+}

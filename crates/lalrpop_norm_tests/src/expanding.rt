@@ -1,0 +1,74 @@
+//! The pass over macros, by the judge's finder and by finders of the tests' own.
+
+use crate::finders::{FindsNothing, GivesUp, WithoutMemory};
+use crate::grammars::{COMMAS, CONDITIONS, MACRO_LIMIT, expanded_grammar, leveled_grammar};
+use crate::parts::has_sides;
+use lalrpop_grammar::Grammar;
+use lalrpop_grammar_closed::Finder;
+use lalrpop_judge_search::PatternFinder;
+use lalrpop_norm::NormFault;
+use lalrpop_norm_macros::expand_macros_by;
+use std::alloc::Global;
+use std::process::Abort;
+use std::test::Fail;
+
+/// The rules of the expanded comma grammar, and their alternatives.
+const EXPANDED: [(&str, &str); 6] = [
+    ("L", r#"| Comma<"n">"#),
+    (r#"Comma<"n">"#, r#"| <(<"n"> ",")*> <"n"?>"#),
+    (r#"(<"n"> ",")*"#, r#"|| (<"n"> ",")+"#),
+    (
+        r#"(<"n"> ",")+"#,
+        r#"| (<"n"> ",")| (<"n"> ",")+ (<"n"> ",")"#,
+    ),
+    (r#"(<"n"> ",")"#, r#"| <"n"> ",""#),
+    (r#""n"?"#, r#"| "n"|"#),
+];
+
+/// How many rules the grammar has.
+fn rule_count(grammar: &Grammar) -> usize {
+    let mut count = 0usize;
+    for _ in grammar.rules() {
+        count = count.saturating_add(1);
+    }
+    count
+}
+
+#[test]
+fn each_call_repeat_and_group_becomes_a_rule(rt: HostRuntime) -> Result<(), Fail> {
+    let grammar = expanded_grammar(rt.alloc(), COMMAS)?;
+    assert_eq!(rt; rule_count(&grammar), EXPANDED.len());
+    for (name, sides) in EXPANDED {
+        has_sides(&rt, rt.alloc(), &grammar, name, sides)?;
+    }
+    Ok(())
+}
+
+/// The grammar of conditions, expanded by the finder; or the fault.
+fn expand_by<F: Finder>(alloc: Global, finder: &F) -> Result<Result<Grammar, NormFault>, Fail> {
+    let leveled = leveled_grammar(alloc, CONDITIONS)?;
+    Ok(expand_macros_by(alloc, finder, leveled, MACRO_LIMIT))
+}
+
+/// That the finder leaves the macro these alternatives.
+fn leaves<F: Finder>(rt: &impl Abort, alloc: Global, finder: &F, sides: &str) -> Result<(), Fail> {
+    let grammar = expand_by(alloc, finder)??;
+    has_sides(rt, alloc, &grammar, r#"M<"ax">"#, sides)
+}
+
+/// Whether the finder has the grammar refused for this.
+fn refuses<F: Finder>(alloc: Global, finder: &F, wanted: &NormFault) -> Result<bool, Fail> {
+    match expand_by(alloc, finder)? {
+        Ok(_) => Ok(false),
+        Err(fault) => Ok(fault == *wanted),
+    }
+}
+
+#[test]
+fn conditions_hold_as_the_finder_says(rt: HostRuntime) -> Result<(), Fail> {
+    leaves(&rt, rt.alloc(), &PatternFinder, r#"| "a""#)?;
+    leaves(&rt, rt.alloc(), &FindsNothing, r#"| "b""#)?;
+    assert!(rt; refuses(rt.alloc(), &GivesUp, &NormFault::ConditionLimit)?);
+    assert!(rt; refuses(rt.alloc(), &WithoutMemory, &NormFault::Memory)?);
+    Ok(())
+}

@@ -1,0 +1,201 @@
+//! Lowering: where productions stand, which nonterminals are inlined, and what actions do.
+
+use crate::entries::are_entries;
+use crate::grammars::{ACTIONS, COMMAS, checked_grammar, grammar_of, plain_session};
+use crate::parts::{is_terminal, name_of};
+use crate::types::{comma_types, gives_list, is_named};
+use lalrpop_grammar::{Attribute, NonterminalString, Span};
+use lalrpop_grammar_repr::{
+    ActionFnDefn, ActionFnDefnKind, Grammar, LookaroundActionFnDefn, TerminalSet,
+};
+use lalrpop_norm::{INLINE, Normalized, lower, normalize};
+use std::alloc::{AllocError, Global};
+use std::process::Abort;
+use std::test::Fail;
+
+/// The comma grammar, lowered.
+pub(crate) fn lowered_commas(alloc: Global) -> Result<Normalized, Fail> {
+    let types = comma_types(alloc)?;
+    let checked = checked_grammar(alloc, COMMAS)?;
+    let made = lower(alloc, &plain_session(alloc), checked, types)?;
+    Ok(made)
+}
+
+/// Whether they are the comma and n, each with its place.
+fn are_terminals(terminals: &TerminalSet) -> bool {
+    match terminals.all.as_slice() {
+        [first, second] => {
+            is_terminal(first, ",")
+                && is_terminal(second, "n")
+                && terminals.bits.get(first) == Some(&0)
+                && terminals.bits.get(second) == Some(&1)
+        }
+        _ => false,
+    }
+}
+
+/// Whether L has a start, which stands alone, and nothing else has one.
+fn starts_with_list(alloc: Global, grammar: &Grammar) -> Result<bool, AllocError> {
+    let rule = name_of(alloc, "L")?;
+    match grammar.start_nonterminals.get(&rule) {
+        Some(start) => Ok(
+            start.0.as_str() == "__L"
+                && grammar.start_is_alone(start)
+                && grammar.start_nonterminals.len() == 1,
+        ),
+        None => Ok(false),
+    }
+}
+
+/// Whether they are the mark of an inlined rule.
+fn are_mark(attributes: &[Attribute]) -> bool {
+    match attributes {
+        [only] => only.id.as_str() == INLINE,
+        _ => false,
+    }
+}
+
+/// Where the nonterminal stands, and whether it is marked to be inlined.
+fn stands(grammar: &Grammar, name: &NonterminalString) -> Option<(Span, bool)> {
+    match grammar.nonterminals.get(name) {
+        Some(data) => Some((data.span, are_mark(data.attributes.as_slice()))),
+        None => None,
+    }
+}
+
+/// Where the only production of the nonterminal stands.
+fn production_stands(grammar: &Grammar, name: &NonterminalString) -> Option<Span> {
+    match grammar.productions_for(name) {
+        [only] => Some(only.span),
+        _ => None,
+    }
+}
+
+/// The nonterminals of the comma grammar, where they stand, and whether they are inlined.
+const NONTERMINALS: [(&str, Span, bool); 7] = [
+    ("__L", Span(0, 5), false),
+    ("L", Span(0, 5), false),
+    (r#"Comma<"n">"#, Span(20, 25), false),
+    (r#"(<"n"> ",")*"#, Span(34, 44), true),
+    (r#"(<"n"> ",")+"#, Span(34, 44), false),
+    (r#"(<"n"> ",")"#, Span(34, 43), true),
+    (r#""n"?"#, Span(47, 49), true),
+];
+
+/// That nonterminals stand where they are written, and are marked as they are to be.
+fn nonterminals_stand(rt: &impl Abort, alloc: Global, grammar: &Grammar) -> Result<(), Fail> {
+    assert_eq!(rt; grammar.nonterminals.len(), NONTERMINALS.len());
+    for (name, span, inlined) in NONTERMINALS {
+        let key = name_of(alloc, name)?;
+        assert!(rt; stands(grammar, &key) == Some((span, inlined)), "{name}");
+    }
+    Ok(())
+}
+
+/// That the productions of alternatives stand where these do.
+fn alternatives_stand(rt: &impl Abort, alloc: Global, grammar: &Grammar) -> Result<(), Fail> {
+    for (name, span) in [("L", Span(7, 18)), (r#"Comma<"n">"#, Span(31, 50))] {
+        let key = name_of(alloc, name)?;
+        assert!(rt; production_stands(grammar, &key) == Some(span), "{name}");
+    }
+    Ok(())
+}
+
+/// Whether a copy of each nonterminal equals it.
+fn are_copied(alloc: Global, grammar: &Grammar) -> Result<bool, AllocError> {
+    for (_, data) in grammar.nonterminals.iter() {
+        let copy = data.try_clone(alloc)?;
+        if copy != *data {
+            return Ok(false);
+        }
+    }
+    Ok(true)
+}
+
+/// That the lowered comma grammar has a start, types, terminals and entries, and of ten productions the actions and origins.
+fn is_lowered(rt: &impl Abort, alloc: Global, made: &Normalized) -> Result<(), Fail> {
+    assert!(rt; starts_with_list(alloc, &made.grammar)?);
+    assert!(rt; gives_list(alloc, &made.grammar.types, "__L")?);
+    assert!(rt; are_terminals(&made.grammar.terminals.try_clone(alloc)?));
+    assert!(rt; are_copied(alloc, &made.grammar)?);
+    assert!(rt; are_entries(made.entries.as_slice()));
+    assert_eq!(rt; made.grammar.action_fn_defns.len(), 10);
+    assert_eq!(rt; made.origins.len(), 10);
+    assert!(rt; !made.grammar.algorithm.lalr);
+    Ok(())
+}
+
+#[test]
+fn rules_become_productions_where_they_are_written(rt: HostRuntime) -> Result<(), Fail> {
+    let made = lowered_commas(rt.alloc())?;
+    is_lowered(&rt, rt.alloc(), &made)?;
+    nonterminals_stand(&rt, rt.alloc(), &made.grammar)?;
+    alternatives_stand(&rt, rt.alloc(), &made.grammar)
+}
+
+/// What the action of the production at that place of the nonterminal does.
+fn definition_at<'g>(
+    alloc: Global,
+    grammar: &'g Grammar,
+    name: &str,
+    place: usize,
+) -> Result<&'g ActionFnDefn, Fail> {
+    let name = name_of(alloc, name)?;
+    let Some(production) = grammar.productions_for(&name).get(place) else {
+        return Err(Fail::new("no such production"));
+    };
+    match grammar
+        .action_fn_defns
+        .as_slice()
+        .get(production.action.index())
+    {
+        Some(definition) => Ok(definition),
+        None => Err(Fail::new("no such action")),
+    }
+}
+
+/// Whether the action has this code.
+fn has_code(kind: &ActionFnDefnKind, code: Option<&str>) -> bool {
+    match kind {
+        ActionFnDefnKind::User(user) => match &user.code {
+            Some(found) => code == Some(found.as_str()),
+            None => code.is_none(),
+        },
+        _ => false,
+    }
+}
+
+/// Whether the action has this code, which may fail or not, and gives a place.
+fn does(definition: &ActionFnDefn, code: Option<&str>, fallible: bool) -> bool {
+    has_code(&definition.kind, code)
+        && definition.fallible == fallible
+        && is_named(&definition.ret_type, "usize")
+}
+
+/// Whether the action is that of `@L`.
+fn looks_ahead(definition: &ActionFnDefn) -> bool {
+    match &definition.kind {
+        ActionFnDefnKind::Lookaround(LookaroundActionFnDefn::Lookahead) => {
+            !definition.fallible && is_named(&definition.ret_type, "usize")
+        }
+        _ => false,
+    }
+}
+
+/// That each action does what its alternative says, a start's and a place's too.
+fn do_as_written(rt: &impl Abort, alloc: Global, grammar: &Grammar) -> Result<(), Fail> {
+    assert!(rt; grammar.algorithm.lalr);
+    assert!(rt; does(definition_at(alloc, grammar, "__S", 0)?, None, false));
+    assert!(rt; does(definition_at(alloc, grammar, "S", 0)?, Some("l"), false));
+    assert!(rt; does(definition_at(alloc, grammar, "S", 1)?, Some("f"), true));
+    assert!(rt; looks_ahead(definition_at(alloc, grammar, "@L", 0)?));
+    Ok(())
+}
+
+#[test]
+fn actions_do_what_alternatives_say(rt: HostRuntime) -> Result<(), Fail> {
+    let alloc = rt.alloc();
+    let grammar = grammar_of(alloc, ACTIONS)?;
+    let made = normalize(alloc, &plain_session(alloc), grammar)?;
+    do_as_written(&rt, alloc, &made.grammar)
+}

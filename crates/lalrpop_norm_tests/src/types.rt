@@ -1,0 +1,214 @@
+//! Types: those that follow from alternatives, and written ones.
+
+use crate::grammars::{COMMAS, TYPED, checked_grammar, grammar_of};
+use crate::parts::{name_of, rule_of};
+use lalrpop_grammar::{Grammar, TypeRepr};
+use lalrpop_grammar_repr::Types;
+use lalrpop_norm::infer_types;
+use std::alloc::{AllocError, Global};
+use std::process::Abort;
+use std::test::Fail;
+
+/// Whether it is the type of this name, without arguments.
+pub(crate) fn is_named(ty: &TypeRepr, name: &str) -> bool {
+    match ty {
+        TypeRepr::Nominal(found) => found.path.as_str() == name && found.types.is_empty(),
+        _ => false,
+    }
+}
+
+/// Whether it is `&'input str`.
+fn is_text(ty: &TypeRepr) -> bool {
+    match ty {
+        TypeRepr::Ref {
+            lifetime: Some(lifetime),
+            mutable,
+            referent,
+        } => !*mutable && lifetime.as_str() == "'input" && is_named(referent.get(), "str"),
+        _ => false,
+    }
+}
+
+/// Whether it is the type of this name, of `&'input str`.
+fn holds_text(ty: &TypeRepr, name: &str) -> bool {
+    match ty {
+        TypeRepr::Nominal(found) => match found.types.as_slice() {
+            [only] => found.path.as_str() == name && is_text(only),
+            _ => false,
+        },
+        _ => false,
+    }
+}
+
+/// Whether it is `(Vec<&'input str>, Option<&'input str>)`.
+fn is_list(ty: &TypeRepr) -> bool {
+    match ty {
+        TypeRepr::Tuple(parts) => match parts.as_slice() {
+            [first, second] => holds_text(first, "Vec") && holds_text(second, "Option"),
+            _ => false,
+        },
+        _ => false,
+    }
+}
+
+/// The type that the table has for the nonterminal of that name.
+fn type_at<'t>(
+    alloc: Global,
+    types: &'t Types,
+    name: &str,
+) -> Result<Option<&'t TypeRepr>, AllocError> {
+    let name = name_of(alloc, name)?;
+    Ok(types.lookup_nonterminal_type(&name))
+}
+
+/// Whether the nonterminal of that name has the type of the list of the comma grammar.
+pub(crate) fn gives_list(alloc: Global, types: &Types, name: &str) -> Result<bool, AllocError> {
+    match type_at(alloc, types, name)? {
+        Some(ty) => Ok(is_list(ty)),
+        None => Ok(false),
+    }
+}
+
+/// Whether the nonterminal of that name has a type of this name, of texts.
+fn gives_texts(alloc: Global, types: &Types, name: &str, of: &str) -> Result<bool, AllocError> {
+    match type_at(alloc, types, name)? {
+        Some(ty) => Ok(holds_text(ty, of)),
+        None => Ok(false),
+    }
+}
+
+/// Whether the nonterminal of that name has the type of a text.
+fn gives_text(alloc: Global, types: &Types, name: &str) -> Result<bool, AllocError> {
+    match type_at(alloc, types, name)? {
+        Some(ty) => Ok(is_text(ty)),
+        None => Ok(false),
+    }
+}
+
+/// Whether two terminals have a type, that of a text.
+fn terminals_are_texts(types: &Types) -> bool {
+    for (_, ty) in types.terminal_types.iter() {
+        if !is_text(ty) {
+            return false;
+        }
+    }
+    types.terminal_types.len() == 2
+}
+
+/// The types of the comma grammar.
+pub(crate) fn comma_types(alloc: Global) -> Result<Types, Fail> {
+    let checked = checked_grammar(alloc, COMMAS)?;
+    let types = infer_types(alloc, &checked)?;
+    Ok(types)
+}
+
+/// That the types of the comma grammar are those of its repeats, its group and its option.
+fn follow(rt: &impl Abort, alloc: Global, types: &Types) -> Result<(), Fail> {
+    assert!(rt; types.nonterminal_types.len() == 6 && terminals_are_texts(types));
+    assert!(rt; gives_list(alloc, types, "L")?);
+    assert!(rt; gives_list(alloc, types, r#"Comma<"n">"#)?);
+    assert!(rt; gives_texts(alloc, types, r#"(<"n"> ",")*"#, "Vec")?);
+    assert!(rt; gives_texts(alloc, types, r#"(<"n"> ",")+"#, "Vec")?);
+    assert!(rt; gives_text(alloc, types, r#"(<"n"> ",")"#)?);
+    assert!(rt; gives_texts(alloc, types, r#""n"?"#, "Option")?);
+    Ok(())
+}
+
+#[test]
+fn types_follow_from_alternatives(rt: HostRuntime) -> Result<(), Fail> {
+    let types = comma_types(rt.alloc())?;
+    follow(&rt, rt.alloc(), &types)
+}
+
+/// The type of the same shape as the one that the rule of that name declares.
+fn declared_repr(
+    alloc: Global,
+    grammar: &Grammar,
+    name: &str,
+) -> Result<Option<TypeRepr>, AllocError> {
+    match rule_of(grammar, name) {
+        Some(rule) => match &rule.type_decl {
+            Some(declared) => declared.type_repr(alloc),
+            None => Ok(None),
+        },
+        None => Ok(None),
+    }
+}
+
+/// Whether it is `&'a mut T`.
+fn is_mutable(ty: &TypeRepr) -> bool {
+    match ty {
+        TypeRepr::Ref {
+            lifetime: Some(lifetime),
+            mutable,
+            referent,
+        } => *mutable && lifetime.as_str() == "'a" && is_named(referent.get(), "T"),
+        _ => false,
+    }
+}
+
+/// Whether it is kept as this text.
+fn is_opaque(ty: &TypeRepr, text: &str) -> bool {
+    match ty {
+        TypeRepr::Opaque(found) => found.as_str() == text,
+        _ => false,
+    }
+}
+
+/// Whether it is `&dyn X`.
+fn is_dynamic(ty: &TypeRepr) -> bool {
+    match ty {
+        TypeRepr::Ref {
+            lifetime: None,
+            mutable,
+            referent,
+        } => !*mutable && is_opaque(referent.get(), "dyn X"),
+        _ => false,
+    }
+}
+
+/// Whether it is `a::B<&'a mut T, &dyn X, ()>`.
+fn is_whole(ty: &TypeRepr) -> bool {
+    match ty {
+        TypeRepr::Nominal(found) => match found.types.as_slice() {
+            [first, second, third] => {
+                found.path.as_str() == "a::B"
+                    && is_mutable(first)
+                    && is_dynamic(second)
+                    && third.is_unit()
+            }
+            _ => false,
+        },
+        _ => false,
+    }
+}
+
+/// Whether a copy of the type of a name equals it.
+fn name_is_copied(alloc: Global, ty: &TypeRepr) -> Result<bool, AllocError> {
+    match ty {
+        TypeRepr::Nominal(found) => {
+            let copy = found.try_clone(alloc)?;
+            Ok(copy == *found)
+        }
+        _ => Ok(false),
+    }
+}
+
+/// That it is the type of that shape, and its copies are.
+fn keeps_shape(rt: &impl Abort, alloc: Global, ty: &TypeRepr) -> Result<(), Fail> {
+    assert!(rt; is_whole(ty));
+    assert!(rt; is_whole(&ty.try_clone(alloc)?));
+    assert!(rt; name_is_copied(alloc, ty)?);
+    Ok(())
+}
+
+#[test]
+fn written_types_and_their_copies_keep_their_shape(rt: HostRuntime) -> Result<(), Fail> {
+    let alloc = rt.alloc();
+    let grammar = grammar_of(alloc, TYPED)?;
+    assert!(rt; declared_repr(alloc, &grammar, "T")?.is_none());
+    match declared_repr(alloc, &grammar, "S")? {
+        Some(ty) => keeps_shape(&rt, alloc, &ty),
+        None => Err(Fail::new("no type")),
+    }
+}

@@ -1,0 +1,172 @@
+//! The passes up to the levels, over grammars as they are written.
+
+use crate::grammars::{
+    FEATURED, LEFT, LEVELS, enabled_grammar, featured_session, grammar_of, leveled_grammar,
+    plain_session, resolved_grammar,
+};
+use crate::parts::{has_sides, rule_of};
+use lalrpop_grammar::{Grammar, Symbol, SymbolKind, TerminalString};
+use lalrpop_norm::{
+    ASSOC_ATTR, Assoc, INLINE, LVL_ARG, PREC_ATTR, ParseAssocError, SIDE_ARG, Session, cfg_active,
+    has_prec_attr, prevalidate,
+};
+use std::alloc::{AllocError, Global};
+use std::process::Abort;
+use std::str::FromStr;
+use std::test::Fail;
+
+/// Whether the rule of that name is there under the session.
+fn is_active(grammar: &Grammar, session: &Session, name: &str) -> bool {
+    match rule_of(grammar, name) {
+        Some(rule) => cfg_active(session, rule.attributes.as_slice()),
+        None => false,
+    }
+}
+
+/// That the rule S is there, and of D and Id only the one that the session asks for.
+fn asks_for(rt: &impl Abort, grammar: &Grammar, session: &Session, wanted: &str, other: &str) {
+    assert!(rt; is_active(grammar, session, "S"));
+    assert!(rt; is_active(grammar, session, wanted));
+    assert!(rt; !is_active(grammar, session, other));
+}
+
+/// Whether what no feature asks for goes, and all else stays as it is.
+fn leaves_the_rest(alloc: Global) -> Result<bool, Fail> {
+    let left = grammar_of(alloc, LEFT)?;
+    let found = enabled_grammar(alloc, &plain_session(alloc), FEATURED)?;
+    Ok(found == left)
+}
+
+#[test]
+fn features_decide_what_is_there(rt: HostRuntime) -> Result<(), Fail> {
+    assert!(rt; leaves_the_rest(rt.alloc())?);
+    let grammar = grammar_of(rt.alloc(), FEATURED)?;
+    assert!(rt; prevalidate::validate(rt.alloc(), &grammar) == Ok(()));
+    asks_for(&rt, &grammar, &plain_session(rt.alloc()), "Id", "D");
+    asks_for(&rt, &grammar, &featured_session(rt.alloc())?, "D", "Id");
+    Ok(())
+}
+
+/// Whether the name stands for the rule of that name.
+fn is_rule(symbol: &Symbol, name: &str) -> bool {
+    match &symbol.kind {
+        SymbolKind::Nonterminal(found) => found.0.as_str() == name,
+        _ => false,
+    }
+}
+
+/// Whether the name stands for the mapped bare name.
+fn is_bare(symbol: &Symbol, name: &str) -> bool {
+    match &symbol.kind {
+        SymbolKind::Terminal(TerminalString::Bare(found)) => found.as_str() == name,
+        _ => false,
+    }
+}
+
+/// Whether it is a call of the macro of that name with one argument.
+fn is_call(symbol: &Symbol, name: &str) -> bool {
+    match &symbol.kind {
+        SymbolKind::Macro(call) => call.name.0.as_str() == name && call.args.len() == 1,
+        _ => false,
+    }
+}
+
+/// Whether the name is left as a parameter's.
+fn is_parameter(symbol: &Symbol, name: &str) -> bool {
+    match &symbol.kind {
+        SymbolKind::AmbiguousId(found) => found.as_str() == name,
+        _ => false,
+    }
+}
+
+/// The symbols of the first alternative of the rule of that name.
+fn first_side<'g>(grammar: &'g Grammar, name: &str) -> &'g [Symbol] {
+    match rule_of(grammar, name) {
+        Some(rule) => match rule.alternatives.as_slice() {
+            [first, ..] => first.expr.as_slice(),
+            [] => &[],
+        },
+        None => &[],
+    }
+}
+
+/// Whether the rule S names a rule, a bare name and a macro.
+fn names_all_kinds(grammar: &Grammar) -> bool {
+    match first_side(grammar, "S") {
+        [first, second, third] => {
+            is_rule(first, "A") && is_bare(second, "N") && is_call(third, "Id")
+        }
+        _ => false,
+    }
+}
+
+/// Whether the macro Id names its parameter.
+fn names_parameter(grammar: &Grammar) -> bool {
+    match first_side(grammar, "Id") {
+        [only] => is_parameter(only, "T"),
+        _ => false,
+    }
+}
+
+#[test]
+fn names_stand_for_rules_bare_names_macros_and_parameters(rt: HostRuntime) -> Result<(), Fail> {
+    let grammar = resolved_grammar(rt.alloc(), LEFT)?;
+    assert!(rt; names_all_kinds(&grammar));
+    assert!(rt; names_parameter(&grammar));
+    Ok(())
+}
+
+/// The names of the rules that have levels, each behind a blank.
+fn names_with_levels(alloc: Global, grammar: &Grammar) -> Result<String, AllocError> {
+    let mut names = String::new(alloc);
+    for rule in grammar.rules() {
+        if has_prec_attr(rule) {
+            write!(names, " {}", rule.name)?;
+        }
+    }
+    Ok(names)
+}
+
+/// Whether these rules have levels, and no other.
+fn has_levels_in(alloc: Global, grammar: &Grammar, names: &str) -> Result<bool, AllocError> {
+    let found = names_with_levels(alloc, grammar)?;
+    Ok(found.as_str() == names)
+}
+
+/// Whether E alone has levels before they are expanded.
+fn is_written_with_levels(alloc: Global) -> Result<bool, Fail> {
+    let grammar = grammar_of(alloc, LEVELS)?;
+    Ok(has_levels_in(alloc, &grammar, " E")?)
+}
+
+/// That both levels of E are rules, and nothing has levels.
+fn has_level_rules(rt: &impl Abort, alloc: Global, grammar: &Grammar) -> Result<(), Fail> {
+    assert!(rt; has_levels_in(alloc, grammar, "")?);
+    has_sides(rt, alloc, grammar, "E", r#"| E "+" E1| E1"#)?;
+    has_sides(rt, alloc, grammar, "E1", r#"| "n""#)?;
+    has_sides(rt, alloc, grammar, "T", "| E")
+}
+
+#[test]
+fn each_level_becomes_a_rule_without_levels(rt: HostRuntime) -> Result<(), Fail> {
+    assert!(rt; is_written_with_levels(rt.alloc())?);
+    let leveled = leveled_grammar(rt.alloc(), LEVELS)?;
+    has_level_rules(&rt, rt.alloc(), &leveled)
+}
+
+#[test]
+fn sides_and_attributes_by_their_words(rt: HostRuntime) {
+    for (text, side) in [
+        ("left", Ok(Assoc::Left)),
+        ("right", Ok(Assoc::Right)),
+        ("none", Ok(Assoc::NonAssoc)),
+        ("all", Ok(Assoc::FullyAssoc)),
+        ("Left", Err(ParseAssocError)),
+        ("", Err(ParseAssocError)),
+    ] {
+        assert!(rt; Assoc::from_str(text) == side, "{text}");
+    }
+    assert_eq!(rt; (PREC_ATTR, LVL_ARG), ("precedence", "level"));
+    assert_eq!(rt; (ASSOC_ATTR, SIDE_ARG), ("assoc", "side"));
+    assert_eq!(rt; INLINE, "inline");
+}
