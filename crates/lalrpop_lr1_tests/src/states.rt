@@ -2,10 +2,10 @@
 
 use crate::grammars::{grammar_of, name_of, production_at, terminal_of, terminal_symbol, token_of};
 use lalrpop_grammar_repr::{Grammar, Map, Production, TerminalSet};
-use lalrpop_grammar_symbols::{List, NonterminalString};
+use lalrpop_grammar_symbols::List;
 use lalrpop_lr1_items::{
-    Action, Item, Items, Lookahead, LookaheadInterpret, Lr0State, Lr1Conflict, Lr1Item, Lr1State,
-    State, StateGraph, StateIndex,
+    Action, Item, Items, Lookahead, LookaheadInterpret, Lr0State, Lr1Conflict, Lr1State, State,
+    StateGraph, StateIndex,
 };
 use lalrpop_sets::{Nil, Token, TokenSet};
 use std::alloc::{AllocError, Global};
@@ -121,90 +121,6 @@ fn conflicts_of_three(rt: &impl Abort, alloc: Global, grammar: &Grammar) -> Resu
 fn conflicts_with_lookaheads(rt: HostRuntime) -> Result<(), Fail> {
     let grammar = grammar_of(rt.alloc(), LINES)?;
     conflicts_of_three(&rt, rt.alloc(), &grammar)
-}
-
-/// Whether copies of the conflicts equal them, and copies of their actions these.
-fn equal_copies(conflicts: &[Lr1Conflict<'_>]) -> Result<bool, AllocError> {
-    for conflict in conflicts {
-        let copy = conflict.try_clone()?;
-        if copy != *conflict || copy.action.try_clone()? != conflict.action {
-            return Ok(false);
-        }
-    }
-    Ok(true)
-}
-
-fn copies_of_conflicts(
-    rt: &impl Abort,
-    alloc: Global,
-    state: &Lr1State<'_>,
-    terminals: &TerminalSet,
-) -> Result<(), Fail> {
-    let conflicts = Lookahead::conflicts(alloc, terminals, state)?;
-    assert_eq!(rt; conflicts.len(), 4);
-    assert!(rt; equal_copies(conflicts.as_slice())?);
-    Ok(())
-}
-
-/// The item of A with its dot at the end, before x and the end.
-fn item_of<'g>(alloc: Global, grammar: &'g Grammar) -> Result<List<Lr1Item<'g>>, Fail> {
-    let production = production_at(alloc, grammar, "A", 0)?;
-    let ahead = set_of(alloc, &["x"], true, &grammar.terminals)?;
-    let mut items = List::new(alloc);
-    items.push(Item::lr0(production, 1).with_lookahead(ahead))?;
-    Ok(items)
-}
-
-/// The goto by A to 6.
-fn goto_of(alloc: Global) -> Result<Map<NonterminalString, StateIndex>, AllocError> {
-    let mut gotos = Map::new(alloc);
-    gotos.insert(name_of(alloc, "A")?, StateIndex(6))?;
-    Ok(gotos)
-}
-
-/// The state with three reductions, with this item and this goto.
-fn full_state<'g>(alloc: Global, grammar: &'g Grammar) -> Result<Lr1State<'g>, Fail> {
-    let gotos = goto_of(alloc)?;
-    let vec = item_of(alloc, grammar)?;
-    let mut state = three_reductions(alloc, grammar)?;
-    state.items = Items { vec };
-    state.gotos = gotos;
-    Ok(state)
-}
-
-/// That the copy of the full state has what it has.
-fn equals(
-    rt: &impl Abort,
-    alloc: Global,
-    copy: &Lr1State<'_>,
-    state: &Lr1State<'_>,
-    terminals: &TerminalSet,
-) -> Result<(), Fail> {
-    assert!(rt; conflict_texts(alloc, copy, terminals)?.as_str() == CONFLICTS);
-    assert!(rt; copy.items == state.items && copy.items.vec.len() == 1);
-    assert!(rt; copy.gotos.get(&name_of(alloc, "A")?) == Some(&StateIndex(6)));
-    Ok(())
-}
-
-fn copies(
-    rt: &impl Abort,
-    alloc: Global,
-    state: &Lr1State<'_>,
-    terminals: &TerminalSet,
-) -> Result<(), Fail> {
-    copies_of_conflicts(rt, alloc, state, terminals)?;
-    equals(rt, alloc, &state.try_clone(alloc)?, state, terminals)
-}
-
-fn copies_of_full_state(rt: &impl Abort, alloc: Global, grammar: &Grammar) -> Result<(), Fail> {
-    let state = full_state(alloc, grammar)?;
-    copies(rt, alloc, &state, &grammar.terminals)
-}
-
-#[test]
-fn copies_of_a_state_and_its_conflicts(rt: HostRuntime) -> Result<(), Fail> {
-    let grammar = grammar_of(rt.alloc(), LINES)?;
-    copies_of_full_state(&rt, rt.alloc(), &grammar)
 }
 
 /// A state that shifts y, and reduces by A, B and C.
