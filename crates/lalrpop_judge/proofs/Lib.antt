@@ -6,3 +6,4 @@ pub mod ChoiceLemmas
 pub mod StartLemmas
 pub mod LeafLemmas
 pub mod WalkLemmas
+pub mod CompiledLemmas

@@ -1,4 +1,5 @@
 pub mod Admitted
+pub mod Compiled
 pub mod Ends
 pub mod Faults
 pub mod Placed

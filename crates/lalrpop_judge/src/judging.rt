@@ -11,11 +11,11 @@ ghost use Rattle.lalrpop_judge.specs.Faults.{HasSearch, OnlyWhere};
 
 use crate::error::JudgeError;
 use crate::leaves::are_leaves;
+use crate::patterns::CompiledPatterns;
 use crate::walk::admits;
 use lalrpop_grammar::{Atom, Grammar, List, ScanToken, WrittenTree};
 use lalrpop_grammar_closed::ClosedSymbol;
 use lalrpop_grammar_rules::Rules;
-use lalrpop_judge_search::PatternFinder;
 use std::alloc::Global;
 
 /// Whether the grammar that the features enable admits the tree from the start, with exactly these tokens.
@@ -73,7 +73,8 @@ pub fn judge_tree(
         (HasSearch (enabled_grammar finds features.now (grammar_view grammar.now)) (tree_view tree.now))) }
 {
     let rules = Rules::new(alloc, grammar, features)?;
-    let yes = admits_start(alloc, &rules, start, tree)?;
+    let patterns = CompiledPatterns::new(alloc, grammar, features)?;
+    let yes = admits_start(alloc, &rules, &patterns, start, tree)?;
     Ok(yes)
 }
 
@@ -81,6 +82,7 @@ pub fn judge_tree(
 fn admits_start(
     alloc: Global,
     rules: &Rules<'_>,
+    patterns: &CompiledPatterns<'_>,
     start: &Atom,
     tree: &WrittenTree,
 ) -> Result<bool, JudgeError>
@@ -96,6 +98,6 @@ fn admits_start(
         return Ok(false);
     }
     let symbol = ClosedSymbol::Call(start.try_clone()?, List::new(alloc), rule.loosest);
-    let yes = admits(alloc, rules, &PatternFinder, tree, &symbol)?;
+    let yes = admits(alloc, rules, patterns, tree, &symbol)?;
     Ok(yes)
 }

@@ -3,9 +3,11 @@
 
 mod asking;
 mod choosing;
+mod compiled;
 mod error;
 mod judging;
 mod leaves;
+mod patterns;
 mod walk;
 
 pub use error::JudgeError;
