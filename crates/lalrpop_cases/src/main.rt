@@ -1,21 +1,21 @@
 //! Table tests, and the tokens and the tree of standard input, to be timed.
 //!
-//! The words name files of cases, each of which is run over readers and a writer in memory. Behind the word `tokens` stand a
-//! start and a file, behind `parse` a limit of moves, too: the program answers as `lalrpop_run` does, whose text is a word and so no
-//! longer than a word may be.
+//! The words name kinds of cases and files: a file's cases are of the kind that is named last before it. Behind the word `tokens`
+//! stand a start and a file, behind `parse` a limit of moves, too: the program answers as `lalrpop_run` does, whose text is a word
+//! and so no longer than a word may be.
 #![tactic(auto)]
 
 mod case;
+mod kind;
 mod line;
 mod outcome;
 mod runs;
-mod tally;
 mod timing;
 
-use crate::runs::run_tally;
-use crate::tally::Tally;
+use crate::kind::Kind;
 use crate::timing::{answer_parse, answer_tokens};
-use anyhow::Result;
+use anyhow::{Result, bail};
+use lalrpop_case_files::Tally;
 use std::alloc::Global;
 use std::env;
 use std::process::ExitCode;
@@ -42,12 +42,28 @@ fn respond<R: Alloc<A = Global> + Env + Files + Input + Print>(rt: &R) -> Result
     }
 }
 
-/// Runs the files that the words name, and tells how many cases differ.
+/// Runs the files that the words name, each as the kind says that is named before it, and tells how many cases differ.
 fn run_tables<R: Alloc<A = Global> + Files + Print>(rt: &R, words: &[String]) -> Result<u8> {
+    let mut kind = None;
     let mut all = Tally::new();
-    for file in words.iter().skip(1) {
-        all = all.with(run_tally(rt, file.as_str())?);
+    for word in words.iter().skip(1) {
+        match Kind::from_name(word.as_str()) {
+            Some(found) => kind = Some(found),
+            None => all = all.with(run_file(rt, kind, word.as_str())?),
+        }
     }
     println!(rt; "{} passed, {} failed", all.passed, all.failed)?;
     Ok(if all.failed == 0 { 0 } else { DIFFERS })
+}
+
+/// How many cases of the file pass, where their kind is known; each of the others is told.
+fn run_file<R: Alloc<A = Global> + Files + Print>(
+    rt: &R,
+    kind: Option<Kind>,
+    file: &str,
+) -> Result<Tally> {
+    match kind {
+        Some(kind) => kind.run_tally(rt, file),
+        None => bail!("{file}: no kind of cases is named before it"),
+    }
 }

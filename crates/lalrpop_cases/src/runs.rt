@@ -2,36 +2,27 @@
 
 use crate::case::Case;
 use crate::outcome::{Outcome, outcome_of};
-use crate::tally::Tally;
 use anyhow::{Context, Result};
+use lalrpop_case_files::{TableCase, Tally, read_text, run_cases};
 use std::alloc::Global;
-use std::fs;
 use std::rt::Files;
+
+impl TableCase for Case {
+    fn is_right<R: Alloc<A = Global> + Print>(&self, rt: &R) -> Result<bool> {
+        let outcome = outcome_of(rt.alloc(), self).context(format_args!("the case {}", self.name))?;
+        let right = outcome.is_wanted(self) && outcome.is_confirmed();
+        if !right {
+            tell(rt, self, &outcome)?;
+        }
+        Ok(right)
+    }
+}
 
 /// How many cases of the file pass; each of the others is told.
 pub(crate) fn run_tally<R: Alloc<A = Global> + Files + Print>(rt: &R, file: &str) -> Result<Tally> {
-    let mut tally = Tally::new();
-    for case in &read_cases(rt, file)? {
-        tally = tally.and(is_right(rt, case)?);
-    }
+    let text = read_text(rt, file)?;
+    let tally = run_cases::<Case, R>(rt, file, text.as_str())?;
     Ok(tally)
-}
-
-/// The cases of the file.
-fn read_cases<R: Alloc<A = Global> + Files>(rt: &R, file: &str) -> Result<Vec<Case>> {
-    let text = fs::read_to_string(rt, file).context(format_args!("reading {file}"))?;
-    let cases = serde_json::from_str(rt.alloc(), text.as_str()).context(format_args!("{file}"))?;
-    Ok(cases)
-}
-
-/// Whether the run does what the case wants; if not, it is told.
-fn is_right<R: Alloc<A = Global> + Print>(rt: &R, case: &Case) -> Result<bool> {
-    let outcome = outcome_of(rt.alloc(), case).context(format_args!("the case {}", case.name))?;
-    let right = outcome.is_wanted(case) && outcome.is_confirmed();
-    if !right {
-        tell(rt, case, &outcome)?;
-    }
-    Ok(right)
 }
 
 /// Tells what was wanted and what came.

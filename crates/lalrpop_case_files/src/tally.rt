@@ -2,14 +2,16 @@
 
 /// How many cases passed, and how many differed.
 #[derive(Clone, Copy)]
-pub(crate) struct Tally {
-    pub(crate) passed: usize,
-    pub(crate) failed: usize,
+pub struct Tally {
+    /// How many passed.
+    pub passed: usize,
+    /// How many differed.
+    pub failed: usize,
 }
 
 impl Tally {
     /// Of no cases.
-    pub(crate) fn new() -> Tally {
+    pub fn new() -> Tally {
         Tally {
             passed: 0,
             failed: 0,
@@ -17,7 +19,7 @@ impl Tally {
     }
 
     /// Of these cases and others.
-    pub(crate) fn with(self, other: Tally) -> Tally {
+    pub fn with(self, other: Tally) -> Tally {
         Tally {
             passed: self.passed.saturating_add(other.passed),
             failed: self.failed.saturating_add(other.failed),
@@ -25,7 +27,7 @@ impl Tally {
     }
 
     /// Of one more case.
-    pub(crate) fn and(self, passed: bool) -> Tally {
+    pub fn and(self, passed: bool) -> Tally {
         if passed {
             self.with(Tally {
                 passed: 1,
