@@ -1,18 +1,23 @@
 //! Grammars from lines, and their parts by name.
 
+ghost use Rattle.std.specs.Prelude.{IfOk};
+ghost use Rattle.lalrpop_lr1_first.specs.NumberedGrammars.{HasItsTerminals};
+
 use lalrpop_grammar_repr::{Grammar, Production, Symbol};
 use lalrpop_grammar_symbols::{Atom, NonterminalString, TerminalString};
-use lalrpop_lr1_lines::{LinesError, read_lines};
+use lalrpop_lr1_answers::{AnswerFault, read_productions};
 use lalrpop_sets::Token;
 use std::alloc::{AllocError, Global};
 use std::test::Fail;
 
 /// The grammar of the lines.
-pub(crate) fn grammar_of(alloc: Global, lines: &str) -> Result<Grammar, Fail> {
-    match read_lines(alloc, lines) {
+pub(crate) fn grammar_of(alloc: Global, lines: &str) -> Result<Grammar, Fail>
+    ensures { IfOk result HasItsTerminals }
+{
+    match read_productions(alloc, lines) {
         Ok(grammar) => Ok(grammar),
-        Err(LinesError::Memory) => Err(AllocError.into()),
-        Err(error) => Err(Fail::new(error)),
+        Err(AnswerFault::Memory) => Err(AllocError.into()),
+        Err(fault) => Err(Fail::new(fault)),
     }
 }
 

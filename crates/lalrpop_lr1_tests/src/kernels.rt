@@ -1,7 +1,9 @@
 //! Kernels in order of first sight.
 
+use lalrpop_grammar_symbols::List;
 use lalrpop_lr1_items::StateIndex;
-use lalrpop_sets::{Kernel, KernelSet};
+use lalrpop_lr1_turn::StateKernel;
+use lalrpop_sets::{Kernel, KernelSet, Nil};
 use std::alloc::{AllocError, Global};
 use std::test::Fail;
 
@@ -35,5 +37,23 @@ fn equal_kernels_have_one_number(rt: HostRuntime) -> Result<(), Fail> {
     assert!(rt; kernels.next() == Some(Letter('b')));
     assert!(rt; kernels.next() == Some(Letter('c')));
     assert!(rt; kernels.next().is_none());
+    Ok(())
+}
+
+/// The kernel of the items at these places, without lookaheads.
+fn kernel_of(alloc: Global, places: &[usize]) -> Result<StateKernel<Nil>, AllocError> {
+    let mut items = List::new(alloc);
+    for place in places {
+        items.push((*place, Nil))?;
+    }
+    Ok(StateKernel { items })
+}
+
+#[test]
+fn a_kernel_of_items_and_its_copy(rt: HostRuntime) -> Result<(), Fail> {
+    let alloc = rt.alloc();
+    let kernel = kernel_of(alloc, &[2, 5])?;
+    let copy = kernel.try_clone(alloc)?;
+    assert!(rt; copy == kernel && copy != kernel_of(alloc, &[2])?);
     Ok(())
 }

@@ -1,8 +1,15 @@
-//! Tests of the tables' layer that no table of cases can hold: sets and maps at concrete types, items, states and their conflicts.
+//! Tests of the tables' layer that no table of cases can hold: sets and maps at concrete types, items, states and their conflicts,
+//! copies, and single calls that build states or parse by them.
 #![tactic(auto)]
 
 #[cfg(test)]
+mod builds;
+#[cfg(test)]
+mod firsts;
+#[cfg(test)]
 mod grammars;
+#[cfg(test)]
+mod interprets;
 #[cfg(test)]
 mod items;
 #[cfg(test)]

@@ -2,10 +2,10 @@
 
 use crate::grammars::{grammar_of, name_of, production_at, terminal_of, terminal_symbol, token_of};
 use lalrpop_grammar_repr::{Grammar, Map, Production, TerminalSet};
-use lalrpop_grammar_symbols::List;
+use lalrpop_grammar_symbols::{List, NonterminalString};
 use lalrpop_lr1_items::{
-    Action, Item, Items, Lookahead, LookaheadInterpret, Lr0State, Lr1Conflict, Lr1State, State,
-    StateGraph, StateIndex,
+    Action, Item, Items, Lookahead, LookaheadInterpret, Lr0State, Lr1Conflict, Lr1Item, Lr1State,
+    State, StateGraph, StateIndex,
 };
 use lalrpop_sets::{Nil, Token, TokenSet};
 use std::alloc::{AllocError, Global};
@@ -32,22 +32,30 @@ fn set_of(
     Ok(set)
 }
 
-/// A state that shifts y, and reduces by these productions.
-fn state_of<'g, L: Drop>(
+/// A state that shifts y, with these items, reductions and gotos.
+fn state_from<'g, L: Drop>(
     alloc: Global,
+    vec: List<Item<'g, L>>,
     reductions: List<(L, &'g Production)>,
+    gotos: Map<NonterminalString, StateIndex>,
 ) -> Result<State<'g, L>, AllocError> {
     let mut shifts = Map::new(alloc);
     shifts.insert(terminal_of(alloc, "y")?, StateIndex(5))?;
     Ok(State {
         index: StateIndex(2),
-        items: Items {
-            vec: List::new(alloc),
-        },
+        items: Items { vec },
         shifts,
         reductions,
-        gotos: Map::new(alloc),
+        gotos,
     })
+}
+
+/// A state that shifts y, and reduces by these productions.
+fn state_of<'g, L: Drop>(
+    alloc: Global,
+    reductions: List<(L, &'g Production)>,
+) -> Result<State<'g, L>, AllocError> {
+    state_from(alloc, List::new(alloc), reductions, Map::new(alloc))
 }
 
 /// A reduction of a state.
@@ -65,12 +73,18 @@ fn reduction_of<'g>(
     Ok((set_of(alloc, texts, eof, &grammar.terminals)?, production))
 }
 
-/// A state that shifts y, and reduces by A before x and y, by B before y, and by C before x and the end.
-fn three_reductions<'g>(alloc: Global, grammar: &'g Grammar) -> Result<Lr1State<'g>, Fail> {
+/// The reductions by A before x and y, by B before y, and by C before x and the end.
+fn three_of<'g>(alloc: Global, grammar: &'g Grammar) -> Result<List<Reduction<'g>>, Fail> {
     let mut reductions = List::new(alloc);
     reductions.push(reduction_of(alloc, grammar, "A", &["x", "y"], false)?)?;
     reductions.push(reduction_of(alloc, grammar, "B", &["y"], false)?)?;
     reductions.push(reduction_of(alloc, grammar, "C", &["x"], true)?)?;
+    Ok(reductions)
+}
+
+/// A state that shifts y, and has these three reductions.
+fn three_reductions<'g>(alloc: Global, grammar: &'g Grammar) -> Result<Lr1State<'g>, Fail> {
+    let reductions = three_of(alloc, grammar)?;
     Ok(state_of(alloc, reductions)?)
 }
 
@@ -121,6 +135,88 @@ fn conflicts_of_three(rt: &impl Abort, alloc: Global, grammar: &Grammar) -> Resu
 fn conflicts_with_lookaheads(rt: HostRuntime) -> Result<(), Fail> {
     let grammar = grammar_of(rt.alloc(), LINES)?;
     conflicts_of_three(&rt, rt.alloc(), &grammar)
+}
+
+/// Whether copies of the conflicts equal them, and copies of their actions these.
+fn equal_copies(conflicts: &[Lr1Conflict<'_>]) -> Result<bool, AllocError> {
+    for conflict in conflicts {
+        let copy = conflict.try_clone()?;
+        if copy != *conflict || copy.action.try_clone()? != conflict.action {
+            return Ok(false);
+        }
+    }
+    Ok(true)
+}
+
+fn copies_of_conflicts(
+    rt: &impl Abort,
+    alloc: Global,
+    state: &Lr1State<'_>,
+    terminals: &TerminalSet,
+) -> Result<(), Fail> {
+    let conflicts = Lookahead::conflicts(alloc, terminals, state)?;
+    assert_eq!(rt; conflicts.len(), 4);
+    assert!(rt; equal_copies(conflicts.as_slice())?);
+    Ok(())
+}
+
+/// The item of A with its dot at the end, before x and the end.
+fn item_of<'g>(alloc: Global, grammar: &'g Grammar) -> Result<List<Lr1Item<'g>>, Fail> {
+    let production = production_at(alloc, grammar, "A", 0)?;
+    let ahead = set_of(alloc, &["x"], true, &grammar.terminals)?;
+    let mut items = List::new(alloc);
+    items.push(Item::lr0(production, 1).with_lookahead(ahead))?;
+    Ok(items)
+}
+
+/// The goto by A to 6.
+fn goto_of(alloc: Global) -> Result<Map<NonterminalString, StateIndex>, AllocError> {
+    let mut gotos = Map::new(alloc);
+    gotos.insert(name_of(alloc, "A")?, StateIndex(6))?;
+    Ok(gotos)
+}
+
+/// The state with three reductions, with this item and this goto.
+fn full_state<'g>(alloc: Global, grammar: &'g Grammar) -> Result<Lr1State<'g>, Fail> {
+    let gotos = goto_of(alloc)?;
+    let items = item_of(alloc, grammar)?;
+    let reductions = three_of(alloc, grammar)?;
+    Ok(state_from(alloc, items, reductions, gotos)?)
+}
+
+/// That the copy of the full state has what it has.
+fn equals(
+    rt: &impl Abort,
+    alloc: Global,
+    copy: &Lr1State<'_>,
+    state: &Lr1State<'_>,
+    terminals: &TerminalSet,
+) -> Result<(), Fail> {
+    assert!(rt; conflict_texts(alloc, copy, terminals)?.as_str() == CONFLICTS);
+    assert!(rt; copy.items == state.items && copy.items.vec.len() == 1);
+    assert!(rt; copy.gotos.get(&name_of(alloc, "A")?) == Some(&StateIndex(6)));
+    Ok(())
+}
+
+fn copies(
+    rt: &impl Abort,
+    alloc: Global,
+    state: &Lr1State<'_>,
+    terminals: &TerminalSet,
+) -> Result<(), Fail> {
+    copies_of_conflicts(rt, alloc, state, terminals)?;
+    equals(rt, alloc, &state.try_clone(alloc)?, state, terminals)
+}
+
+fn copies_of_full_state(rt: &impl Abort, alloc: Global, grammar: &Grammar) -> Result<(), Fail> {
+    let state = full_state(alloc, grammar)?;
+    copies(rt, alloc, &state, &grammar.terminals)
+}
+
+#[test]
+fn copies_of_a_state_and_its_conflicts(rt: HostRuntime) -> Result<(), Fail> {
+    let grammar = grammar_of(rt.alloc(), LINES)?;
+    copies_of_full_state(&rt, rt.alloc(), &grammar)
 }
 
 /// A state that shifts y, and reduces by A, B and C.

@@ -17,6 +17,12 @@ static TOKENS: [&str; 4] = ["lalrpop_run", "tokens", "--start", "S"];
 /// The words of `check`.
 static CHECK: [&str; 4] = ["lalrpop_run", "check", "--start", "S"];
 
+/// The words of `parse`.
+static PARSE: [&str; 4] = ["lalrpop_run", "parse", "--start", "S"];
+
+/// What `parse` answers to `a b`.
+const TREE: &str = "S#0(\"a\", S#1(\"b\"))\n";
+
 /// That a run over these readers and this writer ends so.
 fn ends<R1: Read + Drop, R2: Read + Drop>(
     rt: &impl Abort,
@@ -142,4 +148,36 @@ fn the_text_of_check_is_not_read(rt: HostRuntime) -> Result<(), Fail> {
     let readers = (lists(), Pieces::failing(b"", 0));
     let out = Room::new(rt.alloc(), usize::MAX, 0);
     ends(&rt, &CHECK, readers, out, "parser with 5 states\n", 0)
+}
+
+// Behind the three bytes one more call finds the end.
+#[test]
+fn a_failing_read_of_what_is_parsed_is_a_read_fault(rt: HostRuntime) -> Result<(), Fail> {
+    for calls in 0..=lists().len() as u64 {
+        let readers = (Pieces::failing(lists(), calls), "a b".as_bytes());
+        let out = Room::new(rt.alloc(), usize::MAX, 0);
+        ends(&rt, &PARSE, readers, out, "read fault\n", 6)?;
+    }
+    for calls in 0..4 {
+        let readers = (lists(), Pieces::failing(b"a b", calls));
+        let out = Room::new(rt.alloc(), usize::MAX, 0);
+        ends(&rt, &PARSE, readers, out, "read fault\n", 6)?;
+    }
+    let readers = (
+        Pieces::failing(lists(), u64::MAX),
+        Pieces::failing(b"a b", 4),
+    );
+    let out = Room::new(rt.alloc(), usize::MAX, 0);
+    ends(&rt, &PARSE, readers, out, TREE, 0)
+}
+
+#[test]
+fn a_failing_write_of_a_tree_leaves_a_front(rt: HostRuntime) -> Result<(), Fail> {
+    for room in 0..TREE.len() {
+        let front = TREE.get(..room).ok_or("no front")?;
+        let out = Room::new(rt.alloc(), room, 0);
+        ends(&rt, &PARSE, (lists(), "a b".as_bytes()), out, front, 6)?;
+    }
+    let out = Room::new(rt.alloc(), TREE.len(), 0);
+    ends(&rt, &PARSE, (lists(), "a b".as_bytes()), out, TREE, 0)
 }

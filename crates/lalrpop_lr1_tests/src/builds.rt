@@ -1,0 +1,188 @@
+//! States by either method, in the order in which they are made and in that in which they are written out.
+
+ghost use Rattle.lalrpop_lr1_first.specs.NumberedGrammars.{HasItsTerminals};
+
+use crate::grammars::{grammar_of, name_of};
+use lalrpop_grammar_repr::{Grammar, Map};
+use lalrpop_grammar_symbols::{NonterminalString, TerminalString};
+use lalrpop_lane::{Method, build_lalr_states, build_lr1_states, build_states};
+use lalrpop_lr1_answers::has_its_terminals;
+use lalrpop_lr1_build::{build_lr0_states, build_lr1_states_canonical};
+use lalrpop_lr1_check::check_states;
+use lalrpop_lr1_items::{Lr1State, StateIndex};
+use std::alloc::{AllocError, Global};
+use std::process::Abort;
+use std::test::Fail;
+
+/// `__S = S; S = C C; C = "c" C or "d"`
+const PAIRS: &str = "__S: S\nS: C C\nC: \"c\" C\nC: \"d\"\n";
+
+/// The number of each canonical state, and where it leads.
+const CANONICAL: &str =
+    r#"0 C 1 S 2 "c" 3 "d" 4; 1 C 5 "c" 6 "d" 7; 2; 3 C 8 "c" 3 "d" 4; 4; 5; 6 C 9 "c" 6 "d" 7; 7; 8; 9; "#;
+
+/// The same with states 3 and 6, 4 and 7, 8 and 9 put together.
+const COLLAPSED: &str =
+    r#"0 C 1 S 2 "c" 3 "d" 4; 1 C 5 "c" 3 "d" 4; 2; 3 C 6 "c" 3 "d" 4; 4; 5; 6; "#;
+
+/// The canonical states with 0, 1, 3 and 6 before the others.
+const CANONICAL_IN_ORDER: &str =
+    r#"0 C 1 S 4 "c" 2 "d" 5; 1 C 6 "c" 3 "d" 7; 2 C 8 "c" 2 "d" 5; 3 C 9 "c" 3 "d" 7; 4; 5; 6; 7; 8; 9; "#;
+
+/// Those put together with 0, 1 and 3 before the others.
+const COLLAPSED_IN_ORDER: &str =
+    r#"0 C 1 S 3 "c" 2 "d" 4; 1 C 5 "c" 2 "d" 4; 2 C 6 "c" 2 "d" 4; 3; 4; 5; 6; "#;
+
+/// Lane tables.
+const LANES: Method = Method::Lane { copies: 9 };
+
+/// Adds where the nonterminals lead.
+fn add_gotos(
+    gotos: &Map<NonterminalString, StateIndex>,
+    text: &mut String,
+) -> Result<(), AllocError> {
+    for (name, to) in gotos.iter() {
+        write!(text, " {name} {to}")?;
+    }
+    Ok(())
+}
+
+/// Adds where the terminals lead.
+fn add_shifts(
+    shifts: &Map<TerminalString, StateIndex>,
+    text: &mut String,
+) -> Result<(), AllocError> {
+    for (terminal, to) in shifts.iter() {
+        write!(text, " {terminal} {to}")?;
+    }
+    Ok(())
+}
+
+/// The number of each state, and where it leads.
+fn edges_text(alloc: Global, states: &[Lr1State<'_>]) -> Result<String, AllocError> {
+    let mut text = String::new(alloc);
+    for state in states {
+        write!(text, "{}", state.index)?;
+        add_gotos(&state.gotos, &mut text)?;
+        add_shifts(&state.shifts, &mut text)?;
+        text.push_str("; ")?;
+    }
+    Ok(text)
+}
+
+fn lr1_text(alloc: Global, grammar: &Grammar, method: Method) -> Result<String, Fail>
+    requires { HasItsTerminals grammar.now }
+{
+    let states = build_lr1_states(alloc, grammar, name_of(alloc, "__S")?, method)?;
+    Ok(edges_text(alloc, states.as_slice())?)
+}
+
+fn lalr_text(alloc: Global, grammar: &Grammar, method: Method) -> Result<String, Fail>
+    requires { HasItsTerminals grammar.now }
+{
+    let states = build_lalr_states(alloc, grammar, name_of(alloc, "__S")?, method)?;
+    Ok(edges_text(alloc, states.as_slice())?)
+}
+
+fn by_either_method(rt: &impl Abort, alloc: Global, grammar: &Grammar) -> Result<(), Fail>
+    requires { HasItsTerminals grammar.now }
+{
+    assert!(rt; lr1_text(alloc, grammar, Method::Canonical)?.as_str() == CANONICAL);
+    assert!(rt; lr1_text(alloc, grammar, LANES)?.as_str() == CANONICAL);
+    assert!(rt; lalr_text(alloc, grammar, Method::Canonical)?.as_str() == COLLAPSED);
+    assert!(rt; lalr_text(alloc, grammar, LANES)?.as_str() == CANONICAL);
+    Ok(())
+}
+
+#[test]
+fn states_by_either_method(rt: HostRuntime) -> Result<(), Fail> {
+    let grammar = grammar_of(rt.alloc(), PAIRS)?;
+    by_either_method(&rt, rt.alloc(), &grammar)
+}
+
+fn text_in_order(alloc: Global, grammar: &Grammar, method: Method) -> Result<String, Fail>
+    requires { HasItsTerminals grammar.now }
+{
+    let states = build_states(alloc, grammar, name_of(alloc, "__S")?, method)?;
+    Ok(edges_text(alloc, states.as_slice())?)
+}
+
+/// The states of the canonical way are these; those of lane tables are the canonical ones, whatever the grammar asks for.
+fn in_order(rt: &impl Abort, alloc: Global, grammar: &Grammar, canonical: &str) -> Result<(), Fail>
+    requires { HasItsTerminals grammar.now }
+{
+    assert!(rt; text_in_order(alloc, grammar, Method::Canonical)?.as_str() == canonical);
+    assert!(rt; text_in_order(alloc, grammar, LANES)?.as_str() == CANONICAL_IN_ORDER);
+    Ok(())
+}
+
+#[test]
+fn states_with_gotos_come_first(rt: HostRuntime) -> Result<(), Fail> {
+    let mut grammar = grammar_of(rt.alloc(), PAIRS)?;
+    in_order(&rt, rt.alloc(), &grammar, CANONICAL_IN_ORDER)?;
+    grammar.algorithm.lalr = true;
+    assert!(rt; has_its_terminals(&grammar));
+    in_order(&rt, rt.alloc(), &grammar, COLLAPSED_IN_ORDER)
+}
+
+fn counts_without(
+    rt: &impl Abort,
+    alloc: Global,
+    grammar: &Grammar,
+    start: &NonterminalString,
+) -> Result<(), Fail>
+    requires { HasItsTerminals grammar.now }
+{
+    let states = build_lr0_states(alloc, grammar, start.try_clone()?)?;
+    assert_eq!(rt; states.len(), 7);
+    Ok(())
+}
+
+fn checks_canonical(
+    rt: &impl Abort,
+    alloc: Global,
+    grammar: &Grammar,
+    start: &NonterminalString,
+) -> Result<(), Fail>
+    requires { HasItsTerminals grammar.now }
+{
+    let states = build_lr1_states_canonical(alloc, grammar, start.try_clone()?)?;
+    assert_eq!(rt; states.len(), 10);
+    assert!(rt; check_states(alloc, grammar, start, states.as_slice())?);
+    Ok(())
+}
+
+fn checks_collapsed(
+    rt: &impl Abort,
+    alloc: Global,
+    grammar: &Grammar,
+    start: &NonterminalString,
+) -> Result<(), Fail>
+    requires { HasItsTerminals grammar.now }
+{
+    let states = build_lalr_states(alloc, grammar, start.try_clone()?, Method::Canonical)?;
+    assert_eq!(rt; states.len(), 7);
+    assert!(rt; check_states(alloc, grammar, start, states.as_slice())?);
+    Ok(())
+}
+
+/// That LR(0), canonical and collapsed states have no conflict, and the last two may be parsed with.
+fn have_no_conflict(
+    rt: &impl Abort,
+    alloc: Global,
+    grammar: &Grammar,
+    start: &NonterminalString,
+) -> Result<(), Fail>
+    requires { HasItsTerminals grammar.now }
+{
+    counts_without(rt, alloc, grammar, start)?;
+    checks_canonical(rt, alloc, grammar, start)?;
+    checks_collapsed(rt, alloc, grammar, start)
+}
+
+#[test]
+fn states_without_conflicts(rt: HostRuntime) -> Result<(), Fail> {
+    let start = name_of(rt.alloc(), "__S")?;
+    let grammar = grammar_of(rt.alloc(), PAIRS)?;
+    have_no_conflict(&rt, rt.alloc(), &grammar, &start)
+}

@@ -1,0 +1,158 @@
+//! Parse trees without productions, and stacks of states, by states that are put together.
+
+ghost use Rattle.std.specs.Prelude.{Contains, IfOk, IsTrue};
+ghost use Rattle.lalrpop_lr1_theory.specs.CheckedStates.{IsStartAlone};
+ghost use Rattle.lalrpop_lr1_theory.specs.ValidItems.{NoneBarren};
+ghost use Rattle.lalrpop_lr1_first.specs.NumberedGrammars.{HasItsTerminals};
+ghost use Rattle.lalrpop_lr1_build.specs.BuiltStates.{theory_grammar};
+ghost use Rattle.lalrpop_lr1_parse.specs.Parses.{AreParsable};
+
+use crate::grammars::{grammar_of, name_of};
+use lalrpop_grammar_repr::{Grammar, TerminalSet};
+use lalrpop_grammar_symbols::NonterminalString;
+use lalrpop_lane::{Method, build_lalr_states};
+use lalrpop_lr1_barren::barren_nonterminal;
+use lalrpop_lr1_items::{Lr1State, TableFault};
+use lalrpop_lr1_lines::read_tokens;
+use lalrpop_lr1_parse::{InterpretError, InterpretFault, interpret, interpret_partial};
+use std::alloc::{AllocError, Global};
+use std::process::Abort;
+use std::test::Fail;
+
+/// `S = E; E = E "-" T or T; T = "N" or "(" E ")"`
+const DIFFERENCES: &str = "S: E\nE: E \"-\" T\nE: T\nT: \"N\"\nT: \"(\" E \")\"\n";
+
+/// Whether the start stands on no right side.
+fn is_alone(grammar: &Grammar, start: &NonterminalString) -> bool
+    ensures { IsTrue result → IsStartAlone (theory_grammar grammar.now) start.now.0 }
+{
+    grammar.start_is_alone(start)
+}
+
+/// Whether the start reaches nothing barren.
+fn reaches_trees(
+    alloc: Global,
+    grammar: &Grammar,
+    start: &NonterminalString,
+) -> Result<bool, AllocError>
+    requires { HasItsTerminals grammar.now }
+    ensures { IfOk result (λ reaches. IsTrue reaches → NoneBarren (Contains (theory_grammar grammar.now)) start.now.0) }
+{
+    match barren_nonterminal(alloc, grammar, start)? {
+        None => Ok(true),
+        Some(_) => Ok(false),
+    }
+}
+
+/// The canonical states of the grammar for a start, put together.
+fn collapsed_states<'g>(
+    alloc: Global,
+    grammar: &'g Grammar,
+    start: &NonterminalString,
+) -> Result<Vec<Lr1State<'g>>, Fail>
+    requires { HasItsTerminals grammar.now }
+    ensures { IfOk result (λ states. AreParsable grammar.now.terminals states.items) }
+{
+    if !is_alone(grammar, start) {
+        return Err(Fail::new("the start stands on a right side"));
+    }
+    if !reaches_trees(alloc, grammar, start)? {
+        return Err(Fail::new("the start reaches a nonterminal without a tree"));
+    }
+    match build_lalr_states(alloc, grammar, start.try_clone()?, Method::Canonical) {
+        Ok(states) => Ok(states),
+        Err(TableFault::Conflicts(_)) => Err(Fail::new("the states have conflicts")),
+        Err(TableFault::Memory) => Err(AllocError.into()),
+    }
+}
+
+/// Where tokens are stuck, and on what.
+fn stuck_text(alloc: Global, error: &InterpretError<'_>) -> Result<String, AllocError> {
+    Ok(format!(in alloc; "{} {}", error.state.index, error.token)?)
+}
+
+/// The text of the fault.
+fn fault_text(alloc: Global, fault: InterpretFault<'_>) -> Result<String, AllocError> {
+    match fault {
+        InterpretFault::Stuck(error) => stuck_text(alloc, &error),
+        InterpretFault::Limit => String::from_str(alloc, "limit"),
+        InterpretFault::Memory => Err(AllocError),
+    }
+}
+
+/// The tree of the tokens; or where they are stuck, and on what.
+fn tree_text(
+    alloc: Global,
+    states: &[Lr1State<'_>],
+    terminals: &TerminalSet,
+    tokens: &str,
+) -> Result<String, AllocError>
+    requires { AreParsable terminals.now states.now }
+{
+    match interpret(alloc, states, terminals, read_tokens(alloc, tokens)?) {
+        Ok(tree) => tree.to_string(alloc),
+        Err(fault) => fault_text(alloc, fault),
+    }
+}
+
+/// The states on the stack once the last of the tokens is shifted; or where they are stuck, and on what.
+fn stack_text(
+    alloc: Global,
+    states: &[Lr1State<'_>],
+    terminals: &TerminalSet,
+    tokens: &str,
+) -> Result<String, AllocError>
+    requires { AreParsable terminals.now states.now }
+{
+    match interpret_partial(alloc, states, terminals, read_tokens(alloc, tokens)?) {
+        Ok(stack) => Ok(format!(in alloc; "{stack:?}")?),
+        Err(fault) => fault_text(alloc, fault),
+    }
+}
+
+/// The tree of `N - ( N - N )`.
+const TREE: &str =
+    r#"[S: [E: [E: [T: "N"]], "-", [T: "(", [E: [E: [T: "N"]], "-", [T: "N"]], ")"]]]"#;
+
+fn trees(
+    rt: &impl Abort,
+    alloc: Global,
+    states: &[Lr1State<'_>],
+    terminals: &TerminalSet,
+) -> Result<(), Fail>
+    requires { AreParsable terminals.now states.now }
+{
+    assert!(rt; tree_text(alloc, states, terminals, "N - ( N - N )")?.as_str() == TREE);
+    assert!(rt; tree_text(alloc, states, terminals, "N N")?.as_str() == "4 \"N\"");
+    assert!(rt; tree_text(alloc, states, terminals, "")?.as_str() == "0 Eof");
+    Ok(())
+}
+
+fn stacks(
+    rt: &impl Abort,
+    alloc: Global,
+    states: &[Lr1State<'_>],
+    terminals: &TerminalSet,
+) -> Result<(), Fail>
+    requires { AreParsable terminals.now states.now }
+{
+    assert!(rt; stack_text(alloc, states, terminals, "N")?.as_str() == "[S0, S4]");
+    assert!(rt; stack_text(alloc, states, terminals, "")?.as_str() == "[S0]");
+    assert!(rt; stack_text(alloc, states, terminals, "N N")?.as_str() == "4 \"N\"");
+    Ok(())
+}
+
+// State 0 leads by E to 1, by T to 2, by the parenthesis to 3, and by N to 4.
+fn trees_and_stacks(rt: &impl Abort, alloc: Global, grammar: &Grammar) -> Result<(), Fail>
+    requires { HasItsTerminals grammar.now }
+{
+    let states = collapsed_states(alloc, grammar, &name_of(alloc, "S")?)?;
+    trees(rt, alloc, states.as_slice(), &grammar.terminals)?;
+    stacks(rt, alloc, states.as_slice(), &grammar.terminals)
+}
+
+#[test]
+fn trees_and_stacks_by_collapsed_states(rt: HostRuntime) -> Result<(), Fail> {
+    let grammar = grammar_of(rt.alloc(), DIFFERENCES)?;
+    trees_and_stacks(&rt, rt.alloc(), &grammar)
+}
