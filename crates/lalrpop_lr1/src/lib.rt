@@ -6,6 +6,7 @@
 pub use lalrpop_lr1_build::{build_lr0_states, build_lr1_states_canonical};
 pub use lalrpop_lr1_check::check_states;
 pub use lalrpop_lr1_collapse::collapse_to_lalr_states;
+pub use lalrpop_lr1_construction::{Kernel, LookaheadBuild, Lr};
 pub use lalrpop_lr1_first::FirstSets;
 pub use lalrpop_lr1_inline::{InlineFault, inline, inline_order};
 pub use lalrpop_lr1_items::{

@@ -61,8 +61,14 @@ fn conflicts_of<'g, L: Lookahead>(
     Ok(conflicts)
 }
 
-/// The states of the grammar for a start, before which the lookahead stands; or these with their conflicts.
-fn build_states<'g, L: KernelLookahead>(
+/// The states of the grammar for a start that the lookahead follows; or these with all their conflicts. The terminals of the grammar
+/// are numbered by their places, and each terminal on a right side is one of them; the lookahead is in order and holds only tokens
+/// of the grammar and the end.
+///
+/// # Errors
+///
+/// Some states conflict, or memory is refused.
+pub fn build_states<'g, L: KernelLookahead>(
     alloc: Global,
     grammar: &'g Grammar,
     start: &NonterminalString,

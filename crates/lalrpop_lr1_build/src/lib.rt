@@ -7,4 +7,4 @@ mod public_states;
 mod rule_numbers;
 mod start;
 
-pub use construction::{build_lr0_states, build_lr1_states_canonical};
+pub use construction::{build_lr0_states, build_lr1_states_canonical, build_states};

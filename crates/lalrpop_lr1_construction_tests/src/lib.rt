@@ -1,0 +1,11 @@
+//! Tests of the construction as an object: its states, the items that a dot brings, and kernels of items.
+#![tactic(auto)]
+
+#[cfg(test)]
+mod constructions;
+#[cfg(test)]
+mod given;
+#[cfg(test)]
+mod kernels;
+#[cfg(test)]
+mod moves;
