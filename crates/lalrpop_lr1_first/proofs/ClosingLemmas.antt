@@ -31,7 +31,6 @@ use Rattle.lalrpop_lr1_first.proofs.KnownLemmas.{flat_has}
 use Rattle.lalrpop_lr1_first.proofs.ListLemmas.{and_both, eqb_not, eqb_self, or_cases, or_left, or_right}
 use Rattle.lalrpop_lr1_first.proofs.SeedLemmas.{name_is, name_there, rest_within}
 use Rattle.lalrpop_lr1_first.proofs.SweepLemmas.{says_within}
-use Rattle.lalrpop_lr1_first.proofs.TableFirstLemmas.{rule_within}
 use Rattle.lalrpop_lr1_first.proofs.TableLemmas.{get_mapped, is_item_table, left_below, rules_are, table_numbering}
 
 no_element : {X : Type 0} (y : X) → Contains [] y → ⊥
@@ -111,7 +110,7 @@ module _ (closures : Closures) (is : IsClosureTable closures) where
 
   sets_close : (r : ℕ) (rule : RuleByNumbers) (k : ℕ) → slice_get (table_rules closures.numbered) r ≡ Some rule →
       says is.firsts_are.sets end rule.right k ≡ true → has (set_of_number is.firsts_are.sets rule.left) k ≡ true
-  sets_close r rule k e = is.firsts_are.symbol_firsts.closed r rule k (rule_within closures.numbered r rule e) e
+  sets_close r rule k e = is.firsts_are.symbol_firsts.closed r rule k e
 
   -- at each place stands a set of tokens
   pub place_within : (i : ℕ) → i ≤ length closures.numbered.places.items →

@@ -4,16 +4,19 @@ use Rattle.std.proofs.Common.{◌&&◌, eqb, List, [], ◌∷◌}
 use Rattle.std.proofs.Common.{length, get_or, set, refl, sym, ap, subst, arith, ◌⊎◌, inl, inr, ⊎_elim, slice_get, Some, None}
 use Rattle.std.proofs.Common.{Option}
 use Rattle.std.proofs.lemmas.Bool.{cases_lt}
+use Rattle.std.proofs.lemmas.Option.{slice_get_within}
 use Rattle.lalrpop_sets.specs.Bits.{has}
 use Rattle.lalrpop_lr1_first.specs.Numbers.{set_of_number}
 use Rattle.lalrpop_lr1_first.specs.FirstSteps.{missing_in}
 use Rattle.lalrpop_lr1_first.specs.Flows.{AreBelow, EdgesAreWithin, FlowEdge, Flows, MarksAreWithin, all_marks, begins, brings, passes}
 use Rattle.lalrpop_lr1_first.specs.Flows.{slot_marks, starts}
-use Rattle.lalrpop_lr1_first.specs.FlowSteps.{FlowsTo, IsFlowing, adds}
+use Rattle.lalrpop_lr1_first.specs.FlowSteps.{FlowsTo, HasFlowedAlong, IsFlowing, adds}
+use Rattle.lalrpop_lr1_first.specs.Walks.{place_in_walk}
 use Rattle.lalrpop_lr1_first.proofs.ListLemmas.{and_both, at_set_other, at_set_same, both_and, cases_eq, eqb_not, eqb_self, eqb_true}
 use Rattle.lalrpop_lr1_first.proofs.ListLemmas.{get_any}
 use Rattle.lalrpop_lr1_first.proofs.ListLemmas.{or_cases, or_left, or_right, set_itself}
 use Rattle.lalrpop_lr1_first.proofs.MissingLemmas.{missing_less, missing_set}
+use Rattle.lalrpop_lr1_first.proofs.WalkPlaceLemmas.{walk_step}
 
 -- before the first sweep the sets are the seed, and they count as changed, so that a sweep follows
 pub flowing_start : (firsts : Bool) (end : ℕ) (edges : List FlowEdge) (seed : List (List ℕ)) → AreBelow (end + 3) seed →
@@ -77,9 +80,9 @@ added_flows firsts end edges seed sets r e k there d h =
     p.1)
 
 -- a sweep that has gone over no edge yet has changed nothing
-pub flowed_start : (firsts : Bool) (end : ℕ) (edges : List FlowEdge) (old : List (List ℕ)) → AreBelow (end + 3) old →
-    FlowsTo firsts end edges 0 old old false
-flowed_start firsts end edges old b = record {
+pub flowed_start : (firsts : Bool) (end : ℕ) (edges : List FlowEdge) (forward : Bool) (old : List (List ℕ)) → AreBelow (end + 3) old →
+    FlowsTo firsts end edges forward 0 old old false
+flowed_start firsts end edges forward old b = record {
   below = b;
   kept = λ a k h. h;
   sound = λ seed h. h;
@@ -91,17 +94,18 @@ flowed_start firsts end edges old b = record {
 edge_is : (a b : FlowEdge) → Some a ≡ Some b → a ≡ b
 edge_is a b e = cc
 
-flowed_le : (firsts : Bool) (end : ℕ) (edges : List FlowEdge) (i : ℕ) (old new : List (List ℕ)) (changed : Bool) →
-    FlowsTo firsts end edges i old new changed → missing_in (end + 3) new ≤ missing_in (end + 3) old
-flowed_le firsts end edges i old new true p = let l = p.less refl in omega arith
-flowed_le firsts end edges i old new false p = let e = p.same refl in subst (λ s. missing_in (end + 3) new ≤ missing_in (end + 3) s) e
+flowed_le : (firsts : Bool) (end : ℕ) (edges : List FlowEdge) (forward : Bool) (i : ℕ) (old new : List (List ℕ)) (changed : Bool) →
+    FlowsTo firsts end edges forward i old new changed → missing_in (end + 3) new ≤ missing_in (end + 3) old
+flowed_le firsts end edges forward i old new true p = let l = p.less refl in omega arith
+flowed_le firsts end edges forward i old new false p = let e = p.same refl in subst (λ s. missing_in (end + 3) new ≤ missing_in (end + 3) s) e
     (omega arith)
 
-module _ (firsts : Bool) (end : ℕ) (edges : List FlowEdge) (i : ℕ) (e : FlowEdge) (here : slice_get edges i ≡ Some e)
-    (old new : List (List ℕ)) (changed : Bool) (p : FlowsTo firsts end edges i old new changed) where
+module _ (firsts : Bool) (end : ℕ) (edges : List FlowEdge) (forward : Bool) (i : ℕ) (e : FlowEdge)
+    (here : slice_get edges (place_in_walk forward (length edges) i) ≡ Some e) (old new : List (List ℕ)) (changed : Bool)
+    (p : FlowsTo firsts end edges forward i old new changed) where
   -- an edge that adds nothing new
   pub flowed_same : (changed ≡ false → (k : ℕ) → adds firsts end e new k ≡ true → has (set_of_number new e.to) k ≡ true) →
-      FlowsTo firsts end edges (i + 1) old new changed
+      FlowsTo firsts end edges forward (i + 1) old new changed
   flowed_same h = record {
     below = p.below;
     kept = p.kept;
@@ -112,10 +116,11 @@ module _ (firsts : Bool) (end : ℕ) (edges : List FlowEdge) (i : ℕ) (e : Flow
   }
     where
       go : changed ≡ false → (r : ℕ) (o : FlowEdge) (k : ℕ) → (r < i) ⊎ (i ≤ r) → r < i + 1 →
-          slice_get edges r ≡ Some o → adds firsts end o new k ≡ true → has (set_of_number new o.to) k ≡ true
+          slice_get edges (place_in_walk forward (length edges) r) ≡ Some o → adds firsts end o new k ≡ true → has (set_of_number new o.to) k ≡ true
       go b r o k (inl m) l there said = p.closed b r o k m there said
       go b r o k (inr m) l there said =
-          let t : e ≡ o = edge_is e o (sym here ∙ ap (slice_get edges) (let w : i ≡ r = omega arith in w) ∙ there) in
+          let t : e ≡ o = edge_is e o (sym here ∙ ap (λ j. slice_get edges (place_in_walk forward (length edges) j))
+          (let w : i ≡ r = omega arith in w) ∙ there) in
           subst (λ (z : FlowEdge). adds firsts end z new k ≡ true → has (set_of_number new z.to) k ≡ true) t (h b k) said
 
   -- an edge that adds something
@@ -123,7 +128,7 @@ module _ (firsts : Bool) (end : ℕ) (edges : List FlowEdge) (i : ℕ) (e : Flow
       ((k : ℕ) → has s k ≡ has (set_of_number new e.to) k || adds firsts end e new k) →
       ((k : ℕ) → adds firsts end e new k ≡ true → k < end + 3) →
       ((k : ℕ) × (has s k ≡ true) × (has (set_of_number new e.to) k ≡ false)) →
-      FlowsTo firsts end edges (i + 1) old (set new e.to s) true
+      FlowsTo firsts end edges forward (i + 1) old (set new e.to s) true
   flowed_grown s l joined small g = record {
     below = λ a k h. ⊎_elim
         (λ (z : e.to ≡ a). ⊎_elim (λ y. p.below e.to k y) (λ y. small k y) (parts a k z h))
@@ -131,14 +136,14 @@ module _ (firsts : Bool) (end : ℕ) (edges : List FlowEdge) (i : ℕ) (e : Flow
     kept = λ a k h. keeps a k (p.kept a k h);
     sound = λ seed d a k h. let d' = p.sound seed d in ⊎_elim
         (λ (z : e.to ≡ a). subst (λ b. Flows firsts end edges seed b k) z (⊎_elim (λ y. d' e.to k y)
-        (λ y. added_flows firsts end edges seed new i e k here d' y) (parts a k z h)))
+        (λ y. added_flows firsts end edges seed new (place_in_walk forward (length edges) i) e k here d' y) (parts a k z h)))
         (λ (z : e.to ≡ a → ⊥). d' a k (ap (λ t. has t k) (sym (at_set_other new e.to a s z)) ∙ h)) (cases_eq e.to a);
     same = λ z. let w : ⊥ = cc in absurd w;
     closed = λ z. let w : ⊥ = cc in absurd w;
     less = λ z.
         let q = missing_set (end + 3) new e.to s l (missing_less (end + 3) (set_of_number new e.to) s g.0 (λ k h. joined k
         ∙ or_left (has (set_of_number new e.to) k) (adds firsts end e new k) h) (fresh g.0 g.1 g.2) g.2 g.1) in
-        let r = flowed_le firsts end edges i old new changed p in omega arith;
+        let r = flowed_le firsts end edges forward i old new changed p in omega arith;
   }
     where
       parts : (a k : ℕ) → e.to ≡ a → has (set_of_number (set new e.to s) a) k ≡ true →
@@ -220,15 +225,16 @@ adds_small firsts end e sets b f k h =
     (or_cases (eqb (end + 2) k) tail p.1)
 
 module _ {L : Type 0} (marks : L → List ℕ) (firsts : Bool) (end : ℕ) (edges : List FlowEdge) (n : ℕ)
-    (edges_in : EdgesAreWithin end n edges) (i : ℕ) (e : FlowEdge) (here : slice_get edges i ≡ Some e)
-    (first now : List (Option L)) (wide : length now ≡ n) (changed : Bool) (p : FlowsTo firsts end edges i (all_marks marks
+    (edges_in : EdgesAreWithin end n edges) (forward : Bool) (i : ℕ) (e : FlowEdge)
+    (here : slice_get edges (place_in_walk forward (length edges) i) ≡ Some e)
+    (first now : List (Option L)) (wide : length now ≡ n) (changed : Bool) (p : FlowsTo firsts end edges forward i (all_marks marks
     (end + 2) first) (all_marks marks (end + 2) now) changed) (x : Option L) (read : x ≡ get_or now e.from x) where
   source : slot_marks marks (end + 2) x ≡ set_of_number (all_marks marks (end + 2) now) e.from
-  source = read_slot_marks marks (end + 2) now e.from x (let h : e.from < n = (edges_in i e here).from in omega arith) read
+  source = read_slot_marks marks (end + 2) now e.from x (let h : e.from < n = (edges_in (place_in_walk forward (length edges) i) e here).from in omega arith) read
 
-  pub step_none : x ≡ None → FlowsTo firsts end edges (i + 1) (all_marks marks (end + 2) first) (all_marks marks (end + 2) now)
+  pub step_none : x ≡ None → FlowsTo firsts end edges forward (i + 1) (all_marks marks (end + 2) first) (all_marks marks (end + 2) now)
       changed
-  step_none z = flowed_same firsts end edges i e here (all_marks marks (end + 2) first) (all_marks marks (end + 2) now) changed p
+  step_none z = flowed_same firsts end edges forward i e here (all_marks marks (end + 2) first) (all_marks marks (end + 2) now) changed p
       (λ b k h. let y : false ≡ true = sym (adds_none firsts end e (all_marks marks (end + 2) now) (sym source
       ∙ ap (slot_marks marks (end + 2)) z) k) ∙ h in let w : ⊥ = cc in absurd w)
 
@@ -242,47 +248,47 @@ module _ {L : Type 0} (marks : L → List ℕ) (firsts : Bool) (end : ℕ) (edge
         ∙ ap (slot_marks marks (end + 2)) is) flow k
 
     at_target : slot_marks marks (end + 2) t ≡ set_of_number (all_marks marks (end + 2) now) e.to
-    at_target = read_slot_marks marks (end + 2) now e.to t (let h : e.to < n = (edges_in i e here).to in omega arith) target
+    at_target = read_slot_marks marks (end + 2) now e.to t (let h : e.to < n = (edges_in (place_in_walk forward (length edges) i) e here).to in omega arith) target
 
     joins : (k : ℕ) → has (slot_marks marks (end + 2) t') k ≡ has (set_of_number (all_marks marks (end + 2) now) e.to) k || adds
         firsts end e (all_marks marks (end + 2) now) k
     joins k = joined (end + 2) k ∙ ap (λ s. has s k || (eqb (end + 2) k || has (marks came) k)) at_target
         ∙ ap (λ b. has (set_of_number (all_marks marks (end + 2) now) e.to) k || b) (added k)
 
-    pub step_same : t' ≡ t → FlowsTo firsts end edges (i + 1) (all_marks marks (end + 2) first) (all_marks marks (end + 2)
+    pub step_same : t' ≡ t → FlowsTo firsts end edges forward (i + 1) (all_marks marks (end + 2) first) (all_marks marks (end + 2)
         (set now e.to t')) changed
     step_same z =
         let q : all_marks marks (end + 2) (set now e.to t') ≡ all_marks marks (end + 2) now =
         all_marks_set marks (end + 2) now e.to t' ∙ ap (λ s. set (all_marks marks (end + 2) now) e.to (slot_marks marks (end + 2) s)) z
         ∙ ap (set (all_marks marks (end + 2) now) e.to) at_target ∙ set_itself (all_marks marks (end + 2) now) e.to in
-        subst (λ s. FlowsTo firsts end edges (i + 1) (all_marks marks (end + 2) first) s changed) (sym q)
-        (flowed_same firsts end edges i e here (all_marks marks (end + 2) first) (all_marks marks (end + 2) now) changed p
+        subst (λ s. FlowsTo firsts end edges forward (i + 1) (all_marks marks (end + 2) first) s changed) (sym q)
+        (flowed_same firsts end edges forward i e here (all_marks marks (end + 2) first) (all_marks marks (end + 2) now) changed p
         (λ b k h. ap (λ s. has s k) (sym at_target ∙ ap (slot_marks marks (end + 2)) (sym z)) ∙ joins k
         ∙ or_right (has (set_of_number (all_marks marks (end + 2) now) e.to) k) (adds firsts end e (all_marks marks (end + 2) now)
         k) h))
 
     small_mark : (k : ℕ) → adds firsts end e (all_marks marks (end + 2) now) k ≡ true → k < end + 3
-    small_mark = adds_small firsts end e (all_marks marks (end + 2) now) p.below (edges_in i e here).first
+    small_mark = adds_small firsts end e (all_marks marks (end + 2) now) p.below (edges_in (place_in_walk forward (length edges) i) e here).first
 
     pub small_came : ((k : ℕ) → has (marks l) k ≡ true → k ≤ end + 1) → (k : ℕ) → has (marks came) k ≡ true →
         k < end + 2
     small_came b k h = ⊎_elim
         (λ (y : (firsts && (not (eqb k end) && has e.first k)) ≡ true). let q =
-        (edges_in i e here).first k (and_both (not (eqb k end)) (has e.first k) (and_both firsts (not (eqb k end) && has e.first k)
+        (edges_in (place_in_walk forward (length edges) i) e here).first k (and_both (not (eqb k end)) (has e.first k) (and_both firsts (not (eqb k end) && has e.first k)
         y).1).1 in omega arith)
         (λ (y : (has e.first end && has (marks l) k) ≡ true). let q = b k (and_both (has e.first end) (has (marks l) k) y).1 in
         omega arith)
         (or_cases (firsts && (not (eqb k end) && has e.first k)) (has e.first end && has (marks l) k) (sym (flow k) ∙ h))
 
     pub step_grown : ((k : ℕ) × (has (slot_marks marks (end + 2) t') k ≡ true)
-        × (has (slot_marks marks (end + 2) t) k ≡ false)) → FlowsTo firsts end edges (i + 1) (all_marks marks (end + 2) first)
+        × (has (slot_marks marks (end + 2) t) k ≡ false)) → FlowsTo firsts end edges forward (i + 1) (all_marks marks (end + 2) first)
         (all_marks marks (end + 2) (set now e.to t')) true
     step_grown f =
-        subst (λ s. FlowsTo firsts end edges (i + 1) (all_marks marks (end + 2) first) s true)
+        subst (λ s. FlowsTo firsts end edges forward (i + 1) (all_marks marks (end + 2) first) s true)
         (sym (all_marks_set marks (end + 2) now e.to t'))
-        (flowed_grown firsts end edges i e here (all_marks marks (end + 2) first) (all_marks marks (end + 2) now) changed p
+        (flowed_grown firsts end edges forward i e here (all_marks marks (end + 2) first) (all_marks marks (end + 2) now) changed p
         (slot_marks marks (end + 2) t')
-        (let h : e.to < n = (edges_in i e here).to in omega (arith, length_all_marks marks (end + 2) now)) joins small_mark (
+        (let h : e.to < n = (edges_in (place_in_walk forward (length edges) i) e here).to in omega (arith, length_all_marks marks (end + 2) now)) joins small_mark (
           f.0,
           f.1,
           ap (λ s. has s f.0) (sym at_target) ∙ f.2,
@@ -346,3 +352,11 @@ marks_below {L} marks end now within s k h = go (get_or now s None) refl (ap (λ
         (λ z. let y = eqb_true (end + 2) k z in omega arith)
         (λ z. let y = within s l e k z in omega arith)
         (or_cases (eqb (end + 2) k) (has (marks l) k) g)
+
+-- what the edges at all steps of a walk add is what all edges do
+pub flowed_all : (firsts : Bool) (end : ℕ) (edges : List FlowEdge) (forward : Bool) (sets : List (List ℕ)) →
+    HasFlowedAlong firsts end edges forward (length edges) sets → (r : ℕ) (e : FlowEdge) (k : ℕ) → slice_get edges r ≡ Some e →
+    adds firsts end e sets k ≡ true → has (set_of_number sets e.to) k ≡ true
+flowed_all firsts end edges forward sets closed r e k there said =
+    let step = walk_step forward (length edges) r (slice_get_within edges r e there) in
+    closed step.0 e k step.1 (ap (slice_get edges) step.2 ∙ there) said

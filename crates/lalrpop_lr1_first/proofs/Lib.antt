@@ -1,6 +1,7 @@
 pub mod ListLemmas
 pub mod MissingLemmas
 pub mod FirstNumberLemmas
+pub mod WalkPlaceLemmas
 pub mod SweepLemmas
 pub mod WalkLemmas
 pub mod FlowLemmas
@@ -16,5 +17,6 @@ pub mod PlaceLemmas
 pub mod NamedFirstLemmas
 pub mod TableFirstLemmas
 pub mod SeedLemmas
+pub mod NothingLemmas
 pub mod ClosingLemmas
 mod ExamplesOfNumbers

@@ -3,17 +3,20 @@ use Rattle.std.proofs.Common.{◌≡◌, ◌∙◌, ℕ, ◌+◌, ◌<◌, ◌�
 use Rattle.std.proofs.Common.{eqb, List, [], ◌∷◌, length, set}
 use Rattle.std.proofs.Common.{refl, sym, ap, subst, arith, ◌⊎◌, inl, inr, ⊎_elim, slice_get, Option, Some}
 use Rattle.std.proofs.lemmas.Bool.{cases_lt}
+use Rattle.std.proofs.lemmas.Option.{slice_get_within}
 use Rattle.lalrpop_grammar_symbols.specs.Symbols.{Text}
 use Rattle.lalrpop_lr1_theory.specs.Productions.{Symbol, nonterminal, Production, Next}
 use Rattle.lalrpop_lr1_theory.specs.FirstSets.{First0, TableSays}
 use Rattle.lalrpop_lr1_theory.proofs.FirstTableLemmas.{first_left, first_said}
 use Rattle.lalrpop_sets.specs.Bits.{has}
 use Rattle.lalrpop_lr1_first.specs.Numbers.{AreRulesOf, IsNumbering, IsRuleOf, RuleByNumbers, says, set_of_number}
-use Rattle.lalrpop_lr1_first.specs.FirstSteps.{AreSound, AreWithin, HasNext, HaveTerminals, SweepsTo, missing_in}
+use Rattle.lalrpop_lr1_first.specs.FirstSteps.{AreClosed, AreClosedTo, AreSound, AreWithin, HasNext, HaveTerminals, SweepsTo, missing_in}
+use Rattle.lalrpop_lr1_first.specs.Walks.{place_in_walk}
 use Rattle.lalrpop_lr1_first.proofs.FirstNumberLemmas.{says_table}
 use Rattle.lalrpop_lr1_first.proofs.ListLemmas.{and_both, at_set_other, at_set_same, cases_eq, eqb_true, or_cases, or_left, or_right}
 use Rattle.lalrpop_lr1_first.proofs.ListLemmas.{set_itself, set_long, some_is}
 use Rattle.lalrpop_lr1_first.proofs.MissingLemmas.{missing_less, missing_set}
+use Rattle.lalrpop_lr1_first.proofs.WalkPlaceLemmas.{walk_step}
 
 -- what is said of symbols is in range
 pub says_within : (end : ℕ) (sets : List (List ℕ)) → AreWithin end sets → (xs : List ℕ) (k : ℕ) →
@@ -30,9 +33,10 @@ says_within end sets w (s ∷ xs) k e =
     go (inr p) r = r (and_both (has (set_of_number sets s) end) (says sets end xs k) p).1
 
 module _ (G : Production → Type 0) (symbol_at : ℕ → Option Symbol) (next_at : ℕ → Next) (end names : ℕ)
-    (numbered : IsNumbering symbol_at next_at end names) (rules : List RuleByNumbers) (are : AreRulesOf symbol_at rules G) where
+    (numbered : IsNumbering symbol_at next_at end names) (rules : List RuleByNumbers) (are : AreRulesOf symbol_at rules G)
+    (forward : Bool) where
   pub sweep_start : (old : List (List ℕ)) → AreWithin end old → HaveTerminals end names old →
-      SweepsTo G symbol_at next_at end names rules 0 old old false
+      SweepsTo G symbol_at next_at end names rules forward 0 old old false
   sweep_start old w t = record {
     len = refl;
     within = w;
@@ -43,13 +47,13 @@ module _ (G : Production → Type 0) (symbol_at : ℕ → Option Symbol) (next_a
     less = λ e. let z : ⊥ = cc in absurd z;
   }
 
-  sweep_le : (i : ℕ) (old new : List (List ℕ)) (changed : Bool) → SweepsTo G symbol_at next_at end names rules i old new changed →
+  sweep_le : (i : ℕ) (old new : List (List ℕ)) (changed : Bool) → SweepsTo G symbol_at next_at end names rules forward i old new changed →
       missing_in (end + 1) new ≤ missing_in (end + 1) old
   sweep_le i old new true p = let l = p.less refl in omega arith
   sweep_le i old new false p =
       let e = p.same refl in subst (λ s. missing_in (end + 1) new ≤ missing_in (end + 1) s) e (omega arith)
 
-  module _ (new : List (List ℕ)) (i : ℕ) (rule : RuleByNumbers) (here : slice_get rules i ≡ Some rule) (f s : List ℕ)
+  module _ (new : List (List ℕ)) (i : ℕ) (rule : RuleByNumbers) (here : slice_get rules (place_in_walk forward (length rules) i) ≡ Some rule) (f s : List ℕ)
       (is_first : (k : ℕ) → has f k ≡ says new end rule.right k)
       (joined : (k : ℕ) → has s k ≡ (has (set_of_number new rule.left) k || has f k)) where
     -- what a number of the joined set comes from
@@ -67,7 +71,7 @@ module _ (G : Production → Type 0) (symbol_at : ℕ → Option Symbol) (next_a
         go (inr e) = w a k (ap (λ t. has t k) (sym (at_set_other new rule.left a s e)) ∙ h)
 
     left_below : rule.left < names
-    left_below = let a = are.sound i rule here in numbered.name_below rule.left a.0.left a.2.left
+    left_below = let a = are.sound (place_in_walk forward (length rules) i) rule here in numbered.name_below rule.left a.0.left a.2.left
 
     terminals_step : HaveTerminals end names new → HaveTerminals end names (set new rule.left s)
     terminals_step t j k l =
@@ -78,7 +82,7 @@ module _ (G : Production → Type 0) (symbol_at : ℕ → Option Symbol) (next_a
     sound_step l t d A x h = go (cases_eq rule.left h.symbol)
       where
         a : (p : Production) × G p × IsRuleOf symbol_at rule p
-        a = are.sound i rule here
+        a = are.sound (place_in_walk forward (length rules) i) rule here
 
         old : (y : ℕ) → symbol_at y ≡ Some (nonterminal A) → has (set_of_number new y) h.number ≡ true →
             First0 G (nonterminal A ∷ []) x
@@ -100,9 +104,9 @@ module _ (G : Production → Type 0) (symbol_at : ℕ → Option Symbol) (next_a
         go (inr e) = old h.symbol h.symbol_is (ap (λ z. has z h.number) (sym (at_set_other new rule.left h.symbol s e)) ∙ h.held)
 
     -- a rule that adds something
-    pub sweep_grown : (old : List (List ℕ)) (changed : Bool) → SweepsTo G symbol_at next_at end names rules i old new changed →
+    pub sweep_grown : (old : List (List ℕ)) (changed : Bool) → SweepsTo G symbol_at next_at end names rules forward i old new changed →
         rule.left < length new → ((k : ℕ) × (has s k ≡ true) × (has (set_of_number new rule.left) k ≡ false)) →
-        SweepsTo G symbol_at next_at end names rules (i + 1) old (set new rule.left s) true
+        SweepsTo G symbol_at next_at end names rules forward (i + 1) old (set new rule.left s) true
     sweep_grown old changed p l g =
         let q : has f g.0 ≡ true = ap (λ b. b || has f g.0) (sym g.2) ∙ sym (joined g.0) ∙ g.1 in
         let m = says_within end new p.within rule.right g.0 (sym (is_first g.0) ∙ q) in
@@ -120,11 +124,11 @@ module _ (G : Production → Type 0) (symbol_at : ℕ → Option Symbol) (next_a
         }
 
     -- a rule that adds nothing
-    pub sweep_same : (old : List (List ℕ)) (changed : Bool) → SweepsTo G symbol_at next_at end names rules i old new changed →
-        s ≡ set_of_number new rule.left → SweepsTo G symbol_at next_at end names rules (i + 1) old (set new rule.left s) changed
+    pub sweep_same : (old : List (List ℕ)) (changed : Bool) → SweepsTo G symbol_at next_at end names rules forward i old new changed →
+        s ≡ set_of_number new rule.left → SweepsTo G symbol_at next_at end names rules forward (i + 1) old (set new rule.left s) changed
     sweep_same old changed p e =
         let z : set new rule.left s ≡ new = ap (set new rule.left) e ∙ set_itself new rule.left in
-        subst (λ t. SweepsTo G symbol_at next_at end names rules (i + 1) old t changed) (sym z) (record {
+        subst (λ t. SweepsTo G symbol_at next_at end names rules forward (i + 1) old t changed) (sym z) (record {
           len = p.len;
           within = p.within;
           terminals = p.terminals;
@@ -135,12 +139,20 @@ module _ (G : Production → Type 0) (symbol_at : ℕ → Option Symbol) (next_a
         })
       where
         go : changed ≡ false → (r : ℕ) (other : RuleByNumbers) (k : ℕ) → (r < i) ⊎ (i ≤ r) → r < i + 1 →
-            slice_get rules r ≡ Some other →
+            slice_get rules (place_in_walk forward (length rules) r) ≡ Some other →
             says new end other.right k ≡ true → has (set_of_number new other.left) k ≡ true
         go b r other k (inl m) h there said = p.closed b r other k m there said
         go b r other k (inr m) h there said =
             let t : rule ≡ other =
-            some_is rule other (sym here ∙ ap (slice_get rules) (let w : i ≡ r = omega arith in w) ∙ there) in
+            some_is rule other (sym here ∙ ap (λ j. slice_get rules (place_in_walk forward (length rules) j)) (let w : i ≡ r = omega arith in w)
+            ∙ there) in
             subst (λ (o : RuleByNumbers). says new end o.right k ≡ true → has (set_of_number new o.left) k ≡ true) t
             (λ w. ap (λ t. has t k) (sym e) ∙ joined k ∙ or_right (has (set_of_number new rule.left) k) (has f k) (is_first k
             ∙ w)) said
+
+-- sets that are closed under the rules at all steps of a walk are closed under all rules
+pub closed_all : (end : ℕ) (rules : List RuleByNumbers) (forward : Bool) (sets : List (List ℕ)) →
+    AreClosedTo end rules forward (length rules) sets → AreClosed end rules sets
+closed_all end rules forward sets closed r rule k there said =
+    let step = walk_step forward (length rules) r (slice_get_within rules r rule there) in
+    closed step.0 rule k step.1 (ap (slice_get rules) step.2 ∙ there) said

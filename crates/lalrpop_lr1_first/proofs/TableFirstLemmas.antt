@@ -51,7 +51,7 @@ module _ (g : Grammar) (table : Numbered) (of : IsNumberTableOf g table) (sets :
         says sets (table_end table) xs k ≡ true)
     table_says = says_first symbol_at (next_of_number table.terminals.now) (table_end table) (name_count table)
         (table_numbering table of.numbers) sets firsts.sets_are.terminals (IsSeenIn (table_productions table)) (table_rules table)
-        (rules_are table of.numbers) (λ r rule k e. firsts.closed r rule k (rule_within table r rule e) e) firsts.sound
+        (rules_are table of.numbers) firsts.closed firsts.sound
 
     to_grammar : (xs : List theory.Symbol) (x : theory.Next) → First0 (IsSeenIn (table_productions table)) xs x →
         First0 (IsProductionOf g) xs x

@@ -1,6 +1,7 @@
 -- What closures of a grammar's items need: its table, the first set at each place, and the edges between nonterminals.
 use Rattle.std.specs.Prelude.{◌≡◌, ◌↔◌, ◌⊎◌, ◌+◌, ◌≤◌, ℕ, Bool, true, length, List, [], ◌∷◌, ◌++◌}
 use Rattle.std.specs.Prelude.{Option, Some, None, if◌then◌else◌, nat_lt, option_map, filter_map, flat_map, slice_index_or}
+use Rattle.std.specs.List.{All}
 use Rattle.lalrpop_grammar_repr.specs.declared.grammar.Grammar.{Grammar}
 use Rattle.lalrpop_lr1_theory.specs.Productions as theory
 use Rattle.lalrpop_lr1_theory.specs.Automata.{Marked}
@@ -25,6 +26,10 @@ name_first names (s ∷ more) = if nat_lt s names then Some s else None
 
 abbrev pub name_behind : Numbered → ℕ → Option ℕ
 name_behind table place = name_first (name_count table) (rest_of table.places.items place)
+
+-- behind the dot of none of the items a nonterminal stands
+abbrev pub BringsNothing : {L : Type 0} → Numbered → List (ℕ × L) → Type 0
+BringsNothing table seed = All (λ item. name_behind table item.0 ≡ None) seed
 
 -- the edge of a rule, where its right side begins with a nonterminal
 abbrev pub rule_edge_to : NumberedRule → ℕ → Edge

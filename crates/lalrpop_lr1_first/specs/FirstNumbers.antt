@@ -6,7 +6,7 @@ use Rattle.lalrpop_grammar_repr.specs.declared.terminal_set.TerminalSet.{Termina
 use Rattle.lalrpop_lr1_items.specs.Views.{next_of_number}
 use Rattle.lalrpop_sets.specs.Bits.{has}
 use Rattle.lalrpop_sets.specs.Tokens.{eof_number, number_alone}
-use Rattle.lalrpop_lr1_first.specs.FirstSteps.{AreClosedTo, AreSound, AreWithin, HaveTerminals, SweepsTo}
+use Rattle.lalrpop_lr1_first.specs.FirstSteps.{AreClosed, AreSound, AreWithin, HaveTerminals, SweepsTo}
 use Rattle.lalrpop_lr1_first.specs.NumberedGrammars.{IsSeenIn, table_names, table_productions}
 use Rattle.lalrpop_lr1_first.specs.Numbers.{RuleByNumbers, says, set_of_number}
 use Rattle.lalrpop_lr1_first.specs.Tables.{rest_of, symbol_of_number}
@@ -36,8 +36,8 @@ rule_of all rule = record { left = rule.left; right = rest_of all rule.start }
 abbrev pub table_rules : Numbered → List RuleByNumbers
 table_rules table = map (rule_of table.places.items) table.rules.items
 
--- a sweep over the table's first rules
-abbrev pub TableSweepsTo : Numbered → ℕ → List (List ℕ) → List (List ℕ) → Bool → Type 0
+-- a sweep over the table's rules at the first steps of a walk
+abbrev pub TableSweepsTo : Numbered → Bool → ℕ → List (List ℕ) → List (List ℕ) → Bool → Type 0
 TableSweepsTo table = SweepsTo (IsSeenIn (table_productions table)) (symbol_of_number (table_names table) table.terminals.now)
     (next_of_number table.terminals.now) (table_end table) (name_count table) (table_rules table)
 
@@ -60,7 +60,7 @@ AreSoundSets table sets = AreSound (IsSeenIn (table_productions table)) (symbol_
 pub record AreSymbolFirsts (table : Numbered) (sets : List (List ℕ)) : Type 0 where
   pub sets_are : AreTableSets table sets
   pub sound : AreSoundSets table sets
-  pub closed : AreClosedTo (table_end table) (table_rules table) (length table.rules.items) sets
+  pub closed : AreClosed (table_end table) (table_rules table) sets
 
 -- at each place, and behind the last, stands the first set of the symbols from there on
 pub record ArePlaceFirsts (table : Numbered) (sets rests : List (List ℕ)) : Type 0 where

@@ -6,6 +6,7 @@ use Rattle.lalrpop_lr1_theory.specs.Productions.{Symbol, nonterminal, Production
 use Rattle.lalrpop_lr1_theory.specs.FirstSets.{HoldsFirstSets}
 use Rattle.lalrpop_sets.specs.Bits.{has}
 use Rattle.lalrpop_lr1_first.specs.Numbers.{RuleByNumbers, says, says_by, set_of_number}
+use Rattle.lalrpop_lr1_first.specs.Walks.{place_in_walk}
 
 -- a number of the nonterminal has a number of the next in its set
 pub record HasNext (symbol_at : ℕ → Option Symbol) (next_at : ℕ → Next) (end : ℕ) (sets : List (List ℕ)) (A : Text)
@@ -30,11 +31,17 @@ HaveTerminals end names sets = (j k : ℕ) → j < end → has (set_of_number se
 abbrev pub AreSound : (Production → Type 0) → (ℕ → Option Symbol) → (ℕ → Next) → ℕ → List (List ℕ) → Type 0
 AreSound G symbol_at next_at end sets = HoldsFirstSets G (HasNext symbol_at next_at end sets)
 
--- the first rules' left sides have what their right sides begin with
-abbrev pub AreClosedTo : ℕ → List RuleByNumbers → ℕ → List (List ℕ) → Type 0
-AreClosedTo end rules count sets =
-    (r : ℕ) (rule : RuleByNumbers) (k : ℕ) → r < count → slice_get rules r ≡ Some rule →
+-- the left sides of the rules at the first steps of a walk have what the right sides begin with
+abbrev pub AreClosedTo : ℕ → List RuleByNumbers → Bool → ℕ → List (List ℕ) → Type 0
+AreClosedTo end rules forward count sets =
+    (step : ℕ) (rule : RuleByNumbers) (k : ℕ) → step < count → slice_get rules (place_in_walk forward (length rules) step) ≡ Some rule →
     says sets end rule.right k ≡ true →
+    has (set_of_number sets rule.left) k ≡ true
+
+-- the left sides of all rules have what their right sides begin with
+abbrev pub AreClosed : ℕ → List RuleByNumbers → List (List ℕ) → Type 0
+AreClosed end rules sets =
+    (r : ℕ) (rule : RuleByNumbers) (k : ℕ) → slice_get rules r ≡ Some rule → says sets end rule.right k ≡ true →
     has (set_of_number sets rule.left) k ≡ true
 
 -- how many of the numbers below n the list lacks
@@ -46,15 +53,15 @@ abbrev pub missing_in : ℕ → List (List ℕ) → ℕ
 missing_in n [] = 0
 missing_in n (xs ∷ sets) = missing n xs + missing_in n sets
 
--- a sweep over the first rules
+-- a sweep over the rules at the first steps of a walk
 pub record SweepsTo (G : Production → Type 0) (symbol_at : ℕ → Option Symbol) (next_at : ℕ → Next) (end names : ℕ)
-    (rules : List RuleByNumbers) (count : ℕ) (old new : List (List ℕ)) (changed : Bool) : Type 0 where
+    (rules : List RuleByNumbers) (forward : Bool) (count : ℕ) (old new : List (List ℕ)) (changed : Bool) : Type 0 where
   pub len : length new ≡ length old
   pub within : AreWithin end new
   pub terminals : HaveTerminals end names new
   pub sound : AreSound G symbol_at next_at end old → AreSound G symbol_at next_at end new
   pub same : changed ≡ false → new ≡ old
-  pub closed : changed ≡ false → AreClosedTo end rules count new
+  pub closed : changed ≡ false → AreClosedTo end rules forward count new
   pub less : changed ≡ true → missing_in (end + 1) new < missing_in (end + 1) old
 
 -- what was gathered of the symbols, where these are left: no end, and with what the others say all that is said

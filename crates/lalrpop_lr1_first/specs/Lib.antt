@@ -5,6 +5,7 @@ pub mod FlowSteps
 pub mod ItemTables
 pub mod Listings
 pub mod Tables
+pub mod Walks
 pub mod NumberedGrammars
 pub mod FirstNumbers
 pub mod FirstSetsOf

@@ -1,10 +1,11 @@
 //! Closures of items, for both lookaheads.
 
 ghost use Rattle.std.specs.Prelude.{◌≡◌, ◌≤◌, ◌+◌, ◌<◌, ◌∷◌, [], ℕ, true, None};
-ghost use Rattle.std.specs.Prelude.{Some, IfOk, OnOk, filter_map, length, map, slice_get, slice_index_or};
+ghost use Rattle.std.specs.Prelude.{Some, IfOk, IsTrue, OnOk, filter_map, length, map, slice_get, slice_index_or};
 ghost use Rattle.lalrpop_sets.specs.Bits.{Ascends, has};
 ghost use Rattle.lalrpop_lr1_first.specs.ClosureTables.{
   AreItems,
+  BringsNothing,
   ClosesSeed,
   HoldTokens,
   IsClosureTable,
@@ -87,6 +88,10 @@ impl<'g> Closures<'g> {
             → IfOk result (λ brought. HoldTokens L.marks (table_end self.now.numbered) brought.items) }
         ensures closes { IfOk result (λ brought. ClosesSeed L.marks L.firsts self.now.numbered seed.now brought.items) }
     {
+        // most states of long chains of rules have nothing to bring, so they take no time by the number of names
+        if brings_nothing(&self.numbered, seed) {
+            return Ok(Vec::new(alloc));
+        }
         let mut slots = empty_slots(alloc, self.numbered.names.len())?;
         seed_slots(alloc, self, seed, &mut slots)?;
         flow(
@@ -118,6 +123,18 @@ fn name_at(table: &Numbered<'_>, place: usize) -> Option<usize>
             }
         },
     }
+}
+
+/// Whether no nonterminal stands behind the dot of any of the items.
+fn brings_nothing<L>(table: &Numbered<'_>, seed: &[(usize, L)]) -> bool
+    ensures { IsTrue result → BringsNothing table.now seed.now }
+{
+    for item in seed {
+        if name_at(table, item.0).is_some() {
+            return false;
+        }
+    }
+    true
 }
 
 /// The edge of the rule, where its right side begins with a nonterminal.

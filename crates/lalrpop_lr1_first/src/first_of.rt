@@ -1,4 +1,4 @@
-//! First sets by number: of each symbol, by sweeps over the rules, and of each place.
+//! First sets by number: of each symbol, by sweeps over the rules, there and back, and of each place.
 
 ghost use Rattle.std.specs.Prelude.{◌≡◌, ◌++◌, ℕ, [], true, IfOk, OnOk, drop, length, map};
 ghost use Rattle.lalrpop_sets.specs.Bits.{Ascends, has};
@@ -20,6 +20,7 @@ ghost use Rattle.lalrpop_lr1_first.specs.Tables.{IsTerminalSet, symbols_until};
 
 use crate::numbered::Numbered;
 use crate::place::Place;
+use crate::walk::place_at;
 use lalrpop_grammar_repr::TerminalSet;
 use lalrpop_sets::{Token, TokenSet};
 use std::alloc::{AllocError, Global};
@@ -64,14 +65,24 @@ fn first_of_rest(
     Ok(first)
 }
 
-/// Joins the first set of each rule's right side into its left side's, and says whether something came.
-fn sweep(alloc: Global, table: &Numbered<'_>, sets: &mut Vec<TokenSet>) -> Result<bool, AllocError>
+/// Joins the first set of each rule's right side into its left side's, from the first rule on or from the last, and says whether
+/// something came.
+fn sweep(
+    alloc: Global,
+    table: &Numbered<'_>,
+    forward: bool,
+    sets: &mut Vec<TokenSet>,
+) -> Result<bool, AllocError>
     requires table { IsNumberTable table.now }
     requires sets { AreTableSets table.now sets.old.items }
-    ensures { IfOk result (λ changed. TableSweepsTo table.now (length table.now.rules.items) sets.old.items sets.new.items changed) }
+    ensures { IfOk result (λ changed. TableSweepsTo table.now forward (length table.now.rules.items)
+        sets.old.items sets.new.items changed) }
 {
     let mut changed = false;
-    for rule in table.rules.as_slice() {
+    let rules = table.rules.as_slice();
+    for step in 0..rules.len() {
+        let number = place_at(rules.len(), step, forward);
+        let rule = &rules[number];
         let rest = places_from(table.places.as_slice(), rule.start);
         let first = first_of_rest(alloc, table.terminals, sets.as_slice(), rest)?;
         if sets[rule.left].union_with(&first)? {
@@ -112,7 +123,8 @@ fn add_terminal_sets(
     Ok(())
 }
 
-/// The first set of each symbol, by its number.
+/// The first set of each symbol, by its number. Sweeps go back and there in turn, so that names which lead to the next one, in their
+/// order or against it, take two.
 pub(crate) fn symbol_firsts(
     alloc: Global,
     table: &Numbered<'_>,
@@ -123,8 +135,10 @@ pub(crate) fn symbol_firsts(
     let mut sets = empty_sets(alloc, table.terminals, table.names.len())?;
     add_terminal_sets(alloc, table.terminals, &mut sets)?;
     let mut changed = true;
+    let mut forward = false;
     while changed {
-        changed = sweep(alloc, table, &mut sets)?;
+        changed = sweep(alloc, table, forward, &mut sets)?;
+        forward = !forward;
     }
     Ok(sets)
 }

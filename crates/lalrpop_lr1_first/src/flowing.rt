@@ -10,6 +10,7 @@ ghost use Rattle.lalrpop_lr1_first.specs.FlowSteps.{FlowsTo};
 ghost use Rattle.lalrpop_lr1_first.specs.Numbers.{set_of_number};
 
 use crate::closure_lookahead::ClosureLookahead;
+use crate::walk::place_at;
 use lalrpop_grammar_repr::TerminalSet;
 use lalrpop_sets::TokenSet;
 use std::alloc::{AllocError, Global};
@@ -43,12 +44,13 @@ pub(crate) fn join<L: ClosureLookahead>(slot: &mut Option<L>, other: L) -> Resul
     }
 }
 
-/// Lets each edge carry what its source has, and says whether something came.
+/// Lets each edge carry what its source has, from the first edge on or from the last, and says whether something came.
 fn sweep<L: ClosureLookahead>(
     alloc: Global,
     terminals: &TerminalSet,
     firsts: &[TokenSet],
     edges: &[Edge],
+    forward: bool,
     slots: &mut Vec<Option<L>>,
 ) -> Result<bool, AllocError>
     requires rests { RestsAreWithin (length firsts.now) edges.now }
@@ -57,11 +59,13 @@ fn sweep<L: ClosureLookahead>(
     ensures marks { IfOk result (λ _. MarksAreWithin L.marks (eof_number terminals.now) slots.new.items) }
     ensures count { length slots.new.items ≡ length slots.old.items }
     ensures flows { let end = eof_number terminals.now in
-        IfOk result (λ changed. FlowsTo L.firsts end (edges_seen firsts.now edges.now) (length edges.now)
+        IfOk result (λ changed. FlowsTo L.firsts end (edges_seen firsts.now edges.now) forward (length edges.now)
         (all_marks L.marks (end + 2) slots.old.items) (all_marks L.marks (end + 2) slots.new.items) changed) }
 {
     let mut changed = false;
-    for edge in edges {
+    for step in 0..edges.len() {
+        let number = place_at(edges.len(), step, forward);
+        let edge = &edges[number];
         match &slots[edge.from] {
             None => {}
             Some(lookahead) => {
@@ -75,7 +79,7 @@ fn sweep<L: ClosureLookahead>(
     Ok(changed)
 }
 
-/// Lets lookaheads flow along the edges until nothing comes: afterwards the slots have just what flows.
+/// Lets lookaheads flow along the edges, there and back in turn, until nothing comes: afterwards the slots have just what flows.
 pub fn flow<L: ClosureLookahead>(
     alloc: Global,
     terminals: &TerminalSet,
@@ -93,8 +97,10 @@ pub fn flow<L: ClosureLookahead>(
         ↔ Flows L.firsts end (edges_seen firsts.now edges.now) (all_marks L.marks (end + 2) slots.old.items) s k) }
 {
     let mut changed = true;
+    let mut forward = true;
     while changed {
-        changed = sweep(alloc, terminals, firsts, edges, slots)?;
+        changed = sweep(alloc, terminals, firsts, edges, forward, slots)?;
+        forward = !forward;
     }
     Ok(())
 }

@@ -16,6 +16,7 @@ mod listing;
 mod names;
 mod numbered;
 mod place;
+mod walk;
 
 pub use closure::Closures;
 pub use closure_lookahead::ClosureLookahead;

@@ -1,9 +1,9 @@
-use Rattle.std.proofs.Common.{◌∙◌, ◌+◌, arith, refl}
-use Rattle.std.proofs.lemmas.Option.{slice_get_within}
+use Rattle.std.proofs.Common.{◌∙◌, ◌+◌, refl, subst, sym}
 use Rattle.lalrpop_sets.specs.Tokens.{eof_number}
 use Rattle.lalrpop_lr1_first.specs.FlowEdges.{edge_seen, edges_seen}
 use Rattle.lalrpop_lr1_first.specs.Flows.{all_marks}
-use Rattle.lalrpop_lr1_first.proofs.FlowLemmas.{closed_has, flowing_start, marks_below}
+use Rattle.lalrpop_lr1_first.specs.FlowSteps.{HasFlowedAlong}
+use Rattle.lalrpop_lr1_first.proofs.FlowLemmas.{closed_has, flowed_all, flowing_start, marks_below}
 use Rattle.lalrpop_lr1_first.proofs.TableLemmas.{long_map}
 use Rattle.lalrpop_lr1_first.proofs.flowing.flow.Goals as goal
 
@@ -28,8 +28,11 @@ loop-changed-preserved g c =
         below = f.below;
         kept = λ s k h. f.kept s k (i.0.kept s k h);
         sound = f.sound (all_marks g.L.ClosureLookahead.marks (end + 2) c.args.slots.now.items) i.0.sound;
-        closed = λ z r e k at said. f.closed z r e k
-            (omega (arith, slice_get_within edges r e at, long_map (edge_seen c.args.firsts.now) c.args.edges.now)) at said;
+        closed = λ z. flowed_all g.L.ClosureLookahead.firsts end edges c.loop-changed.forward
+            (all_marks g.L.ClosureLookahead.marks (end + 2) c.sweep.new.slots.items)
+            (subst (λ n. HasFlowedAlong g.L.ClosureLookahead.firsts end edges c.loop-changed.forward n
+            (all_marks g.L.ClosureLookahead.marks (end + 2) c.sweep.new.slots.items))
+            (sym (long_map (edge_seen c.args.firsts.now) c.args.edges.now)) (f.closed z));
       },
       c.in_ok-changed.ensures.marks,
       c.sweep.ensures.count ∙ i.2,

@@ -1,12 +1,13 @@
 use Rattle.std.proofs.Common.{◌≡◌, ◌∙◌, ◌+◌, ◌↔◌, ℕ, ap, arith, length, map, slice_get, subst, sym}
-use Rattle.std.proofs.Common.{true}
+use Rattle.std.proofs.Common.{[], true}
 use Rattle.lalrpop_sets.specs.Bits.{Ascends, has}
-use Rattle.lalrpop_lr1_first.specs.ClosureTables.{started_items}
-use Rattle.lalrpop_lr1_first.specs.FirstNumbers.{table_end}
+use Rattle.lalrpop_lr1_first.specs.ClosureTables.{ClosesSeed, started_items}
+use Rattle.lalrpop_lr1_first.specs.FirstNumbers.{name_count, table_end}
 use Rattle.lalrpop_lr1_first.specs.FlowEdges.{RestsAreWithin, edges_seen}
 use Rattle.lalrpop_lr1_first.specs.Flows.{EdgesAreWithin, Flows, all_marks}
 use Rattle.lalrpop_lr1_first.specs.Numbers.{set_of_number}
 use Rattle.lalrpop_lr1_first.proofs.ClosingLemmas.{brought_items, brought_tokens, closes, edge_rests, edges_within}
+use Rattle.lalrpop_lr1_first.proofs.NothingLemmas.{empties, nothing_flown, nothing_seeded, nothing_started}
 use Rattle.lalrpop_lr1_first.proofs.SeedLemmas.{started_ascend}
 use Rattle.lalrpop_lr1_first.proofs.TableLemmas.{left_below}
 use Rattle.lalrpop_lr1_first.proofs.closure.Closures.close.Goals as goal
@@ -97,3 +98,17 @@ returns-clause-tokens g c = λ tokens.
     (c.in_ok-brought.ensures ∙ ap (λ rs. started_items c.as_slice-4.result.now rs) c.as_slice-3.ensures.value
     ∙ ap (λ ss. started_items ss closures.numbered.rules.items) c.as_slice-4.ensures.value)
     tokens c.in_ok-flow.ensures.marks
+
+pub returns-then-brings_nothing-clause-closes : goal.returns-then-brings_nothing-clause-closes
+returns-then-brings_nothing-clause-closes g c =
+    let marks = g.L.ClosureLookahead.marks in
+    let counts = g.L.ClosureLookahead.firsts in
+    let closures = c.args.self.now in
+    let nothing = c.brings_nothing.ensures c.if-brings_nothing.true in
+    let empty = empties g.row.L.Denot (name_count closures.numbered) in
+    subst (ClosesSeed marks counts closures.numbered c.args.seed.now) (sym c.new.ensures.items)
+    (closes closures c.requires.closures marks counts c.args.seed.now c.requires.items empty empty
+    (nothing_seeded marks counts closures.numbered closures.firsts.items c.args.seed.now nothing)
+    (nothing_flown marks counts closures.numbered closures.firsts.items c.args.seed.now nothing
+    (edges_seen closures.firsts.items closures.edges.items)) []
+    (nothing_started g.row.L.Denot (name_count closures.numbered) closures.numbered.rules.items))
