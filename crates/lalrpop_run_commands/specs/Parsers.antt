@@ -1,5 +1,5 @@
 -- Which grammars have a parser for a question, and why the others have none.
-use Rattle.std.specs.Prelude.{◌≡◌, ◌≢◌, ℕ, List, Contains, Vec}
+use Rattle.std.specs.Prelude.{◌≡◌, ◌≢◌, List, Contains, Vec}
 use Rattle.std.specs.Global.{Global}
 use Rattle.lalrpop_grammar.specs.declared.grammar.Grammar.{Grammar}
 use Rattle.lalrpop_grammar.specs.Trees.{Token, Tree}

@@ -32,14 +32,8 @@ pub fn check_reply(
 {
     let method = question.method;
     match prepare_for(alloc, question, grammar) {
-        Ok(prepared) => {
-            let reply = states_reply(alloc, &prepared, method)?;
-            Ok(reply)
-        }
-        Err(error) => {
-            let reply = refusal_reply(error)?;
-            Ok(reply)
-        }
+        Ok(prepared) => states_reply(alloc, &prepared, method),
+        Err(error) => refusal_reply(error),
     }
 }
 
@@ -54,9 +48,6 @@ fn states_reply(
 {
     match generate(alloc, prepared, method) {
         Ok(parser) => Ok(Reply::Parser(parser.state_count())),
-        Err(error) => {
-            let reply = conflicts_reply(alloc, prepared, error)?;
-            Ok(reply)
-        }
+        Err(error) => conflicts_reply(alloc, prepared, error),
     }
 }

@@ -23,10 +23,7 @@ pub fn judge_reply(
     ensures { IfOk result (IsJudgeReply (question_view question.now) grammar.now) }
 {
     match question.tree {
-        Some(text) => {
-            let reply = reply_to_text(alloc, question, grammar, text)?;
-            Ok(reply)
-        }
+        Some(text) => reply_to_text(alloc, question, grammar, text),
         None => Ok(Reply::WantsTree),
     }
 }
@@ -42,10 +39,7 @@ fn reply_to_text(
         → IsJudgeReply (question_view question.now) grammar.now reply) }
 {
     match tree_input(alloc, text)? {
-        Input::Value(tree) => {
-            let reply = verdict(alloc, question, grammar, &tree)?;
-            Ok(reply)
-        }
+        Input::Value(tree) => verdict(alloc, question, grammar, &tree),
         Input::NotJson => Ok(Reply::NotJson),
         Input::Fault(fault) => Ok(Reply::TreeFault(fault)),
     }

@@ -37,14 +37,8 @@ pub fn parse_reply(
     let method = question.method;
     let limit = question.limit;
     match prepare_for(alloc, question, grammar) {
-        Ok(prepared) => {
-            let reply = text_reply(alloc, &prepared, method, text, limit)?;
-            Ok(reply)
-        }
-        Err(error) => {
-            let reply = refusal_reply(error)?;
-            Ok(reply)
-        }
+        Ok(prepared) => text_reply(alloc, &prepared, method, text, limit),
+        Err(error) => refusal_reply(error),
     }
 }
 
@@ -60,14 +54,8 @@ fn text_reply(
         → IsPreparedFor q g prepared.now → IsReadGrammar (grammar_view g) → IsParseReply q g text.now reply) }
 {
     match generate(alloc, prepared, method) {
-        Ok(parser) => {
-            let reply = tree_reply(alloc, &parser, text, limit)?;
-            Ok(reply)
-        }
-        Err(error) => {
-            let reply = conflicts_reply(alloc, prepared, error)?;
-            Ok(reply)
-        }
+        Ok(parser) => tree_reply(alloc, &parser, text, limit),
+        Err(error) => conflicts_reply(alloc, prepared, error),
     }
 }
 

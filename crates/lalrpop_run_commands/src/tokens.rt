@@ -36,14 +36,8 @@ pub fn tokens_reply<'t>(
 {
     let method = question.method;
     match prepare_for(alloc, question, grammar) {
-        Ok(prepared) => {
-            let reply = text_reply(alloc, &prepared, method, text)?;
-            Ok(reply)
-        }
-        Err(error) => {
-            let reply = refusal_reply(error)?;
-            Ok(reply)
-        }
+        Ok(prepared) => text_reply(alloc, &prepared, method, text),
+        Err(error) => refusal_reply(error),
     }
 }
 
@@ -58,14 +52,8 @@ fn text_reply<'t>(
         → IsReadGrammar (grammar_view g) → IsTokensReply q g text.now reply) }
 {
     match generate(alloc, prepared, method) {
-        Ok(parser) => {
-            let reply = scan_reply(alloc, &parser, text)?;
-            Ok(reply)
-        }
-        Err(error) => {
-            let reply = conflicts_reply(alloc, prepared, error)?;
-            Ok(reply)
-        }
+        Ok(parser) => scan_reply(alloc, &parser, text),
+        Err(error) => conflicts_reply(alloc, prepared, error),
     }
 }
 

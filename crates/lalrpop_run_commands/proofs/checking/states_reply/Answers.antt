@@ -1,4 +1,5 @@
 use Rattle.std.proofs.Common.{ap, subst, sym}
+use Rattle.std.proofs.lemmas.Result.{IfOk-weaker}
 use Rattle.lalrpop_lane_method.specs.declared.Method.{Method}
 use Rattle.lalrpop_run_parser.specs.Parsers.{HasStatesBy}
 use Rattle.lalrpop_run_commands.proofs.ParserLemmas.{parser_for}
@@ -15,5 +16,7 @@ returns-in-Ok c = λ q g by prepared read.
     (subst (λ (m : Method). HasStatesBy m v count) (sym by) c.in-Ok.ensures.states)
     (ap replies.Parser c.state_count.ensures)
 
-pub returns-in_ok-reply-in-Err : goal.returns-in_ok-reply-in-Err
-returns-in_ok-reply-in-Err c = λ q g by prepared read. IsCheckReply.no_parser (c.in_ok-reply-in-Err.ensures q g prepared read)
+pub returns-in-Err : goal.returns-in-Err
+returns-in-Err c =
+    IfOk-weaker c.conflicts_reply.result _ _ (λ reply told q g by prepared read. IsCheckReply.no_parser (told q g prepared read))
+    c.conflicts_reply.ensures

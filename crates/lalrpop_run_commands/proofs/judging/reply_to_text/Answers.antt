@@ -1,4 +1,5 @@
 use Rattle.std.proofs.Common.{refl, subst}
+use Rattle.std.proofs.lemmas.Result.{IfOk-weaker}
 use Rattle.lalrpop_grammar.specs.declared.tree.WrittenTree.{WrittenTree}
 use Rattle.lalrpop_json_grammar.specs.ReadTrees.{tree_at}
 use Rattle.lalrpop_run_questions.specs.Inputs.{IsInput}
@@ -6,9 +7,12 @@ use Rattle.lalrpop_run_commands.specs.Judge.{IsJudgeReply}
 use Rattle.lalrpop_run_questions.specs.declared.input.Input.{Input}
 use Rattle.lalrpop_run_commands.proofs.judging.reply_to_text.Goals as goal
 
-pub returns-in_ok-reply-in-Value : goal.returns-in_ok-reply-in-Value
-returns-in_ok-reply-in-Value c = λ given. c.in_ok-reply-in-Value.ensures
-    (c.args.text.now, (given, subst (λ (i : Input WrittenTree). IsInput tree_at c.args.text.now i) c.in-Value.is c.in_ok-tree.ensures))
+pub returns-in-Value : goal.returns-in-Value
+returns-in-Value c =
+    IfOk-weaker c.verdict.result _ _
+    (λ reply told given. told
+    (c.args.text.now, (given, subst (λ (i : Input WrittenTree). IsInput tree_at c.args.text.now i) c.in-Value.is c.in_ok-tree.ensures)))
+    c.verdict.ensures
 
 pub returns-in-NotJson : goal.returns-in-NotJson
 returns-in-NotJson c = λ given. IsJudgeReply.no_json c.args.text.now given
