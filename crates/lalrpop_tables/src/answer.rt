@@ -9,6 +9,7 @@ use lalrpop_grammar_symbols::NonterminalString;
 use lalrpop_lr1_answers::{
     answer_tokens, canonical_states, counts_of, parsable_states, read_productions, start_of,
 };
+use lalrpop_lr1_check::check_states;
 use std::alloc::Global;
 use std::io;
 use std::rt::Clock;
@@ -26,6 +27,7 @@ pub(crate) fn answer<R: Alloc<A = Global> + Clock + Eprint + Input + Print>(
     let timed = matches.get_flag("time");
     match matches.get_str("tokens") {
         Some(tokens) => tell_tree(rt, &grammar, &start, tokens, timed),
+        None if matches.get_flag("check") => tell_check(rt, &grammar, &start, timed),
         None => tell_counts(rt, &grammar, &start, timed),
     }
 }
@@ -44,6 +46,27 @@ fn tell_counts<R: Alloc<A = Global> + Clock + Eprint + Print>(
     tell_time(rt, began, timed)?;
     let counts = counts_of(rt.alloc(), grammar, start, &canonical)?;
     println!(rt; "{counts}")?;
+    Ok(())
+}
+
+/// Tells whether the canonical states may be parsed with.
+fn tell_check<R: Alloc<A = Global> + Clock + Eprint + Print>(
+    rt: &R,
+    grammar: &Grammar,
+    start: &NonterminalString,
+    timed: bool,
+) -> Result<()>
+    requires { HasItsTerminals grammar.now }
+{
+    let canonical = canonical_states(rt.alloc(), grammar, start)?;
+    let began = Instant::now(rt)?;
+    let checked = check_states(rt.alloc(), grammar, start, canonical.states.as_slice())?;
+    tell_time(rt, began, timed)?;
+    let word = if checked { "may" } else { "may not" };
+    println!(rt;
+        "{} canonical states, which {word} be parsed with",
+        canonical.states.len()
+    )?;
     Ok(())
 }
 

@@ -12,6 +12,7 @@ pub(crate) fn command<'a>(alloc: Global) -> Result<Command<'a>, AllocError> {
         )
         .arg(start(alloc))?
         .arg(tokens(alloc))?
+        .arg(check(alloc))?
         .arg(time(alloc))
 }
 
@@ -30,6 +31,13 @@ fn tokens<'a>(alloc: Global) -> Arg<'a> {
         .value_name("TOKENS")
         .help("Tokens between blanks, whose tree is told in place of the counts")
         .action(ArgAction::Set)
+}
+
+fn check<'a>(alloc: Global) -> Arg<'a> {
+    Arg::new(alloc, "check")
+        .long("check")
+        .help("Tells whether the canonical states may be parsed with, in place of the counts")
+        .action(ArgAction::SetTrue)
 }
 
 fn time<'a>(alloc: Global) -> Arg<'a> {
