@@ -14,7 +14,9 @@ use Rattle.lalrpop_lexer.specs.Groups.{AreGroups}
 use Rattle.lalrpop_lexer.specs.Simulation.{AreApart}
 use Rattle.lalrpop_lexer.specs.States.{IsInterned}
 use Rattle.lalrpop_lexer.specs.Explore.{end_at, AreClassesOf, IsGrowing, Explores}
+use Rattle.lalrpop_lexer.specs.Joined.{Continues, AddsEdge}
 use Rattle.lalrpop_lexer.proofs.GrowLemmas.{grow_known, grow_new}
+use Rattle.lalrpop_lexer.proofs.JoinLemmas.{last_cases, grow_joined}
 
 -- sets that were there stay
 pub items_at-extends : (old more : List (Vec ℕ Global)) (i : ℕ) → i < length old → items_at (old ++ more) i ≡ items_at old i
@@ -53,6 +55,13 @@ step_of_piece t pieces targets set new i c p moves l low high closed = record {
       closed.all x y (moves.all i q x l among (p.same i q c (start_at pieces i) x l low high (omega arith) (p.filled i l) reads)) follows;
 }
 
+-- a piece begins before it or a later one ends
+start_before_end : (t : Graph) (pieces : List Test) → AreClassesOf t pieces → (i j : ℕ) → i ≤ j → j < length pieces
+    → start_at pieces i ≤ end_at pieces j
+start_before_end t pieces p i j order l =
+    ⊎_elim (λ (less : i < j). omega (arith, p.filled i (omega (arith, less, l)), p.ascending i j less l, p.filled j l))
+    (λ (more : j ≤ i). let at : i ≡ j = omega (arith, order, more) in omega (arith, ap (start_at pieces) at, p.filled j l)) (cases_lt i j)
+
 -- the edges of the first pieces
 pub record ExploresSome (t : Graph) (pieces : List Test) (targets : ℕ → List ℕ) (done cur : ℕ)
     (old new : List (Vec ℕ Global)) (out : List EdgeView) : Type 0 where
@@ -63,11 +72,11 @@ pub record ExploresSome (t : Graph) (pieces : List Test) (targets : ℕ → List
   pub inside : (k : ℕ) → k < length out → (edge_at out k).2 < length new
   pub fits : (k c : ℕ) → k < length out → (edge_at out k).0 ≤ c → c ≤ (edge_at out k).1
       → IsSubsetStep t (items_at old cur) c (items_at new (edge_at out k).2)
-  pub below : (k : ℕ) → k < length out → (j : ℕ) × (j < done) × ((edge_at out k).0 ≡ start_at pieces j)
+  pub below : (k : ℕ) → k < length out → (i j : ℕ) × (i ≤ j) × (j < done) × ((edge_at out k).0 ≡ start_at pieces i)
       × ((edge_at out k).1 ≡ end_at pieces j)
   pub apart : (j k : ℕ) → j < k → k < length out → (edge_at out j).1 < (edge_at out k).0
   pub covers : (j x : ℕ) → j < done → Contains (targets j) x → (k : ℕ) × (k < length out)
-      × ((edge_at out k).0 ≡ start_at pieces j) × ((edge_at out k).1 ≡ end_at pieces j)
+      × ((edge_at out k).0 ≤ start_at pieces j) × (end_at pieces j ≤ (edge_at out k).1)
 
 -- a list of edges with another in one place
 abbrev put : (ℕ → List EdgeView) → ℕ → List EdgeView → ℕ → List EdgeView
@@ -109,11 +118,11 @@ module _ (t : Graph) (pieces : List Test) (targets : ℕ → List ℕ) (done cur
       (cases_lt k (length out))
 
   above : (j : ℕ) → j < length out → (edge_at out j).0 < start_at pieces done
-  above j h = let b = before.below j h in let up = p.ascending b.0 done b.1 l in let f = p.filled b.0 (omega (arith, b.1)) in
-      omega (arith, b.2)
+  above j h = let b = before.below j h in let up = p.ascending b.0 done (omega (arith, b.2, b.3)) l in
+      let f = p.filled b.0 (omega (arith, b.2, b.3, l)) in omega (arith, b.4, up, f)
 
   -- one more alphabet class with targets: a transition to the state that was found for them
-  pub explore_more : ExploresSome t pieces targets (done + 1) cur old new (out ++ e ∷ [])
+  explore_more : ExploresSome t pieces targets (done + 1) cur old new (out ++ e ∷ [])
   explore_more = record {
     extends = (
       before.extends.0 ++ extended.0,
@@ -158,8 +167,8 @@ module _ (t : Graph) (pieces : List Test) (targets : ℕ → List ℕ) (done cur
         (edge_cases k h);
     below = λ k h.
         ⊎_elim (λ x. let b = before.below k x.0 in
-        (b.0, omega (arith, b.1), ap (λ (f : EdgeView). f.0) x.1 ∙ b.2, ap (λ (f : EdgeView). f.1) x.1 ∙ b.3))
-        (λ x. (done, omega arith, ap (λ (f : EdgeView). f.0) x.1, ap (λ (f : EdgeView). f.1) x.1)) (edge_cases k h);
+        (b.0, b.1, b.2, omega (arith, b.3), ap (λ (f : EdgeView). f.0) x.1 ∙ b.4, ap (λ (f : EdgeView). f.1) x.1 ∙ b.5))
+        (λ x. (done, done, omega arith, omega arith, ap (λ (f : EdgeView). f.0) x.1, ap (λ (f : EdgeView). f.1) x.1)) (edge_cases k h);
     apart = λ j k order h.
         ⊎_elim
         (λ x. let first = get_or_append_left out (e ∷ []) (0, 0, 0) j (omega (arith, x.0)) in
@@ -168,21 +177,21 @@ module _ (t : Graph) (pieces : List Test) (targets : ℕ → List ℕ) (done cur
         let inside : j < length out = omega (arith, x.0) in
         let first = get_or_append_left out (e ∷ []) (0, 0, 0) j inside in
         let b = before.below j inside in
-        omega (arith, p.ascending b.0 done b.1 l, b.3, ap (λ (f : EdgeView). f.1) first, ap (λ (f : EdgeView). f.0) x.1))
+        omega (arith, p.ascending b.1 done b.3 l, b.5, ap (λ (f : EdgeView). f.1) first, ap (λ (f : EdgeView). f.0) x.1))
         (edge_cases k h);
     covers = λ j x h among.
         ⊎_elim
         (λ (less : j < done).
         let b = before.covers j x less among in
         let stays = get_or_append_left out (e ∷ []) (0, 0, 0) b.0 b.1 in
-        (b.0, omega (arith, b.1, length_push out e), ap (λ (f : EdgeView). f.0) stays ∙ b.2, ap (λ (f : EdgeView). f.1) stays ∙ b.3))
+        (b.0, omega (arith, b.1, length_push out e), omega (arith, ap (λ (f : EdgeView). f.0) stays, b.2), omega (arith, ap (λ (f : EdgeView). f.1) stays, b.3)))
         (λ (more : done ≤ j).
         let at : j ≡ done = omega arith in
         let last = get_or-append_seam out e [] (0, 0, 0) in (
           length out,
           omega (arith, length_push out e),
-          ap (λ (f : EdgeView). f.0) last ∙ ap (start_at pieces) (sym at),
-          ap (λ (f : EdgeView). f.1) last ∙ ap (end_at pieces) (sym at),
+          omega (arith, ap (λ (f : EdgeView). f.0) last, ap (start_at pieces) at),
+          omega (arith, ap (λ (f : EdgeView). f.1) last, ap (end_at pieces) at),
         ))
         (cases_lt j done);
   }
@@ -197,6 +206,139 @@ module _ (t : Graph) (pieces : List Test) (targets : ℕ → List ℕ) (done cur
       new_one : (n a b : ℕ) → cond (eqb n n) a b ≡ a
       new_one n a b = rw (eq-eqb n n refl) refl
 
+-- one more alphabet class with targets, behind one that leads to the same state: the last edge reads it too
+module _ (t : Graph) (pieces : List Test) (targets : ℕ → List ℕ) (done cur : ℕ) (old mid new : List (Vec ℕ Global))
+    (front : List EdgeView) (last : EdgeView) (to : ℕ)
+    (p : AreClassesOf t pieces) (moves : ArePieceTargets t (items_at old cur) pieces targets) (l : done < length pieces)
+    (before : ExploresSome t pieces targets done cur old mid (front ++ last ∷ [])) (found : IsInterned t (targets done) mid new to)
+    (goes : Continues last (start_at pieces done, end_at pieces done, to)) where
+  abbrev joined : EdgeView
+  joined = (last.0, end_at pieces done, to)
+
+  at_last : edge_at (front ++ last ∷ []) (length front) ≡ last
+  at_last = get_or-append_seam front last [] (0, 0, 0)
+
+  last_inside : length front < length (front ++ last ∷ [])
+  last_inside = omega (arith, length_push front last)
+
+  to_known : to < length mid
+  to_known = omega (arith, before.inside (length front) last_inside, ap (λ (f : EdgeView). f.2) at_last, goes.0)
+
+  no_more : new ≡ mid
+  no_more = ⊎_elim (λ h. h.1) (λ h. absurd (omega (arith, h.0, to_known))) found.place
+
+  ends : last.1 < end_at pieces done
+  ends = omega (arith, goes.1, p.filled done l)
+
+  joined_cases : (k : ℕ) → k < length (front ++ joined ∷ []) → ((k < length front)
+      × (edge_at (front ++ joined ∷ []) k ≡ edge_at (front ++ last ∷ []) k)) ⊎ ((k ≡ length front)
+      × (edge_at (front ++ joined ∷ []) k ≡ joined))
+  joined_cases k h =
+      ⊎_elim (λ x. inl (x.0, x.1 ∙ sym (get_or_append_left front (last ∷ []) (0, 0, 0) k x.0))) inr (last_cases front joined k h)
+
+  within : (k : ℕ) → k < length front → k < length (front ++ last ∷ [])
+  within k h = omega (arith, h, length_push front last)
+
+  last_below : (i j : ℕ) × (i ≤ j) × (j < done) × (last.0 ≡ start_at pieces i) × (last.1 ≡ end_at pieces j)
+  last_below = let b = before.below (length front) last_inside in
+      (b.0, b.1, b.2, b.3, sym (ap (λ (f : EdgeView). f.0) at_last) ∙ b.4, sym (ap (λ (f : EdgeView). f.1) at_last) ∙ b.5)
+
+  explore_joined_mid : ExploresSome t pieces targets (done + 1) cur old mid (front ++ joined ∷ [])
+  explore_joined_mid = record {
+    extends = before.extends;
+    grows = λ edges more parent place same empty grown growing.
+        let middle : ℕ → List EdgeView = put more cur (front ++ last ∷ []) in
+        let g = before.grows edges middle parent place (λ s apart. put_other more cur (front ++ last ∷ []) s apart ∙ same s apart) empty
+        (put_same more cur (front ++ last ∷ [])) growing in (
+          g.0,
+          g.1,
+          grow_joined middle more cur front last joined (λ s apart. sym (put_other more cur (front ++ last ∷ []) s apart))
+              (put_same more cur (front ++ last ∷ [])) grown refl (sym goes.0) (omega (arith, ends)) (length mid) g.0 g.1 g.2,
+        );
+    inside = λ k h. ⊎_elim (λ x. rw x.1 (before.inside k (within k x.0))) (λ x. rw x.1 to_known) (joined_cases k h);
+    fits = λ k c h.
+        ⊎_elim (λ x. rw x.1 (before.fits k c (within k x.0)))
+        (λ x. rw x.1 (λ low high.
+        ⊎_elim
+        (λ (less : c < start_at pieces done).
+        let P : EdgeView → Type 0 = λ f. f.0 ≤ c → c ≤ f.1 → IsSubsetStep t (items_at old cur) c (items_at mid f.2) in
+        let step = subst P at_last (before.fits (length front) c last_inside) low (omega (arith, less, goes.1)) in
+        rw (sym goes.0) step)
+        (λ (more : start_at pieces done ≤ c).
+        let closed = let P : List (Vec ℕ Global) → Type 0 = λ vs. IsEpsilonClosure t (targets done) (items_at vs to) in
+        subst P no_more found.closed in
+        step_of_piece t pieces targets (items_at old cur) (items_at mid to) done c p moves l more high closed)
+        (cases_lt c (start_at pieces done))))
+        (joined_cases k h);
+    below = λ k h.
+        ⊎_elim (λ x. let b = before.below k (within k x.0) in
+        (b.0, b.1, b.2, omega (arith, b.3), ap (λ (f : EdgeView). f.0) x.1 ∙ b.4, ap (λ (f : EdgeView). f.1) x.1 ∙ b.5))
+        (λ x. let b = last_below in
+        (b.0, done, omega (arith, b.2, b.3), omega arith, ap (λ (f : EdgeView). f.0) x.1 ∙ b.4, ap (λ (f : EdgeView). f.1) x.1))
+        (joined_cases k h);
+    apart = λ j k order h.
+        ⊎_elim
+        (λ x.
+        let first = ⊎_elim (λ y. y.1) (λ y. absurd (omega (arith, y.0, order, x.0))) (joined_cases j (omega (arith, order, h))) in
+        omega (arith, before.apart j k order (within k x.0), ap (λ (f : EdgeView). f.1) first, ap (λ (f : EdgeView). f.0) x.1))
+        (λ x.
+        let first = ⊎_elim (λ y. y.1) (λ y. absurd (omega (arith, y.0, order, x.0))) (joined_cases j (omega (arith, order, h))) in
+        omega (
+          arith,
+          before.apart j (length front) (omega (arith, order, x.0)) last_inside,
+          ap (λ (f : EdgeView). f.0) at_last,
+          ap (λ (f : EdgeView). f.1) first,
+          ap (λ (f : EdgeView). f.0) x.1,
+        ))
+        (joined_cases k h);
+    covers = λ j x h among.
+        let size = length_push front joined in
+        let now : edge_at (front ++ joined ∷ []) (length front) ≡ joined = get_or-append_seam front joined [] (0, 0, 0) in
+        ⊎_elim
+        (λ (less : j < done).
+        let b = before.covers j x less among in
+        ⊎_elim
+        (λ y. let stays = get_or_append_left front (joined ∷ []) (0, 0, 0) b.0 y.0 in (
+          b.0,
+          omega (arith, y.0, size),
+          omega (arith, ap (λ (f : EdgeView). f.0) stays, ap (λ (f : EdgeView). f.0) y.1, b.2),
+          omega (arith, ap (λ (f : EdgeView). f.1) stays, ap (λ (f : EdgeView). f.1) y.1, b.3),
+        ))
+        (λ y. (
+          length front,
+          omega (arith, size),
+          omega (arith, ap (λ (f : EdgeView). f.0) now, ap (λ (f : EdgeView). f.0) y.1, b.2),
+          omega (arith, ap (λ (f : EdgeView). f.1) now, ap (λ (f : EdgeView). f.1) y.1, b.3, ends),
+        ))
+        (last_cases front last b.0 b.1))
+        (λ (more : done ≤ j).
+        let at : j ≡ done = omega (arith, h, more) in
+        let b = last_below in
+        let low = start_before_end t pieces p b.0 b.1 b.2 (omega (arith, b.3, l)) in (
+          length front,
+          omega (arith, size),
+          omega (arith, ap (λ (f : EdgeView). f.0) now, ap (start_at pieces) at, low, b.4, b.5, goes.1),
+          omega (arith, ap (λ (f : EdgeView). f.1) now, ap (end_at pieces) at),
+        ))
+        (cases_lt j done);
+  }
+
+  explore_joined : ExploresSome t pieces targets (done + 1) cur old new (front ++ joined ∷ [])
+  explore_joined = let P : List (Vec ℕ Global) → Type 0 = λ vs. ExploresSome t pieces targets (done + 1) cur old vs (front ++ joined ∷ []) in
+      subst P (sym no_more) explore_joined_mid
+
+-- one more alphabet class with targets, whose edge is added
+pub explore_added : (t : Graph) (pieces : List Test) (targets : ℕ → List ℕ) (done cur : ℕ) (old mid new : List (Vec ℕ Global))
+    (out more : List EdgeView) (to : ℕ) → AreClassesOf t pieces → ArePieceTargets t (items_at old cur) pieces targets
+    → done < length pieces → ExploresSome t pieces targets done cur old mid out → IsInterned t (targets done) mid new to
+    → AddsEdge (start_at pieces done, end_at pieces done, to) out more → ExploresSome t pieces targets (done + 1) cur old new more
+explore_added t pieces targets done cur old mid new out more to p moves l before found added =
+    ⊎_elim (λ h. rw h.0 (explore_more t pieces targets done cur old mid new out to p moves l before found))
+    (λ h.
+    let P : List EdgeView → Type 0 = ExploresSome t pieces targets done cur old mid in
+    rw h.4 (explore_joined t pieces targets done cur old mid new h.0 h.1 to p moves l (subst P h.2 before) found h.3))
+    added
+
 -- one more alphabet class without targets: no transition
 pub explore_skip : (t : Graph) (pieces : List Test) (targets : ℕ → List ℕ) (done cur : ℕ) (old new : List (Vec ℕ Global))
     (out : List EdgeView) → ((x : ℕ) → Contains (targets done) x → ⊥) →
@@ -206,7 +348,7 @@ explore_skip t pieces targets done cur old new out none before = record {
   grows = before.grows;
   inside = before.inside;
   fits = before.fits;
-  below = λ k h. let b = before.below k h in (b.0, omega (arith, b.1), b.2, b.3);
+  below = λ k h. let b = before.below k h in (b.0, b.1, b.2, omega (arith, b.3), b.4, b.5);
   apart = before.apart;
   covers = λ j x h among.
       ⊎_elim (λ (less : j < done). before.covers j x less among)
@@ -260,6 +402,6 @@ pub explore_apart : (t : Graph) (pieces : List Test) (targets : ℕ → List ℕ
     (out : List EdgeView) → AreClassesOf t pieces → done ≤ length pieces →
     ExploresSome t pieces targets done cur old new out → AreApart out
 explore_apart t pieces targets done cur old new out p inside h = record {
-  filled = λ k l. let b = h.below k l in omega (arith, p.filled b.0 (omega (arith, b.1)), b.2, b.3);
+  filled = λ k l. let b = h.below k l in omega (arith, start_before_end t pieces p b.0 b.1 b.2 (omega (arith, b.3, inside)), b.4, b.5);
   apart = h.apart;
 }

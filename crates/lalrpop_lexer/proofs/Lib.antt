@@ -1,6 +1,7 @@
 pub mod OrderLemmas
 pub mod RunLemmas
 pub mod GrowLemmas
+pub mod JoinLemmas
 pub mod SubsetLemmas
 pub mod TargetLemmas
 pub mod StatesLemmas

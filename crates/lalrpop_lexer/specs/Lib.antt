@@ -13,3 +13,4 @@ pub mod Rows
 pub mod StateViews
 pub mod Ties
 pub mod Answer
+pub mod Joined

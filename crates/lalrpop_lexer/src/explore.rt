@@ -7,7 +7,7 @@ ghost use Rattle.lalrpop_lexer.specs.Groups.{AreGroups};
 ghost use Rattle.lalrpop_lexer.specs.Simulation.{AreApart};
 ghost use Rattle.lalrpop_lexer.specs.Explore.{AreClassesOf, Explores, edges_view};
 
-use crate::edge::DfaEdge;
+use crate::edge::{DfaEdge, push_edge};
 use crate::groups::Groups;
 use crate::kind::DfaStateIndex;
 use crate::moves::moves;
@@ -46,8 +46,9 @@ impl States {
         Ok(number)
     }
 
-    /// The edges of one of the states, for each of the pieces that some edge of its set reads. The states that they lead
-    /// to are made where there are none yet; those of the pieces of one group are looked up once.
+    /// The edges of one of the states, for the pieces that some edge of its set reads; of pieces side by side that lead to
+    /// one state there is one edge. The states that they lead to are made where there are none yet; those of the pieces of
+    /// one group are looked up once.
     pub(crate) fn explore(
         &mut self,
         alloc: Global,
@@ -82,10 +83,11 @@ impl States {
                     &mut known[group],
                     scratch,
                 )?;
-                out.push(DfaEdge {
+                let edge = DfaEdge {
                     test: pieces[i],
                     to: DfaStateIndex(to),
-                })?;
+                };
+                push_edge(&mut out, edge)?;
             }
         }
         out.shrink_to_fit();

@@ -6,3 +6,4 @@ pub mod PartnerLemmas
 pub mod PairLemmas
 pub mod MemberLemmas
 mod CopyLemmas
+pub mod TouchingLemmas

@@ -1,4 +1,5 @@
 pub mod Ranges
+pub mod TouchingRanges
 pub mod Sets
 pub mod Partners
 pub mod Matches

@@ -1,22 +1,26 @@
 //! What makes pattern trees, each with the meaning of the tree that it makes.
 
-ghost use Rattle.std.specs.Prelude.{◌≡◌, ◌≤◌, IfOk, IfSome, map};
+ghost use Rattle.std.specs.Prelude.{◌≡◌, ◌↔◌, ◌≤◌, ℕ, IfOk, IfSome, map};
 ghost use Rattle.std.specs.Option.{option_map};
 ghost use Rattle.std.specs.String.{string_bytes};
 ghost use Rattle.lalrpop_lexer_pattern.specs.Meaning.{meaning};
-ghost use Rattle.lalrpop_lexer_pattern.specs.Ranges.{IsCanonical};
+ghost use Rattle.lalrpop_lexer_pattern.specs.Ranges.{AreAscending, InRanges};
 ghost use Rattle.lalrpop_lexer_pattern.specs.Matches.{concat_all, alternation_all, Pattern};
 
 use crate::class::{Class, Range};
+use crate::touching::join_touching;
 use crate::tree::{Hir, Look, Repeats};
 use std::alloc::{AllocError, Global};
 
 impl Class {
-    /// The set of the characters in `ranges`, which ascend with a gap between each and the next.
+    /// The set of the characters in `ranges`, which ascend, none of them empty, and have no character in common. Those that touch
+    /// are joined, in place.
     pub fn new(ranges: Vec<Range>) -> Class
-        requires { IsCanonical ranges.items }
-        ensures { result.ranges ≡ ranges }
+        requires { AreAscending ranges.items }
+        ensures { (n : ℕ) → InRanges result.ranges.items n ↔ InRanges ranges.items n }
     {
+        let mut ranges = ranges;
+        join_touching(&mut ranges);
         Class { ranges }
     }
 }

@@ -14,6 +14,7 @@ mod set;
 mod set_algebra;
 mod set_builder;
 mod set_named;
+mod touching;
 mod tree;
 
 pub use class::{Class, Range};

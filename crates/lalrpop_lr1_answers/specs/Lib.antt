@@ -1,4 +1,5 @@
 pub mod Counts
+pub mod CountTexts
 pub mod FaultTexts
 pub mod KnownTerminals
 pub mod Readings

@@ -1,8 +1,9 @@
 //! How many states and conflicts there are.
 
-ghost use Rattle.std.specs.Prelude.{IfOk};
+ghost use Rattle.std.specs.Prelude.{IfOk, Some};
 ghost use Rattle.lalrpop_lr1_first.specs.NumberedGrammars.{HasItsTerminals};
 ghost use Rattle.lalrpop_lr1_collapse.specs.CollapseAnswers.{AreCanonicalOf, AreCanonicalOfSome};
+ghost use Rattle.lalrpop_lr1_answers.specs.CountTexts.{conflict_count_text, counts_text};
 ghost use Rattle.lalrpop_lr1_answers.specs.Counts.{AreCollapsedSoMany, AreSoMany, AreWithoutSoMany};
 
 use crate::canonical::Canonical;
@@ -27,17 +28,34 @@ pub struct Counts {
     pub conflicts: usize,
 }
 
+/// A number of conflicts, as it is told.
+#[derive(Clone, Copy)]
+struct ConflictCount(usize);
+
+impl Display for ConflictCount {
+    ghost output = { λ count. Some (conflict_count_text count.0) };
+
+    fn fmt<W: Write>(&self, f: &mut Formatter<W>) -> fmt::Result {
+        if self.0 == 0 {
+            f.write_str("no conflict")
+        } else {
+            write!(f, "{} conflicts", self.0)
+        }
+    }
+}
+
 impl Display for Counts {
+    ghost output = { λ counts. Some (counts_text counts) };
+
     fn fmt<W: Write>(&self, f: &mut Formatter<W>) -> fmt::Result {
         write!(
             f,
-            "{} canonical states, {} collapsed, {} without lookaheads; ",
-            self.canonical, self.collapsed, self.without
-        )?;
-        match self.conflicts {
-            0 => f.write_str("no conflict"),
-            conflicts => write!(f, "{conflicts} conflicts"),
-        }
+            "{} canonical states, {} collapsed, {} without lookaheads; {}",
+            self.canonical,
+            self.collapsed,
+            self.without,
+            ConflictCount(self.conflicts)
+        )
     }
 }
 

@@ -1,15 +1,15 @@
 -- Names that follow by the clauses of beginnings are those that a closure brings: for marks of names.
 use Rattle.std.proofs.Common.{◌≡◌, ◌∙◌, ◌⊎◌, ◌↔◌, ℕ, ◌<◌, Bool, List, [], ◌∷◌, ◌++◌}
-use Rattle.std.proofs.Common.{map, refl, sym, ap, subst}
+use Rattle.std.proofs.Common.{refl, sym, ap, subst, get_or, length, slice_get}
 use Rattle.std.proofs.Common.{inl, inr, ⊎_elim, arith, Contains, Option, None, Some}
 use Rattle.std.specs.Prelude.{flat_map}
+use Rattle.std.proofs.lemmas.Option.{slice_get-get_or}
 use Rattle.std.proofs.lemmas.List.Elements.{Contains-append_left, Contains-append_right}
 use Rattle.lalrpop_grammar_symbols.specs.Symbols.{Text}
 use Rattle.lalrpop_lr1_theory.specs.Productions as theory
 use Rattle.lalrpop_lr1_theory.proofs.ListLemmas.{contains_here, contains_split, get_contains}
 use Rattle.lalrpop_lr1_theory.proofs.StepLemmas.{some_same}
 use Rattle.lalrpop_lr1_check_laws.specs.NameClosures.{BeginsWithName, IsNameFrom, seeded, stepped}
-use Rattle.lalrpop_lr1_items.proofs.MemberLemmas.{map_has}
 use Rattle.lalrpop_lr1_first.specs.ClosureTables.{name_behind}
 use Rattle.lalrpop_lr1_first.specs.FirstNumbers.{name_count}
 use Rattle.lalrpop_lr1_first.specs.NumberedGrammars.{IsNumberTable, IsSeenIn, table_names, table_productions}
@@ -19,12 +19,11 @@ use Rattle.lalrpop_lr1_first.specs.declared.numbered.Numbered.{Numbered}
 use Rattle.lalrpop_lr1_first.specs.declared.place.NumberedRule.{NumberedRule}
 use Rattle.lalrpop_lr1_first.proofs.SeedLemmas.{name_is, name_there}
 use Rattle.lalrpop_lr1_first.proofs.TableLemmas.{table_numbering}
-use Rattle.lalrpop_lr1_check_names.specs.Clauses.{ClausesAreWithin, Follows, IsMarked, by_clause, clause_view, marked}
+use Rattle.lalrpop_lr1_check_names.specs.Clauses.{Follows, IsMarked, by_clause, marked}
 use Rattle.lalrpop_lr1_check_names.specs.NameMarks.{IsNumberOf}
-use Rattle.lalrpop_lr1_check_names.specs.declared.clauses.Clause.{Clause}
 use Rattle.lalrpop_lr1_check_names.proofs.NameLemmas.{in_flat, one_number, production_of, rule_there}
 use Rattle.lalrpop_lr1_check_parts.proofs.GainLemmas.{no_element}
-use Rattle.lalrpop_lr1_check_brings.specs.BeginClauses.{AreBeginClauses, AreMarksOf, begin_of_rule, begin_to}
+use Rattle.lalrpop_lr1_check_brings.specs.BeginClauses.{AreMarksOf, begin_of_rule, begin_to}
 
 -- the joined lists have what each element's list has
 pub flat_has : {X Y : Type 0} (f : X → List Y) (xs : List X) (x : X) (y : Y) → Contains xs x → Contains (f x) y →
@@ -46,7 +45,8 @@ in_begin from (Some s) c h = ⊎_elim (λ e. (s, refl, e)) (λ d. absurd (no_ele
 begin_has : (from : ℕ) (o : Option ℕ) (s : ℕ) → o ≡ Some s → Contains (begin_to from o) (from ∷ [], s)
 begin_has from o s e = subst (λ p. Contains (begin_to from p) (from ∷ [], s)) (sym e) (contains_here (from ∷ [], s) [])
 
-only_one : (x j : ℕ) → Contains (x ∷ []) j → x ≡ j
+-- the only element of a list
+pub only_one : (x j : ℕ) → Contains (x ∷ []) j → x ≡ j
 only_one x j c = ⊎_elim (λ e. e) (λ d. absurd (no_element j d)) (contains_split x j [] c)
 
 module _ (at : ℕ → Option theory.Symbol) where
@@ -114,20 +114,32 @@ module _ (table : Numbered) (is : IsNumberTable table) where
         (λ j c. subst (Follows all marks) (only_one r.0.left j c) own))
 
     -- marks that are closed are those of all that is brought
-    pub closed_marks : (clauses : List Clause) → AreBeginClauses table clauses → (closed : List Bool) →
-        ((n : ℕ) → IsMarked closed n ↔ Follows (map clause_view clauses) marks n) →
+    pub closed_marks : (closed : List Bool) → ((n : ℕ) → IsMarked closed n ↔ Follows all marks n) →
         AreMarksOf table closed (IsNameFrom Seed (BeginsWithName G))
-    closed_marks clauses eq closed follows s A e = (
-      λ m. follows_from (subst (λ cs. Follows cs marks s) eq ((follows s).0 m)) A e,
-      λ h. (follows s).1 (subst (λ cs. Follows cs marks s) (sym eq) (from_follows h s e)),
-    )
+    closed_marks closed follows s A e =
+        (λ m. follows_from ((follows s).0 m) A e, λ h. (follows s).1 (from_follows h s e))
 
-  -- the clauses lead to names
-  pub begins_within : (clauses : List Clause) → AreBeginClauses table clauses → ClausesAreWithin (name_count table) clauses
-  begins_within clauses eq r c at_c =
-      let d = subst (λ l. Contains l (clause_view c)) eq (map_has clause_view clauses c (get_contains clauses r c at_c)) in
-      let m = in_flat (begin_of_rule table) table.rules.items (clause_view c) d in
-      let b = in_begin m.0.left (name_behind table m.0.start) (clause_view c) m.2 in
+  -- a rule's left side is a name
+  pub left_within : (rules : List NumberedRule) (r : ℕ) (d : NumberedRule) → rules ≡ table.rules.items → r < length rules →
+      (get_or rules r d).left < name_count table
+  left_within rules r d are h =
+      let own = get_contains table.rules.items r (get_or rules r d)
+      (subst (λ l. slice_get l r ≡ Some (get_or rules r d)) are (slice_get-get_or rules r d h)) in
+      let p = production_of table is (get_or rules r d) own in
+      (table_numbering table is).name_below (get_or rules r d).left p.0.left p.2.left
+
+  -- a clause leads from one name
+  pub one_need : (c : List ℕ × ℕ) → Contains all c → (from : ℕ) × (◌≡◌ {A = List ℕ × ℕ} (from ∷ [], c.1) c)
+  one_need c d =
+      let m = in_flat (begin_of_rule table) table.rules.items c d in
+      let b = in_begin m.0.left (name_behind table m.0.start) c m.2 in
+      (m.0.left, ap (λ s. (m.0.left ∷ [], s)) (sym (ap (λ q. q.1) b.2)) ∙ b.2)
+
+  -- to a name
+  pub begin_within : (c : List ℕ × ℕ) → Contains all c → c.1 < name_count table
+  begin_within c d =
+      let m = in_flat (begin_of_rule table) table.rules.items c d in
+      let b = in_begin m.0.left (name_behind table m.0.start) c m.2 in
       let n = name_is (name_count table) (side m.0) b.0 b.1 in
-      let gives : b.0 ≡ c.gives = ap (λ q. q.1) b.2 in
+      let gives : b.0 ≡ c.1 = ap (λ q. q.1) b.2 in
       omega (arith, gives, n.2)

@@ -1,6 +1,7 @@
-pub mod SearchLemmas
 pub mod MarkLemmas
 pub mod BeginLemmas
+pub mod CloseLemmas
+pub mod ListedBeginLemmas
 pub mod NamesBehindLemmas
 pub mod UnmovedLemmas
 pub mod BringLemmas

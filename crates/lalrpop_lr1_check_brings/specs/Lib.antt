@@ -1,5 +1,6 @@
 pub mod MarkGains
 pub mod BeginClauses
+pub mod BeginLists
 pub mod EdgeTargets
 pub mod NamesBehind
 pub mod UnmovedItems

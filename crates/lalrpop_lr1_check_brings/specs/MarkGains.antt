@@ -1,6 +1,5 @@
--- What marks gain, and places in lists: for marking names, productions and states.
-use Rattle.std.specs.Prelude.{ℕ, ◌≡◌, ◌↔◌, ◌⊎◌, Bool, true, List, [], ◌∷◌, Contains, Option, None}
-use Rattle.std.specs.Prelude.{Some, length, set, slice_get}
+-- What marks gain: for marking names, productions and states.
+use Rattle.std.specs.Prelude.{ℕ, ◌≡◌, ◌↔◌, ◌⊎◌, Bool, true, List, [], ◌∷◌, Contains, length, set}
 use Rattle.lalrpop_lr1_check_names.specs.Clauses.{IsMarked}
 
 -- with each of these numbers marked, one after another; those past the end add nothing
@@ -16,8 +15,3 @@ pub record GainsMarks (old new : List Bool) (Mark : ℕ → Type 0) : Type 0 whe
 -- one of the list marks the number
 abbrev pub IsMarkOfSome : {X : Type 0} → (X → ℕ → Type 0) → List X → ℕ → Type 0
 IsMarkOfSome {X} Mark xs n = (x : X) × Contains xs x × Mark x n
-
--- a place of the element in the list, or none where it isn't there
-abbrev pub IsPlaceOfElement : {X : Type 0} → List X → X → Option ℕ → Type 0
-IsPlaceOfElement xs x None = Contains xs x → ⊥
-IsPlaceOfElement xs x (Some k) = slice_get xs k ≡ Some x

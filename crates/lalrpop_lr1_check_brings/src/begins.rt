@@ -1,12 +1,14 @@
-//! The clauses by which names begin with names.
+//! With which names the rules of each name begin.
 
-ghost use Rattle.std.specs.Prelude.{◌≡◌, ◌++◌, IfOk, OnOk, flat_map, map};
+ghost use Rattle.std.specs.Prelude.{◌≡◌, ◌<◌, IfOk, OnOk, length};
+ghost use Rattle.lalrpop_lr1_least_counts.specs.Searches.{number_lists};
 ghost use Rattle.lalrpop_lr1_first.specs.ClosureTables.{name_behind};
-ghost use Rattle.lalrpop_lr1_check_names.specs.Clauses.{clause_view};
-ghost use Rattle.lalrpop_lr1_check_brings.specs.BeginClauses.{begin_of_rule};
+ghost use Rattle.lalrpop_lr1_first.specs.NumberedGrammars.{IsNumberTable};
+ghost use Rattle.lalrpop_lr1_check_brings.specs.BeginClauses.{begin_of_rule, begin_to};
+ghost use Rattle.lalrpop_lr1_check_brings.specs.BeginLists.{AddsBegins, AreBeginLists};
 
-use lalrpop_lr1_check_names::{Clause, reach_clause};
 use lalrpop_lr1_first::{Numbered, NumberedRule, Place};
+use lalrpop_lr1_least_counts::empty_lists;
 use std::alloc::{AllocError, Global};
 
 /// The number of the nonterminal at a place, if one stands there.
@@ -28,44 +30,48 @@ fn name_at(table: &Numbered<'_>, place: usize) -> Option<usize>
     }
 }
 
-/// Adds the clause by which the rule's left side leads to the nonterminal with which its right side begins.
-fn add_begin_clause(
-    alloc: Global,
-    table: &Numbered<'_>,
-    rule: &NumberedRule,
-    clauses: &mut Vec<Clause>,
+/// Lists that a name begins with another, if there is one.
+fn add_name(
+    from: usize,
+    name: Option<usize>,
+    begins: &mut Vec<Vec<usize>>,
 ) -> Result<(), AllocError>
-    ensures { OnOk result (map clause_view clauses.new.items
-        ≡ map clause_view clauses.old.items ++ begin_of_rule table.now rule.now) }
+    requires { from < length begins.old.items }
+    ensures { OnOk result (AddsBegins (begin_to from name) (number_lists begins.old.items) (number_lists begins.new.items)) }
 {
-    match name_at(table, rule.start) {
+    match name {
         None => Ok(()),
         Some(name) => {
-            clauses.push(reach_clause(alloc, rule.left, name)?)?;
+            begins[from].push(name)?;
             Ok(())
         }
     }
 }
 
-/// The clauses by which the left sides of rules lead to the nonterminals with which their right sides begin.
-fn begin_clauses_of(
-    alloc: Global,
+/// Lists the nonterminal with which the rule's right side begins under its left side.
+fn add_begin(
     table: &Numbered<'_>,
-    rules: &[NumberedRule],
-) -> Result<Vec<Clause>, AllocError>
-    ensures { IfOk result (λ clauses. map clause_view clauses.items ≡ flat_map (begin_of_rule table.now) rules.now) }
+    rule: &NumberedRule,
+    begins: &mut Vec<Vec<usize>>,
+) -> Result<(), AllocError>
+    requires { rule.now.left < length begins.old.items }
+    ensures { OnOk result (AddsBegins (begin_of_rule table.now rule.now) (number_lists begins.old.items) (number_lists begins.new.items)) }
 {
-    let mut clauses = Vec::new(alloc);
-    for rule in rules {
-        add_begin_clause(alloc, table, rule, &mut clauses)?;
-    }
-    Ok(clauses)
+    add_name(rule.left, name_at(table, rule.start), begins)
 }
 
-/// The clauses by which names begin with names.
-pub(crate) fn begin_clauses(alloc: Global, table: &Numbered<'_>) -> Result<Vec<Clause>, AllocError>
-    ensures { IfOk result (λ clauses. map clause_view clauses.items ≡ flat_map (begin_of_rule table.now) table.now.rules.items) }
+/// For each name, by its number, the names with which the right sides of its rules begin.
+pub(crate) fn begin_lists(
+    alloc: Global,
+    table: &Numbered<'_>,
+) -> Result<Vec<Vec<usize>>, AllocError>
+    requires { IsNumberTable table.now }
+    ensures { IfOk result (λ begins. AreBeginLists table.now (number_lists begins.items)) }
 {
-    let clauses = begin_clauses_of(alloc, table, table.rules())?;
-    Ok(clauses)
+    let mut begins = empty_lists(alloc, table.names().len())?;
+    let rules = table.rules();
+    for number in 0..rules.len() {
+        add_begin(table, &rules[number], &mut begins)?;
+    }
+    Ok(begins)
 }

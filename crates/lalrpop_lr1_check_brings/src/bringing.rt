@@ -2,22 +2,23 @@
 
 ghost use Rattle.std.specs.Prelude.{◌≡◌, ◌↔◌, List, ℕ, IfOk, IsTrue, map};
 ghost use Rattle.lalrpop_lr1_theory.specs.States.{HasEdge, HasItem, LookaheadSet};
+ghost use Rattle.lalrpop_lr1_least_counts.specs.Searches.{number_lists};
 ghost use Rattle.lalrpop_lr1_items.specs.Views.{lr_state_view};
 ghost use Rattle.lalrpop_lr1_check_laws.specs.NameClosures.{IsNameBegun};
 ghost use Rattle.lalrpop_lr1_first.specs.NumberedGrammars.{IsNumberTable, IsSeenIn, table_productions};
 ghost use Rattle.lalrpop_lr1_check_names.specs.Clauses.{IsMarked};
 ghost use Rattle.lalrpop_lr1_check_parts.specs.CheckedTests.{BringsItems};
 ghost use Rattle.lalrpop_lr1_check_parts.specs.ListTests.{HoldsAtEach};
-ghost use Rattle.lalrpop_lr1_check_brings.specs.BeginClauses.{AreBeginClauses};
+ghost use Rattle.lalrpop_lr1_check_brings.specs.BeginLists.{AreBeginLists};
 ghost use Rattle.lalrpop_lr1_check_brings.specs.BringTests.{BringsFromStart, BringsOwn, BringsOwnIfMarked, TargetsBringOwn, items_in_state};
 ghost use Rattle.lalrpop_lr1_check_brings.specs.UnmovedItems.{AreItemsOf};
 
-use crate::begins::begin_clauses;
+use crate::begins::begin_lists;
 use crate::names_behind::{begun_names, brought_names};
 use crate::targets::targets_of;
 use crate::unmoved::are_items_of_names;
 use lalrpop_grammar_symbols::NonterminalString;
-use lalrpop_lr1_check_names::{Clause, is_marked};
+use lalrpop_lr1_check_names::is_marked;
 use lalrpop_lr1_first::Numbered;
 use lalrpop_lr1_items::{Lr1Item, Lr1State};
 use std::alloc::{AllocError, Global};
@@ -56,16 +57,16 @@ fn are_unmoved(items: &[Lr1Item<'_>]) -> bool
 fn are_begun(
     alloc: Global,
     table: &Numbered<'_>,
-    clauses: &[Clause],
+    begins: &[Vec<usize>],
     start: &NonterminalString,
     items: &[Lr1Item<'_>],
 ) -> Result<bool, AllocError>
     requires table { IsNumberTable table.now }
-    requires clauses { AreBeginClauses table.now clauses.now }
+    requires begins { AreBeginLists table.now (number_lists begins.now) }
     ensures { IfOk result (λ are. IsTrue are ↔ AreItemsOf (IsSeenIn (table_productions table.now)) items.now
         (IsNameBegun (IsSeenIn (table_productions table.now)) start.now.0)) }
 {
-    let names = begun_names(alloc, table, clauses, start)?;
+    let names = begun_names(alloc, table, begins, start)?;
     let are = are_items_of_names(alloc, table, names.as_slice(), items)?;
     Ok(are)
 }
@@ -74,17 +75,17 @@ fn are_begun(
 fn brings_from_start(
     alloc: Global,
     table: &Numbered<'_>,
-    clauses: &[Clause],
+    begins: &[Vec<usize>],
     start: &NonterminalString,
     items: &[Lr1Item<'_>],
 ) -> Result<bool, AllocError>
     requires table { IsNumberTable table.now }
-    requires clauses { AreBeginClauses table.now clauses.now }
+    requires begins { AreBeginLists table.now (number_lists begins.now) }
     ensures { IfOk result (λ brings. IsTrue brings
         ↔ BringsFromStart (IsSeenIn (table_productions table.now)) start.now.0 items.now) }
 {
     if are_unmoved(items) {
-        let are = are_begun(alloc, table, clauses, start, items)?;
+        let are = are_begun(alloc, table, begins, start, items)?;
         Ok(are)
     } else {
         Ok(false)
@@ -95,14 +96,14 @@ fn brings_from_start(
 fn brings_own(
     alloc: Global,
     table: &Numbered<'_>,
-    clauses: &[Clause],
+    begins: &[Vec<usize>],
     items: &[Lr1Item<'_>],
 ) -> Result<bool, AllocError>
     requires table { IsNumberTable table.now }
-    requires clauses { AreBeginClauses table.now clauses.now }
+    requires begins { AreBeginLists table.now (number_lists begins.now) }
     ensures { IfOk result (λ brings. IsTrue brings ↔ BringsOwn (IsSeenIn (table_productions table.now)) items.now) }
 {
-    let names = brought_names(alloc, table, clauses, items)?;
+    let names = brought_names(alloc, table, begins, items)?;
     let brings = are_items_of_names(alloc, table, names.as_slice(), items)?;
     Ok(brings)
 }
@@ -111,18 +112,18 @@ fn brings_own(
 fn brings_own_if_marked(
     alloc: Global,
     table: &Numbered<'_>,
-    clauses: &[Clause],
+    begins: &[Vec<usize>],
     targets: &[bool],
     number: usize,
     items: &[Lr1Item<'_>],
 ) -> Result<bool, AllocError>
     requires table { IsNumberTable table.now }
-    requires clauses { AreBeginClauses table.now clauses.now }
+    requires begins { AreBeginLists table.now (number_lists begins.now) }
     ensures { IfOk result (λ brings. IsTrue brings
         ↔ (IsMarked targets.now number → BringsOwn (IsSeenIn (table_productions table.now)) items.now)) }
 {
     if is_marked(targets, number) {
-        let brings = brings_own(alloc, table, clauses, items)?;
+        let brings = brings_own(alloc, table, begins, items)?;
         Ok(brings)
     } else {
         Ok(true)
@@ -133,18 +134,18 @@ fn brings_own_if_marked(
 fn all_bring_own(
     alloc: Global,
     table: &Numbered<'_>,
-    clauses: &[Clause],
+    begins: &[Vec<usize>],
     targets: &[bool],
     states: &[Lr1State<'_>],
 ) -> Result<bool, AllocError>
     requires table { IsNumberTable table.now }
-    requires clauses { AreBeginClauses table.now clauses.now }
+    requires begins { AreBeginLists table.now (number_lists begins.now) }
     ensures { IfOk result (λ all. IsTrue all
         ↔ HoldsAtEach (BringsOwnIfMarked (IsSeenIn (table_productions table.now)) targets.now) states.now) }
 {
     for number in 0..states.len() {
         let items = states[number].items.vec.as_slice();
-        let brings = brings_own_if_marked(alloc, table, clauses, targets, number, items)?;
+        let brings = brings_own_if_marked(alloc, table, begins, targets, number, items)?;
         if !brings {
             return Ok(false);
         }
@@ -156,15 +157,15 @@ fn all_bring_own(
 fn targets_bring_own(
     alloc: Global,
     table: &Numbered<'_>,
-    clauses: &[Clause],
+    begins: &[Vec<usize>],
     states: &[Lr1State<'_>],
 ) -> Result<bool, AllocError>
     requires table { IsNumberTable table.now }
-    requires clauses { AreBeginClauses table.now clauses.now }
+    requires begins { AreBeginLists table.now (number_lists begins.now) }
     ensures { IfOk result (λ all. IsTrue all ↔ TargetsBringOwn (IsSeenIn (table_productions table.now)) states.now) }
 {
     let targets = targets_of(alloc, states)?;
-    let all = all_bring_own(alloc, table, clauses, targets.as_slice(), states)?;
+    let all = all_bring_own(alloc, table, begins, targets.as_slice(), states)?;
     Ok(all)
 }
 
@@ -184,16 +185,16 @@ pub fn brings_items(
     ensures { IfOk result (λ brings. (look : List ℕ → LookaheadSet) → let seen = map (lr_state_view look) states.now in
         IsTrue brings ↔ BringsItems (IsSeenIn (table_productions table.now)) start.now.0 (HasItem seen) (HasEdge seen)) }
 {
-    let clauses = begin_clauses(alloc, table)?;
+    let begins = begin_lists(alloc, table)?;
     let from_start = brings_from_start(
         alloc,
         table,
-        clauses.as_slice(),
+        begins.as_slice(),
         start,
         first_items(states),
     )?;
     if from_start {
-        let all = targets_bring_own(alloc, table, clauses.as_slice(), states)?;
+        let all = targets_bring_own(alloc, table, begins.as_slice(), states)?;
         Ok(all)
     } else {
         Ok(false)

@@ -2,12 +2,13 @@
 //!
 //! In a state the items with the dot in front are to be the productions of just the names that the other items bring, and in state
 //! 0 of those that the start begins with. Names are marked by their numbers: `MarkGains` in `specs/` says what marks gain,
-//! `BeginClauses` by which clauses a name begins with others, `NamesBehind` which names stand behind dots, `EdgeTargets` to which
+//! `BeginClauses` by which clauses a name begins with others, `BeginLists` how these are listed and followed, `NamesBehind` which names stand behind dots, `EdgeTargets` to which
 //! states edges lead, and `UnmovedItems` which items with the dot in front a list has.
 #![tactic(auto)]
 
 mod begins;
 mod bringing;
+mod closing;
 mod lookup;
 mod names_behind;
 mod targets;

@@ -3,17 +3,19 @@
 ghost use Rattle.std.specs.Prelude.{◌≡◌, ℕ, IfOk, Some, length, slice_get};
 ghost use Rattle.std.specs.Option.{option_copied};
 ghost use Rattle.lalrpop_grammar_repr.specs.declared.production.Symbol.{Symbol};
+ghost use Rattle.lalrpop_lr1_least_counts.specs.Searches.{number_lists};
 ghost use Rattle.lalrpop_lr1_check_laws.specs.NameClosures.{IsMovedItem, IsNameBegun, IsNameBrought};
 ghost use Rattle.lalrpop_lr1_first.specs.FirstNumbers.{name_count};
 ghost use Rattle.lalrpop_lr1_first.specs.NumberedGrammars.{IsNumberTable, IsSeenIn, table_names, table_productions};
-ghost use Rattle.lalrpop_lr1_check_brings.specs.BeginClauses.{AreBeginClauses, AreMarksOf};
+ghost use Rattle.lalrpop_lr1_check_brings.specs.BeginClauses.{AreMarksOf};
+ghost use Rattle.lalrpop_lr1_check_brings.specs.BeginLists.{AreBeginLists};
 ghost use Rattle.lalrpop_lr1_check_brings.specs.MarkGains.{GainsMarks, IsMarkOfSome};
 ghost use Rattle.lalrpop_lr1_check_brings.specs.NamesBehind.{HasSeenItem, IsNumberBehind, moved_name, name_of_symbol};
 
-use crate::lookup::place_of_name;
+use crate::closing::close_names;
 use lalrpop_grammar_repr::Symbol;
 use lalrpop_grammar_symbols::NonterminalString;
-use lalrpop_lr1_check_names::{Clause, close, no_marks, set_mark};
+use lalrpop_lr1_check_names::{no_marks, place_of, set_mark};
 use lalrpop_lr1_first::Numbered;
 use lalrpop_lr1_items::Lr1Item;
 use std::alloc::{AllocError, Global};
@@ -48,7 +50,7 @@ fn mark_name(table: &Numbered<'_>, name: &NonterminalString, marks: &mut Vec<boo
     requires count { length marks.old.items ≡ name_count table.now }
     ensures { GainsMarks marks.old.items marks.new.items (λ s. slice_get (table_names table.now) s ≡ Some name.now) }
 {
-    match place_of_name(table.names(), name) {
+    match place_of(table.names(), name) {
         None => {}
         Some(place) => set_mark(marks, place),
     }
@@ -81,16 +83,16 @@ fn mark_names_behind(table: &Numbered<'_>, items: &[Lr1Item<'_>], marks: &mut Ve
 pub(crate) fn begun_names(
     alloc: Global,
     table: &Numbered<'_>,
-    clauses: &[Clause],
+    begins: &[Vec<usize>],
     start: &NonterminalString,
 ) -> Result<Vec<bool>, AllocError>
     requires table { IsNumberTable table.now }
-    requires clauses { AreBeginClauses table.now clauses.now }
+    requires begins { AreBeginLists table.now (number_lists begins.now) }
     ensures { IfOk result (λ marks. AreMarksOf table.now marks.items (IsNameBegun (IsSeenIn (table_productions table.now)) start.now.0)) }
 {
     let mut marks = no_marks(alloc, table.names().len())?;
     mark_name(table, start, &mut marks);
-    let closed = close(alloc, clauses, marks)?;
+    let closed = close_names(alloc, table, begins, marks)?;
     Ok(closed)
 }
 
@@ -98,16 +100,16 @@ pub(crate) fn begun_names(
 pub(crate) fn brought_names(
     alloc: Global,
     table: &Numbered<'_>,
-    clauses: &[Clause],
+    begins: &[Vec<usize>],
     items: &[Lr1Item<'_>],
 ) -> Result<Vec<bool>, AllocError>
     requires table { IsNumberTable table.now }
-    requires clauses { AreBeginClauses table.now clauses.now }
+    requires begins { AreBeginLists table.now (number_lists begins.now) }
     ensures { IfOk result (λ marks. AreMarksOf table.now marks.items
         (IsNameBrought (IsSeenIn (table_productions table.now)) (IsMovedItem (HasSeenItem items.now)))) }
 {
     let mut marks = no_marks(alloc, table.names().len())?;
     mark_names_behind(table, items, &mut marks);
-    let closed = close(alloc, clauses, marks)?;
+    let closed = close_names(alloc, table, begins, marks)?;
     Ok(closed)
 }

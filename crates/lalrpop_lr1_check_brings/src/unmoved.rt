@@ -14,88 +14,49 @@ use lalrpop_lr1_first::{Numbered, NumberedRule};
 use lalrpop_lr1_items::Lr1Item;
 use std::alloc::{AllocError, Global};
 
-/// Whether the production is one of the table's.
-fn is_of_table(table: &Numbered<'_>, production: &Production) -> bool
-    requires { IsNumberTable table.now }
-    ensures { IsTrue result ↔ Contains (table_productions table.now) production.now }
+/// Marks the production, where it is one of the table's, and says whether it is.
+fn mark_production(table: &Numbered<'_>, production: &Production, marks: &mut Vec<bool>) -> bool
+    requires table { IsNumberTable table.now }
+    requires count { length marks.old.items ≡ length table.now.productions.items }
+    ensures known { IsTrue result ↔ Contains (table_productions table.now) production.now }
+    ensures marks { GainsMarks marks.old.items marks.new.items (λ r. slice_get (table_productions table.now) r ≡ Some production.now) }
 {
     match place_of_production(table.productions(), production) {
         None => false,
-        Some(_) => true,
+        Some(place) => {
+            set_mark(marks, place);
+            true
+        }
     }
 }
 
-/// Whether the item's production is one of the table's, where its dot is in front.
-fn is_known(table: &Numbered<'_>, item: &Lr1Item<'_>) -> bool
-    requires { IsNumberTable table.now }
-    ensures { IsTrue result ↔ IsKnownUnmoved table.now item.now }
+/// Marks the item's production, where its dot is in front, and says whether it is one of the table's then.
+fn mark_if_unmoved(table: &Numbered<'_>, item: &Lr1Item<'_>, marks: &mut Vec<bool>) -> bool
+    requires table { IsNumberTable table.now }
+    requires count { length marks.old.items ≡ length table.now.productions.items }
+    ensures known { IsTrue result ↔ IsKnownUnmoved table.now item.now }
+    ensures marks { GainsMarks marks.old.items marks.new.items (IsUnmovedAt table.now item.now) }
 {
     if item.index == 0 {
-        is_of_table(table, item.production)
+        mark_production(table, item.production, marks)
     } else {
         true
     }
 }
 
-/// Whether each of the items with the dot in front has a production of the table.
-fn are_known(table: &Numbered<'_>, items: &[Lr1Item<'_>]) -> bool
-    requires { IsNumberTable table.now }
-    ensures { IsTrue result ↔ HoldsAtEach (λ _ item. IsKnownUnmoved table.now item) items.now }
+/// Marks the productions of the items with the dot in front, and says whether all of these are the table's.
+fn mark_unmoved(table: &Numbered<'_>, items: &[Lr1Item<'_>], marks: &mut Vec<bool>) -> bool
+    requires table { IsNumberTable table.now }
+    requires count { length marks.old.items ≡ length table.now.productions.items }
+    ensures known { IsTrue result ↔ HoldsAtEach (λ _ item. IsKnownUnmoved table.now item) items.now }
+    ensures marks { IsTrue result → GainsMarks marks.old.items marks.new.items (IsMarkOfSome (IsUnmovedAt table.now) items.now) }
 {
     for item in items {
-        if !is_known(table, item) {
+        if !mark_if_unmoved(table, item, marks) {
             return false;
         }
     }
     true
-}
-
-/// Marks the production, where it is one of the table's.
-fn mark_production(table: &Numbered<'_>, production: &Production, marks: &mut Vec<bool>)
-    requires table { IsNumberTable table.now }
-    requires count { length marks.old.items ≡ length table.now.productions.items }
-    ensures { GainsMarks marks.old.items marks.new.items (λ r. slice_get (table_productions table.now) r ≡ Some production.now) }
-{
-    match place_of_production(table.productions(), production) {
-        None => {}
-        Some(place) => set_mark(marks, place),
-    }
-}
-
-/// Marks the item's production, where its dot is in front.
-fn mark_if_unmoved(table: &Numbered<'_>, item: &Lr1Item<'_>, marks: &mut Vec<bool>)
-    requires table { IsNumberTable table.now }
-    requires count { length marks.old.items ≡ length table.now.productions.items }
-    ensures { GainsMarks marks.old.items marks.new.items (IsUnmovedAt table.now item.now) }
-{
-    if item.index == 0 {
-        mark_production(table, item.production, marks);
-    }
-}
-
-/// Marks the productions of the items with the dot in front.
-fn mark_unmoved(table: &Numbered<'_>, items: &[Lr1Item<'_>], marks: &mut Vec<bool>)
-    requires table { IsNumberTable table.now }
-    requires count { length marks.old.items ≡ length table.now.productions.items }
-    ensures { GainsMarks marks.old.items marks.new.items (IsMarkOfSome (IsUnmovedAt table.now) items.now) }
-{
-    for item in items {
-        mark_if_unmoved(table, item, marks);
-    }
-}
-
-/// The productions of the items with the dot in front, by their numbers.
-fn unmoved_productions(
-    alloc: Global,
-    table: &Numbered<'_>,
-    items: &[Lr1Item<'_>],
-) -> Result<Vec<bool>, AllocError>
-    requires { IsNumberTable table.now }
-    ensures { IfOk result (λ marks. (r : ℕ) → IsMarked marks.items r ↔ IsMarkOfSome (IsUnmovedAt table.now) items.now r) }
-{
-    let mut marks = no_marks(alloc, table.productions().len())?;
-    mark_unmoved(table, items, &mut marks);
-    Ok(marks)
 }
 
 /// Whether the production with this number is marked just where the rule's name is.
@@ -132,8 +93,8 @@ pub(crate) fn are_items_of_names(
     requires { IsNumberTable table.now }
     ensures { IfOk result (λ are. IsTrue are ↔ AreUnmovedOf table.now names.now items.now) }
 {
-    if are_known(table, items) {
-        let productions = unmoved_productions(alloc, table, items)?;
+    let mut productions = no_marks(alloc, table.productions().len())?;
+    if mark_unmoved(table, items, &mut productions) {
         let are = are_of_marked_names(productions.as_slice(), names, table.rules());
         Ok(are)
     } else {

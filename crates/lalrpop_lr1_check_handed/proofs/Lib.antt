@@ -4,6 +4,7 @@ pub mod SlotLemmas
 pub mod BroughtLemmas
 pub mod HandEdgeLemmas
 pub mod ReduceLemmas
+pub mod NamedLemmas
 pub mod FlownLemmas
 pub mod SeedLemmas
 pub mod KnownLemmas

@@ -60,7 +60,8 @@ all_there all some joined false says same grown = (
   λ h. refl,
 )
 
-named_same : (a b : NonterminalString) → a.0 ≡ b.0 → a ≡ b
+-- names of one text are one
+pub named_same : (a b : NonterminalString) → a.0 ≡ b.0 → a ≡ b
 named_same a b e = let f : Text → NonterminalString = λ t. record { 0 = t } in ap f e
 
 -- a production of another name

@@ -6,8 +6,8 @@ ghost use Rattle.lalrpop_lr1_theory.specs.States.{HasEdge, HasItem, Reduces};
 ghost use Rattle.lalrpop_lr1_items.specs.Views.{lr_state_view, token_lookahead};
 ghost use Rattle.lalrpop_lr1_check_laws.specs.HandedNexts.{ReducesBeforeHanded};
 ghost use Rattle.lalrpop_lr1_first.specs.FirstSetsOf.{AreFirstSetsOf, IsProductionOf};
-ghost use Rattle.lalrpop_lr1_first.specs.Listings.{lent};
-ghost use Rattle.lalrpop_lr1_first.specs.NumberedGrammars.{HasItsTerminals, IsNumberTableOf};
+ghost use Rattle.lalrpop_lr1_first.specs.NumberedGrammars.{HasItsTerminals, IsNumberTableOf, table_productions};
+ghost use Rattle.lalrpop_lr1_check_names.specs.NamedLists.{AreNamedProductions};
 ghost use Rattle.lalrpop_lr1_check_handed.specs.HandFlows.{AreFlown, AreSeeds, HaveKnownItems, IsSlotEdge};
 ghost use Rattle.lalrpop_lr1_check_handed.specs.HandSlots.{AreSlots, HasSlotMark};
 
@@ -15,8 +15,9 @@ use crate::handing::hand_edges;
 use crate::reducing::all_reduce;
 use crate::seeds::{close_slots, hand_all_items};
 use crate::slots::{Slot, Slots};
-use lalrpop_grammar_repr::{Grammar, Production, TerminalSet};
+use lalrpop_grammar_repr::{Grammar, TerminalSet};
 use lalrpop_grammar_symbols::NonterminalString;
+use lalrpop_lr1_check_names::NamedProductions;
 use lalrpop_lr1_first::{Edge, FirstSets, Numbered, flow};
 use lalrpop_lr1_items::Lr1State;
 use lalrpop_sets::TokenSet;
@@ -27,16 +28,17 @@ fn seeded_slots<'g>(
     alloc: Global,
     grammar: &Grammar,
     firsts: &FirstSets,
-    productions: &[&'g Production],
+    named: &NamedProductions<'_, 'g>,
     start: &'g NonterminalString,
     states: &[Lr1State<'g>],
 ) -> Result<Slots<'g>, AllocError>
-    requires { AreFirstSetsOf grammar.now firsts.now }
-    ensures { IfOk result (λ slots. AreSeeds grammar.now (lent productions.now) start.now.0 states.now slots) }
+    requires firsts { AreFirstSetsOf grammar.now firsts.now }
+    requires named { AreNamedProductions named.now }
+    ensures { IfOk result (λ slots. AreSeeds grammar.now (table_productions named.now.table.now) start.now.0 states.now slots) }
 {
     let mut slots = Slots::new(alloc);
     hand_all_items(alloc, grammar, firsts, states, &mut slots)?;
-    close_slots(alloc, grammar, firsts, productions, &mut slots)?;
+    close_slots(alloc, grammar, firsts, named, &mut slots)?;
     let end = TokenSet::eof(alloc, &grammar.terminals)?;
     let first = Slot {
         state: 0,
@@ -96,15 +98,15 @@ pub fn reduces_before_handed<'g>(
         ↔ ReducesBeforeHanded (IsProductionOf grammar.now) start.now.0 (HasItem seen) (HasEdge seen) (Reduces seen)) }
 {
     let firsts = FirstSets::new(alloc, grammar)?;
-    let productions = table.productions();
-    let mut slots = seeded_slots(alloc, grammar, &firsts, productions, start, states)?;
-    let edges = hand_edges(alloc, grammar, &firsts, states, productions, &mut slots)?;
+    let named = NamedProductions::new(alloc, table)?;
+    let mut slots = seeded_slots(alloc, grammar, &firsts, &named, start, states)?;
+    let edges = hand_edges(alloc, grammar, &firsts, states, &named, &mut slots)?;
     let sets = flown_sets(alloc, &grammar.terminals, &slots, edges.as_slice())?;
     let all = all_reduce(
         alloc,
         &grammar.terminals,
         states,
-        productions,
+        &named,
         &slots,
         sets.as_slice(),
     )?;

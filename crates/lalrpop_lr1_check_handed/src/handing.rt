@@ -4,6 +4,8 @@ ghost use Rattle.std.specs.Prelude.{◌≡◌, ◌≤◌, IfOk, OnOk, length, Li
 ghost use Rattle.lalrpop_lr1_theory.specs.States.{LookaheadSet};
 ghost use Rattle.lalrpop_lr1_first.specs.FirstSetsOf.{AreFirstSetsOf};
 ghost use Rattle.lalrpop_lr1_first.specs.Listings.{lent};
+ghost use Rattle.lalrpop_lr1_first.specs.NumberedGrammars.{table_productions};
+ghost use Rattle.lalrpop_lr1_check_names.specs.NamedLists.{AreNamedProductions};
 ghost use Rattle.lalrpop_lr1_check_handed.specs.HandEdges.{AreHandEdges, GainsEdges, HandsAtDot, HandsBelow, HandsBy, HandsBySome};
 ghost use Rattle.lalrpop_lr1_check_handed.specs.HandSlots.{AreSlots, slot_key};
 
@@ -12,6 +14,7 @@ use crate::seeds::is_of;
 use crate::slots::{Slot, Slots};
 use crate::walking::walk;
 use lalrpop_grammar_repr::{Grammar, Production, Symbol};
+use lalrpop_lr1_check_names::NamedProductions;
 use lalrpop_lr1_first::{Edge, FirstSets};
 use lalrpop_lr1_items::Lr1State;
 use std::alloc::{AllocError, Global};
@@ -165,13 +168,15 @@ pub(crate) fn hand_edges<'g>(
     grammar: &Grammar,
     firsts: &FirstSets,
     states: &[Lr1State<'_>],
-    productions: &[&'g Production],
+    named: &NamedProductions<'_, 'g>,
     slots: &mut Slots<'g>,
 ) -> Result<Vec<Edge>, AllocError>
     requires firsts { AreFirstSetsOf grammar.now firsts.now }
+    requires named { AreNamedProductions named.now }
     requires slots { AreSlots slots.old }
     ensures { IfOk result (λ edges. (look : List ℕ → LookaheadSet) →
-        AreHandEdges grammar.now look states.now (lent productions.now) slots.old slots.new edges.items (length slots.new.keys.keys)) }
+        AreHandEdges grammar.now look states.now (table_productions named.now.table.now) slots.old slots.new edges.items
+        (length slots.new.keys.keys)) }
 {
     let mut edges = Vec::new(alloc);
     let mut number = 0;
@@ -181,7 +186,7 @@ pub(crate) fn hand_edges<'g>(
             grammar,
             firsts,
             states,
-            productions,
+            named.productions_of(slot.name),
             number,
             slot,
             slots,

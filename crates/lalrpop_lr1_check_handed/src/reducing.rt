@@ -3,6 +3,7 @@
 ghost use Rattle.std.specs.Prelude.{◌≡◌, ◌↔◌, ◌⊎◌, ℕ, List, IfOk, IsTrue, OnOk, true};
 ghost use Rattle.lalrpop_lr1_theory.specs.States.{LookaheadSet};
 ghost use Rattle.lalrpop_sets.specs.Bits.{has};
+ghost use Rattle.lalrpop_lr1_check_names.specs.NamedLists.{AreNamedProductions};
 ghost use Rattle.lalrpop_lr1_check_parts.specs.ListTests.{HoldsAtEach};
 ghost use Rattle.lalrpop_lr1_check_handed.specs.HandReductions.{
   DoesSlotReduce,
@@ -18,6 +19,7 @@ use crate::seeds::is_of;
 use crate::slots::{Slot, Slots};
 use crate::walking::walk;
 use lalrpop_grammar_repr::{Production, TerminalSet};
+use lalrpop_lr1_check_names::NamedProductions;
 use lalrpop_lr1_items::Lr1State;
 use lalrpop_sets::TokenSet;
 use std::alloc::{AllocError, Global};
@@ -170,19 +172,21 @@ fn slot_reduces(
     alloc: Global,
     terminals: &TerminalSet,
     states: &[Lr1State<'_>],
-    productions: &[&Production],
+    named: &NamedProductions<'_, '_>,
     slots: &Slots<'_>,
     number: usize,
     tokens: &Option<TokenSet>,
 ) -> Result<bool, AllocError>
+    requires { AreNamedProductions named.now }
     ensures { IfOk result (λ all. (look : List ℕ → LookaheadSet) → IsTrue all
-        ↔ DoesSlotReduce look states.now productions.now (slot_keys slots.now) number (option_set tokens.now)) }
+        ↔ DoesSlotReduce look states.now named.now.table.now.productions.items (slot_keys slots.now) number (option_set tokens.now)) }
 {
     match tokens {
         None => Ok(true),
         Some(set) => match slots.slot_at(number) {
             None => Ok(true),
             Some(slot) => {
+                let productions = named.productions_of(slot.name);
                 let all = all_reduce_of(alloc, terminals, states, productions, slot, set)?;
                 Ok(all)
             }
@@ -195,19 +199,20 @@ pub(crate) fn all_reduce(
     alloc: Global,
     terminals: &TerminalSet,
     states: &[Lr1State<'_>],
-    productions: &[&Production],
+    named: &NamedProductions<'_, '_>,
     slots: &Slots<'_>,
     sets: &[Option<TokenSet>],
 ) -> Result<bool, AllocError>
+    requires { AreNamedProductions named.now }
     ensures { IfOk result (λ all. (look : List ℕ → LookaheadSet) → IsTrue all
-        ↔ HoldsAtEach (λ j tokens. DoesSlotReduce look states.now productions.now (slot_keys slots.now) j (option_set tokens)) sets.now) }
+        ↔ HoldsAtEach (λ j tokens. DoesSlotReduce look states.now named.now.table.now.productions.items (slot_keys slots.now) j (option_set tokens)) sets.now) }
 {
     for number in 0..sets.len() {
         let reduces = slot_reduces(
             alloc,
             terminals,
             states,
-            productions,
+            named,
             slots,
             number,
             &sets[number],

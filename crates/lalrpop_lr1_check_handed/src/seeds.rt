@@ -4,6 +4,8 @@ ghost use Rattle.std.specs.Prelude.{◌≡◌, ◌↔◌, IsTrue, OnOk, drop, ma
 ghost use Rattle.lalrpop_lr1_items.specs.Views.{production_symbol_view};
 ghost use Rattle.lalrpop_lr1_first.specs.FirstSetsOf.{AreFirstSetsOf};
 ghost use Rattle.lalrpop_lr1_first.specs.Listings.{lent};
+ghost use Rattle.lalrpop_lr1_first.specs.NumberedGrammars.{table_productions};
+ghost use Rattle.lalrpop_lr1_check_names.specs.NamedLists.{AreNamedProductions};
 ghost use Rattle.lalrpop_lr1_check_handed.specs.Brought.{BeginBrings, BringsMark, ClosesMarks, ItemBrings, OfSome, OfSomePlace};
 ghost use Rattle.lalrpop_lr1_check_handed.specs.HandSlots.{AreSlots, GainsSlotMarks, slot_key};
 
@@ -11,6 +13,7 @@ use crate::rests::{name_at, tokens_of};
 use crate::slots::{Slot, Slots};
 use lalrpop_grammar_repr::{Grammar, Production, Symbol};
 use lalrpop_grammar_symbols::NonterminalString;
+use lalrpop_lr1_check_names::NamedProductions;
 use lalrpop_lr1_first::FirstSets;
 use lalrpop_lr1_items::{Lr1Item, Lr1State};
 use std::alloc::{AllocError, Global};
@@ -132,15 +135,17 @@ pub(crate) fn close_slots<'g>(
     alloc: Global,
     grammar: &Grammar,
     firsts: &FirstSets,
-    productions: &[&'g Production],
+    named: &NamedProductions<'_, 'g>,
     slots: &mut Slots<'g>,
 ) -> Result<(), AllocError>
     requires firsts { AreFirstSetsOf grammar.now firsts.now }
+    requires named { AreNamedProductions named.now }
     requires slots { AreSlots slots.old }
-    ensures { OnOk result (ClosesMarks grammar.now (lent productions.now) slots.old slots.new) }
+    ensures { OnOk result (ClosesMarks grammar.now (table_productions named.now.table.now) slots.old slots.new) }
 {
     let mut number = 0;
     while let Some(slot) = slots.slot_at(number) {
+        let productions = named.productions_of(slot.name);
         hand_begins(alloc, grammar, firsts, slot, productions, slots)?;
         number += 1;
     }

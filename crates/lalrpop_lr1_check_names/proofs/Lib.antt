@@ -2,3 +2,5 @@ pub mod ClauseLemmas
 pub mod FollowLemmas
 pub mod NameLemmas
 pub mod RuleLemmas
+pub mod SearchLemmas
+pub mod NamedLemmas

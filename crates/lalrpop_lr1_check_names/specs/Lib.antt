@@ -2,3 +2,4 @@ pub mod Clauses
 pub mod ClauseRules
 pub mod RuleClauses
 pub mod NameMarks
+pub mod NamedLists

@@ -1,7 +1,6 @@
 -- What marks say of a grammar's names: for the test that nothing barren is reached.
 use Rattle.std.specs.Prelude.{ℕ, ◌≡◌, ◌↔◌, Bool, List, Contains, Option, None, Some, slice_get}
 use Rattle.lalrpop_grammar_symbols.specs.Symbols.{Text}
-use Rattle.lalrpop_grammar_symbols.specs.declared.names.NonterminalString.{NonterminalString}
 use Rattle.lalrpop_lr1_theory.specs.Productions as theory
 use Rattle.lalrpop_lr1_check_laws.specs.NameClosures.{IsNameReached, IsProductive}
 use Rattle.lalrpop_lr1_first.specs.NumberedGrammars.{IsSeenIn, table_names, table_productions}
@@ -24,7 +23,7 @@ AreReached table start marks =
     (B : Text) → IsNumberOf table start B → (s : ℕ) (A : Text) → IsNumberOf table s A →
     IsMarked marks s ↔ IsNameReached (IsSeenIn (table_productions table)) B A
 
--- the place of the name, or none where it isn't there
-abbrev pub IsMarkPlace : List NonterminalString → NonterminalString → Option ℕ → Type 0
-IsMarkPlace names name None = Contains names name → ⊥
-IsMarkPlace names name (Some k) = slice_get names k ≡ Some name
+-- a place of the element in the list, or none where it isn't there
+abbrev pub IsPlaceOfElement : {X : Type 0} → List X → X → Option ℕ → Type 0
+IsPlaceOfElement xs x None = Contains xs x → ⊥
+IsPlaceOfElement xs x (Some k) = slice_get xs k ≡ Some x

@@ -3,12 +3,12 @@
 ghost use Rattle.std.specs.Prelude.{◌≡◌, ◌<◌, ◌↔◌, ℕ, IfOk, IsTrue, false, length, set, true};
 ghost use Rattle.lalrpop_lr1_theory.specs.ValidItems.{NoneBarren};
 ghost use Rattle.lalrpop_lr1_first.specs.FirstNumbers.{name_count};
-ghost use Rattle.lalrpop_lr1_first.specs.Listings.{lent};
 ghost use Rattle.lalrpop_lr1_first.specs.NumberedGrammars.{IsNumberTable, IsSeenIn, table_productions};
 ghost use Rattle.lalrpop_lr1_check_names.specs.Clauses.{IsMarked, has_mark};
-ghost use Rattle.lalrpop_lr1_check_names.specs.NameMarks.{AreProductive, AreReached, IsMarkPlace};
+ghost use Rattle.lalrpop_lr1_check_names.specs.NameMarks.{AreProductive, AreReached};
 
 use crate::clauses::{close, is_marked};
+use crate::lookup::place_of;
 use crate::rule_names::{reach_clauses, tree_clauses};
 use lalrpop_grammar_symbols::NonterminalString;
 use lalrpop_lr1_first::Numbered;
@@ -69,25 +69,6 @@ pub fn reached_names(
     set_mark(&mut marks, start);
     let closed = close(alloc, clauses.as_slice(), marks)?;
     Ok(closed)
-}
-
-/// Whether the names are one.
-fn is_same_name(name: &NonterminalString, other: &NonterminalString) -> bool
-    ensures { IsTrue result ↔ (name.now ≡ other.now) }
-{
-    name == other
-}
-
-/// The place of the name, if it is one of these.
-pub fn place_of(names: &[&NonterminalString], name: &NonterminalString) -> Option<usize>
-    ensures { IsMarkPlace (lent names.now) name.now result }
-{
-    for place in 0..names.len() {
-        if is_same_name(names[place], name) {
-            return Some(place);
-        }
-    }
-    None
 }
 
 /// Whether the number is marked in the second, if it is in the first.

@@ -8,8 +8,12 @@
 
 mod barren;
 mod clauses;
+mod lookup;
+mod named;
 mod rule_names;
 
-pub use barren::{no_marks, none_is_barren, place_of, productive_names, reached_names, set_mark};
+pub use barren::{no_marks, none_is_barren, productive_names, reached_names, set_mark};
 pub use clauses::{Clause, close, is_marked};
+pub use lookup::place_of;
+pub use named::NamedProductions;
 pub use rule_names::reach_clause;

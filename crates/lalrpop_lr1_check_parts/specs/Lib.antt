@@ -1,5 +1,6 @@
 pub mod ListTests
 pub mod ApartSets
+pub mod ItemHashes
 pub mod ListedItems
 pub mod SeenEdges
 pub mod Moves

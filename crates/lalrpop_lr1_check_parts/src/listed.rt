@@ -1,16 +1,25 @@
 //! The items of all states, to be asked for.
 
 ghost use Rattle.std.specs.Prelude.{◌≡◌, ◌↔◌, ◌∷◌, [], IfOk, IsTrue, OnOk, Contains, length, map};
+ghost use Rattle.lalrpop_lr1_check_parts.specs.ItemHashes.{item_hash, same_hash};
 ghost use Rattle.lalrpop_lr1_check_parts.specs.ListTests.{GainsElements, HaveSameElements};
-ghost use Rattle.lalrpop_lr1_check_parts.specs.ListedItems.{item_key, key_at, key_of_item, keys_of_states, moved_keys, AreKernels};
+ghost use Rattle.lalrpop_lr1_check_parts.specs.ListedItems.{
+  AreKernels,
+  item_key,
+  key_at,
+  key_of_item,
+  keys_of_states,
+  moved_keys,
+};
 
 use indexmap::IndexSet;
 use lalrpop_grammar_repr::Production;
 use lalrpop_lr1_items::{Lr1Item, Lr1State};
 use std::alloc::{AllocError, Global};
+use std::hash::{Hash, Hasher};
 
 /// An item of a state, without its lookahead.
-#[derive(Clone, Copy, PartialEq, Eq, Hash)]
+#[derive(Clone, Copy, PartialEq, Eq)]
 pub(crate) struct ListedItem<'g> {
     /// The number of the state.
     pub(crate) state: usize,
@@ -18,6 +27,20 @@ pub(crate) struct ListedItem<'g> {
     pub(crate) production: &'g Production,
     /// How many of its symbols stand before the dot.
     pub(crate) dot: usize,
+}
+
+// A production is hashed by the number of its action alone, which tells the productions of a grammar apart.
+impl<'g> Hash for ListedItem<'g> {
+    ghost hash_input = { λ item. item_hash item.state item.production.now.action.0 item.dot };
+
+    ghost respects_eq = { λ one other equal.
+        same_hash one.state other.state one.production.now other.production.now one.dot other.dot equal };
+
+    fn hash<H: Hasher>(&self, state: &mut H) {
+        self.state.hash(state);
+        self.production.action.hash(state);
+        self.dot.hash(state);
+    }
 }
 
 /// Lists an item.

@@ -16,3 +16,4 @@ pub use counts::LeastTree;
 pub use least::least_trees;
 pub use moves::least_moves;
 pub use rule::{NumberMove, Rule};
+pub use uses::empty_lists;

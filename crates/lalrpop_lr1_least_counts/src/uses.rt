@@ -8,7 +8,7 @@ use crate::rule::Rule;
 use std::alloc::{AllocError, Global};
 
 /// As many empty lists.
-fn empty_lists(alloc: Global, count: usize) -> Result<Vec<Vec<usize>>, AllocError>
+pub fn empty_lists(alloc: Global, count: usize) -> Result<Vec<Vec<usize>>, AllocError>
     ensures count { IfOk result (λ lists. length lists.items ≡ count) }
     ensures empty { IfOk result (λ lists. (k : ℕ) → slice_index_or (number_lists lists.items) k [] ≡ []) }
 {

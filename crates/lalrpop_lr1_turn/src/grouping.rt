@@ -1,6 +1,6 @@
 //! The items of a state with the dot moved over the symbol behind it, by the numbers of these symbols.
 
-ghost use Rattle.std.specs.Prelude.{◌≡◌, ◌++◌, ◌∷◌, ◌<◌, ◌+◌, ℕ, [], length, IfOk, OnOk};
+ghost use Rattle.std.specs.Prelude.{◌≡◌, ◌++◌, ◌∷◌, ◌<◌, ◌+◌, ℕ, [], length, IfOk, OnOk, IsTrue};
 ghost use Rattle.lalrpop_lr1_first.specs.FirstNumbers.{symbol_count};
 ghost use Rattle.lalrpop_lr1_first.specs.NumberedGrammars.{IsNumberTable};
 ghost use Rattle.lalrpop_lr1_turn.specs.Shifts.{items_of_group, shifted_items, symbol_behind};
@@ -22,6 +22,19 @@ fn symbol_at(places: &[Place], place: usize) -> Option<usize>
             Place::Symbol(symbol) => Some(symbol),
         },
     }
+}
+
+/// Whether no symbol stands behind the dot of any of the items.
+pub(crate) fn moves_nothing<L: KernelLookahead>(table: &Numbered<'_>, items: &[(usize, L)]) -> bool
+    ensures { IsTrue result → (s : ℕ) → shifted_items table.now.places.items s items.now ≡ [] }
+{
+    for item in items {
+        match symbol_at(table.places(), item.0) {
+            None => {}
+            Some(_) => return false,
+        }
+    }
+    true
 }
 
 /// As many groups without items.

@@ -6,7 +6,7 @@ ghost use Rattle.lalrpop_lr1_turn.specs.Kernels.{AreKernelItems};
 ghost use Rattle.lalrpop_lr1_turn.specs.Turns.{AreNumberedStates, IsTurn};
 
 use crate::edges::add_edges;
-use crate::grouping::group_items;
+use crate::grouping::{group_items, moves_nothing};
 use crate::kernel::StateKernel;
 use crate::kernel_lookahead::KernelLookahead;
 use crate::merging::close_kernel;
@@ -38,6 +38,13 @@ fn state_of<L: KernelLookahead>(
         kernels.old.kernels kernels.new.kernels state) }
 {
     let items = close_kernel(alloc, closures, kernel.items.as_slice())?;
+    // most states of long chains of rules lead nowhere, so they take no time by the number of symbols
+    if moves_nothing(closures.table(), items.as_slice()) {
+        return Ok(NumberedState {
+            items,
+            edges: List::new(alloc),
+        });
+    }
     let groups = group_items(alloc, closures.table(), items.as_slice())?;
     let edges = add_edges(alloc, groups, kernels)?;
     Ok(NumberedState { items, edges })

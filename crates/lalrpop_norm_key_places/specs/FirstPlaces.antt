@@ -1,5 +1,5 @@
 -- Where a key is met first.
-use Rattle.std.specs.Prelude.{◌≡◌, List, [], ◌∷◌, ◌++◌, Option, Some, None}
+use Rattle.std.specs.Prelude.{◌≡◌, ℕ, List, [], ◌∷◌, ◌++◌, Option, Some, None, length, slice_get}
 use Rattle.lalrpop_grammar_symbols.specs.Symbols.{Closed, TextSpan}
 use Rattle.lalrpop_grammar_language.specs.Among.{Among}
 use Rattle.lalrpop_norm_key_place_law.specs.MetKeys.{MetKey}
@@ -19,6 +19,12 @@ pub record IsMetFirst (ms : List MetKey) (x : Closed) (p : TextSpan) : Type 0 wh
 abbrev pub IsFirstPlace : List MetKey → Closed → Option TextSpan → Type 0
 IsFirstPlace ms x None = IsNotMet ms x
 IsFirstPlace ms x (Some p) = IsMetFirst ms x p
+
+-- the keys that are met, and where each is met first
+pub record TellFirst (ms : List MetKey) (keys : List Closed) (spans : List TextSpan) : Type 0 where
+  pub long : length spans ≡ length keys
+  pub all : (x : Closed) (p : TextSpan) → Among ms (x, p) → Among keys x
+  pub first : (i : ℕ) (x : Closed) → slice_get keys i ≡ Some x → (p : TextSpan) × (slice_get spans i ≡ Some p) × IsMetFirst ms x p
 
 -- where the key's rule stands: where the key is met first; one that is met nowhere, at the other place
 pub data IsKeySpan (ms : List MetKey) (other : TextSpan) (x : Closed) (p : TextSpan) : Type 0 where

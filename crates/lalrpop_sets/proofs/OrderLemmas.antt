@@ -1,5 +1,5 @@
 -- Ascending lists of the bits of words, from a number on: how two of them compare, for order.
-use Rattle.std.proofs.Common.{◌≡◌, ℕ, suc, ◌+◌, ◌*◌, ◌-◌, ◌<◌, ◌≤◌, Bool, true, false, cond}
+use Rattle.std.proofs.Common.{◌≡◌, ℕ, zero, suc, ◌+◌, ◌*◌, ◌-◌, ◌<◌, ◌≤◌, Bool, true, false, cond}
 use Rattle.std.proofs.Common.{if◌then◌else◌, List, [], ◌∷◌}
 use Rattle.std.proofs.Common.{length, filter, refl, sym, ap, ◌∙◌, arith, ◌⊎◌, inl, inr, Option, Some, None}
 use Rattle.std.proofs.lemmas.Bool.{cases_lt}
@@ -49,6 +49,22 @@ pub found_step : (ws : List ℕ) (n k : ℕ) (b : Bool) → k < n → has_bit ws
 found_step ws n k b h e =
     let z : n - k ≡ suc (n - (k + 1)) = omega arith in
     ap (λ m. filter (has_bit ws) (range_with_len k m)) z ∙ ap (λ x. cond x (k ∷ found ws n (k + 1)) (found ws n (k + 1))) e
+
+-- clear bits are found nowhere: for walks that pass over them
+found_skip : (ws : List ℕ) (n k m : ℕ) → k + m ≤ n → ((j : ℕ) → k ≤ j → j < k + m → has_bit ws j ≡ false)
+    → found ws n (k + m) ≡ found ws n k
+found_skip ws n k zero l clear = ap (found ws n) (omega arith)
+found_skip ws n k (suc m) l clear =
+    let same : k + suc m ≡ (k + 1) + m = omega arith in
+    ap (found ws n) same ∙ found_skip ws n (k + 1) m (omega arith) (λ j low high. clear j (omega arith) (omega arith))
+    ∙ sym (found_step ws n k false (omega arith) (clear k (omega arith) (omega arith)))
+
+-- what is found from the next place on, and from the one behind a place
+pub found_next : (ws : List ℕ) (n k next : ℕ) → k < next → next ≤ n → ((j : ℕ) → k < j → j < next → has_bit ws j ≡ false)
+    → found ws n next ≡ found ws n (k + 1)
+found_next ws n k next later within clear =
+    let same : next ≡ (k + 1) + (next - (k + 1)) = omega arith in
+    ap (found ws n) same ∙ found_skip ws n (k + 1) (next - (k + 1)) (omega arith) (λ j low high. clear j (omega arith) (omega arith))
 
 pub found_none : (ws : List ℕ) (n k : ℕ) → n ≤ k → found ws n k ≡ []
 found_none ws n k h =

@@ -1,5 +1,5 @@
 -- Words of 64 bits as sets of bit numbers: what a write, a union or a test of words means for the bits, for all of words and token_set.
-use Rattle.std.proofs.Common.{◌≡◌, ℕ, zero, suc, ◌+◌, ◌*◌, ◌/◌, ◌%◌, ◌^◌, ◌<◌, ◌≤◌, Bool}
+use Rattle.std.proofs.Common.{◌≡◌, ℕ, zero, suc, ◌+◌, ◌-◌, ◌*◌, ◌/◌, ◌%◌, ◌^◌, ◌<◌, ◌≤◌, Bool}
 use Rattle.std.proofs.Common.{true, false, not, ◌||◌, ◌&&◌, cond, eqb, List, [], ◌∷◌, ◌++◌, length, get_or, set, refl}
 use Rattle.std.proofs.Common.{sym, ap, ◌∙◌, subst, arith, ◌⊎◌, inl, inr, ⊎_elim, IsTrue, IsFalse, Result, Ok, Err, IfErr}
 use Rattle.std.proofs.Common.{filter, max, min, nat_lt, add-zero, bit_and, bit_or, length-append}
@@ -565,6 +565,30 @@ below_more ws k =
     let e : k + 1 ≡ suc k = omega arith in
     let z : 0 + k ≡ k = omega arith in
     ap (bits_below ws) e ∙ len_more (has_bit ws) 0 k ∙ ap (λ m. bits_below ws k + cond (has_bit ws m) 1 0) z
+
+-- clear bits count for nothing: for counting that passes over them
+below_skip : (ws : List ℕ) (k m : ℕ) → ((j : ℕ) → k ≤ j → j < k + m → has_bit ws j ≡ false)
+    → bits_below ws (k + m) ≡ bits_below ws k
+below_skip ws k zero clear = ap (bits_below ws) (omega arith)
+below_skip ws k (suc m) clear =
+    let same : k + suc m ≡ (k + m) + 1 = omega arith in
+    let here = below_more ws (k + m) ∙ ap (λ b. bits_below ws (k + m) + cond b 1 0) (clear (k + m) (omega arith) (omega arith)) in
+    let before = below_skip ws k m (λ j l h. clear j l (omega arith)) in
+    ap (bits_below ws) same ∙ (omega (arith, here, before))
+
+-- as many bits are below the next place as below the one behind a place
+pub below_next : (ws : List ℕ) (k next : ℕ) → k < next → ((j : ℕ) → k < j → j < next → has_bit ws j ≡ false)
+    → bits_below ws next ≡ bits_below ws (k + 1)
+below_next ws k next later clear =
+    let same : next ≡ (k + 1) + (next - (k + 1)) = omega arith in
+    ap (bits_below ws) same ∙ below_skip ws (k + 1) (next - (k + 1)) (λ j l h. clear j (omega arith) (omega arith))
+
+-- a word that is 0 has no bit
+pub clear_word : (ws : List ℕ) (k : ℕ) → k % 64 ≡ 0 → get_or ws (k / 64) 0 ≡ 0 → (j : ℕ) → k ≤ j → j < k + 64 → has_bit ws j ≡ false
+clear_word ws k begins none j l h =
+    let at : j / 64 ≡ k / 64 = omega arith in
+    let empty : get_or ws (j / 64) 0 ≡ 0 = ap (λ i. get_or ws i 0) at ∙ none in
+    bit_is ws j ∙ ap (λ w. eqb (bit_at w (j % 64)) 1) empty ∙ ap (λ b. eqb b 1) (bit_at-zero (j % 64))
 
 -- below the end of the words as many bits are set as the list of them is long: what counting all of them gives
 pub below_all : (ws : List ℕ) → bits_below ws (64 * length ws) ≡ length (bit_numbers ws)

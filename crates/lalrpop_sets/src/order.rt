@@ -6,7 +6,7 @@ ghost use Rattle.std.specs.Hash as fed;
 ghost use Rattle.std.specs.Ordering.{nat_cmp};
 ghost use Rattle.lalrpop_sets.specs.Bits.{bits_from, has_bit, is_nonempty, bit_numbers, parting};
 
-use crate::words::{MOST_WORDS, count, test_bit};
+use crate::words::{MOST_WORDS, count, next_place, test_bit};
 use std::cmp::Ordering;
 use std::hash::Hasher;
 
@@ -15,10 +15,12 @@ fn goes_on(words: &[u64], from: usize) -> bool
     requires { length words.now ≤ MOST_WORDS }
     ensures { result ≡ is_nonempty (bits_from words.now from) }
 {
-    for k in from..64 * words.len() {
+    let mut k = from;
+    while k < 64 * words.len() {
         if test_bit(words, k) {
             return true;
         }
+        k = next_place(words, k);
     }
     false
 }
@@ -92,7 +94,9 @@ pub(crate) fn hash_numbers<H: Hasher>(words: &[u64], state: &mut H)
     ensures { state.new ≡ fold H.write state.old (fed.slice fed.usize (bit_numbers words.now)) }
 {
     state.write_usize(count(words));
-    for k in 0..64 * words.len() {
+    let mut k = 0;
+    while k < 64 * words.len() {
         feed(words, k, state);
+        k = next_place(words, k);
     }
 }

@@ -1,6 +1,6 @@
 //! Sets of numbers as bits of words: number k is bit k % 64 of word k / 64.
 
-ghost use Rattle.std.specs.Prelude.{◌≡◌, ◌<◌, ◌≤◌, ◌||◌, ◌&&◌, ℕ, ◌/◌, not, true, false, IsTrue, IsFalse, length, IfOk, nat_eq, eqb};
+ghost use Rattle.std.specs.Prelude.{◌≡◌, ◌*◌, ◌<◌, ◌≤◌, ◌||◌, ◌&&◌, ℕ, ◌/◌, not, true, false, IsTrue, IsFalse, length, IfOk, nat_eq, eqb};
 ghost use Rattle.lalrpop_sets.specs.Bits.{has_bit, bit_numbers};
 
 use std::alloc::{AllocError, Global};
@@ -106,16 +106,33 @@ pub(crate) fn test_bit(words: &[u64], k: usize) -> bool
     i < words.len() && (words[i] >> (k % 64)) & 1 == 1
 }
 
+/// The next place at which a bit may be set: behind the word that begins at the place, where that has none.
+pub(crate) fn next_place(words: &[u64], k: usize) -> usize
+    requires most { length words.now ≤ MOST_WORDS }
+    requires place { k < 64 * length words.now }
+    ensures later { k < result }
+    ensures within { result ≤ 64 * length words.now }
+    ensures clear { (j : ℕ) → k < j → j < result → has_bit words.now j ≡ false }
+{
+    if k % 64 == 0 && words[k / 64] == 0 {
+        k + 64
+    } else {
+        k + 1
+    }
+}
+
 /// How many bits are set.
 pub(crate) fn count(words: &[u64]) -> usize
     requires { length words.now ≤ MOST_WORDS }
     ensures { result ≡ length (bit_numbers words.now) }
 {
     let mut set = 0;
-    for k in 0..64 * words.len() {
+    let mut k = 0;
+    while k < 64 * words.len() {
         if test_bit(words, k) {
             set += 1;
         }
+        k = next_place(words, k);
     }
     set
 }

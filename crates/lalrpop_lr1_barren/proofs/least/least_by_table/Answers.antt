@@ -1,6 +1,8 @@
 use Rattle.std.proofs.Common.{◌≡◌, ◌<◌, ◌-◌, ℕ, Some, ap, arith, length, slice_get, subst, sym}
 use Rattle.std.specs.Prelude.{get_or}
 use Rattle.std.proofs.lemmas.Option.{slice_get_within}
+use Rattle.std.specs.List.Sorted.{IsStrictlySortedBy}
+use Rattle.lalrpop_grammar_symbols.specs.contracts.names.NonterminalStringOrd.TheImpl as names_order
 use Rattle.lalrpop_lr1_first.specs.FirstNumbers.{name_count}
 use Rattle.lalrpop_lr1_first.specs.Listings.{lent}
 use Rattle.lalrpop_lr1_first.specs.NumberedGrammars.{IsSeenIn, table_names, table_productions}
@@ -8,27 +10,31 @@ use Rattle.lalrpop_lr1_first.specs.Tables.{symbol_or}
 use Rattle.lalrpop_lr1_first.proofs.ListLemmas.{get_slice}
 use Rattle.lalrpop_lr1_first.proofs.TableLemmas.{get_mapped, long_map}
 use Rattle.lalrpop_lr1_check_names.specs.Clauses.{IsMarked}
-use Rattle.lalrpop_lr1_check_names.specs.NameMarks.{IsMarkPlace, IsNumberOf}
+use Rattle.lalrpop_lr1_check_names.specs.NameMarks.{IsNumberOf, IsPlaceOfElement}
 use Rattle.lalrpop_lr1_check_names.proofs.ClauseLemmas.{marked_within}
 use Rattle.lalrpop_lr1_barren.specs.LeastBarren.{IsFirstMissing, IsLeastBarren}
 use Rattle.lalrpop_lr1_barren.proofs.BarrenLemmas.{absent_least, first_least, none_least}
 use Rattle.lalrpop_lr1_barren.proofs.least.least_by_table.Goals as goal
+
+pub place_of-requires : goal.place_of-requires
+place_of-requires c =
+    subst (λ ns. IsStrictlySortedBy (names_order.ghosts).cmp (lent ns)) (sym c.names.ensures) c.requires.names
 
 pub reached_names-requires-clause-start : goal.reached_names-requires-clause-start
 reached_names-requires-clause-start c =
     let t = c.args.table.now in
     let k = c.in-Some.place in
     let at : slice_get (table_names t) k ≡ Some c.args.start.now =
-    subst (IsMarkPlace (table_names t) c.args.start.now) c.in-Some.is
-    (subst (λ ns. IsMarkPlace (lent ns) c.args.start.now c.place_of.result) c.names.ensures c.place_of.ensures) in
+    subst (IsPlaceOfElement (table_names t) c.args.start.now) c.in-Some.is
+    (subst (λ ns. IsPlaceOfElement (lent ns) c.args.start.now c.place_of.result) c.names.ensures c.place_of.ensures) in
     omega (arith, slice_get_within (table_names t) k c.args.start.now at, long_map (λ b. b.now) t.names.items)
 
 pub returns-in-None : goal.returns-in-None
 returns-in-None c =
     let t = c.args.table.now in
     let start = c.args.start.now in
-    let none = subst (IsMarkPlace (table_names t) start) c.in-None.is
-    (subst (λ ns. IsMarkPlace (lent ns) start c.place_of.result) c.names.ensures c.place_of.ensures) in
+    let none = subst (IsPlaceOfElement (table_names t) start) c.in-None.is
+    (subst (λ ns. IsPlaceOfElement (lent ns) start c.place_of.result) c.names.ensures c.place_of.ensures) in
     subst (λ found. IsLeastBarren (IsSeenIn (table_productions t)) start.0 (Some found)) (sym c.in_ok-try_clone-in-None.ensures)
     (absent_least t c.requires start none)
 
@@ -38,8 +44,8 @@ returns-in-None-first_lacking c =
     let start = c.args.start.now in
     let k = c.in-Some.place in
     let at : slice_get (table_names t) k ≡ Some start =
-    subst (IsMarkPlace (table_names t) start) c.in-Some.is
-    (subst (λ ns. IsMarkPlace (lent ns) start c.place_of.result) c.names.ensures c.place_of.ensures) in
+    subst (IsPlaceOfElement (table_names t) start) c.in-Some.is
+    (subst (λ ns. IsPlaceOfElement (lent ns) start c.place_of.result) c.names.ensures c.place_of.ensures) in
     let number_is : IsNumberOf t k start.0 =
     ap (λ o. symbol_or o (slice_get t.terminals.now.all (k - length (table_names t)))) at in
     let reached = c.in_ok-reached-in-Some.reached.items in
@@ -59,8 +65,8 @@ returns c =
     let start = c.args.start.now in
     let k = c.in-Some.place in
     let at : slice_get (table_names t) k ≡ Some start =
-    subst (IsMarkPlace (table_names t) start) c.in-Some.is
-    (subst (λ ns. IsMarkPlace (lent ns) start c.place_of.result) c.names.ensures c.place_of.ensures) in
+    subst (IsPlaceOfElement (table_names t) start) c.in-Some.is
+    (subst (λ ns. IsPlaceOfElement (lent ns) start c.place_of.result) c.names.ensures c.place_of.ensures) in
     let number_is : IsNumberOf t k start.0 =
     ap (λ o. symbol_or o (slice_get t.terminals.now.all (k - length (table_names t)))) at in
     let reached = c.in_ok-reached-in-Some.reached.items in

@@ -1,17 +1,18 @@
 use Rattle.std.proofs.Common.{◌≡◌, ◌∙◌, ◌↔◌, subst, sym, true, false}
 use Rattle.lalrpop_lr1_first.specs.NumberedGrammars.{IsSeenIn, table_productions}
-use Rattle.lalrpop_lr1_check_brings.specs.BeginClauses.{AreBeginClauses}
+use Rattle.lalrpop_lr1_least_counts.specs.Searches.{number_lists}
+use Rattle.lalrpop_lr1_check_brings.specs.BeginLists.{AreBeginLists}
 use Rattle.lalrpop_lr1_check_brings.specs.BringTests.{BringsFromStart}
 use Rattle.lalrpop_lr1_check_brings.proofs.BringLemmas.{brings_seen, seen_first, seen_targets}
 use Rattle.lalrpop_lr1_check_brings.proofs.bringing.brings_items.Goals as goal
 
-pub brings_from_start-requires-clause-clauses : goal.brings_from_start-requires-clause-clauses
-brings_from_start-requires-clause-clauses c =
-    subst (AreBeginClauses c.args.table.now) (sym c.as_slice.ensures.value) c.in_ok-clauses.ensures
+pub brings_from_start-requires-clause-begins : goal.brings_from_start-requires-clause-begins
+brings_from_start-requires-clause-begins c =
+    subst (λ l. AreBeginLists c.args.table.now (number_lists l)) (sym c.as_slice.ensures.value) c.in_ok-begins.ensures
 
-pub targets_bring_own-requires-clause-clauses : goal.targets_bring_own-requires-clause-clauses
-targets_bring_own-requires-clause-clauses c =
-    subst (AreBeginClauses c.args.table.now) (sym c.as_slice-then-from_start.ensures.value) c.in_ok-clauses.ensures
+pub targets_bring_own-requires-clause-begins : goal.targets_bring_own-requires-clause-begins
+targets_bring_own-requires-clause-begins c =
+    subst (λ l. AreBeginLists c.args.table.now (number_lists l)) (sym c.as_slice-then-from_start.ensures.value) c.in_ok-begins.ensures
 
 pub returns-then-from_start : goal.returns-then-from_start
 returns-then-from_start c = λ look.

@@ -1,7 +1,7 @@
 use Rattle.lalrpop_grammar_repr.specs.contracts.production.ProductionOrd.TheImpl as production_order
 use Rattle.lalrpop_grammar_repr.specs.contracts.production.ProductionOrd.TheImpl.Laws.{total-law}
 use Rattle.lalrpop_lr1_first.proofs.OrderLemmas.{exact_production}
-use Rattle.lalrpop_lr1_check_brings.proofs.SearchLemmas.{search_found, search_missed}
+use Rattle.lalrpop_lr1_check_names.proofs.SearchLemmas.{search_found, search_missed}
 use Rattle.lalrpop_lr1_check_brings.proofs.lookup.place_of_production.Goals as goal
 
 pub returns-in-Ok : goal.returns-in-Ok

@@ -1,9 +1,7 @@
-use Rattle.std.proofs.Common.{◌≡◌, ◌∙◌, ap, length, subst, sym}
-use Rattle.lalrpop_lr1_first.specs.FirstNumbers.{name_count}
+use Rattle.std.proofs.Common.{◌≡◌, ◌∙◌, ap, length}
 use Rattle.lalrpop_lr1_first.specs.NumberedGrammars.{table_names}
 use Rattle.std.proofs.Common.{Some, slice_get}
-use Rattle.lalrpop_lr1_check_names.specs.Clauses.{ClausesAreWithin}
-use Rattle.lalrpop_lr1_check_brings.proofs.BeginLemmas.{begins_within, closed_marks}
+use Rattle.lalrpop_lr1_check_brings.proofs.BeginLemmas.{closed_marks}
 use Rattle.lalrpop_lr1_check_brings.proofs.MarkLemmas.{gained_marks}
 use Rattle.lalrpop_lr1_check_brings.proofs.NamesBehindLemmas.{start_marks}
 use Rattle.lalrpop_lr1_check_brings.proofs.names_behind.begun_names.Goals as goal
@@ -11,12 +9,8 @@ use Rattle.lalrpop_lr1_check_brings.proofs.names_behind.begun_names.Goals as goa
 pub mark_name-requires-clause-count : goal.mark_name-requires-clause-count
 mark_name-requires-clause-count c = c.in_ok-marks.ensures.count ∙ ap length c.names.ensures
 
-pub close-requires : goal.close-requires
-close-requires c =
-    let t = c.args.table.now in
-    let long : name_count t ≡ length c.mark_name.new.marks.items =
-    sym (c.mark_name.ensures.count ∙ c.in_ok-marks.ensures.count ∙ ap length c.names.ensures) in
-    subst (λ n. ClausesAreWithin n c.args.clauses.now) long (begins_within t c.requires.table c.args.clauses.now c.requires.clauses)
+pub close_names-requires-clause-count : goal.close_names-requires-clause-count
+close_names-requires-clause-count c = c.mark_name.ensures.count ∙ c.in_ok-marks.ensures.count ∙ ap length c.names.ensures
 
 pub returns : goal.returns
 returns c =
@@ -27,4 +21,4 @@ returns c =
     closed_marks t c.requires.table first (λ A. A ≡ start.0)
     (start_marks t c.requires.table first start
     (gained_marks none first (λ s. slice_get (table_names t) s ≡ Some start) c.in_ok-marks.ensures.empty c.mark_name.ensures))
-    c.args.clauses.now c.requires.clauses c.in_ok-closed.closed.items c.in_ok-closed.ensures.follows
+    c.in_ok-closed.closed.items c.in_ok-closed.ensures

@@ -6,12 +6,12 @@ use Rattle.lalrpop_grammar_symbols.specs.contracts.names.NonterminalStringOrd.Th
 use Rattle.lalrpop_lr1_first.specs.Listings.{lent}
 use Rattle.lalrpop_lr1_first.specs.NumberedGrammars.{table_names}
 use Rattle.lalrpop_lr1_first.proofs.TableLemmas.{long_map, once}
-use Rattle.lalrpop_lr1_check_brings.specs.MarkGains.{IsPlaceOfElement}
+use Rattle.lalrpop_lr1_check_names.specs.NameMarks.{IsPlaceOfElement}
 use Rattle.lalrpop_lr1_check_brings.proofs.MarkLemmas.{gains_missing, gains_place}
 use Rattle.lalrpop_lr1_check_brings.proofs.names_behind.mark_name.Goals as goal
 
-pub place_of_name-requires : goal.place_of_name-requires
-place_of_name-requires c =
+pub place_of-requires : goal.place_of-requires
+place_of-requires c =
     subst (λ l. IsStrictlySortedBy (order.ghosts).cmp (lent l)) (sym c.names.ensures) c.requires.table.names
 
 pub set_mark-requires : goal.set_mark-requires
@@ -19,7 +19,7 @@ set_mark-requires c =
     let t = c.args.table.now in
     let at : slice_get (table_names t) c.in-Some.place ≡ Some c.args.name.now =
     subst (IsPlaceOfElement (table_names t) c.args.name.now) c.in-Some.is
-    (subst (λ l. IsPlaceOfElement (lent l) c.args.name.now c.place_of_name.result) c.names.ensures c.place_of_name.ensures) in
+    (subst (λ l. IsPlaceOfElement (lent l) c.args.name.now c.place_of.result) c.names.ensures c.place_of.ensures) in
     omega (
       arith,
       slice_get_within (table_names t) c.in-Some.place c.args.name.now at,
@@ -32,14 +32,14 @@ returns-in-None c =
     let t = c.args.table.now in
     gains_missing (table_names t) c.args.name.now c.args.marks.now.items
     (subst (IsPlaceOfElement (table_names t) c.args.name.now) c.in-None.is
-    (subst (λ l. IsPlaceOfElement (lent l) c.args.name.now c.place_of_name.result) c.names.ensures c.place_of_name.ensures))
+    (subst (λ l. IsPlaceOfElement (lent l) c.args.name.now c.place_of.result) c.names.ensures c.place_of.ensures))
 
 pub returns-in-Some : goal.returns-in-Some
 returns-in-Some c =
     let t = c.args.table.now in
     let at : slice_get (table_names t) c.in-Some.place ≡ Some c.args.name.now =
     subst (IsPlaceOfElement (table_names t) c.args.name.now) c.in-Some.is
-    (subst (λ l. IsPlaceOfElement (lent l) c.args.name.now c.place_of_name.result) c.names.ensures c.place_of_name.ensures) in
+    (subst (λ l. IsPlaceOfElement (lent l) c.args.name.now c.place_of.result) c.names.ensures c.place_of.ensures) in
     let within : c.in-Some.place < length c.args.marks.now.items =
     omega (
       arith,

@@ -1,8 +1,8 @@
 use Rattle.std.proofs.Common.{◌≡◌, ◌↔◌, List, Option, ℕ, Contains, refl, subst, sym, true}
-use Rattle.std.specs.Borrow.{Bor}
-use Rattle.lalrpop_grammar_repr.specs.declared.production.Production.{Production}
 use Rattle.lalrpop_lr1_items.specs.Views.{token_lookahead}
 use Rattle.lalrpop_lr1_first.specs.Listings.{HoldSame, lent, productions_of_grammar}
+use Rattle.lalrpop_lr1_first.specs.NumberedGrammars.{table_productions}
+use Rattle.lalrpop_lr1_first.specs.declared.numbered.Numbered.{Numbered}
 use Rattle.lalrpop_lr1_check_parts.specs.ListTests.{HoldsAtEach}
 use Rattle.lalrpop_lr1_check_handed.specs.HandFlows.{AreFlown}
 use Rattle.lalrpop_lr1_check_handed.specs.HandReductions.{DoesSlotReduce, option_set}
@@ -16,14 +16,14 @@ flown_sets-requires-clause-are c = (c.in_ok-edges.ensures (token_lookahead c.arg
 
 pub flown_sets-requires-clause-tokens : goal.flown_sets-requires-clause-tokens
 flown_sets-requires-clause-tokens c =
-    let own = lent c.productions-productions.result.now in
+    let own = lent c.in_ok-named.named.table.now.productions.items in
     tokens_small c.args.grammar.now own own c.args.start.now.0 (token_lookahead c.args.grammar.now.terminals) c.args.states.now
     c.in_ok-slots.slots c.hand_edges.new.slots c.in_ok-edges.edges.items _ c.in_ok-slots.ensures
     (c.in_ok-edges.ensures (token_lookahead c.args.grammar.now.terminals))
 
 pub flown_sets-requires-clause-edges : goal.flown_sets-requires-clause-edges
 flown_sets-requires-clause-edges c = λ e m.
-    edges_between c.args.grammar.now (lent c.productions-productions.result.now) (token_lookahead c.args.grammar.now.terminals)
+    edges_between c.args.grammar.now (lent c.in_ok-named.named.table.now.productions.items) (token_lookahead c.args.grammar.now.terminals)
     c.args.states.now c.in_ok-slots.slots c.hand_edges.new.slots c.in_ok-edges.edges.items _
     (c.in_ok-edges.ensures (token_lookahead c.args.grammar.now.terminals)) e
     (subst (λ l. Contains l e) c.as_slice.ensures.value m)
@@ -31,13 +31,13 @@ flown_sets-requires-clause-edges c = λ e m.
 pub returns : goal.returns
 returns c = λ known.
     let g = c.args.grammar.now in
-    let own = c.productions-productions.result.now in
+    let own = c.in_ok-named.named.table.now.productions.items in
     let look = token_lookahead g.terminals in
     let states = c.args.states.now in
     let slots = c.hand_edges.new.slots in
     let sets = c.in_ok-sets.sets.items in
     let same : HoldSame (lent own) (productions_of_grammar g) =
-    subst (λ (l : List (Bor Production)). HoldSame (lent l) (productions_of_grammar g)) (sym c.productions-productions.ensures)
+    subst (λ (t : Numbered). HoldSame (table_productions t) (productions_of_grammar g)) (sym c.in_ok-named.ensures.table)
     c.requires.table.productions in
     let flown : AreFlown slots c.in_ok-edges.edges.items sets =
     subst (λ l. AreFlown slots l sets) c.as_slice.ensures.value c.in_ok-sets.ensures in

@@ -1,5 +1,5 @@
 use Rattle.std.proofs.Common.{◌≡◌, subst}
-use Rattle.lalrpop_lr1_first.specs.Listings.{lent}
+use Rattle.lalrpop_lr1_first.specs.NumberedGrammars.{table_productions}
 use Rattle.lalrpop_lr1_check_handed.specs.HandSlots.{GainsSlotMarks, IsMarkIn}
 use Rattle.lalrpop_lr1_check_handed.proofs.SeedLemmas.{seeds_are}
 use Rattle.lalrpop_lr1_check_handed.proofs.SlotLemmas.{key_of}
@@ -7,7 +7,7 @@ use Rattle.lalrpop_lr1_check_handed.proofs.handed.seeded_slots.Goals as goal
 
 pub returns : goal.returns
 returns c =
-    seeds_are c.args.grammar.now (lent c.args.productions.now) c.args.start.now.0 c.args.states.now c.new-slots.result
+    seeds_are c.args.grammar.now (table_productions c.args.named.now.table.now) c.args.start.now.0 c.args.states.now c.new-slots.result
     c.hand_all_items.new.slots c.close_slots.new.slots c.hand.new.self c.new-slots.ensures.keys c.in_ok-hand_all_items.ensures
     c.in_ok-close_slots.ensures
     (subst (λ l. GainsSlotMarks c.close_slots.new.slots c.hand.new.self

@@ -7,4 +7,4 @@ use Rattle.lalrpop_lr1_check_handed.proofs.reducing.all_reduce.Given as goal
 
 abbrev pub invariant-loop-number : goal.invariant-loop-number
 invariant-loop-number l = (look : List ℕ → LookaheadSet) →
-    HoldsAtFirst (λ j tokens. DoesSlotReduce look l.states l.productions (slot_keys l.slots) j (option_set tokens)) l.sets l.number
+    HoldsAtFirst (λ j tokens. DoesSlotReduce look l.states l.named.table.now.productions.items (slot_keys l.slots) j (option_set tokens)) l.sets l.number

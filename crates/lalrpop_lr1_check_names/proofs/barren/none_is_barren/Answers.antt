@@ -1,6 +1,8 @@
-use Rattle.std.proofs.Common.{◌≡◌, ◌<◌, ◌-◌, ◌↔◌, ℕ, Some, ap, arith, length, refl, slice_get, subst}
+use Rattle.std.proofs.Common.{◌≡◌, ◌<◌, ◌-◌, ◌↔◌, ℕ, Some, ap, arith, length, refl, slice_get, subst, sym}
 use Rattle.std.proofs.Common.{true}
 use Rattle.std.proofs.lemmas.Option.{slice_get_within}
+use Rattle.std.specs.List.Sorted.{IsStrictlySortedBy}
+use Rattle.lalrpop_grammar_symbols.specs.contracts.names.NonterminalStringOrd.TheImpl as names_order
 use Rattle.lalrpop_lr1_check_laws.specs.NameClosures.{seeded}
 use Rattle.lalrpop_lr1_check_laws.proofs.NameLemmas.{none_barren_productive}
 use Rattle.lalrpop_lr1_first.specs.FirstNumbers.{name_count}
@@ -9,26 +11,30 @@ use Rattle.lalrpop_lr1_first.specs.NumberedGrammars.{IsSeenIn, table_names, tabl
 use Rattle.lalrpop_lr1_first.specs.Tables.{symbol_or}
 use Rattle.lalrpop_lr1_first.proofs.TableLemmas.{long_map}
 use Rattle.lalrpop_lr1_check_names.specs.Clauses.{IsMarked}
-use Rattle.lalrpop_lr1_check_names.specs.NameMarks.{IsNumberOf, IsMarkPlace}
+use Rattle.lalrpop_lr1_check_names.specs.NameMarks.{IsNumberOf, IsPlaceOfElement}
 use Rattle.lalrpop_lr1_check_names.proofs.ClauseLemmas.{marked_within}
 use Rattle.lalrpop_lr1_check_names.proofs.NameLemmas.{name_there, productive_there, reached_number}
 use Rattle.lalrpop_lr1_check_names.proofs.barren.none_is_barren.Goals as goal
+
+pub place_of-requires : goal.place_of-requires
+place_of-requires c =
+    subst (λ ns. IsStrictlySortedBy (names_order.ghosts).cmp (lent ns)) (sym c.names.ensures) c.requires.names
 
 pub reached_names-requires-clause-start : goal.reached_names-requires-clause-start
 reached_names-requires-clause-start c =
     let t = c.args.table.now in
     let k = c.in-Some.place in
     let at : slice_get (table_names t) k ≡ Some c.args.start.now =
-    subst (IsMarkPlace (table_names t) c.args.start.now) c.in-Some.is
-    (subst (λ ns. IsMarkPlace (lent ns) c.args.start.now c.place_of.result) c.names.ensures c.place_of.ensures) in
+    subst (IsPlaceOfElement (table_names t) c.args.start.now) c.in-Some.is
+    (subst (λ ns. IsPlaceOfElement (lent ns) c.args.start.now c.place_of.result) c.names.ensures c.place_of.ensures) in
     omega (arith, slice_get_within (table_names t) k c.args.start.now at, long_map (λ b. b.now) t.names.items)
 
 pub returns-in-None : goal.returns-in-None
 returns-in-None c =
     let t = c.args.table.now in
     let start = c.args.start.now in
-    let none = subst (IsMarkPlace (table_names t) start) c.in-None.is
-    (subst (λ ns. IsMarkPlace (lent ns) start c.place_of.result) c.names.ensures c.place_of.ensures) in (
+    let none = subst (IsPlaceOfElement (table_names t) start) c.in-None.is
+    (subst (λ ns. IsPlaceOfElement (lent ns) start c.place_of.result) c.names.ensures c.place_of.ensures) in (
       λ e. let w : ⊥ = cc in absurd w,
       λ h. absurd (none (productive_there t c.requires start
           ((none_barren_productive (IsSeenIn (table_productions t)) start.0).0 h start.0 (seeded start.0 refl)))),
@@ -41,8 +47,8 @@ returns-in_ok-reached-in-Some c =
     let start = c.args.start.now in
     let k = c.in-Some.place in
     let at : slice_get (table_names t) k ≡ Some start =
-    subst (IsMarkPlace (table_names t) start) c.in-Some.is
-    (subst (λ ns. IsMarkPlace (lent ns) start c.place_of.result) c.names.ensures c.place_of.ensures) in
+    subst (IsPlaceOfElement (table_names t) start) c.in-Some.is
+    (subst (λ ns. IsPlaceOfElement (lent ns) start c.place_of.result) c.names.ensures c.place_of.ensures) in
     let start_is : IsNumberOf t k start.0 =
     ap (λ o. symbol_or o (slice_get t.terminals.now.all (k - length (table_names t)))) at in
     let reached = c.in_ok-reached-in-Some.reached.items in

@@ -16,9 +16,10 @@ loop-key-preserved c =
     let ms = map met_view c.args.met.now in
     let other = span_view c.args.otherwise in
     let old = map span_view c.loop-key.spans in
-    let p = span_view c.key_span.result in
+    let p = span_view c.in_ok-key_span.field-0 in
     subst (λ ss. AreKeySpans ms other (map closed_view (take (i + 1) keys)) ss)
-    (sym (ap (map span_view) c.in_ok-push.ensures.ok ∙ map-append span_view c.loop-key.spans (c.key_span.result ∷ [])))
+    (sym (ap (map span_view) c.in_ok-push.ensures.ok ∙ map-append span_view c.loop-key.spans (c.in_ok-key_span.field-0 ∷ [])))
     (subst (λ xs. AreKeySpans ms other xs (old ++ p ∷ []))
     (sym (take_next closed_view keys i x c.loop-key-test.true c.key-item.is))
-    (spans_more ms other (map closed_view (take i keys)) (closed_view x) old p c.loop-key.invariant c.key_span.ensures))
+    (spans_more ms other (map closed_view (take i keys)) (closed_view x) old p c.loop-key.invariant
+    (c.in_ok-key_span.ensures ms c.in_ok-first.ensures.told)))

@@ -2,19 +2,19 @@ use Rattle.std.proofs.Common.{ℕ, ◌≡◌, ◌<◌, [], ◌∙◌, arith, ref
 use Rattle.std.proofs.Common.{subst, Contains, None, rules}
 use Rattle.std.specs.Prelude.{replicate}
 use Rattle.std.proofs.lemmas.Bool.{eqb-true}
-use Rattle.std.proofs.lemmas.List.{get_or-map, map_push, get_or_default, length-set}
+use Rattle.std.proofs.lemmas.List.{get_or-map, get_or_default, length-set}
 use Rattle.std.proofs.lemmas.List.Elements.{Contains-get_or}
 use Rattle.lalrpop_lexer_nfa.specs.declared.test.Test.{Test}
 use Rattle.lalrpop_lexer_nfa.specs.Paths.{nfa_view}
 use Rattle.lalrpop_lexer_nfa.proofs.NfaLemmas.{reads_inside}
 use Rattle.lalrpop_lexer.specs.Targets.{items_at, StartsAscend, AreTargets}
-use Rattle.lalrpop_lexer.specs.Explore.{edge_view, edges_view}
+use Rattle.lalrpop_lexer.specs.Explore.{edges_view}
 use Rattle.lalrpop_lexer.specs.States.{HasKernel, IsInterned}
 use Rattle.lalrpop_lexer.proofs.GroupLemmas.{known_at, known_none, if_known, known_more}
-use Rattle.lalrpop_lexer.proofs.ExploreLemmas.{ArePieceTargets, targets_of_groups, explore_start, explore_more}
+use Rattle.lalrpop_lexer.proofs.ExploreLemmas.{ArePieceTargets, targets_of_groups, explore_start, explore_added}
 use Rattle.lalrpop_lexer.proofs.ExploreLemmas.{explore_skip, explore_end, explore_apart}
 use Rattle.lalrpop_lexer.proofs.states.States.explore.Goals as goal
-use Rattle.lalrpop_lexer.proofs.states.States.explore.Goals.{In_ok-targets, then-not-is_empty+in_ok-to+in_ok-push, else-not-is_empty}
+use Rattle.lalrpop_lexer.proofs.states.States.explore.Goals.{In_ok-targets, then-not-is_empty+in_ok-to+in_ok-push_edge, else-not-is_empty}
 
 -- the list at a place
 at_place : (vs : List (Vec ℕ Global)) (i : ℕ) (v : Vec ℕ Global) → i < length vs → v ≡ get_or vs i v
@@ -116,7 +116,7 @@ loop-i-preserved c =
     let inside : group < length c.args.groups.now.firsts.items = omega (arith, groups.inside i c.loop-i-test.true, number) in
     let within : group < length targets = omega (arith, inside, by_group.size) in
     elim c.if-not-is_empty.branch [
-      | then-not-is_empty+in_ok-to+in_ok-push w ↦
+      | then-not-is_empty+in_ok-to+in_ok-push_edge w ↦
           let kernel = w.deref-then-not-is_empty.ensures.value
           ∙ at_place targets group w.index-then-not-is_empty.result.now within w.index-then-not-is_empty.ensures in
           let P : List ℕ → Type 0 =
@@ -126,10 +126,11 @@ loop-i-preserved c =
           let low = get_or-map (λ (t : Test). t.start) c.args.pieces.now i (record { start = 0; end = 0 }) 0 c.loop-i-test.true in
           let high = get_or-map (λ (t : Test). t.end) c.args.pieces.now i (record { start = 0; end = 0 }) 0 c.loop-i-test.true in
           rw (w.self-is, w.out-is, w.scratch-is, w.known-is) (record {
-            some = rw (w.in_ok-push.ensures.items, map_push edge_view, ← low, ← high)
-                (explore_more (nfa_view c.args.nfa.now) c.args.pieces.now (λ i. items_at targets (get_or numbers i 0)) i c.args.state
+            some =
+                explore_added (nfa_view c.args.nfa.now) c.args.pieces.now (λ i. items_at targets (get_or numbers i 0)) i c.args.state
                 c.args.self.now.sets.items c.loop-i.self.sets.items w.known_or_found.new.self.sets.items (edges_view c.loop-i.out.items)
-                w.in_ok-to.to c.requires.pieces moves c.loop-i-test.true c.loop-i.invariant.some found);
+                (edges_view w.push_edge.new.edges.items) w.in_ok-to.to c.requires.pieces moves c.loop-i-test.true c.loop-i.invariant.some found
+                (rw (low, high) w.in_ok-push_edge.ensures);
             size = length-set known group w.known_or_found.new.known ∙ c.loop-i.invariant.size;
             known = known_more known group w.known_or_found.new.known w.in_ok-to.to (items_at targets) c.loop-i.self.numbers.entries
                 w.known_or_found.new.self.numbers.entries (omega (arith, inside, c.loop-i.invariant.size)) w.in_ok-to.ensures.known
