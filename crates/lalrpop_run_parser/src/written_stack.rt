@@ -7,7 +7,7 @@ ghost use Rattle.lalrpop_grammar.specs.declared.tree.WrittenTree.{WrittenTree};
 
 use lalrpop_grammar::{Origin, ScanToken, WrittenTree};
 use lalrpop_grammar_repr::{ActionFnDefn, Production};
-use lalrpop_grammar_symbols::Atom;
+use lalrpop_grammar_symbols::{Atom, TerminalLiteral, TerminalString};
 use lalrpop_lr1_parse::TreeStack;
 use lalrpop_run_written::tree_of_action;
 use std::alloc::{AllocError, Global};
@@ -55,13 +55,25 @@ impl<'p> WrittenTrees<'p> {
     }
 }
 
+/// The token's text; where that is the literal's of which it is, the same memory.
+fn text_of_token(alloc: Global, token: &ScanToken<'_>) -> Result<Atom, AllocError>
+    ensures { IfOk result (λ text. text ≡ (token_view token.now).text) }
+{
+    match &token.terminal {
+        TerminalString::Literal(TerminalLiteral::Quoted(text)) if text.as_str() == token.text => {
+            text.try_clone()
+        }
+        _ => Atom::new(alloc, token.text),
+    }
+}
+
 /// The tree that a token is.
 fn tree_of_token(alloc: Global, token: &ScanToken<'_>) -> Result<WrittenTree, AllocError>
     ensures { IfOk result (λ tree. tree_view tree ≡ Tree.terminal (token_view token.now)) }
 {
     Ok(WrittenTree::Terminal {
         terminal: token.terminal.try_clone()?,
-        text: Atom::new(alloc, token.text)?,
+        text: text_of_token(alloc, token)?,
         span: token.span,
     })
 }
