@@ -14,7 +14,7 @@ use Rattle.lalrpop_lexer.specs.Groups.{AreGroups}
 use Rattle.lalrpop_lexer.specs.Simulation.{AreApart}
 use Rattle.lalrpop_lexer.specs.States.{IsInterned}
 use Rattle.lalrpop_lexer.specs.Explore.{end_at, AreClassesOf, IsGrowing, Explores}
-use Rattle.lalrpop_lexer.specs.Joined.{Continues, AddsEdge}
+use Rattle.lalrpop_lexer.specs.Joined.{Continues, AddsDfaEdge}
 use Rattle.lalrpop_lexer.proofs.GrowLemmas.{grow_known, grow_new}
 use Rattle.lalrpop_lexer.proofs.JoinLemmas.{last_cases, grow_joined}
 
@@ -331,7 +331,7 @@ module _ (t : Graph) (pieces : List Test) (targets : ℕ → List ℕ) (done cur
 pub explore_added : (t : Graph) (pieces : List Test) (targets : ℕ → List ℕ) (done cur : ℕ) (old mid new : List (Vec ℕ Global))
     (out more : List EdgeView) (to : ℕ) → AreClassesOf t pieces → ArePieceTargets t (items_at old cur) pieces targets
     → done < length pieces → ExploresSome t pieces targets done cur old mid out → IsInterned t (targets done) mid new to
-    → AddsEdge (start_at pieces done, end_at pieces done, to) out more → ExploresSome t pieces targets (done + 1) cur old new more
+    → AddsDfaEdge (start_at pieces done, end_at pieces done, to) out more → ExploresSome t pieces targets (done + 1) cur old new more
 explore_added t pieces targets done cur old mid new out more to p moves l before found added =
     ⊎_elim (λ h. rw h.0 (explore_more t pieces targets done cur old mid new out to p moves l before found))
     (λ h.

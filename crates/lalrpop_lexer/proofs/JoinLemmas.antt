@@ -7,7 +7,7 @@ use Rattle.std.proofs.lemmas.Bool.{cases_lt, cases_eq}
 use Rattle.lalrpop_lexer.specs.declared.edge.DfaEdge.{DfaEdge}
 use Rattle.lalrpop_lexer.specs.Numbering.{EdgeView, edge_at}
 use Rattle.lalrpop_lexer.specs.Explore.{edge_view, edges_view, IsGrowing}
-use Rattle.lalrpop_lexer.specs.Joined.{Continues, AddsEdge}
+use Rattle.lalrpop_lexer.specs.Joined.{Continues, AddsDfaEdge}
 
 -- a list that isn't empty has a last element
 last_of : {A : Type 0} (xs : List A) (n : ℕ) → length xs ≡ n + 1
@@ -20,7 +20,7 @@ last_of (x ∷ y ∷ ys) (suc n) size =
 
 -- the last edge goes on to the end of the one that continues it
 pub joined_edge : (es : List DfaEdge) (n : ℕ) (v last : DfaEdge) (e : EdgeView) → length es ≡ n + 1 → get_or es n last ≡ last
-    → Continues (edge_view last) e → edge_view v ≡ ((edge_view last).0, e.1, e.2) → AddsEdge e (edges_view es) (edges_view (set es n v))
+    → Continues (edge_view last) e → edge_view v ≡ ((edge_view last).0, e.1, e.2) → AddsDfaEdge e (edges_view es) (edges_view (set es n v))
 joined_edge es n v last e size is goes becomes =
     let parts = last_of es n size in
     let front = parts.0 in
@@ -43,7 +43,7 @@ joined_edge es n v last e size is goes becomes =
 -- an edge behind those that it doesn't continue
 pub pushed_edge : (es : List DfaEdge) (x : DfaEdge)
     → ((n : ℕ) → length es ≡ n + 1 → Continues (edge_view (get_or es n x)) (edge_view x) → ⊥)
-    → AddsEdge (edge_view x) (edges_view es) (edges_view (es ++ x ∷ []))
+    → AddsDfaEdge (edge_view x) (edges_view es) (edges_view (es ++ x ∷ []))
 pushed_edge es x apart = inl (
   map_push edge_view es x,
   λ front last is goes.

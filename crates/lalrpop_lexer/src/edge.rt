@@ -2,7 +2,7 @@
 
 ghost use Rattle.std.specs.Prelude.{◌↔◌, IsTrue, OnOk};
 ghost use Rattle.lalrpop_lexer.specs.Explore.{edge_view, edges_view};
-ghost use Rattle.lalrpop_lexer.specs.Joined.{Continues, AddsEdge};
+ghost use Rattle.lalrpop_lexer.specs.Joined.{Continues, AddsDfaEdge};
 
 use crate::kind::DfaStateIndex;
 use lalrpop_lexer_nfa::Test;
@@ -30,7 +30,7 @@ impl DfaEdge {
 
 /// Adds an edge behind the others, joined to the last of them where it continues that.
 pub(crate) fn push_edge(edges: &mut Vec<DfaEdge>, edge: DfaEdge) -> Result<(), AllocError>
-    ensures { OnOk result (AddsEdge (edge_view edge) (edges_view edges.old.items) (edges_view edges.new.items)) }
+    ensures { OnOk result (AddsDfaEdge (edge_view edge) (edges_view edges.old.items) (edges_view edges.new.items)) }
 {
     let count = edges.len();
     if count > 0 && edge.continues(&edges[count - 1]) {

@@ -5,7 +5,7 @@ use Rattle.std.specs.Prelude.{⊤, if◌then◌else◌}
 use Rattle.std.proofs.lemmas.Bool.Decides.{Decides-eqb}
 use Rattle.std.proofs.lemmas.List.{take_all, take_more}
 use Rattle.lalrpop_lexer_pattern.specs.declared.class.Range.{Range}
-use Rattle.lalrpop_lexer_pattern.specs.Ranges.{AreAscending, InRanges, IsCanonical}
+use Rattle.lalrpop_lexer_pattern.specs.Ranges.{HasRisingRanges, InRanges, IsCanonical}
 use Rattle.lalrpop_lexer_pattern.specs.TouchingRanges.{EndsBelow, joined_range, kept_with}
 
 -- what a range and one of some ranges hold
@@ -201,7 +201,7 @@ ends_taken (r ∷ []) (suc k) b d l = absurd (omega (arith, l))
 ends_taken (r ∷ s ∷ rs) (suc k) b d l = ends_taken (s ∷ rs) k b d (omega (arith, l))
 
 -- of ascending ranges the first ones end below the next
-pub ascending_below : (rs : List Range) (i : ℕ) (d : Range) → AreAscending rs → i < length rs →
+pub ascending_below : (rs : List Range) (i : ℕ) (d : Range) → HasRisingRanges rs → i < length rs →
     EndsBelow (take i rs) (get_or rs i d).start
 ascending_below rs zero d h l = tt
 ascending_below rs (suc i) d h l =
@@ -260,7 +260,7 @@ pub record AreKept (given now : List Range) (kept index : ℕ) : Type 0 where
   pub rest : drop index now ≡ drop index given
   pub joined : AreJoined (take index given) (take kept now)
 
-module _ (given : List Range) (ascending : AreAscending given) where
+module _ (given : List Range) (ascending : HasRisingRanges given) where
   pub kept_none : AreKept given given 0 0
   kept_none = record { fewer = omega arith; count = refl; rest = refl; joined = joined_none }
 

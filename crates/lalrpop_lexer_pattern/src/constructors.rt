@@ -4,7 +4,7 @@ ghost use Rattle.std.specs.Prelude.{◌≡◌, ◌↔◌, ◌≤◌, ℕ, IfOk, 
 ghost use Rattle.std.specs.Option.{option_map};
 ghost use Rattle.std.specs.String.{string_bytes};
 ghost use Rattle.lalrpop_lexer_pattern.specs.Meaning.{meaning};
-ghost use Rattle.lalrpop_lexer_pattern.specs.Ranges.{AreAscending, InRanges};
+ghost use Rattle.lalrpop_lexer_pattern.specs.Ranges.{HasRisingRanges, InRanges};
 ghost use Rattle.lalrpop_lexer_pattern.specs.Matches.{concat_all, alternation_all, Pattern};
 
 use crate::class::{Class, Range};
@@ -16,7 +16,7 @@ impl Class {
     /// The set of the characters in `ranges`, which ascend, none of them empty, and have no character in common. Those that touch
     /// are joined, in place.
     pub fn new(ranges: Vec<Range>) -> Class
-        requires { AreAscending ranges.items }
+        requires { HasRisingRanges ranges.items }
         ensures { (n : ℕ) → InRanges result.ranges.items n ↔ InRanges ranges.items n }
     {
         let mut ranges = ranges;

@@ -1,7 +1,7 @@
 //! Ranges that touch are joined, in place.
 
 ghost use Rattle.std.specs.Prelude.{◌≡◌, ◌↔◌, ◌+◌, ◌<◌, ◌≤◌, ◌++◌, ◌∷◌, [], ℕ, IsFalse, IsTrue, drop, length, take};
-ghost use Rattle.lalrpop_lexer_pattern.specs.Ranges.{AreAscending, InRanges, IsCanonical};
+ghost use Rattle.lalrpop_lexer_pattern.specs.Ranges.{HasRisingRanges, InRanges, IsCanonical};
 ghost use Rattle.lalrpop_lexer_pattern.specs.TouchingRanges.{EndsBelow, kept_with};
 
 use crate::class::Range;
@@ -56,7 +56,7 @@ fn keep(ranges: &mut Vec<Range>, kept: usize, range: Range) -> usize
 
 /// Joins each range to the one before it where that one ends just below it. It takes no memory.
 pub(crate) fn join_touching(ranges: &mut Vec<Range>)
-    requires { AreAscending ranges.old.items }
+    requires { HasRisingRanges ranges.old.items }
     ensures canonical { IsCanonical ranges.new.items }
     ensures members { (n : ℕ) → InRanges ranges.new.items n ↔ InRanges ranges.old.items n }
 {

@@ -7,7 +7,7 @@ ghost use Rattle.lalrpop_lr1_items.specs.Views.{lr_state_view, token_lookahead};
 ghost use Rattle.lalrpop_lr1_check_laws.specs.HandedNexts.{ReducesBeforeHanded};
 ghost use Rattle.lalrpop_lr1_first.specs.FirstSetsOf.{AreFirstSetsOf, IsProductionOf};
 ghost use Rattle.lalrpop_lr1_first.specs.NumberedGrammars.{HasItsTerminals, IsNumberTableOf, table_productions};
-ghost use Rattle.lalrpop_lr1_check_names.specs.NamedLists.{AreNamedProductions};
+ghost use Rattle.lalrpop_lr1_check_names.specs.NamedLists.{AreListedByName};
 ghost use Rattle.lalrpop_lr1_check_handed.specs.HandFlows.{AreFlown, AreSeeds, HaveKnownItems, IsSlotEdge};
 ghost use Rattle.lalrpop_lr1_check_handed.specs.HandSlots.{AreSlots, HasSlotMark};
 
@@ -33,7 +33,7 @@ fn seeded_slots<'g>(
     states: &[Lr1State<'g>],
 ) -> Result<Slots<'g>, AllocError>
     requires firsts { AreFirstSetsOf grammar.now firsts.now }
-    requires named { AreNamedProductions named.now }
+    requires named { AreListedByName named.now }
     ensures { IfOk result (λ slots. AreSeeds grammar.now (table_productions named.now.table.now) start.now.0 states.now slots) }
 {
     let mut slots = Slots::new(alloc);

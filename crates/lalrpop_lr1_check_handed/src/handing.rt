@@ -5,7 +5,7 @@ ghost use Rattle.lalrpop_lr1_theory.specs.States.{LookaheadSet};
 ghost use Rattle.lalrpop_lr1_first.specs.FirstSetsOf.{AreFirstSetsOf};
 ghost use Rattle.lalrpop_lr1_first.specs.Listings.{lent};
 ghost use Rattle.lalrpop_lr1_first.specs.NumberedGrammars.{table_productions};
-ghost use Rattle.lalrpop_lr1_check_names.specs.NamedLists.{AreNamedProductions};
+ghost use Rattle.lalrpop_lr1_check_names.specs.NamedLists.{AreListedByName};
 ghost use Rattle.lalrpop_lr1_check_handed.specs.HandEdges.{AreHandEdges, GainsEdges, HandsAtDot, HandsBelow, HandsBy, HandsBySome};
 ghost use Rattle.lalrpop_lr1_check_handed.specs.HandSlots.{AreSlots, slot_key};
 
@@ -172,7 +172,7 @@ pub(crate) fn hand_edges<'g>(
     slots: &mut Slots<'g>,
 ) -> Result<Vec<Edge>, AllocError>
     requires firsts { AreFirstSetsOf grammar.now firsts.now }
-    requires named { AreNamedProductions named.now }
+    requires named { AreListedByName named.now }
     requires slots { AreSlots slots.old }
     ensures { IfOk result (λ edges. (look : List ℕ → LookaheadSet) →
         AreHandEdges grammar.now look states.now (table_productions named.now.table.now) slots.old slots.new edges.items

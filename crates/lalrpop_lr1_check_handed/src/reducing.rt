@@ -3,7 +3,7 @@
 ghost use Rattle.std.specs.Prelude.{◌≡◌, ◌↔◌, ◌⊎◌, ℕ, List, IfOk, IsTrue, OnOk, true};
 ghost use Rattle.lalrpop_lr1_theory.specs.States.{LookaheadSet};
 ghost use Rattle.lalrpop_sets.specs.Bits.{has};
-ghost use Rattle.lalrpop_lr1_check_names.specs.NamedLists.{AreNamedProductions};
+ghost use Rattle.lalrpop_lr1_check_names.specs.NamedLists.{AreListedByName};
 ghost use Rattle.lalrpop_lr1_check_parts.specs.ListTests.{HoldsAtEach};
 ghost use Rattle.lalrpop_lr1_check_handed.specs.HandReductions.{
   DoesSlotReduce,
@@ -177,7 +177,7 @@ fn slot_reduces(
     number: usize,
     tokens: &Option<TokenSet>,
 ) -> Result<bool, AllocError>
-    requires { AreNamedProductions named.now }
+    requires { AreListedByName named.now }
     ensures { IfOk result (λ all. (look : List ℕ → LookaheadSet) → IsTrue all
         ↔ DoesSlotReduce look states.now named.now.table.now.productions.items (slot_keys slots.now) number (option_set tokens.now)) }
 {
@@ -203,7 +203,7 @@ pub(crate) fn all_reduce(
     slots: &Slots<'_>,
     sets: &[Option<TokenSet>],
 ) -> Result<bool, AllocError>
-    requires { AreNamedProductions named.now }
+    requires { AreListedByName named.now }
     ensures { IfOk result (λ all. (look : List ℕ → LookaheadSet) → IsTrue all
         ↔ HoldsAtEach (λ j tokens. DoesSlotReduce look states.now named.now.table.now.productions.items (slot_keys slots.now) j (option_set tokens)) sets.now) }
 {

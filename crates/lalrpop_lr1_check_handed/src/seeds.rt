@@ -5,7 +5,7 @@ ghost use Rattle.lalrpop_lr1_items.specs.Views.{production_symbol_view};
 ghost use Rattle.lalrpop_lr1_first.specs.FirstSetsOf.{AreFirstSetsOf};
 ghost use Rattle.lalrpop_lr1_first.specs.Listings.{lent};
 ghost use Rattle.lalrpop_lr1_first.specs.NumberedGrammars.{table_productions};
-ghost use Rattle.lalrpop_lr1_check_names.specs.NamedLists.{AreNamedProductions};
+ghost use Rattle.lalrpop_lr1_check_names.specs.NamedLists.{AreListedByName};
 ghost use Rattle.lalrpop_lr1_check_handed.specs.Brought.{BeginBrings, BringsMark, ClosesMarks, ItemBrings, OfSome, OfSomePlace};
 ghost use Rattle.lalrpop_lr1_check_handed.specs.HandSlots.{AreSlots, GainsSlotMarks, slot_key};
 
@@ -139,7 +139,7 @@ pub(crate) fn close_slots<'g>(
     slots: &mut Slots<'g>,
 ) -> Result<(), AllocError>
     requires firsts { AreFirstSetsOf grammar.now firsts.now }
-    requires named { AreNamedProductions named.now }
+    requires named { AreListedByName named.now }
     requires slots { AreSlots slots.old }
     ensures { OnOk result (ClosesMarks grammar.now (table_productions named.now.table.now) slots.old slots.new) }
 {

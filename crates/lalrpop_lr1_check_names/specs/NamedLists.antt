@@ -22,7 +22,7 @@ pub record AreNamedLists (table : Numbered) (lists : List (List Production)) (co
   pub within : (s : ℕ) (p : Production) → Contains (slice_index_or lists s []) p → Contains (table_productions table) p
 
 -- a table with the lists of all of its productions
-pub record AreNamedProductions (named : NamedProductions) : Type 0 where
+pub record AreListedByName (named : NamedProductions) : Type 0 where
   pub table : IsNumberTable named.table.now
   pub lists : AreNamedLists named.table.now (production_lists named.lists.items) (length (table_productions named.table.now))
 

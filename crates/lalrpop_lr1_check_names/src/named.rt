@@ -5,7 +5,7 @@ ghost use Rattle.lalrpop_lr1_first.specs.Listings.{lent};
 ghost use Rattle.lalrpop_lr1_first.specs.NumberedGrammars.{IsNumberTable, table_productions};
 ghost use Rattle.lalrpop_lr1_check_names.specs.NamedLists.{
   AreNamedLists,
-  AreNamedProductions,
+  AreListedByName,
   HoldsNamed,
   production_lists,
 };
@@ -78,7 +78,7 @@ impl<'t, 'g> NamedProductions<'t, 'g> {
         table: &'t Numbered<'g>,
     ) -> Result<NamedProductions<'t, 'g>, AllocError>
         requires { IsNumberTable table.now }
-        ensures are { IfOk result AreNamedProductions }
+        ensures are { IfOk result AreListedByName }
         ensures table { IfOk result (λ named. named.table.now ≡ table.now) }
     {
         let lists = named_lists(alloc, table)?;
@@ -87,7 +87,7 @@ impl<'t, 'g> NamedProductions<'t, 'g> {
 
     /// Those of the name; none where it isn't one of the table's.
     pub fn productions_of(&self, name: &NonterminalString) -> &[&'g Production]
-        requires { AreNamedProductions self.now }
+        requires { AreListedByName self.now }
         ensures { HoldsNamed (table_productions self.now.table.now) name.now (lent result.now) }
     {
         match place_of(self.table.names(), name) {
