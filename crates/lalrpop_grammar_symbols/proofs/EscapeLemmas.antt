@@ -2,9 +2,7 @@
 use Rattle.std.proofs.Common.{◌≡◌, ◌≢◌, ℕ, ◌<◌, ◌≤◌, ◌+◌, ◌/◌, List, [], ◌∷◌, ◌++◌, ap, ◌∙◌}
 use Rattle.std.proofs.Common.{arith, ltb, cond, append-nil, Bool, true, false}
 use Rattle.std.proofs.lemmas.Bool.Decides.{nat_tests}
-use Rattle.std.proofs.lemmas.Str.{encode_ascii, encodes-append}
-use Rattle.std.proofs.lemmas.List.Concat.{flat_map-append}
-use Rattle.std.specs.Prelude.{encode_utf8_all}
+use Rattle.std.proofs.lemmas.Str.{encode_ascii}
 use lib.Utf8.{encode, next}
 use Rattle.lalrpop_grammar_symbols.specs.Texts.{escape_byte, escape, code_text}
 
@@ -47,10 +45,3 @@ escaped-char c h q s =
     (escaped-high (224 + c / 4096) (next (c / 64) ∷ next c ∷ []) (omega arith) ∙ ap (λ bs. (224 + c / 4096) ∷ bs) two)
     (escaped-high (240 + c / 262144) (next (c / 4096) ∷ next (c / 64) ∷ next c ∷ []) (omega arith)
     ∙ ap (λ bs. (240 + c / 262144) ∷ bs) three)
-
--- one character more
-pub escaped-push : (cs : List ℕ) (c : ℕ)
-    → escape (encode_utf8_all (cs ++ c ∷ [])) ≡ escape (encode_utf8_all cs) ++ escape (encode c)
-escaped-push cs c =
-    ap escape (encodes-append cs (c ∷ []) ∙ ap (λ bs. encode_utf8_all cs ++ bs) (append-nil (encode c)))
-    ∙ flat_map-append escape_byte (encode_utf8_all cs) (encode c)

@@ -1,6 +1,7 @@
 //! The printed texts of terminals.
 
 ghost use Rattle.std.specs.Prelude.{◌≡◌, ◌++◌, ◌<◌, IfOk, OnOk, OnErr, Some, string_bytes, encode_utf8, length, min};
+ghost use Rattle.std.specs.Prelude.{ℕ, List, false};
 ghost use Rattle.std.specs.Fmt.{WritesOnOk};
 ghost use Rattle.std.specs.Char.{digit_char};
 ghost use Rattle.lalrpop_grammar_symbols.specs.Views.{literal_view, terminal_view};
@@ -101,11 +102,56 @@ impl Display for TerminalLiteral {
     }
 }
 
+/// Whether the character is written in another way inside a literal.
+fn is_escaped(c: char) -> bool
+    ensures { result ≡ false → escape (encode_utf8 c) ≡ encode_utf8 c }
+{
+    match c {
+        '"' => true,
+        '\\' => true,
+        '\0'..='\u{1f}' => true,
+        _ => false,
+    }
+}
+
+/// The text without what is left of it.
+fn before<'t>(text: &'t str, rest: &str) -> &'t str
+    requires { (front : List ℕ) × (text.now ≡ front ++ rest.now) }
+    ensures { text.now ≡ result.now ++ rest.now }
+{
+    &text[..text.len() - rest.len()]
+}
+
+/// The longest front of the text whose characters are all written as they are.
+fn plain_front(text: &str) -> &str
+    ensures front { (rest : List ℕ) × (text.now ≡ result.now ++ rest) }
+    ensures plain { escape result.now ≡ result.now }
+{
+    let mut rest = text;
+    let mut left = text.chars();
+    while let Some(c) = left.next() {
+        if is_escaped(c) {
+            return before(text, rest);
+        }
+        rest = left.as_str();
+    }
+    text
+}
+
+/// Writes what stands for the text inside a literal; what is written as it is, at once.
 fn write_escaped<W: Write>(text: &str, f: &mut Formatter<W>) -> fmt::Result
     ensures { WritesOnOk W.write_str_gives f.old result (escape text.now) f.new }
 {
-    for c in text.chars() {
-        write_escaped_char(c, f)?;
+    let mut rest = text;
+    'rest: while !rest.is_empty() {
+        let plain = plain_front(rest);
+        f.write_str(plain)?;
+        rest = &rest[plain.len()..];
+        let mut left = rest.chars();
+        if let Some(c) = left.next() {
+            write_escaped_char(c, f)?;
+            rest = left.as_str();
+        }
     }
     Ok(())
 }
