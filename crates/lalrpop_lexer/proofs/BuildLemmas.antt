@@ -1,21 +1,21 @@
 -- From the states of the automaton to what the building of it promises. For `build_dfa`.
-use Rattle.std.proofs.Common.{◌≡◌, ℕ, ◌+◌, ◌<◌, ◌↔◌, List, length, map, Option, sym, subst, arith}
+use Rattle.std.proofs.Common.{◌≡◌, ℕ, ◌+◌, ◌<◌, ◌↔◌, List, length, Option, sym, subst, arith}
 use Rattle.lalrpop_lexer_pattern.specs.Matches.{Pattern, Matches}
 use Rattle.lalrpop_lexer_pattern.specs.Wins.{HasNoTie}
 use Rattle.std.specs.Prelude.{slice_index_or}
 use Rattle.lalrpop_lexer_nfa.specs.Paths.{Graph, HasPath}
 use Rattle.lalrpop_lexer.specs.declared.error.DfaConstructionError.{DfaConstructionError}
 use Rattle.lalrpop_lexer.specs.declared.error.DfaConstructionError.TheVariants as error
+use Rattle.lalrpop_lexer.specs.declared.edge.DfaEdge.{DfaEdge}
 use Rattle.lalrpop_lexer.specs.declared.state.State.{State}
 use Rattle.lalrpop_lexer.specs.Numbering.{EdgeView}
 use Rattle.lalrpop_lexer.specs.Automaton.{IsAutomaton}
 use Rattle.lalrpop_lexer.specs.Build.{AreSupported, IsDfaFault}
 use Rattle.lalrpop_lexer.specs.Simulation.{Decides}
-use Rattle.lalrpop_lexer.specs.StateViews.{state_view, edges_in, accepted_in}
+use Rattle.lalrpop_lexer.specs.StateViews.{state_views, edges_in, accepted_in}
 use Rattle.lalrpop_lexer.specs.Outcome.{IsLastTie, IsAccepted}
 use Rattle.lalrpop_lexer.specs.Ties.{AcceptsPattern, TellsTie}
 use Rattle.lalrpop_lexer.proofs.DecideLemmas.{no_ties, first_tie, answer_right}
-use Rattle.lalrpop_lexer.proofs.ExploreLemmas.{funext}
 use Rattle.lalrpop_lexer.proofs.StateViewLemmas.{node_at}
 
 -- an automaton of a table whose words lead to the accepting states of the patterns that match them
@@ -26,12 +26,6 @@ pub record IsOfPatterns (t : Graph) (start : ℕ) (sets : List (List ℕ)) (edge
       ↔ Matches (slice_index_or ps k Pattern.empty) w
   pub count : n ≡ length sets
   pub size : length ps ≡ length precedences
-
--- the edges of the states are the same
-pub automaton_along : (t : Graph) (start : ℕ) (sets : List (List ℕ)) (old new : ℕ → List EdgeView) (n : ℕ)
-    → ((s : ℕ) → new s ≡ old s) → IsAutomaton t start sets old n → IsAutomaton t start sets new n
-automaton_along t start sets old new n same h =
-    let P : (ℕ → List EdgeView) → Type 0 = λ f. IsAutomaton t start sets f n in subst P (funext old new (λ s. sym (same s))) h
 
 module _ (t : Graph) (start : ℕ) (sets : List (List ℕ)) (n : ℕ) (ps : List Pattern) (precedences : List ℕ) where
   -- the tie of the first state that has one explains why the patterns have no automaton
@@ -48,7 +42,7 @@ module _ (t : Graph) (start : ℕ) (sets : List (List ℕ)) (n : ℕ) (ps : List
       )
   build_tie edges h fine error.Memory tells = tt
 
-  module _ (states : List State) (h : IsOfPatterns t start sets (edges_in states) n ps precedences) (count : length states ≡ length sets)
+  module _ (states : List State) (table : List (List DfaEdge)) (h : IsOfPatterns t start sets (edges_in table) n ps precedences) (count : length states ≡ length sets)
       (accepted : (s : ℕ) → s < length sets
       → IsAccepted (AcceptsPattern sets s) precedences (length precedences) (accepted_in states s)) where
     kinds : (s : ℕ) → s < n → IsAccepted (AcceptsPattern sets s) precedences (length ps) (accepted_in states s)
@@ -57,10 +51,10 @@ module _ (t : Graph) (start : ℕ) (sets : List (List ℕ)) (n : ℕ) (ps : List
 
     -- where no state has a tie, no two patterns tie on any word
     pub build_no_tie : HasNoTie ps precedences
-    build_no_tie = no_ties t start sets (edges_in states) n ps precedences h.automaton h.accepts (accepted_in states) kinds
+    build_no_tie = no_ties t start sets (edges_in table) n ps precedences h.automaton h.accepts (accepted_in states) kinds
 
     -- where no state has a tie, the automaton answers each text with its longest match
-    pub build_decides : Decides (map state_view states) ps precedences
+    pub build_decides : Decides (state_views states table) ps precedences
     build_decides text =
-        answer_right t start sets (edges_in states) n ps precedences h.automaton h.accepts (accepted_in states) kinds
-        (map state_view states) (λ s l. node_at states s (omega (arith, h.count, count))) text
+        answer_right t start sets (edges_in table) n ps precedences h.automaton h.accepts (accepted_in states) kinds
+        (state_views states table) (λ s l. node_at states table s (omega (arith, h.count, count))) text

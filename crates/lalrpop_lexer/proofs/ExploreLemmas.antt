@@ -4,12 +4,13 @@ use Rattle.std.proofs.Common.{Contains, Vec, Global, Bool, true, false, cond, eq
 use Rattle.std.proofs.Common.{subst, arith, length-append, append-nil, append_assoc}
 use Rattle.std.proofs.Math.Seq.{get_or-append_seam}
 use Rattle.std.proofs.lemmas.Bool.{cases_lt, cases_eq, eqb-true}
-use Rattle.std.proofs.lemmas.List.{get_or_append_left, length_push, length-map, map-append}
+use Rattle.std.proofs.lemmas.List.{get_or_append_left, length_push}
 use Rattle.lalrpop_lexer_nfa.specs.declared.test.Test.{Test}
 use Rattle.lalrpop_lexer_nfa.specs.Paths.{Graph, HasTransition}
 use Rattle.lalrpop_lexer_nfa.specs.Sets.{IsEpsilonClosure, IsSubsetStep}
 use Rattle.lalrpop_lexer.specs.Numbering.{EdgeView, edge_at}
-use Rattle.lalrpop_lexer.specs.Targets.{items_lists, items_at, start_at, AreTargets}
+use Rattle.lalrpop_lexer.specs.Subsets.{set_at}
+use Rattle.lalrpop_lexer.specs.Targets.{items_at, start_at, AreTargets}
 use Rattle.lalrpop_lexer.specs.Groups.{AreGroups}
 use Rattle.lalrpop_lexer.specs.Simulation.{AreApart}
 use Rattle.lalrpop_lexer.specs.States.{IsInterned}
@@ -19,10 +20,8 @@ use Rattle.lalrpop_lexer.proofs.GrowLemmas.{grow_known, grow_new}
 use Rattle.lalrpop_lexer.proofs.JoinLemmas.{last_cases, grow_joined}
 
 -- sets that were there stay
-pub items_at-extends : (old more : List (Vec ℕ Global)) (i : ℕ) → i < length old → items_at (old ++ more) i ≡ items_at old i
-items_at-extends old more i l =
-    ap (λ ls. get_or ls i []) (map-append (λ (v : Vec ℕ Global). v.items) old more)
-    ∙ get_or_append_left (items_lists old) (items_lists more) [] i (omega (arith, length-map old (λ (v : Vec ℕ Global). v.items)))
+pub set_at-extends : (old more : List (List ℕ)) (i : ℕ) → i < length old → set_at (old ++ more) i ≡ set_at old i
+set_at-extends old more i l = get_or_append_left old more [] i l
 
 -- for each piece, where the edges from the set lead which read its start
 pub record ArePieceTargets (t : Graph) (set : List ℕ) (pieces : List Test) (targets : ℕ → List ℕ) : Type 0 where
@@ -64,14 +63,14 @@ start_before_end t pieces p i j order l =
 
 -- the edges of the first pieces
 pub record ExploresSome (t : Graph) (pieces : List Test) (targets : ℕ → List ℕ) (done cur : ℕ)
-    (old new : List (Vec ℕ Global)) (out : List EdgeView) : Type 0 where
-  pub extends : (more : List (Vec ℕ Global)) × (new ≡ old ++ more)
+    (old new : List (List ℕ)) (out : List EdgeView) : Type 0 where
+  pub extends : (more : List (List ℕ)) × (new ≡ old ++ more)
   pub grows : (edges more : ℕ → List EdgeView) (parent place : ℕ → ℕ)
       → ((s : ℕ) → (s ≡ cur → ⊥) → more s ≡ edges s) → edges cur ≡ [] → more cur ≡ out →
       IsGrowing edges (length old) parent place cur → (parents places : ℕ → ℕ) × IsGrowing more (length new) parents places cur
   pub inside : (k : ℕ) → k < length out → (edge_at out k).2 < length new
   pub fits : (k c : ℕ) → k < length out → (edge_at out k).0 ≤ c → c ≤ (edge_at out k).1
-      → IsSubsetStep t (items_at old cur) c (items_at new (edge_at out k).2)
+      → IsSubsetStep t (set_at old cur) c (set_at new (edge_at out k).2)
   pub below : (k : ℕ) → k < length out → (i j : ℕ) × (i ≤ j) × (j < done) × ((edge_at out k).0 ≡ start_at pieces i)
       × ((edge_at out k).1 ≡ end_at pieces j)
   pub apart : (j k : ℕ) → j < k → k < length out → (edge_at out j).1 < (edge_at out k).0
@@ -93,14 +92,14 @@ put_other edges cur out s apart = go (eqb s cur) refl
     go true e = absurd (apart (eqb-true s cur e))
     go false e = refl
 
-module _ (t : Graph) (pieces : List Test) (targets : ℕ → List ℕ) (done cur : ℕ) (old mid new : List (Vec ℕ Global))
+module _ (t : Graph) (pieces : List Test) (targets : ℕ → List ℕ) (done cur : ℕ) (old mid new : List (List ℕ))
     (out : List EdgeView) (to : ℕ)
-    (p : AreClassesOf t pieces) (moves : ArePieceTargets t (items_at old cur) pieces targets) (l : done < length pieces)
+    (p : AreClassesOf t pieces) (moves : ArePieceTargets t (set_at old cur) pieces targets) (l : done < length pieces)
     (before : ExploresSome t pieces targets done cur old mid out) (found : IsInterned t (targets done) mid new to) where
   abbrev pub e : EdgeView
   e = (start_at pieces done, end_at pieces done, to)
 
-  extended : (more : List (Vec ℕ Global)) × (new ≡ mid ++ more)
+  extended : (more : List (List ℕ)) × (new ≡ mid ++ more)
   extended = ⊎_elim (λ h. ([], h.1 ∙ sym (append-nil mid))) (λ h. (h.1.0 ∷ [], h.1.1)) found.place
 
   longer : length mid ≤ length new
@@ -159,10 +158,10 @@ module _ (t : Graph) (pieces : List Test) (targets : ℕ → List ℕ) (done cur
     fits = λ k c h.
         ⊎_elim
         (λ x. rw x.1 (λ low high.
-        let stays = ap (λ vs. items_at vs (edge_at out k).2) extended.1
-        ∙ items_at-extends mid extended.0 (edge_at out k).2 (before.inside k x.0) in
+        let stays = ap (λ vs. set_at vs (edge_at out k).2) extended.1
+        ∙ set_at-extends mid extended.0 (edge_at out k).2 (before.inside k x.0) in
         rw stays (before.fits k c x.0 low high)))
-        (λ x. rw x.1 (λ low high. step_of_piece t pieces targets (items_at old cur) (items_at new to) done c p moves l low high
+        (λ x. rw x.1 (λ low high. step_of_piece t pieces targets (set_at old cur) (set_at new to) done c p moves l low high
         found.closed))
         (edge_cases k h);
     below = λ k h.
@@ -207,9 +206,9 @@ module _ (t : Graph) (pieces : List Test) (targets : ℕ → List ℕ) (done cur
       new_one n a b = rw (eq-eqb n n refl) refl
 
 -- one more alphabet class with targets, behind one that leads to the same state: the last edge reads it too
-module _ (t : Graph) (pieces : List Test) (targets : ℕ → List ℕ) (done cur : ℕ) (old mid new : List (Vec ℕ Global))
+module _ (t : Graph) (pieces : List Test) (targets : ℕ → List ℕ) (done cur : ℕ) (old mid new : List (List ℕ))
     (front : List EdgeView) (last : EdgeView) (to : ℕ)
-    (p : AreClassesOf t pieces) (moves : ArePieceTargets t (items_at old cur) pieces targets) (l : done < length pieces)
+    (p : AreClassesOf t pieces) (moves : ArePieceTargets t (set_at old cur) pieces targets) (l : done < length pieces)
     (before : ExploresSome t pieces targets done cur old mid (front ++ last ∷ [])) (found : IsInterned t (targets done) mid new to)
     (goes : Continues last (start_at pieces done, end_at pieces done, to)) where
   abbrev joined : EdgeView
@@ -261,13 +260,13 @@ module _ (t : Graph) (pieces : List Test) (targets : ℕ → List ℕ) (done cur
         (λ x. rw x.1 (λ low high.
         ⊎_elim
         (λ (less : c < start_at pieces done).
-        let P : EdgeView → Type 0 = λ f. f.0 ≤ c → c ≤ f.1 → IsSubsetStep t (items_at old cur) c (items_at mid f.2) in
+        let P : EdgeView → Type 0 = λ f. f.0 ≤ c → c ≤ f.1 → IsSubsetStep t (set_at old cur) c (set_at mid f.2) in
         let step = subst P at_last (before.fits (length front) c last_inside) low (omega (arith, less, goes.1)) in
         rw (sym goes.0) step)
         (λ (more : start_at pieces done ≤ c).
-        let closed = let P : List (Vec ℕ Global) → Type 0 = λ vs. IsEpsilonClosure t (targets done) (items_at vs to) in
+        let closed = let P : List (List ℕ) → Type 0 = λ vs. IsEpsilonClosure t (targets done) (set_at vs to) in
         subst P no_more found.closed in
-        step_of_piece t pieces targets (items_at old cur) (items_at mid to) done c p moves l more high closed)
+        step_of_piece t pieces targets (set_at old cur) (set_at mid to) done c p moves l more high closed)
         (cases_lt c (start_at pieces done))))
         (joined_cases k h);
     below = λ k h.
@@ -324,12 +323,12 @@ module _ (t : Graph) (pieces : List Test) (targets : ℕ → List ℕ) (done cur
   }
 
   explore_joined : ExploresSome t pieces targets (done + 1) cur old new (front ++ joined ∷ [])
-  explore_joined = let P : List (Vec ℕ Global) → Type 0 = λ vs. ExploresSome t pieces targets (done + 1) cur old vs (front ++ joined ∷ []) in
+  explore_joined = let P : List (List ℕ) → Type 0 = λ vs. ExploresSome t pieces targets (done + 1) cur old vs (front ++ joined ∷ []) in
       subst P (sym no_more) explore_joined_mid
 
 -- one more alphabet class with targets, whose edge is added
-pub explore_added : (t : Graph) (pieces : List Test) (targets : ℕ → List ℕ) (done cur : ℕ) (old mid new : List (Vec ℕ Global))
-    (out more : List EdgeView) (to : ℕ) → AreClassesOf t pieces → ArePieceTargets t (items_at old cur) pieces targets
+pub explore_added : (t : Graph) (pieces : List Test) (targets : ℕ → List ℕ) (done cur : ℕ) (old mid new : List (List ℕ))
+    (out more : List EdgeView) (to : ℕ) → AreClassesOf t pieces → ArePieceTargets t (set_at old cur) pieces targets
     → done < length pieces → ExploresSome t pieces targets done cur old mid out → IsInterned t (targets done) mid new to
     → AddsDfaEdge (start_at pieces done, end_at pieces done, to) out more → ExploresSome t pieces targets (done + 1) cur old new more
 explore_added t pieces targets done cur old mid new out more to p moves l before found added =
@@ -340,7 +339,7 @@ explore_added t pieces targets done cur old mid new out more to p moves l before
     added
 
 -- one more alphabet class without targets: no transition
-pub explore_skip : (t : Graph) (pieces : List Test) (targets : ℕ → List ℕ) (done cur : ℕ) (old new : List (Vec ℕ Global))
+pub explore_skip : (t : Graph) (pieces : List Test) (targets : ℕ → List ℕ) (done cur : ℕ) (old new : List (List ℕ))
     (out : List EdgeView) → ((x : ℕ) → Contains (targets done) x → ⊥) →
     ExploresSome t pieces targets done cur old new out → ExploresSome t pieces targets (done + 1) cur old new out
 explore_skip t pieces targets done cur old new out none before = record {
@@ -363,7 +362,7 @@ pub funext : {A B : Type 0} (f g : A → B) → ((x : A) → f x ≡ g x) → f 
 funext f g h = λ i x. h x i
 
 -- before the first alphabet class, the state has no transitions, and no state is new
-pub explore_start : (t : Graph) (pieces : List Test) (targets : ℕ → List ℕ) (cur : ℕ) (old : List (Vec ℕ Global))
+pub explore_start : (t : Graph) (pieces : List Test) (targets : ℕ → List ℕ) (cur : ℕ) (old : List (List ℕ))
     → ExploresSome t pieces targets 0 cur old old []
 explore_start t pieces targets cur old = record {
   extends = ([], sym (append-nil old));
@@ -381,14 +380,14 @@ explore_start t pieces targets cur old = record {
 }
 
 -- after the last alphabet class, the state has all of its transitions
-pub explore_end : (t : Graph) (pieces : List Test) (targets : ℕ → List ℕ) (done cur : ℕ) (old new : List (Vec ℕ Global))
-    (out : List EdgeView) → AreClassesOf t pieces → ArePieceTargets t (items_at old cur) pieces targets →
+pub explore_end : (t : Graph) (pieces : List Test) (targets : ℕ → List ℕ) (done cur : ℕ) (old new : List (List ℕ))
+    (out : List EdgeView) → AreClassesOf t pieces → ArePieceTargets t (set_at old cur) pieces targets →
     length pieces ≤ done → cur < length old → ExploresSome t pieces targets done cur old new out → Explores t cur old new out
 explore_end t pieces targets done cur old new out p moves over inside h = record {
   extends = h.extends;
   grows = h.grows;
   fits = λ k c l low high.
-      let stays = ap (λ vs. items_at vs cur) h.extends.1 ∙ items_at-extends old h.extends.0 cur inside in
+      let stays = ap (λ vs. set_at vs cur) h.extends.1 ∙ set_at-extends old h.extends.0 cur inside in
       rw stays (h.fits k c l low high);
   all = λ q c x among reads.
       let i = p.covers q c x reads in
@@ -398,7 +397,7 @@ explore_end t pieces targets done cur old new out p moves over inside h = record
 }
 
 -- the edges are as far apart as the pieces
-pub explore_apart : (t : Graph) (pieces : List Test) (targets : ℕ → List ℕ) (done cur : ℕ) (old new : List (Vec ℕ Global))
+pub explore_apart : (t : Graph) (pieces : List Test) (targets : ℕ → List ℕ) (done cur : ℕ) (old new : List (List ℕ))
     (out : List EdgeView) → AreClassesOf t pieces → done ≤ length pieces →
     ExploresSome t pieces targets done cur old new out → AreApart out
 explore_apart t pieces targets done cur old new out p inside h = record {

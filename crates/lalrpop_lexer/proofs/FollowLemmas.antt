@@ -5,6 +5,7 @@ use Rattle.std.specs.Prelude.{slice_get, encode_utf8}
 use Rattle.std.specs.Str.{chars, IsUtf8}
 use Rattle.std.proofs.lemmas.Bool.{cases_lt}
 use Rattle.std.proofs.lemmas.List.{append_cancel_right, nil_from_length, length_push, length-map, get_or-map}
+use Rattle.std.proofs.lemmas.Option.{slice_get_past}
 use Rattle.std.proofs.lemmas.Str.{chars-nil, chars_past_char}
 use denote.Ref.{Bor}
 use Rattle.lalrpop_lexer_nfa.proofs.TextLemmas.{IsRead, read_start, read_char}
@@ -97,6 +98,12 @@ follow_start nodes text node u first = record {
 walked_none : (nodes : List StateView) (v : List ℕ) (n : ℕ) (best : Option (ℕ × ℕ)) → simulate nodes v None n best ≡ best
 walked_none nodes [] n best = refl
 walked_none nodes (c ∷ v) n best = refl
+
+-- an automaton of no states finds nothing
+pub follow_nothing : (nodes : List StateView) (text : List ℕ) → length nodes ≡ 0 → answer_of nodes text ≡ None
+follow_nothing nodes text none =
+    ap (λ (s : Option StateView). simulate nodes text s 0 None) (slice_get_past nodes 0 (omega (arith, none)))
+    ∙ walked_none nodes text 0 None
 
 module _ (nodes : List StateView) (text whole rest word : List ℕ) (c : ℕ) (node : StateView)
     (found : Option (NfaIndex × Bor (List ℕ))) (is : whole ≡ encode_utf8 c ++ rest)

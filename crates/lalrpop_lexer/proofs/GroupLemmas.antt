@@ -1,6 +1,6 @@
 -- Alphabet classes in groups by their marks, one more after another, and what is known of groups. For `marked_groups` and `explore`.
 use Rattle.std.proofs.Common.{◌≡◌, ℕ, ◌+◌, ◌<◌, ◌≤◌, ◌⊎◌, List, [], ◌∷◌, ◌++◌, length, get_or, set}
-use Rattle.std.proofs.Common.{map, Option, Some, None, IfSome, Vec, Global, inl, inr, ⊎_elim, sym, ap, ◌∙◌, refl, subst, arith}
+use Rattle.std.proofs.Common.{map, Option, Some, None, IfSome, inl, inr, ⊎_elim, sym, ap, ◌∙◌, refl, subst, arith}
 use Rattle.std.specs.Prelude.{slice_index_or, replicate}
 use Rattle.std.proofs.lemmas.Bool.{cases_lt, cases_eq}
 use Rattle.std.proofs.lemmas.List.{get_or-set_same, get_or-set_other, get_or_append_left, get_or_push, get_or_past}
@@ -199,7 +199,7 @@ marked_all pieces marks n known numbers firsts all h = record {
 
 -- one more known number, of a state that was made for what its group leads to
 pub known_more : (known : List (Option ℕ)) (group : ℕ) (new : Option ℕ) (to : ℕ) (targets : ℕ → List ℕ)
-    (old entries : List (Vec ℕ Global × ℕ)) → group < length known → new ≡ Some to → HasKernel entries to (targets group) →
+    (old entries : List (List ℕ × ℕ)) → group < length known → new ≡ Some to → HasKernel entries to (targets group) →
     ((m : ℕ) (k : List ℕ) → HasKernel old m k → HasKernel entries m k) →
     ((g n : ℕ) → known_at known g ≡ Some n → HasKernel old n (targets g)) →
     (g n : ℕ) → known_at (set known group new) g ≡ Some n → HasKernel entries n (targets g)

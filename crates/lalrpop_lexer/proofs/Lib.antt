@@ -4,6 +4,7 @@ pub mod GrowLemmas
 pub mod JoinLemmas
 pub mod SubsetLemmas
 pub mod TargetLemmas
+pub mod SliceLemmas
 pub mod StatesLemmas
 pub mod SplitLemmas
 pub mod GroupLemmas
@@ -15,7 +16,9 @@ pub mod WholeLemmas
 pub mod StepLemmas
 pub mod DecideLemmas
 pub mod StateViewLemmas
+pub mod ReadLemmas
 pub mod FollowLemmas
 pub mod RowLemmas
 pub mod BuildLemmas
 pub mod KernelLemmas
+pub mod KernelTableLemmas

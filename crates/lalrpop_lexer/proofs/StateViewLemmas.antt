@@ -1,108 +1,158 @@
--- Lists of states, with one more state or one changed. For the loops that make the states and say what they accept.
-use Rattle.std.proofs.Common.{◌≡◌, ℕ, zero, suc, ◌+◌, ◌<◌, ◌≤◌, ◌⊎◌, List, [], ◌∷◌, ◌++◌, length}
-use Rattle.std.proofs.Common.{get_or, set, map, Vec, Global, Option, Some, None, inl, inr, ⊎_elim, sym, ap, ◌∙◌, refl, subst, arith}
-use Rattle.std.specs.Prelude.{slice_get}
+-- Tables of states and of their edges, with one more. For the loops that make them, and the functions that read them.
+use Rattle.std.proofs.Common.{◌≡◌, ℕ, zero, suc, ◌+◌, ◌<◌, ◌≤◌, List, [], ◌∷◌, ◌++◌, length}
+use Rattle.std.proofs.Common.{get_or, map, Option, Some, None, ⊎_elim, sym, ap, ◌∙◌, refl, subst, arith}
+use Rattle.std.specs.Prelude.{slice_get, option_and_then}
 use Rattle.std.proofs.lemmas.Bool.{cases_lt, cases_eq}
-use Rattle.std.proofs.lemmas.List.{map-set, get_or-set_same, get_or-set_other, length-map, get_or_past, get_or_push, get_or_append_left}
-use Rattle.std.proofs.lemmas.List.{length_push, map_push}
+use Rattle.std.proofs.lemmas.List.{length-map, get_or-map, get_or_past, get_or_push, get_or_append_left, length_push, map_push}
+use Rattle.std.proofs.lemmas.Option.{get_or_from_slice_get}
+use Rattle.lalrpop_lexer.specs.declared.edge.DfaEdge.{DfaEdge}
 use Rattle.lalrpop_lexer.specs.declared.state.State.{State}
 use Rattle.lalrpop_lexer_nfa.specs.Paths.{Graph}
 use Rattle.lalrpop_lexer.specs.Numbering.{EdgeView}
 use Rattle.lalrpop_lexer.specs.Explore.{edges_view, Explores}
-use Rattle.lalrpop_lexer.proofs.WholeLemmas.{IsExplored, explored_more}
-use Rattle.lalrpop_lexer.specs.StateViews.{accepted_of, state_view, edges_in, accepted_in}
+use Rattle.lalrpop_lexer.specs.Rows.{IsRow}
+use Rattle.lalrpop_lexer.specs.Simulation.{StateView, AreApart, target_of, next_state_view}
+use Rattle.lalrpop_lexer.specs.StateViews.{accepted_of, state_views, edges_in, accepted_in}
+use Rattle.lalrpop_lexer.specs.Tables.{AreTables}
 use Rattle.lalrpop_lexer.specs.Outcome.{IsAccepted}
 use Rattle.lalrpop_lexer.specs.Ties.{AcceptsPattern}
+use Rattle.lalrpop_lexer.proofs.WholeLemmas.{IsExplored, explored_more}
 
-abbrev out_of : State → List EdgeView
-out_of x = edges_view x.edges.items
+-- ---- what is read of a state
 
-pub edges_in-new : (states : List State) (v : State) → edges_in (states ++ v ∷ []) (length states) ≡ edges_view v.edges.items
-edges_in-new states v =
-    ap (λ (es : List (List EdgeView)). get_or es (length states) []) (map_push out_of states v)
-    ∙ get_or_push (map out_of states) (out_of v) [] (length states) (length-map states out_of)
+-- each state has a view
+pub views_count : (states : List State) (table : List (List DfaEdge)) → length (state_views states table) ≡ length states
+views_count [] table = refl
+views_count (x ∷ states) [] = ap suc (views_count states [])
+views_count (x ∷ states) (edges ∷ table) = ap suc (views_count states table)
 
-pub edges_in-old : (states : List State) (v : State) (s : ℕ) → (s ≡ length states → ⊥)
-    → edges_in (states ++ v ∷ []) s ≡ edges_in states s
-edges_in-old states v s apart =
-    ap (λ (es : List (List EdgeView)). get_or es s []) (map_push out_of states v)
-    ∙ ⊎_elim
-    (λ (less : s < length states). get_or_append_left (map out_of states) (out_of v ∷ []) [] s (omega (arith, length-map states out_of)))
-    (λ (more : length states ≤ s).
-    get_or_past (map out_of states ++ out_of v ∷ []) s []
-    (let size = length_push (map out_of states) (out_of v) in
-    let same = length-map states out_of in
-    let far : (s ≡ length states) ⊎ (length states < s) =
-    ⊎_elim (λ (at : s ≡ length states). inl at) (λ (other : s ≡ length states → ⊥). inr (omega arith))
-    (cases_eq s (length states)) in ⊎_elim (λ at. absurd (apart at)) (λ past. omega arith) far)
-    ∙ sym (get_or_past (map out_of states) s [] (omega (arith, length-map states out_of))))
-    (cases_lt s (length states))
+-- the view of each state
+pub node_at : (states : List State) (table : List (List DfaEdge)) (s : ℕ) → s < length states
+    → slice_get (state_views states table) s ≡ Some (accepted_in states s, edges_in table s)
+node_at [] table s l = absurd (omega arith)
+node_at (x ∷ states) [] zero l = refl
+node_at (x ∷ states) [] (suc s) l = node_at states [] s (omega arith)
+node_at (x ∷ states) (edges ∷ table) zero l = refl
+node_at (x ∷ states) (edges ∷ table) (suc s) l = node_at states table s (omega arith)
 
-pub edges_in-set : (states : List State) (i : ℕ) (v : State) → i < length states → edges_view v.edges.items ≡ edges_in states i
-    → (s : ℕ) → edges_in (set states i v) s ≡ edges_in states s
-edges_in-set states i v l same s =
-    ap (λ (es : List (List EdgeView)). get_or es s []) (map-set out_of states i v)
-    ∙ ⊎_elim
-    (λ (at : s ≡ i). ap (λ (k : ℕ). get_or (set (map out_of states) i (out_of v)) k []) at
-    ∙ get_or-set_same (map out_of states) i (out_of v) [] (omega (arith, length-map states out_of)) ∙ same
-    ∙ ap (edges_in states) (sym at))
-    (λ (apart : s ≡ i → ⊥). get_or-set_other (map out_of states) i s (out_of v) [] apart)
-    (cases_eq s i)
+pub view_at : (states : List State) (table : List (List DfaEdge)) (s : ℕ) → s < length states
+    → get_or (state_views states table) s (None, []) ≡ (accepted_in states s, edges_in table s)
+view_at states table s l =
+    get_or_from_slice_get (state_views states table) s (accepted_in states s, edges_in table s) (None, []) (node_at states table s l)
 
-accepted_in-same : (states : List State) (i : ℕ) (v : State) → i < length states → accepted_in (set states i v) i ≡ accepted_of v
-accepted_in-same states i v l =
-    ap (λ (os : List (Option ℕ)). get_or os i None) (map-set accepted_of states i v)
-    ∙ get_or-set_same (map accepted_of states) i (accepted_of v) None (omega (arith, length-map states accepted_of))
+-- what a state accepts that was read at its place
+pub accepted_is : (states : List State) (s : ℕ) (x : State) → s < length states → x ≡ get_or states s x
+    → accepted_of x ≡ accepted_in states s
+accepted_is states s x l is = ap accepted_of is ∙ sym (get_or-map accepted_of states s x None l)
 
-accepted_in-other : (states : List State) (i s : ℕ) (v : State) → (s ≡ i → ⊥)
-    → accepted_in (set states i v) s ≡ accepted_in states s
-accepted_in-other states i s v apart =
-    ap (λ (os : List (Option ℕ)). get_or os s None) (map-set accepted_of states i v)
-    ∙ get_or-set_other (map accepted_of states) i s (accepted_of v) None apart
+-- the state that a character leads to, by the number that its edge tells
+pub next_state_at : (nodes : List StateView) (node : StateView) (c n : ℕ) → Some n ≡ target_of node.1 c
+    → slice_get nodes n ≡ next_state_view nodes node c
+next_state_at nodes node c n is = ap (option_and_then (slice_get nodes)) is
 
--- the node of each state
-pub node_at : (states : List State) (s : ℕ) → s < length states
-    → slice_get (map state_view states) s ≡ Some (accepted_in states s, edges_in states s)
-node_at [] s l = absurd (omega arith)
-node_at (x ∷ states) zero l = refl
-node_at (x ∷ states) (suc s) l = node_at states s (omega arith)
+-- ---- one more state
 
--- it is said of the first states what they accept
-pub record AreDecided (sets : List (List ℕ)) (precedences : List ℕ) (done : ℕ) (old new : List State) : Type 0 where
-  pub edges : (s : ℕ) → edges_in new s ≡ edges_in old s
-  pub accepted : (s : ℕ) → s < done → IsAccepted (AcceptsPattern sets s) precedences (length precedences) (accepted_in new s)
+pub edges_in-new : (table : List (List DfaEdge)) (edges : List DfaEdge)
+    → edges_in (table ++ edges ∷ []) (length table) ≡ edges_view edges
+edges_in-new table edges = ap edges_view (get_or_push table edges [] (length table) refl)
 
-pub decided_none : (sets : List (List ℕ)) (precedences : List ℕ) (states : List State) → AreDecided sets precedences 0 states states
-decided_none sets precedences states = record { edges = λ s. refl; accepted = λ s l. absurd (omega arith) }
-
--- one more state accepts its best pattern, or nothing, and the transitions of all states stay
-pub decided_more : (sets : List (List ℕ)) (precedences : List ℕ) (i : ℕ) (old mid : List State) (v : State) → i < length mid
-    → edges_view v.edges.items ≡ edges_in mid i →
-    IsAccepted (AcceptsPattern sets i) precedences (length precedences) (accepted_of v) → AreDecided sets precedences i old mid
-    → AreDecided sets precedences (i + 1) old (set mid i v)
-decided_more sets precedences i old mid v l same here h = record {
-  edges = λ s. edges_in-set mid i v l same s ∙ h.edges s;
-  accepted = λ s below.
-      ⊎_elim
-      (λ (less : s < i).
-      let P : Option ℕ → Type 0 = IsAccepted (AcceptsPattern sets s) precedences (length precedences) in
-      subst P (sym (accepted_in-other mid i s v (λ at. omega arith))) (h.accepted s less))
-      (λ (ge : i ≤ s).
-      let at : s ≡ i = omega arith in
-      let P : Option ℕ → Type 0 = IsAccepted (AcceptsPattern sets i) precedences (length precedences) in
-      let Q : ℕ → Type 0 = λ k. IsAccepted (AcceptsPattern sets k) precedences (length precedences) (accepted_in (set mid i v) k) in
-      subst Q (sym at) (subst P (sym (accepted_in-same mid i v l)) here))
-      (cases_lt s i);
-}
+pub edges_in-old : (table : List (List DfaEdge)) (edges : List DfaEdge) (s : ℕ) → (s ≡ length table → ⊥)
+    → edges_in (table ++ edges ∷ []) s ≡ edges_in table s
+edges_in-old table edges s apart =
+    let read : get_or (table ++ edges ∷ []) s [] ≡ get_or table s [] =
+    ⊎_elim (λ (less : s < length table). get_or_append_left table (edges ∷ []) [] s less)
+    (λ (more : length table ≤ s).
+    let past : length table + 1 ≤ s =
+    ⊎_elim (λ (less : length table < s). omega (arith, less)) (λ (ge : s ≤ length table). absurd (apart (omega (arith, ge, more))))
+    (cases_lt (length table) s) in
+    get_or_past (table ++ edges ∷ []) s [] (omega (arith, past, length_push table edges))
+    ∙ sym (get_or_past table s [] (omega (arith, past))))
+    (cases_lt s (length table)) in
+    ap edges_view read
 
 -- one more state got its edges
-pub explored_push : (t : Graph) (start n : ℕ) (states : List State) (v : State) (old new : List (Vec ℕ Global)) → n ≡ length states
-    → n < length old → IsExplored t start (length states) old (edges_in states) →
-    Explores t n old new (edges_view v.edges.items) → IsExplored t start (length (states ++ v ∷ [])) new (edges_in (states ++ v ∷ []))
-explored_push t start n states v old new at inside before one =
-    let P : ℕ → Type 0 = λ k. IsExplored t start k new (edges_in (states ++ v ∷ [])) in
-    let Q : ℕ → Type 0 = λ k. Explores t k old new (edges_view v.edges.items) in
-    subst P (sym (length_push states v))
-    (explored_more t start (length states) old new (edges_in states) (edges_in (states ++ v ∷ [])) (edges_view v.edges.items)
-    (omega arith) before (subst Q at one)
-    (λ s apart. edges_in-old states v s apart) (edges_in-new states v))
+pub explored_push : (t : Graph) (start : ℕ) (table : List (List DfaEdge)) (edges : List DfaEdge) (old new : List (List ℕ))
+    → length table < length old → IsExplored t start (length table) old (edges_in table)
+    → Explores t (length table) old new (edges_view edges)
+    → IsExplored t start (length (table ++ edges ∷ [])) new (edges_in (table ++ edges ∷ []))
+explored_push t start table edges old new inside before one =
+    let P : ℕ → Type 0 = λ k. IsExplored t start k new (edges_in (table ++ edges ∷ [])) in
+    subst P (sym (length_push table edges))
+    (explored_more t start (length table) old new (edges_in table) (edges_in (table ++ edges ∷ [])) (edges_view edges)
+    inside before one (λ s apart. edges_in-old table edges s apart) (edges_in-new table edges))
+
+-- before the first state the tables are empty
+pub tables_none : AreTables 0 [] []
+tables_none = record {
+  edged = refl;
+  rowed = refl;
+  apart = λ s l. absurd (omega (arith, l));
+  agrees = λ s l. absurd (omega (arith, l));
+}
+
+-- one more state has its edges and its row
+pub tables_push : (table : List (List DfaEdge)) (rows : List (List (Option ℕ))) (edges : List DfaEdge) (row : List (Option ℕ))
+    → AreTables (length table) table rows → AreApart (edges_view edges) → IsRow (edges_view edges) row
+    → AreTables (length (table ++ edges ∷ [])) (table ++ edges ∷ []) (rows ++ row ∷ [])
+tables_push table rows edges row h parted told = record {
+  edged = refl;
+  rowed = omega (arith, length_push rows row, h.rowed, length_push table edges);
+  apart = λ s l. ⊎_elim
+      (λ (at : s ≡ length table).
+      let P : List EdgeView → Type 0 = AreApart in
+      subst P (sym (ap (edges_in (table ++ edges ∷ [])) at ∙ edges_in-new table edges)) parted)
+      (λ (other : s ≡ length table → ⊥).
+      let P : List EdgeView → Type 0 = AreApart in
+      subst P (sym (edges_in-old table edges s other)) (h.apart s (inside s l other))) (cases_eq s (length table));
+  agrees = λ s l. ⊎_elim
+      (λ (at : s ≡ length table).
+      let read : get_or (rows ++ row ∷ []) s [] ≡ row = get_or_push rows row [] s (h.rowed ∙ sym at) in
+      let P : List EdgeView → List (Option ℕ) → Type 0 = IsRow in
+      subst (λ es. P es (get_or (rows ++ row ∷ []) s [])) (sym (ap (edges_in (table ++ edges ∷ [])) at ∙ edges_in-new table edges))
+      (subst (P (edges_view edges)) (sym read) told))
+      (λ (other : s ≡ length table → ⊥).
+      let less = inside s l other in
+      let read : get_or (rows ++ row ∷ []) s [] ≡ get_or rows s [] =
+      get_or_append_left rows (row ∷ []) [] s (omega (arith, less, h.rowed)) in
+      let P : List EdgeView → List (Option ℕ) → Type 0 = IsRow in
+      subst (λ es. P es (get_or (rows ++ row ∷ []) s [])) (sym (edges_in-old table edges s other))
+      (subst (P (edges_in table s)) (sym read) (h.agrees s less))) (cases_eq s (length table));
+}
+  where
+    inside : (s : ℕ) → s < length (table ++ edges ∷ []) → (s ≡ length table → ⊥) → s < length table
+    inside s l other =
+        ⊎_elim (λ (less : s < length table). less)
+        (λ (ge : length table ≤ s). absurd (other (omega (arith, ge, l, length_push table edges)))) (cases_lt s (length table))
+
+-- ---- what the states accept
+
+-- it is said of the first states what they accept
+pub record AreDecided (sets : List (List ℕ)) (precedences : List ℕ) (done : ℕ) (states : List State) : Type 0 where
+  pub count : length states ≡ done
+  pub accepted : (s : ℕ) → s < done → IsAccepted (AcceptsPattern sets s) precedences (length precedences) (accepted_in states s)
+
+pub decided_none : (sets : List (List ℕ)) (precedences : List ℕ) → AreDecided sets precedences 0 []
+decided_none sets precedences = record { count = refl; accepted = λ s l. absurd (omega arith) }
+
+-- one more state accepts its best pattern, or nothing
+pub decided_more : (sets : List (List ℕ)) (precedences : List ℕ) (i : ℕ) (states : List State) (x : State)
+    → IsAccepted (AcceptsPattern sets i) precedences (length precedences) (accepted_of x) → AreDecided sets precedences i states
+    → AreDecided sets precedences (i + 1) (states ++ x ∷ [])
+decided_more sets precedences i states x here h = record {
+  count = omega (arith, length_push states x, h.count);
+  accepted = λ s below.
+      let pushed : accepted_in (states ++ x ∷ []) s ≡ get_or (map accepted_of states ++ accepted_of x ∷ []) s None =
+      ap (λ (os : List (Option ℕ)). get_or os s None) (map_push accepted_of states x) in
+      let size = length-map states accepted_of in
+      let P : Option ℕ → Type 0 = IsAccepted (AcceptsPattern sets s) precedences (length precedences) in
+      ⊎_elim
+      (λ (less : s < i).
+      subst P (sym (pushed ∙ get_or_append_left (map accepted_of states) (accepted_of x ∷ []) None s (omega (arith, less, size, h.count))))
+      (h.accepted s less))
+      (λ (ge : i ≤ s).
+      let at : s ≡ i = omega (arith, ge, below) in
+      let Q : ℕ → Type 0 = λ k. IsAccepted (AcceptsPattern sets k) precedences (length precedences) (accepted_of x) in
+      subst P (sym (pushed ∙ get_or_push (map accepted_of states) (accepted_of x) None s (size ∙ h.count ∙ sym at)))
+      (subst Q (sym at) here))
+      (cases_lt s i);
+}

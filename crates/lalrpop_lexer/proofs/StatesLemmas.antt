@@ -1,17 +1,17 @@
 -- Sets of states by the numbers that they were given. For the states of an automaton under way.
 use Rattle.std.proofs.Common.{◌≡◌, ℕ, ◌+◌, ◌<◌, ◌↔◌, List, [], ◌∷◌, ◌++◌, length, get_or, take, Contains}
-use Rattle.std.proofs.Common.{All, Vec, Global, Bool, true, false, Some, ⊎_elim, ap, ◌∙◌, refl, subst, arith}
+use Rattle.std.proofs.Common.{All, Bool, true, false, Some, ⊎_elim, refl, subst}
 use Rattle.std.specs.Map.{lookup}
 use Rattle.std.specs.Ordering.{match_ordering, is_eq}
 use Rattle.std.specs.declared.cmp.Ordering.{Ordering}
 use Rattle.std.specs.declared.cmp.Ordering.TheVariants.{Less, Equal, Greater}
 use Rattle.std.specs.BTreeMap.{insert_entry}
-use Rattle.std.proofs.lemmas.List.{get_or_append_left, map_push, length-map, get_or_push, take_more}
+use Rattle.std.proofs.lemmas.List.{get_or_append_left, get_or_push, take_more}
 use Rattle.std.proofs.lemmas.List.Elements.{Contains-push, Contains-push_cases, Contains-append_left, All-head, All-tail, All-cons, All-nil}
 use Rattle.lalrpop_lexer_nfa.specs.Paths.{Graph}
 use Rattle.lalrpop_lexer_nfa.specs.Sets.{IsEpsilonClosure, Inserts}
 use Rattle.lalrpop_lexer_nfa.proofs.SetLemmas.{Inserts-old, Inserts-new, Inserts-cases}
-use Rattle.lalrpop_lexer.specs.Targets.{items_lists, items_at}
+use Rattle.lalrpop_lexer.specs.Subsets.{set_at}
 
 -- the same members give the same closed set
 pub IsEpsilonClosure-along : (t : Graph) (old other new : List ℕ) → ((x : ℕ) → Contains old x → Contains other x)
@@ -37,17 +37,12 @@ found_entry {K} P test ((k, m) ∷ es) n all found =
     go false e more = more (rw e at found)
 
 -- one more set
-pub items_at-old : (sets : List (Vec ℕ Global)) (v : Vec ℕ Global) (i : ℕ) → i < length sets
-    → items_at (sets ++ v ∷ []) i ≡ items_at sets i
-items_at-old sets v i l =
-    ap (λ ls. get_or ls i []) (map_push (λ (v : Vec ℕ Global). v.items) sets v)
-    ∙ get_or_append_left (items_lists sets) (v.items ∷ []) [] i (omega (arith, length-map sets (λ (v : Vec ℕ Global). v.items)))
+pub set_at-old : (sets : List (List ℕ)) (set : List ℕ) (i : ℕ) → i < length sets → set_at (sets ++ set ∷ []) i ≡ set_at sets i
+set_at-old sets set i l = get_or_append_left sets (set ∷ []) [] i l
 
 -- behind the old sets stands the new one
-pub items_at-new : (sets : List (Vec ℕ Global)) (v : Vec ℕ Global) → items_at (sets ++ v ∷ []) (length sets) ≡ v.items
-items_at-new sets v =
-    ap (λ ls. get_or ls (length sets) []) (map_push (λ (v : Vec ℕ Global). v.items) sets v)
-    ∙ get_or_push (items_lists sets) v.items [] (length sets) (length-map sets (λ (v : Vec ℕ Global). v.items))
+pub set_at-new : (sets : List (List ℕ)) (set : List ℕ) → set_at (sets ++ set ∷ []) (length sets) ≡ set
+set_at-new sets set = get_or_push sets set [] (length sets) refl
 
 -- loops that put the members of a list into a set
 pub same_members_more : (old new : List ℕ) (xs : List ℕ) (i : ℕ) → i < length xs

@@ -1,12 +1,12 @@
 -- The edges of one state of the automaton under way.
-use Rattle.std.specs.Prelude.{◌≡◌, ℕ, ◌<◌, ◌≤◌, ◌⊎◌, List, [], ◌++◌, length, map, Contains, Vec, slice_index_or}
-use Rattle.std.specs.declared.alloc.Global.{Global}
+use Rattle.std.specs.Prelude.{◌≡◌, ℕ, ◌<◌, ◌≤◌, ◌⊎◌, List, [], ◌++◌, length, map, Contains, slice_index_or}
 use Rattle.lalrpop_lexer_nfa.specs.declared.test.Test.{Test}
 use Rattle.lalrpop_lexer_nfa.specs.Paths.{Graph, HasTransition}
 use Rattle.lalrpop_lexer_nfa.specs.Sets.{IsSubsetStep}
 use Rattle.lalrpop_lexer.specs.declared.edge.DfaEdge.{DfaEdge}
 use Rattle.lalrpop_lexer.specs.Numbering.{EdgeView, edge_at, IsFirstSeen}
-use Rattle.lalrpop_lexer.specs.Targets.{items_at, start_at}
+use Rattle.lalrpop_lexer.specs.Subsets.{set_at}
+use Rattle.lalrpop_lexer.specs.Targets.{start_at}
 
 abbrev pub end_at : List Test → ℕ → ℕ
 end_at pieces i = slice_index_or (map (λ (t : Test). t.end) pieces) i 0
@@ -34,12 +34,12 @@ pub record IsGrowing (edges : ℕ → List EdgeView) (n : ℕ) (parent place : �
   pub late : (s : ℕ) → 0 < s → s < n → (parent s < cur) ⊎ (parent s ≡ cur) × (place s < length (edges cur))
 
 -- the state cur got its edges, and the states that they lead to came last
-pub record Explores (t : Graph) (cur : ℕ) (old new : List (Vec ℕ Global)) (out : List EdgeView) : Type 0 where
-  pub extends : (more : List (Vec ℕ Global)) × (new ≡ old ++ more)
+pub record Explores (t : Graph) (cur : ℕ) (old new : List (List ℕ)) (out : List EdgeView) : Type 0 where
+  pub extends : (more : List (List ℕ)) × (new ≡ old ++ more)
   pub grows : (edges more : ℕ → List EdgeView) (parent place : ℕ → ℕ)
       → ((s : ℕ) → (s ≡ cur → ⊥) → more s ≡ edges s) → edges cur ≡ [] → more cur ≡ out →
       IsGrowing edges (length old) parent place cur → (parents places : ℕ → ℕ) × IsGrowing more (length new) parents places cur
   pub fits : (k c : ℕ) → k < length out → (edge_at out k).0 ≤ c → c ≤ (edge_at out k).1
-      → IsSubsetStep t (items_at new cur) c (items_at new (edge_at out k).2)
-  pub all : (q c x : ℕ) → Contains (items_at old cur) q → HasTransition t q c x → (k : ℕ) × (k < length out)
+      → IsSubsetStep t (set_at new cur) c (set_at new (edge_at out k).2)
+  pub all : (q c x : ℕ) → Contains (set_at old cur) q → HasTransition t q c x → (k : ℕ) × (k < length out)
       × ((edge_at out k).0 ≤ c) × (c ≤ (edge_at out k).1)

@@ -11,6 +11,9 @@ pub mod Automaton
 pub mod Build
 pub mod Rows
 pub mod StateViews
+pub mod Tables
 pub mod Ties
 pub mod Answer
 pub mod Joined
+pub mod Slices
+pub mod Kernels

@@ -3,6 +3,7 @@ use Rattle.std.specs.Prelude.{ℕ, List, [], ◌∷◌, Option, Some, None, map,
 use Rattle.lalrpop_lexer.specs.declared.kind.NfaIndex.{NfaIndex}
 use Rattle.lalrpop_lexer.specs.declared.kind.Kind.{Kind}
 use Rattle.lalrpop_lexer.specs.declared.kind.Kind.TheVariants.{Accepts, Reject, Neither}
+use Rattle.lalrpop_lexer.specs.declared.edge.DfaEdge.{DfaEdge}
 use Rattle.lalrpop_lexer.specs.declared.state.State.{State}
 use Rattle.lalrpop_lexer.specs.Numbering.{EdgeView}
 use Rattle.lalrpop_lexer.specs.Explore.{edges_view}
@@ -12,12 +13,15 @@ use Rattle.lalrpop_lexer.specs.Simulation.{StateView}
 abbrev pub accepted_of : State → Option ℕ
 accepted_of s = option_map (λ (i : NfaIndex). i.0) s.accepts
 
-abbrev pub state_view : State → StateView
-state_view s = (accepted_of s, edges_view s.edges.items)
+-- each state with its edges from a table, none where the table ends
+abbrev pub state_views : List State → List (List DfaEdge) → List StateView
+state_views [] table = []
+state_views (s ∷ states) [] = (accepted_of s, []) ∷ state_views states []
+state_views (s ∷ states) (edges ∷ table) = (accepted_of s, edges_view edges) ∷ state_views states table
 
 -- the edges of the state at a place, none past the end
-abbrev pub edges_in : List State → ℕ → List EdgeView
-edges_in states s = slice_index_or (map (λ (x : State). edges_view x.edges.items) states) s []
+abbrev pub edges_in : List (List DfaEdge) → ℕ → List EdgeView
+edges_in table s = edges_view (slice_index_or table s [])
 
 -- what the state at a place accepts
 abbrev pub accepted_in : List State → ℕ → Option ℕ

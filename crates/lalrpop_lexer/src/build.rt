@@ -53,7 +53,11 @@ pub fn build_dfa(
         });
     }
     let nfa = Nfa::from_all(alloc, patterns)?;
-    let Whole { mut states, sets } = all_states(alloc, &nfa)?;
-    decide(alloc, &sets, precedences, &mut states)?;
-    Ok(Dfa { states })
+    let Whole { edges, rows, sets } = all_states(alloc, &nfa)?;
+    let states = decide(alloc, &sets, precedences)?;
+    Ok(Dfa {
+        states,
+        edges,
+        rows,
+    })
 }

@@ -27,15 +27,15 @@ impl States {
     ) -> Result<usize, AllocError>
         requires bound { vec_len scratch.old.places ≡ vec_len nfa.now.states }
         requires inside { All (λ q. q < vec_len nfa.now.states) kernel.now }
-        requires sets { AreInside (vec_len nfa.now.states) self.old.sets.items }
-        requires numbered { AreNumbered (nfa_view nfa.now) self.old.sets.items self.old.numbers.entries }
-        requires known { IfSome known.old (λ n. HasKernel self.old.numbers.entries n kernel.now) }
-        ensures kernel { IfOk result (λ n. HasKernel self.new.numbers.entries n kernel.now) }
+        requires sets { AreInside (vec_len nfa.now.states) self.old.sets }
+        requires numbered { AreNumbered (nfa_view nfa.now) self.old.sets self.old.numbers }
+        requires known { IfSome known.old (λ n. HasKernel self.old.numbers n kernel.now) }
+        ensures kernel { IfOk result (λ n. HasKernel self.new.numbers n kernel.now) }
         ensures known { IfOk result (λ n. known.new ≡ Some n) }
-        ensures kept { OnOk result ((m : ℕ) (k : List ℕ) → HasKernel self.old.numbers.entries m k → HasKernel self.new.numbers.entries m k) }
-        ensures found { IfOk result (λ n. IsInterned (nfa_view nfa.now) kernel.now self.old.sets.items self.new.sets.items n) }
-        ensures sets { OnOk result (AreInside (vec_len nfa.now.states) self.new.sets.items) }
-        ensures numbered { OnOk result (AreNumbered (nfa_view nfa.now) self.new.sets.items self.new.numbers.entries) }
+        ensures kept { OnOk result ((m : ℕ) (k : List ℕ) → HasKernel self.old.numbers m k → HasKernel self.new.numbers m k) }
+        ensures found { IfOk result (λ n. IsInterned (nfa_view nfa.now) kernel.now self.old.sets self.new.sets n) }
+        ensures sets { OnOk result (AreInside (vec_len nfa.now.states) self.new.sets) }
+        ensures numbered { OnOk result (AreNumbered (nfa_view nfa.now) self.new.sets self.new.numbers) }
         ensures bound { vec_len scratch.new.places ≡ vec_len scratch.old.places }
     {
         if let Some(number) = *known {
@@ -58,19 +58,19 @@ impl States {
         state: usize,
         scratch: &mut StateSet,
     ) -> Result<Vec<DfaEdge>, AllocError>
-        requires state { state < vec_len self.old.sets }
+        requires state { state < length self.old.sets }
         requires pieces { AreClassesOf (nfa_view nfa.now) pieces.now }
         requires groups { AreGroups (nfa_view nfa.now) pieces.now groups.now.numbers.items groups.now.firsts.items }
         requires bound { vec_len scratch.old.places ≡ vec_len nfa.now.states }
-        requires sets { AreInside (vec_len nfa.now.states) self.old.sets.items }
-        requires numbered { AreNumbered (nfa_view nfa.now) self.old.sets.items self.old.numbers.entries }
-        ensures explored { IfOk result (λ out. Explores (nfa_view nfa.now) state self.old.sets.items self.new.sets.items (edges_view out.items)) }
+        requires sets { AreInside (vec_len nfa.now.states) self.old.sets }
+        requires numbered { AreNumbered (nfa_view nfa.now) self.old.sets self.old.numbers }
+        ensures explored { IfOk result (λ out. Explores (nfa_view nfa.now) state self.old.sets self.new.sets (edges_view out.items)) }
         ensures apart { IfOk result (λ out. AreApart (edges_view out.items)) }
-        ensures sets { OnOk result (AreInside (vec_len nfa.now.states) self.new.sets.items) }
-        ensures numbered { OnOk result (AreNumbered (nfa_view nfa.now) self.new.sets.items self.new.numbers.entries) }
+        ensures sets { OnOk result (AreInside (vec_len nfa.now.states) self.new.sets) }
+        ensures numbered { OnOk result (AreNumbered (nfa_view nfa.now) self.new.sets self.new.numbers) }
         ensures bound { vec_len scratch.new.places ≡ vec_len scratch.old.places }
     {
-        let targets = moves(alloc, nfa, &self.sets[state], &groups.firsts)?;
+        let targets = moves(alloc, nfa, self.sets.get(state), &groups.firsts)?;
         let mut known = vec![in alloc; None; groups.firsts.len()]?;
         let mut out = Vec::new(alloc);
         for i in 0..pieces.len() {
@@ -90,7 +90,6 @@ impl States {
                 push_edge(&mut out, edge)?;
             }
         }
-        out.shrink_to_fit();
         Ok(out)
     }
 }

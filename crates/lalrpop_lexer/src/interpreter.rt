@@ -1,27 +1,51 @@
 //! The longest match at the front of a text.
 
-ghost use Rattle.std.specs.Prelude.{◌≡◌, ℕ, List, ◌++◌, None, map, MatchOption};
-ghost use Rattle.std.specs.Option.{option_map};
+ghost use Rattle.std.specs.Prelude.{◌≡◌, ◌<◌, ℕ, List, [], ◌++◌, None, length, slice_get, slice_index_or, IfSome, MatchOption};
+ghost use Rattle.std.specs.Prelude.{option_and_then, option_map};
 ghost use Rattle.std.specs.Str.{chars};
-ghost use Rattle.lalrpop_lexer.specs.Explore.{edges_view};
 ghost use Rattle.lalrpop_lexer.specs.Simulation.{target_of, next_state_view, answer_of};
-ghost use Rattle.lalrpop_lexer.specs.StateViews.{state_view};
 ghost use Rattle.lalrpop_lexer.specs.Answer.{IsAnswerFront};
 
 use crate::automaton::Dfa;
 use crate::kind::NfaIndex;
 use crate::row::target_in;
-use crate::state::State;
 
-impl State {
-    /// The number of the state that the edge leads to which reads the character, if there is one.
-    fn target(&self, character: u32) -> Option<usize>
-        ensures { result ≡ target_of (edges_view self.now.edges.items) character }
+impl Dfa {
+    /// The number of the state that the edge of one of the states leads to which reads the character, if there is one.
+    fn target(&self, state: usize, character: u32) -> Option<usize>
+        requires { state < length self.now }
+        ensures { result ≡ target_of (slice_index_or self.now state (None, [])).1 character }
     {
-        match self.row.get(character as usize) {
+        let row = self.rows.get(state);
+        match row.get(character as usize) {
             Some(target) => *target,
-            None => target_in(&self.edges, character),
+            None => {
+                let edges = self.edges.get(state);
+                target_in(edges, character)
+            }
         }
+    }
+
+    /// The pattern that one of the states accepts, if any.
+    fn pattern_at(&self, state: usize) -> Option<NfaIndex>
+        requires { state < length self.now }
+        ensures { option_map (λ i. i.0) result ≡ (slice_index_or self.now state (None, [])).0 }
+    {
+        self.states[state].accepts
+    }
+
+    /// The state that the character leads to from one of the states, if there is one.
+    fn next_state(&self, state: usize, character: u32) -> Option<usize>
+        requires { state < length self.now }
+        ensures leads { option_and_then (slice_get self.now) result ≡ next_state_view self.now (slice_index_or self.now state (None, [])) character }
+        ensures inside { IfSome result (λ n. n < length self.now) }
+    {
+        let number = self.target(state, character)?;
+        let count = self.state_count();
+        if number >= count {
+            return None;
+        }
+        Some(number)
     }
 }
 
@@ -33,38 +57,26 @@ fn before<'t>(text: &'t str, rest: &str) -> &'t str
     &text[..text.len() - rest.len()]
 }
 
-/// The state that the character leads to, if there is one.
-fn next_state<'s>(states: &'s [State], state: &State, character: u32) -> Option<&'s State>
-    ensures { option_map (λ s. state_view s.now) result ≡ next_state_view (map state_view states.now) (state_view state.now) character }
-{
-    let number = state.target(character)?;
-    states.get(number)
-}
-
-/// The longest nonempty part at the text's front that leads from the first state to one that accepts, with the pattern
-/// that the last such state accepts.
-fn follow<'t>(states: &[State], text: &'t str) -> Option<(NfaIndex, &'t str)>
-    ensures { MatchOption result (answer_of (map state_view states.now) (chars text.now) ≡ None) (λ found. IsAnswerFront (map state_view states.now) text.now found.0.0 found.1.now) }
-{
-    let mut state = states.first()?;
-    let mut found = None;
-    let mut left = text.chars();
-    while let Some(c) = left.next() {
-        let Some(next) = next_state(states, state, c as u32) else {
-            return found;
-        };
-        state = next;
-        if let Some(pattern) = state.accepts {
-            found = Some((pattern, before(text, left.as_str())));
-        }
-    }
-    found
-}
-
 /// The longest nonempty part at the text's front that some pattern of the automaton matches, with the pattern that it
 /// belongs to.
 pub fn interpret<'t>(dfa: &Dfa, text: &'t str) -> Option<(NfaIndex, &'t str)>
     ensures { MatchOption result (answer_of dfa.now (chars text.now) ≡ None) (λ found. IsAnswerFront dfa.now text.now found.0.0 found.1.now) }
 {
-    follow(&dfa.states, text)
+    let count = dfa.state_count();
+    if count == 0 {
+        return None;
+    }
+    let mut state = 0;
+    let mut found = None;
+    let mut left = text.chars();
+    while let Some(c) = left.next() {
+        let Some(next) = dfa.next_state(state, c as u32) else {
+            return found;
+        };
+        state = next;
+        if let Some(pattern) = dfa.pattern_at(state) {
+            found = Some((pattern, before(text, left.as_str())));
+        }
+    }
+    found
 }

@@ -7,6 +7,7 @@ use Rattle.std.proofs.lemmas.List.Elements.{Contains-get_or}
 use Rattle.lalrpop_lexer_nfa.specs.declared.test.Test.{Test}
 use Rattle.lalrpop_lexer_nfa.specs.Paths.{nfa_view}
 use Rattle.lalrpop_lexer_nfa.proofs.NfaLemmas.{reads_inside}
+use Rattle.lalrpop_lexer.specs.Subsets.{set_at}
 use Rattle.lalrpop_lexer.specs.Targets.{items_at, StartsAscend, AreTargets}
 use Rattle.lalrpop_lexer.specs.Explore.{edges_view}
 use Rattle.lalrpop_lexer.specs.States.{HasKernel, IsInterned}
@@ -23,21 +24,18 @@ at_place vs i v l is = ap (λ (v : Vec ℕ Global). v.items) is ∙ sym (get_or-
 
 -- where a group leads
 group_moves : (c : In_ok-targets)
-    → AreTargets (nfa_view c.args.nfa.now) (items_at c.args.self.now.sets.items c.args.state) c.args.groups.now.firsts.items
+    → AreTargets (nfa_view c.args.nfa.now) (set_at c.args.self.now.sets c.args.state) c.args.groups.now.firsts.items
     c.in_ok-targets.targets.items
 group_moves c =
-    let P : List ℕ → Type 0 = λ s. AreTargets (nfa_view c.args.nfa.now) s c.deref-2.result.now c.in_ok-targets.targets.items in
+    let P : List ℕ → Type 0 = λ s. AreTargets (nfa_view c.args.nfa.now) s c.deref.result.now c.in_ok-targets.targets.items in
     let Q : List Test → Type 0 =
-    λ firsts. AreTargets (nfa_view c.args.nfa.now) (items_at c.args.self.now.sets.items c.args.state) firsts
+    λ firsts. AreTargets (nfa_view c.args.nfa.now) (set_at c.args.self.now.sets c.args.state) firsts
     c.in_ok-targets.targets.items in
-    subst Q c.deref-2.ensures.value
-    (subst P (c.deref.ensures.value
-    ∙ at_place c.args.self.now.sets.items c.args.state c.index.result.now (omega (arith, c.requires.state, c.args.self.now.sets.ok.0))
-    c.index.ensures) c.in_ok-targets.ensures)
+    subst Q c.deref.ensures.value (subst P c.get.ensures c.in_ok-targets.ensures)
 
 -- where a piece leads
 are_moves : (c : In_ok-targets)
-    → ArePieceTargets (nfa_view c.args.nfa.now) (items_at c.args.self.now.sets.items c.args.state) c.args.pieces.now
+    → ArePieceTargets (nfa_view c.args.nfa.now) (set_at c.args.self.now.sets c.args.state) c.args.pieces.now
     (λ i. items_at c.in_ok-targets.targets.items (get_or c.args.groups.now.numbers.items i 0))
 are_moves c =
     targets_of_groups _ _ c.args.pieces.now c.args.groups.now.numbers.items c.args.groups.now.firsts.items _ c.requires.groups
@@ -50,7 +48,7 @@ group_is numbers i g l is = get_or_default numbers i 0 g l ∙ sym is
 pub moves-requires-clause-pieces : goal.moves-requires-clause-pieces
 moves-requires-clause-pieces c =
     let P : List Test → Type 0 = StartsAscend in
-    subst P (sym c.deref-2.ensures.value) c.requires.groups.ascending
+    subst P (sym c.deref.ensures.value) c.requires.groups.ascending
 
 pub loop-i-init : goal.loop-i-init
 loop-i-init c = record {
@@ -99,7 +97,7 @@ known_or_found-requires-clause-known c =
     ∙ sym c.index_mut.ensures.value in
     if_known known group _ _ read
     (λ n found.
-    let P : List ℕ → Type 0 = HasKernel c.loop-i.self.numbers.entries n in
+    let P : List ℕ → Type 0 = HasKernel c.loop-i.self.numbers n in
     subst P (sym (c.deref-then-not-is_empty.ensures.value ∙ is)) (c.loop-i.invariant.known group n found))
 
 pub loop-i-preserved : goal.loop-i-preserved
@@ -120,35 +118,35 @@ loop-i-preserved c =
           let kernel = w.deref-then-not-is_empty.ensures.value
           ∙ at_place targets group w.index-then-not-is_empty.result.now within w.index-then-not-is_empty.ensures in
           let P : List ℕ → Type 0 =
-          λ k. IsInterned (nfa_view c.args.nfa.now) k c.loop-i.self.sets.items w.known_or_found.new.self.sets.items w.in_ok-to.to in
-          let Q : List ℕ → Type 0 = HasKernel w.known_or_found.new.self.numbers.entries w.in_ok-to.to in
+          λ k. IsInterned (nfa_view c.args.nfa.now) k c.loop-i.self.sets w.known_or_found.new.self.sets w.in_ok-to.to in
+          let Q : List ℕ → Type 0 = HasKernel w.known_or_found.new.self.numbers w.in_ok-to.to in
           let found = subst P (kernel ∙ ap (items_at targets) (sym number)) w.in_ok-to.ensures.found in
           let low = get_or-map (λ (t : Test). t.start) c.args.pieces.now i (record { start = 0; end = 0 }) 0 c.loop-i-test.true in
           let high = get_or-map (λ (t : Test). t.end) c.args.pieces.now i (record { start = 0; end = 0 }) 0 c.loop-i-test.true in
           rw (w.self-is, w.out-is, w.scratch-is, w.known-is) (record {
             some =
                 explore_added (nfa_view c.args.nfa.now) c.args.pieces.now (λ i. items_at targets (get_or numbers i 0)) i c.args.state
-                c.args.self.now.sets.items c.loop-i.self.sets.items w.known_or_found.new.self.sets.items (edges_view c.loop-i.out.items)
+                c.args.self.now.sets c.loop-i.self.sets w.known_or_found.new.self.sets (edges_view c.loop-i.out.items)
                 (edges_view w.push_edge.new.edges.items) w.in_ok-to.to c.requires.pieces moves c.loop-i-test.true c.loop-i.invariant.some found
                 (rw (low, high) w.in_ok-push_edge.ensures);
             size = length-set known group w.known_or_found.new.known ∙ c.loop-i.invariant.size;
-            known = known_more known group w.known_or_found.new.known w.in_ok-to.to (items_at targets) c.loop-i.self.numbers.entries
-                w.known_or_found.new.self.numbers.entries (omega (arith, inside, c.loop-i.invariant.size)) w.in_ok-to.ensures.known
+            known = known_more known group w.known_or_found.new.known w.in_ok-to.to (items_at targets) c.loop-i.self.numbers
+                w.known_or_found.new.self.numbers (omega (arith, inside, c.loop-i.invariant.size)) w.in_ok-to.ensures.known
                 (subst Q kernel w.in_ok-to.ensures.kernel) w.in_ok-to.ensures.kept c.loop-i.invariant.known;
             sets = w.in_ok-to.ensures.sets;
             numbered = w.in_ok-to.ensures.numbered;
             bound = w.known_or_found.ensures.bound ∙ c.loop-i.invariant.bound;
           })
       | else-not-is_empty w ↦
-          let is = at_place targets group c.index-in-loop-i.result.now within c.index-in-loop-i.ensures
+          let is = at_place targets group c.index.result.now within c.index.ensures
           ∙ ap (items_at targets) (sym number) in
           rw (w.self-is, w.out-is, w.scratch-is, w.known-is) (record {
             some = explore_skip _ _ _ _ _ _ _ _
                 (λ x k.
                 let P : List ℕ → Type 0 = λ xs. Contains xs x in
-                let there : Contains c.index-in-loop-i.result.now.items x = subst P (sym is) k in
+                let there : Contains c.index.result.now.items x = subst P (sym is) k in
                 let size = eqb-true _ _ (sym c.is_empty.ensures ∙ w.if-not-is_empty.false) in
-                absurd (omega (arith, there.1, size, c.index-in-loop-i.result.now.ok.0))) c.loop-i.invariant.some;
+                absurd (omega (arith, there.1, size, c.index.result.now.ok.0))) c.loop-i.invariant.some;
             size = c.loop-i.invariant.size;
             known = c.loop-i.invariant.known;
             sets = c.loop-i.invariant.sets;
@@ -159,12 +157,10 @@ loop-i-preserved c =
 
 pub returns-clause-explored : goal.returns-clause-explored
 returns-clause-explored c =
-    rw c.shrink_to_fit.ensures.items
     (explore_end _ c.args.pieces.now _ c.loop-i.i _ _ _ _ c.requires.pieces (are_moves (goal.at.returns-clause-explored c).In_ok-targets)
     (omega (arith, c.loop-i-test.false))
-    (omega (arith, c.requires.state, c.args.self.now.sets.ok.0)) c.loop-i.invariant.some)
+    c.requires.state c.loop-i.invariant.some)
 
 pub returns-clause-apart : goal.returns-clause-apart
 returns-clause-apart c =
-    rw c.shrink_to_fit.ensures.items
     (explore_apart _ c.args.pieces.now _ c.loop-i.i _ _ _ _ c.requires.pieces (omega arith) c.loop-i.invariant.some)

@@ -3,7 +3,7 @@ use Rattle.std.proofs.lemmas.List.{take_all}
 use Rattle.lalrpop_lexer_nfa.specs.Paths.{nfa_view}
 use Rattle.lalrpop_lexer_nfa.proofs.SetLemmas.{Inserts-all}
 use Rattle.lalrpop_lexer.proofs.StatesLemmas.{IsEpsilonClosure-along, same_members_more}
-use Rattle.lalrpop_lexer.proofs.states.closed_set.Goals as goal
+use Rattle.lalrpop_lexer.proofs.states.close_kernel.Goals as goal
 
 pub loop-i-preserved : goal.loop-i-preserved
 loop-i-preserved c =
@@ -18,9 +18,5 @@ loop-i-preserved c =
 pub returns-clause-closed : goal.returns-clause-closed
 returns-clause-closed c =
     let all = take_all c.loop-i.i c.args.kernel.now (omega arith) in
-    rw (c.in_ok-set.ensures.items, c.members.ensures.members)
-    (IsEpsilonClosure-along (nfa_view c.args.nfa.now) _ _ _ (λ x h. rw all at ((c.loop-i.invariant.same x).0 h))
-    (λ x h. (c.loop-i.invariant.same x).1 (rw all h)) c.in_ok-close.ensures.closed)
-
-pub returns-clause-inside : goal.returns-clause-inside
-returns-clause-inside c = rw (c.in_ok-set.ensures.items, c.members.ensures.members) c.in_ok-close.ensures.inside
+    IsEpsilonClosure-along (nfa_view c.args.nfa.now) _ _ _ (λ x h. rw all at ((c.loop-i.invariant.same x).0 h))
+    (λ x h. (c.loop-i.invariant.same x).1 (rw all h)) c.in_ok-close.ensures.closed
