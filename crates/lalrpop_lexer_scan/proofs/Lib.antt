@@ -1,4 +1,5 @@
 pub mod CutLemmas
+pub mod EntryLemmas
 pub mod FillLemmas
 pub mod ListedLemmas
 pub mod NotingLemmas

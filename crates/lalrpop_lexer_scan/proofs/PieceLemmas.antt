@@ -3,8 +3,6 @@ use Rattle.std.proofs.Common.{◌≡◌, ℕ, ◌+◌, ◌<◌, ◌≤◌, Bool,
 use Rattle.std.proofs.Common.{None, length, map, refl, sym, ap, subst, ◌∙◌, arith, option_map, get_or, length-append}
 use Rattle.std.specs.Prelude.{slice_get, option_and_then}
 use Rattle.std.specs.Str.{chars, IsUtf8}
-use Rattle.std.specs.Borrow.{Bor}
-use Rattle.std.specs.Option.{option_copied}
 use Rattle.std.proofs.lemmas.Str.{chars-append}
 use Rattle.std.proofs.lemmas.Option.{slice_get-map, slice_get-get_or}
 use Rattle.std.proofs.lemmas.List.{length-map}
@@ -18,7 +16,7 @@ use Rattle.lalrpop_lexer_scan.specs.declared.scanner.Scanner.{Scanner}
 use Rattle.lalrpop_lexer_scan.specs.Entries.{ScanEntry, patterns, precedences, some_skips}
 use Rattle.lalrpop_lexer_scan.specs.Pieces.{blanks, default_skip, Piece}
 use Rattle.lalrpop_lexer_scan.specs.Tokens.{terminal_unless_skip}
-use Rattle.lalrpop_lexer_scan.specs.Scanning.{IsScannerOf, skip_count, terminal_ref_view, IsFoundPiece, HasNoPiece}
+use Rattle.lalrpop_lexer_scan.specs.Scanning.{IsScannerOf, skip_count, IsFoundPiece, HasNoPiece}
 use Rattle.lalrpop_lexer_scan.proofs.FillLemmas.{blanks_le}
 use Rattle.lalrpop_lexer_scan.proofs.TextLemmas.{front_of, front_is, not_longer_front, shorter_front}
 
@@ -73,11 +71,6 @@ terminal_kept s es e t h k =
     ∙ ap (λ (l : List (Option Terminal)). slice_get l e) (sym h.terminals)
     ∙ slice_get-map (option_map terminal_view) s.terminals.items e
     ∙ ap (option_map (option_map terminal_view)) k)
-
--- a terminal behind a reference, copied
-pub behind_copied : (r : Option (Bor TerminalString)) → terminal_ref_view r ≡ option_map terminal_view (option_copied r)
-behind_copied None = refl
-behind_copied (Some x) = refl
 
 module _ (s : Scanner) (text : Text) where
   abbrev cs : List ℕ

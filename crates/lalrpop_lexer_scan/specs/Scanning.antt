@@ -1,14 +1,15 @@
 -- What a scanner is made for, and what it finds at the front of a text.
 use Rattle.std.specs.Prelude.{◌≡◌, ℕ, ◌<◌, ◌≤◌, not, List, [], ◌∷◌, Option, Some, None, length, map, option_map}
-use Rattle.std.specs.Prelude.{take, if◌then◌else◌, encode_utf8_all}
+use Rattle.std.specs.Prelude.{take, if◌then◌else◌, encode_utf8_all, slice_get}
 use Rattle.std.specs.Str.{chars}
-use Rattle.std.specs.Borrow.{Bor}
 use Rattle.lalrpop_grammar_symbols.specs.Symbols.{Text, TextSpan, Terminal}
 use Rattle.lalrpop_grammar_symbols.specs.Views.{terminal_view}
 use Rattle.lalrpop_grammar_symbols.specs.declared.terminal.TerminalString.{TerminalString}
 use Rattle.lalrpop_grammar.specs.Trees.{Token}
+use Rattle.lalrpop_grammar.specs.declared.token.ScanToken.{ScanToken}
 use Rattle.lalrpop_lexer_pattern.specs.Wins.{HasNoMatch}
 use Rattle.lalrpop_lexer.specs.Simulation.{Decides}
+use Rattle.lalrpop_lexer_scan.specs.declared.entry_terminal.EntryTerminal.{EntryTerminal}
 use Rattle.lalrpop_lexer_scan.specs.declared.scanner.Scanner.{Scanner}
 use Rattle.lalrpop_lexer_scan.specs.Entries.{ScanEntry, patterns, precedences, some_skips}
 use Rattle.lalrpop_lexer_scan.specs.Pieces.{Piece, piece_size, blanks, default_skip, IsPieceAt}
@@ -24,9 +25,25 @@ pub record IsScannerOf (scanner : Scanner) (entries : List ScanEntry) : Type 0 w
 abbrev pub skip_count : Scanner → List ℕ → ℕ
 skip_count scanner text = if scanner.skips_blanks then blanks text else 0
 
--- the terminal behind a reference
-abbrev pub terminal_ref_view : Option (Bor TerminalString) → Option Terminal
-terminal_ref_view = option_map (λ t. terminal_view t.now)
+-- the terminal of what was found, where it isn't skipped
+abbrev pub found_terminal_view : Option EntryTerminal → Option Terminal
+found_terminal_view = option_map (λ t. terminal_view t.terminal.now)
+
+-- the number's entry has the terminal
+abbrev pub IsTerminalAt : Scanner → ℕ → TerminalString → Type 0
+IsTerminalAt scanner n t = slice_get scanner.terminals.items n ≡ Some (Some t)
+
+-- what was found, where it isn't skipped, is the number of an entry and the entry's terminal
+abbrev pub IsItsTerminal : Scanner → Option EntryTerminal → Type 0
+IsItsTerminal scanner None = Unit {0}
+IsItsTerminal scanner (Some t) = IsTerminalAt scanner t.number t.terminal.now
+
+-- Token by token the numbers are those of entries that have the tokens' terminals.
+abbrev pub AreEntriesOf : Scanner → List ScanToken → List ℕ → Type 0
+AreEntriesOf scanner [] [] = Unit {0}
+AreEntriesOf scanner [] (n ∷ ns) = ⊥
+AreEntriesOf scanner (k ∷ ks) [] = ⊥
+AreEntriesOf scanner (k ∷ ks) (n ∷ ns) = IsTerminalAt scanner n k.terminal × AreEntriesOf scanner ks ns
 
 -- the token of a piece that has a terminal
 abbrev pub token_of : Option Terminal → Text → TextSpan → List Token

@@ -2,6 +2,8 @@
 #![tactic(auto)]
 
 mod blank;
+mod entry_terminal;
+mod entry_tokens;
 mod fault;
 mod laws;
 mod literals;
@@ -10,6 +12,7 @@ mod piece;
 mod scan;
 mod scanner;
 
+pub use entry_tokens::EntryTokens;
 pub use fault::ScanError;
 pub use laws::{cuts_are_unique, tokens_fill_their_text};
 pub use literals::{UsedLiteral, entries_of};

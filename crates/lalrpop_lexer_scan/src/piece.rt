@@ -1,21 +1,22 @@
 //! The piece at the front of a text.
 
-ghost use Rattle.std.specs.Prelude.{◌≡◌, ◌≤◌, None, MatchOption, length, take, encode_utf8_all};
+ghost use Rattle.std.specs.Prelude.{◌≡◌, ◌≤◌, IfSome, None, MatchOption, length, take, encode_utf8_all};
 ghost use Rattle.std.specs.Str.{chars};
 ghost use Rattle.lalrpop_lexer.specs.Simulation.{answer_of};
 ghost use Rattle.lalrpop_lexer.specs.Answer.{IsAnswerFront};
-ghost use Rattle.lalrpop_lexer_scan.specs.Scanning.{IsFoundPiece, HasNoPiece, skip_count, terminal_ref_view};
+ghost use Rattle.lalrpop_lexer_scan.specs.Scanning.{HasNoPiece, IsFoundPiece, IsItsTerminal, found_terminal_view, skip_count};
 
 use crate::blank::blank_front;
+use crate::entry_terminal::{EntryTerminal, with_number};
 use crate::scanner::Scanner;
-use lalrpop_grammar_symbols::TerminalString;
 use lalrpop_lexer::dfa::interpret;
 
 impl Scanner {
-    /// The piece at the front of the text, and its terminal where it isn't skipped.
-    pub(crate) fn piece<'t>(&self, text: &'t str) -> Option<(&'t str, Option<&TerminalString>)>
-        ensures { MatchOption result (HasNoPiece self.now text.now)
-            (λ found. IsFoundPiece self.now text.now found.0.now (terminal_ref_view found.1)) }
+    /// The piece at the front of the text, and its entry with the terminal where it isn't skipped.
+    pub(crate) fn piece<'t>(&self, text: &'t str) -> Option<(&'t str, Option<EntryTerminal<'_>>)>
+        ensures piece { MatchOption result (HasNoPiece self.now text.now)
+            (λ found. IsFoundPiece self.now text.now found.0.now (found_terminal_view found.1)) }
+        ensures entry { IfSome result (λ found. IsItsTerminal self.now found.1) }
     {
         match interpret(&self.dfa, text) {
             Some((entry, word)) => self.longer(text, entry.index(), word),
@@ -29,26 +30,28 @@ impl Scanner {
         text: &'t str,
         entry: usize,
         word: &'t str,
-    ) -> Option<(&'t str, Option<&TerminalString>)>
+    ) -> Option<(&'t str, Option<EntryTerminal<'_>>)>
         requires { IsAnswerFront self.now.dfa text.now entry word.now }
-        ensures { MatchOption result (HasNoPiece self.now text.now)
-            (λ found. IsFoundPiece self.now text.now found.0.now (terminal_ref_view found.1)) }
+        ensures piece { MatchOption result (HasNoPiece self.now text.now)
+            (λ found. IsFoundPiece self.now text.now found.0.now (found_terminal_view found.1)) }
+        ensures entry { IfSome result (λ found. IsItsTerminal self.now found.1) }
     {
         let blank = self.blank(text);
         if word.len() <= blank.len() {
             return Some((blank, None));
         }
         match self.terminals.get(entry) {
-            Some(terminal) => Some((word, terminal.as_ref())),
+            Some(terminal) => Some((word, with_number(entry, terminal))),
             None => None,
         }
     }
 
     /// The whitespace at the front, where no entry matches.
-    fn blank_piece<'t>(&self, text: &'t str) -> Option<(&'t str, Option<&TerminalString>)>
+    fn blank_piece<'t>(&self, text: &'t str) -> Option<(&'t str, Option<EntryTerminal<'_>>)>
         requires { answer_of self.now.dfa (chars text.now) ≡ None }
-        ensures { MatchOption result (HasNoPiece self.now text.now)
-            (λ found. IsFoundPiece self.now text.now found.0.now (terminal_ref_view found.1)) }
+        ensures piece { MatchOption result (HasNoPiece self.now text.now)
+            (λ found. IsFoundPiece self.now text.now found.0.now (found_terminal_view found.1)) }
+        ensures entry { IfSome result (λ found. IsItsTerminal self.now found.1) }
     {
         let blank = self.blank(text);
         if blank.is_empty() {

@@ -37,6 +37,13 @@ impl Scanner {
             skips_blanks,
         }
     }
+
+    /// For each entry, at its number, the terminal of its pieces, none where they are skipped.
+    pub fn terminals(&self) -> &[Option<TerminalString>]
+        ensures { result.now ≡ self.now.terminals.items }
+    {
+        self.terminals.as_slice()
+    }
 }
 
 /// Whether each entry has a terminal.

@@ -16,6 +16,6 @@ pub use lalrpop_lr1_items::{
     SymbolSets, TableConstructionError, TableFault,
 };
 pub use lalrpop_lr1_parse::{
-    ActionTable, ExpandedTree, InterpretError, InterpretFault, NoTrees, ParseTree, Stop, TreeRef,
-    TreeStack, interpret, interpret_partial, parse_limited,
+    ActionTable, Columns, ExpandedTree, InterpretError, InterpretFault, NoTrees, ParseTree, Stop,
+    TreeRef, TreeStack, interpret, interpret_partial, parse_limited,
 };

@@ -1,3 +1,4 @@
+pub mod ColumnLemmas
 pub mod DropLemmas
 pub mod NamedStackLemmas
 pub mod NumberLemmas

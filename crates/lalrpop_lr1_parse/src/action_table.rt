@@ -105,7 +105,7 @@ impl<'g> ActionTable<'g> {
     }
 
     /// The number of the terminal.
-    fn number_of(&self, terminal: &TerminalString) -> NextNumber
+    pub(crate) fn number_of(&self, terminal: &TerminalString) -> NextNumber
         ensures { IsNextBy self.now (Some (terminal_view terminal.now)) result }
     {
         match self.terminals.get_index_of(terminal) {

@@ -16,6 +16,7 @@ use crate::action_table::ActionTable;
 use crate::interpret_fault::{InterpretError, InterpretFault};
 use crate::machine::{Halt, run};
 use crate::parse_tree_stack::ParseTrees;
+use crate::token_numbers::TokenNumbers;
 use crate::tree_stack::NoTrees;
 use lalrpop_grammar::ScanToken;
 use lalrpop_grammar_repr::TerminalSet;
@@ -89,7 +90,8 @@ fn tree_by_table<'g>(
         → IsRightInterpretation grammar s ts states.now (map (λ t. t.terminal) tokens.now) result }
 {
     let mut stack = ParseTrees::new(alloc);
-    match run(alloc, table, tokens, u64::MAX, true, &mut stack) {
+    let found = TokenNumbers::ByTerminal;
+    match run(alloc, table, tokens, found, u64::MAX, true, &mut stack) {
         Ok(_) => match stack.into_last() {
             Some(tree) => Ok(tree),
             None => unreachable!(),
@@ -141,7 +143,8 @@ fn states_by_table<'g>(
         → AreRightStates grammar s ts states.now (map (λ t. t.terminal) tokens.now) result }
 {
     let mut stack = NoTrees;
-    match run(alloc, table, tokens, u64::MAX, false, &mut stack) {
+    let found = TokenNumbers::ByTerminal;
+    match run(alloc, table, tokens, found, u64::MAX, false, &mut stack) {
         Ok(numbers) => Ok(indexes_of(alloc, numbers.as_slice())?),
         Err(halt) => Err(fault_of(states, tokens, halt)),
     }

@@ -6,6 +6,7 @@
 #![tactic(auto)]
 
 mod action_table;
+mod columns;
 mod entries;
 mod expanded_stack;
 mod expanded_tree;
@@ -18,10 +19,12 @@ mod parse_tree_stack;
 mod stop;
 mod table_making;
 mod table_row;
+mod token_numbers;
 mod tree_ref;
 mod tree_stack;
 
 pub use action_table::ActionTable;
+pub use columns::Columns;
 pub use expanded_tree::ExpandedTree;
 pub use interpret_fault::{InterpretError, InterpretFault};
 pub use interpreting::{interpret, interpret_partial};

@@ -7,11 +7,13 @@ ghost use Rattle.lalrpop_lr1_theory.specs.CheckedStates.{AreCheckedStates, IsSta
 ghost use Rattle.lalrpop_lr1_theory.specs.Productions.{Production};
 ghost use Rattle.lalrpop_lr1_theory.specs.Spans.{none_at};
 ghost use Rattle.lalrpop_lr1_theory.specs.States.{State};
+ghost use Rattle.lalrpop_lr1_parse.specs.Columns.{TellNumbers};
 ghost use Rattle.lalrpop_lr1_parse.specs.Ends.{IsEndOfRun, MayRun};
 ghost use Rattle.lalrpop_lr1_parse.specs.Tables.{IsTableOf};
 
 use crate::action_table::ActionTable;
 use crate::table_row::TableAction;
+use crate::token_numbers::TokenNumbers;
 use crate::tree_stack::TreeStack;
 use lalrpop_grammar::ScanToken;
 use std::alloc::{AllocError, Global};
@@ -50,17 +52,20 @@ fn push_number(numbers: &mut Vec<usize>, number: usize) -> Result<(), AllocError
     Ok(())
 }
 
-/// Runs the table over the tokens, from no tree: until it accepts, where the parse is to be whole, or else until all tokens are
-/// shifted. What is made stands on the stack, which keeps what it was given. Answers the states on the stack, by their numbers.
+/// Runs the table over the tokens, whose numbers are so found, from no tree: until it accepts, where the parse is to be whole, or else
+/// until all tokens are shifted. What is made stands on the stack, which keeps what it was given. Answers the states on the stack, by
+/// their numbers.
 pub(crate) fn run<'g, S: TreeStack<'g>>(
     alloc: Global,
     table: &ActionTable<'g>,
     tokens: &[ScanToken<'_>],
+    found: TokenNumbers<'_>,
     limit: u64,
     whole: bool,
     stack: &mut S,
 ) -> Result<Vec<usize>, Halt>
     requires checked { MayRun table.now }
+    requires found { TellNumbers found table.now tokens.now }
     requires empty { S.stands stack.old none_at [] }
     ensures ends { (grammar : List Production) (s : Text) (states : List State) → IsStartAlone grammar s
         → AreCheckedStates grammar s states → IsTableOf table.now states
@@ -71,7 +76,7 @@ pub(crate) fn run<'g, S: TreeStack<'g>>(
     push_number(&mut numbers, 0)?;
     let mut at = 0;
     let mut left = limit;
-    let mut next = table.next_number(tokens, 0);
+    let mut next = found.next_number(table, tokens, 0);
     'moves: loop {
         if !whole && at == tokens.len() {
             return Ok(numbers);
@@ -87,7 +92,7 @@ pub(crate) fn run<'g, S: TreeStack<'g>>(
                 stack.leaf(token)?;
                 push_number(&mut numbers, target)?;
                 at += 1;
-                next = table.next_number(tokens, at);
+                next = found.next_number(table, tokens, at);
             }
             Some(TableAction::Reduce(by)) => {
                 if left == 0 {

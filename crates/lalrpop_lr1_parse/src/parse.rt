@@ -7,16 +7,19 @@ ghost use Rattle.lalrpop_lr1_theory.specs.Productions.{Production};
 ghost use Rattle.lalrpop_lr1_theory.specs.Spans.{none_at};
 ghost use Rattle.lalrpop_lr1_theory.specs.States.{State};
 ghost use Rattle.lalrpop_lr1_items.specs.Views.{lr_state_view, token_lookahead};
+ghost use Rattle.lalrpop_lr1_parse.specs.Columns.{ArePlacesOf, TellNumbers};
 ghost use Rattle.lalrpop_lr1_parse.specs.Ends.{MayRun};
 ghost use Rattle.lalrpop_lr1_parse.specs.Parses.{AreParsable, IsRightParse, IsRightParseOnto, IsStopOf, TellsLimit};
 ghost use Rattle.lalrpop_lr1_parse.specs.Tables.{IsTableOf};
 ghost use Rattle.lalrpop_lr1_parse.specs.declared.stop.Stop.TheVariants.{Memory};
 
 use crate::action_table::ActionTable;
+use crate::columns::Columns;
 use crate::expanded_stack::ExpandedTrees;
 use crate::expanded_tree::ExpandedTree;
 use crate::machine::{Halt, run};
 use crate::stop::Stop;
+use crate::token_numbers::TokenNumbers;
 use crate::tree_stack::TreeStack;
 use lalrpop_grammar::ScanToken;
 use lalrpop_grammar_repr::TerminalSet;
@@ -74,7 +77,56 @@ impl<'g> ActionTable<'g> {
         ensures limit { (states : List State) → IsTableOf self.now states → TellsLimit states tokens.now limit result }
         ensures same { S.given stack.new ≡ S.given stack.old }
     {
-        match run(alloc, self, tokens, limit, true, stack) {
+        self.parse_numbered(alloc, tokens, TokenNumbers::ByTerminal, limit, stack)
+    }
+
+    /// Parses the tokens onto the stack as `parse_onto` does, and looks no terminal up: for each token `places` tells at which place its
+    /// terminal's column stands.
+    ///
+    /// # Errors
+    ///
+    /// Those of `parse_onto`.
+    pub fn parse_by_columns<S: TreeStack<'g>>(
+        &self,
+        alloc: Global,
+        tokens: &[ScanToken<'_>],
+        places: &[usize],
+        columns: &Columns,
+        limit: u64,
+        stack: &mut S,
+    ) -> Result<(), Stop>
+        requires checked { MayRun self.now }
+        requires places { ArePlacesOf self.now columns.now.numbers.items tokens.now places.now }
+        requires empty { S.stands stack.old none_at [] }
+        ensures right { (grammar : List Production) (s : Text) (states : List State) → IsStartAlone grammar s
+            → AreCheckedStates grammar s states → IsTableOf self.now states
+            → IsRightParseOnto grammar s tokens.now limit (S.stands stack.new) result }
+        ensures limit { (states : List State) → IsTableOf self.now states → TellsLimit states tokens.now limit result }
+        ensures same { S.given stack.new ≡ S.given stack.old }
+    {
+        let found = TokenNumbers::ByColumn { places, columns };
+        self.parse_numbered(alloc, tokens, found, limit, stack)
+    }
+
+    /// Parses the tokens, whose numbers are so found, onto the stack.
+    fn parse_numbered<S: TreeStack<'g>>(
+        &self,
+        alloc: Global,
+        tokens: &[ScanToken<'_>],
+        found: TokenNumbers<'_>,
+        limit: u64,
+        stack: &mut S,
+    ) -> Result<(), Stop>
+        requires checked { MayRun self.now }
+        requires found { TellNumbers found self.now tokens.now }
+        requires empty { S.stands stack.old none_at [] }
+        ensures right { (grammar : List Production) (s : Text) (states : List State) → IsStartAlone grammar s
+            → AreCheckedStates grammar s states → IsTableOf self.now states
+            → IsRightParseOnto grammar s tokens.now limit (S.stands stack.new) result }
+        ensures limit { (states : List State) → IsTableOf self.now states → TellsLimit states tokens.now limit result }
+        ensures same { S.given stack.new ≡ S.given stack.old }
+    {
+        match run(alloc, self, tokens, found, limit, true, stack) {
             Ok(_) => Ok(()),
             Err(halt) => Err(stop_of(halt, tokens.len())),
         }

@@ -5,5 +5,6 @@ pub mod GenerateLemmas
 pub mod LimitLawLemmas
 pub mod ParseLemmas
 pub mod ParserLimitLemmas
+pub mod PlaceLemmas
 pub mod SameAnswerLemmas
 pub mod WrittenStackLemmas

@@ -13,8 +13,10 @@ use Rattle.lalrpop_lr1_collapse.specs.CollapseAnswers.{states_over}
 use Rattle.lalrpop_lr1_items.specs.declared.state.State as built_states
 use Rattle.lalrpop_lr1_items.specs.declared.table_fault.TableConstructionError.{TableConstructionError}
 use Rattle.lalrpop_lr1_items.specs.declared.table_fault.TableFault.TheVariants as faults
+use Rattle.lalrpop_lr1_parse.specs.Columns.{AreColumnsOf}
 use Rattle.lalrpop_lr1_parse.specs.Tables.{IsTableOf}
 use Rattle.lalrpop_lr1_parse.specs.declared.action_table.ActionTable.{ActionTable}
+use Rattle.lalrpop_lr1_parse.specs.declared.columns.Columns.{Columns}
 use Rattle.lalrpop_lr1_theory.specs.Answers.{IsLr1}
 use Rattle.lalrpop_lr1_theory.specs.CheckedStates.{AreCheckedStates}
 use Rattle.lalrpop_lr1_theory.specs.States.{State}
@@ -36,6 +38,11 @@ pub record IsParserTable (v : PreparedGrammar) (table : ActionTable) (count : �
   pub checked : AreCheckedStates (theory_grammar v.expansion) v.start_name.0 states
   pub table_is : IsTableOf table states
   pub count_is : count ≡ length states
+
+-- The table is such, and the columns are those that it has for the terminals of the scanner's entries.
+pub record IsParserWith (v : PreparedGrammar) (table : ActionTable) (columns : Columns) (count : ℕ) : Type 0 where
+  pub table_runs : IsParserTable v table count
+  pub columns_are : AreColumnsOf table v.scanner.terminals.items columns.numbers.items
 
 -- by the canonical way states are as many as the nonempty sets of valid items
 abbrev pub AreCountedBy : Method → PreparedGrammar → ℕ → Type 0

@@ -43,9 +43,11 @@ pub fn generate<'p>(
         Ok(states) => {
             let built = states.as_slice();
             let table = ActionTable::new(alloc, built, &prepared.expansion().terminals)?;
+            let columns = table.columns_of(alloc, prepared.scanner().terminals())?;
             Ok(Parser {
                 prepared,
                 table,
+                columns,
                 state_count: built.len(),
             })
         }

@@ -5,21 +5,23 @@ ghost use Rattle.std.specs.Str.{chars};
 ghost use Rattle.lalrpop_grammar.specs.Views.{token_view};
 ghost use Rattle.lalrpop_lexer_scan.specs.Entries.{ScanEntry};
 ghost use Rattle.lalrpop_lexer_scan.specs.Faults.{TellsNoToken};
-ghost use Rattle.lalrpop_lexer_scan.specs.Scanning.{IsScannerOf};
+ghost use Rattle.lalrpop_lexer_scan.specs.Scanning.{AreEntriesOf, IsScannerOf};
 ghost use Rattle.lalrpop_lexer_scan.specs.Tokens.{AreTokensOf, FillTheText};
 
 use lalrpop_grammar::ScanToken;
-use lalrpop_lexer_scan::ScanError;
-use lalrpop_lr1_parse::ActionTable;
+use lalrpop_lexer_scan::{EntryTokens, ScanError};
+use lalrpop_lr1_parse::{ActionTable, Columns};
 use lalrpop_run_witness::Prepared;
 use std::alloc::Global;
 use std::marker::Model;
 
-/// A parser of a prepared grammar: what its states do, by numbers. No call changes it.
+/// A parser of a prepared grammar: what its states do, by numbers, and the number of each entry's terminal. No call changes it.
 #[derive(Drop)]
 pub struct Parser<'p> {
     pub(crate) prepared: &'p Prepared,
     pub(crate) table: ActionTable<'p>,
+    // For each entry of the scanner the table's column of its terminal.
+    pub(crate) columns: Columns,
     pub(crate) state_count: usize,
 }
 
@@ -28,7 +30,7 @@ impl<'p> Model for Parser<'p> {
     ghost use Rattle.std.specs.Prelude.{[]};
     ghost use mir.Syntax.{named};
     ghost use Rattle.lalrpop_lr1_parse.specs.contracts.action_table.ActionTable as tables;
-    ghost use Rattle.lalrpop_run_parser.specs.Parsers.{IsParserTable, ParserView};
+    ghost use Rattle.lalrpop_run_parser.specs.Parsers.{IsParserWith, ParserView};
     ghost use Rattle.lalrpop_run_witness.specs.PreparedContracts as preparations;
 
     ghost Value = { ParserView };
@@ -37,7 +39,7 @@ impl<'p> Model for Parser<'p> {
 
     ghost view = { λ p. record { prepared = p.prepared.now; table = p.table; count = p.state_count } };
 
-    ghost invariant = { λ p. IsParserTable p.prepared.now p.table p.state_count };
+    ghost invariant = { λ p. IsParserWith p.prepared.now p.table p.columns p.state_count };
 }
 
 impl<'p> Parser<'p> {
@@ -61,5 +63,21 @@ impl<'p> Parser<'p> {
             → TellsNoToken entries (chars text.now) error) }
     {
         self.prepared.scanner().scan(alloc, text)
+    }
+
+    /// The tokens of the text, as `scan` finds them, with the numbers of the entries that match them.
+    pub(crate) fn scan_entries<'t>(
+        &self,
+        alloc: Global,
+        text: &'t str,
+    ) -> Result<EntryTokens<'t>, ScanError>
+        ensures tokens { IfOk result (λ found. (entries : List ScanEntry) → IsScannerOf self.now.prepared.scanner entries
+            → AreTokensOf entries (chars text.now) (map token_view found.tokens.items)) }
+        ensures entries { IfOk result (λ found.
+            AreEntriesOf self.now.prepared.scanner found.tokens.items found.entries.items) }
+        ensures no_token { IfErr result (λ error. (entries : List ScanEntry) → IsScannerOf self.now.prepared.scanner entries
+            → TellsNoToken entries (chars text.now) error) }
+    {
+        self.prepared.scanner().scan_entries(alloc, text)
     }
 }

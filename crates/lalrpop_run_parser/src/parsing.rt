@@ -4,7 +4,7 @@ ghost use Rattle.std.specs.Prelude.{List, map};
 ghost use Rattle.std.specs.Str.{chars};
 ghost use Rattle.lalrpop_grammar.specs.Views.{grammar_view, token_view};
 ghost use Rattle.lalrpop_lexer_scan.specs.Entries.{ScanEntry};
-ghost use Rattle.lalrpop_lexer_scan.specs.Scanning.{IsScannerOf};
+ghost use Rattle.lalrpop_lexer_scan.specs.Scanning.{AreEntriesOf, IsScannerOf};
 ghost use Rattle.lalrpop_lr1_parse.specs.Tables.{IsTableOf};
 ghost use Rattle.lalrpop_lr1_theory.specs.Runs.{PassesLimit};
 ghost use Rattle.lalrpop_lr1_theory.specs.States.{State};
@@ -52,13 +52,16 @@ fn error_of_stop(alloc: Global, tokens: &[ScanToken<'_>], stop: Stop) -> ParseEr
 }
 
 impl<'p> Parser<'p> {
-    /// The written tree of the tokens, whose expanded tree has at most `limit` leaves and nodes; or why they have none.
+    /// The written tree of the tokens of these entries, whose expanded tree has at most `limit` leaves and nodes; or why they have
+    /// none.
     fn parse_tokens(
         &self,
         alloc: Global,
         tokens: &[ScanToken<'_>],
+        entries: &[usize],
         limit: u64,
     ) -> Result<WrittenTree, ParseError>
+        requires { AreEntriesOf self.now.prepared.scanner tokens.now entries.now }
         ensures right { IsReadGrammar (grammar_view self.now.prepared.written)
             → IsRightForItsTokens self.now.prepared (map token_view tokens.now) limit result }
         ensures limit { (states : List State) → IsTableOf self.now.table states
@@ -71,7 +74,10 @@ impl<'p> Parser<'p> {
         self.prepared.start_name();
         let actions = self.prepared.expansion().action_fn_defns.as_slice();
         let mut stack = WrittenTrees::new(alloc, actions, self.prepared.origins());
-        match self.table.parse_onto(alloc, tokens, limit, &mut stack) {
+        match self
+            .table
+            .parse_by_columns(alloc, tokens, entries, &self.columns, limit, &mut stack)
+        {
             Ok(()) => match stack.into_last() {
                 Some(tree) => Ok(tree),
                 None => unreachable!(),
@@ -98,7 +104,8 @@ impl<'p> Parser<'p> {
             → IsScannerOf self.now.prepared.scanner entries
             → TellsLimitWhere (TextPassesLimit states entries (chars text.now) limit) result }
     {
-        let tokens = self.scan(alloc, text)?;
-        self.parse_tokens(alloc, tokens.as_slice(), limit)
+        let found = self.scan_entries(alloc, text)?;
+        let tokens = found.tokens.as_slice();
+        self.parse_tokens(alloc, tokens, found.entries.as_slice(), limit)
     }
 }

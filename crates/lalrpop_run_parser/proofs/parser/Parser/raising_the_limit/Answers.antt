@@ -13,4 +13,4 @@ returns c =
     (λ read.
     keeps_answers c.self.inside.prepared.now c.self.inside.table c.self.inside.state_count c.one_written_tree.ensures
     (c.grammar.ensures.prepared read) read
-    (ap (λ (n : NonterminalString). n.0) (sym c.start_name.ensures.name) ∙ c.start_name.ensures.prefixed) c.self.invariant)
+    (ap (λ (n : NonterminalString). n.0) (sym c.start_name.ensures.name) ∙ c.start_name.ensures.prefixed) c.self.invariant.table_runs)

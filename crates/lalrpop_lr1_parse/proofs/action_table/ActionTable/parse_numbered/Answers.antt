@@ -6,8 +6,8 @@ use Rattle.lalrpop_lr1_parse.specs.Ends.{terminals_of}
 use Rattle.lalrpop_lr1_parse.specs.Parses.{IsRightParseOnto, TellsLimit}
 use Rattle.lalrpop_lr1_parse.proofs.LimitLemmas.{made_within, stop_by_limit}
 use Rattle.lalrpop_lr1_parse.proofs.StopLemmas.{stop_right}
-use Rattle.lalrpop_lr1_parse.proofs.action_table.ActionTable.parse_onto.Goals as goal
-use Rattle.lalrpop_lr1_parse.proofs.action_table.ActionTable.parse_onto.Goals.{in-Ok, in-Err}
+use Rattle.lalrpop_lr1_parse.proofs.action_table.ActionTable.parse_numbered.Goals as goal
+use Rattle.lalrpop_lr1_parse.proofs.action_table.ActionTable.parse_numbered.Goals.{in-Ok, in-Err}
 
 pub returns-clause-right : goal.returns-clause-right
 returns-clause-right g c = λ grammar s states alone ok is.
