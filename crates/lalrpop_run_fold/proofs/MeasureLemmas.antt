@@ -51,9 +51,9 @@ within_measure whole (q ∷ qs) passes outside h =
     omega (arith, within_part whole q passes outside h.0, within_measure whole qs passes outside h.1)
 
 -- the search of a part inside, and of the whole
-pub inside_less : (q : TreePart) (passes : ℕ) → q.is_inside ≡ true → size_measure q + 8 * 4294967298 + 4 < part_measure q passes
+pub inside_less : (q : TreePart) (passes : ℕ) → q.is_inside ≡ true → size_measure q + 8 * 4294967298 + 5 < part_measure q passes
 inside_less q passes e = omega (arith, inside_measure q passes e)
 
 pub outside_less : (q : TreePart) (passes less : ℕ) → q.is_inside ≡ false → less < passes →
-    size_measure q + 8 * less + 4 < part_measure q passes
+    size_measure q + 8 * less + 5 < part_measure q passes
 outside_less q passes less e h = omega (arith, outside_measure q passes e, h)

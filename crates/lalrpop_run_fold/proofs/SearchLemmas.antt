@@ -4,8 +4,8 @@ use Rattle.std.proofs.Common.{◌∷◌, ◌++◌, true, false, length, refl, ap
 use Rattle.std.proofs.Common.{subst, inl, inr, map, take, drop, Contains}
 use Rattle.std.specs.Prelude.{None, Option, Some}
 use Rattle.std.proofs.lemmas.Bool.{true≢false}
-use Rattle.std.proofs.lemmas.List.{length-map, map-append, take_all}
-use Rattle.std.proofs.lemmas.List.Elements.{Contains-append_cases}
+use Rattle.std.proofs.lemmas.List.{length-map, map-append, take-append-drop}
+use Rattle.std.proofs.lemmas.List.Elements.{Contains-append_cases, Contains-append_left, Contains-append_right}
 use Rattle.lalrpop_grammar.specs.Trees.{Tree}
 use Rattle.lalrpop_grammar.specs.declared.origin.Origin as choices
 use Rattle.lalrpop_grammar_repr.specs.Productions.{productions_of}
@@ -29,11 +29,24 @@ use Rattle.lalrpop_run_parts.specs.PartViews.{AllWithin, TellsKept, shown_part}
 use Rattle.lalrpop_run_parts.specs.declared.tree_part.TreePart.{TreePart}
 use Rattle.lalrpop_run_parts.proofs.KeptLemmas.{kept_once}
 use Rattle.lalrpop_run_fold.specs.Folds.{AreFoldedTo, AreRankedUnder, IsRankedWithin}
-use Rattle.lalrpop_run_fold.specs.FoldedTrees.{AreFoldable, TellsFolded, TellsFoldedBy, TellsPartFolded}
+use Rattle.lalrpop_run_fold.specs.FoldedTrees.{AreFoldable, AreOfGrammar, TellsFolded, TellsFoldedBy, TellsFoldedByAny, TellsPartFolded}
 use Rattle.lalrpop_run_fold.specs.PassingRanks.{label_rank}
 use Rattle.lalrpop_run_fold.proofs.FoldLemmas.{IsNodeOf, folded_long, folded_more, leaf_folded, leaf_only, node_folded, node_only}
 use Rattle.lalrpop_run_fold.proofs.FoldLemmas.{node_parts, none_at_place, none_folded, ranked_under}
 use Rattle.lalrpop_run_fold.proofs.RankLemmas.{label_bound}
+
+-- what stands in front of a place, or from it on, is there; and nothing else is
+pub in_front : (ps : List Production) (k : ℕ) (p : Production) → Contains (take k ps) p → Contains ps p
+in_front ps k p c =
+    subst (λ l. Contains l p) (take-append-drop k ps) (Contains-append_left (take k ps) (drop k ps) p c)
+
+pub at_back : (ps : List Production) (k : ℕ) (p : Production) → Contains (drop k ps) p → Contains ps p
+at_back ps k p c =
+    subst (λ l. Contains l p) (take-append-drop k ps) (Contains-append_right (take k ps) (drop k ps) p c)
+
+in_two : (ps : List Production) (k : ℕ) (p : Production) → Contains ps p → Contains (take k ps) p ⊎ Contains (drop k ps) p
+in_two ps k p c =
+    Contains-append_cases (take k ps) (drop k ps) p (subst (λ l. Contains l p) (sym (take-append-drop k ps)) c)
 
 module _ (g : Grammar) (origins : List choices.Origin) (label_of : ℕ → ChoiceLabel) (f : AreFoldable g origins label_of) where
   abbrev G : theory.Production → Type 0
@@ -103,6 +116,31 @@ module _ (g : Grammar) (origins : List choices.Origin) (label_of : ℕ → Choic
       G (production_view p) × (p.nonterminal.0 ≡ name.0)
   of_name name p c =
       (f.named name (production_view p)).0 (map_has production_view (productions_of g.nonterminals name) p c)
+
+  pub of_names : (name : NonterminalString) (ps : List Production) →
+      ((p : Production) → Contains ps p → Contains (productions_of g.nonterminals name) p) → AreOfGrammar g ps
+  of_names name ps own = λ p c. (of_name name p (own p c)).0
+
+  -- a tree by one of some of its productions
+  pub found_of_name : (name : NonterminalString) (q : TreePart) (most : ℕ) (ps : List Production) (tree : ExpandedTree) →
+      ((p : Production) → Contains ps p → Contains (productions_of g.nonterminals name) p) →
+      TellsFoldedByAny G label_of ps q most (Some tree) → TellsFolded G label_of (theory.nonterminal name.0) q most (Some tree)
+  found_of_name name q most ps tree own h =
+      subst (λ n. AreFoldedTo G label_of (theory.nonterminal n ∷ []) (shown_part q ∷ []) (expanded_view tree))
+      (of_name name h.0 (own h.0 h.1)).1 h.2
+
+  -- none by those from a place on: what those in front of it tell
+  pub told_in_front : (name : NonterminalString) (q : TreePart) (most : ℕ) (ps : List Production) (k : ℕ) →
+      ps ≡ productions_of g.nonterminals name → TellsFoldedByAny G label_of (drop k ps) q most None → (r : Option ExpandedTree) →
+      TellsFoldedByAny G label_of (take k ps) q most r → TellsFolded G label_of (theory.nonterminal name.0) q most r
+  told_in_front name q most ps k ps_are back None front =
+      none_of_name name q most ps ps_are (λ p c. go p (in_two ps k p c))
+    where
+      go : (p : Production) → Contains (take k ps) p ⊎ Contains (drop k ps) p → TellsFoldedBy G label_of (production_view p) q most None
+      go p (inl c) = front p c
+      go p (inr c) = back p c
+  told_in_front name q most ps k ps_are back (Some tree) front =
+      found_of_name name q most (take k ps) tree (λ p c. subst (λ l. Contains l p) ps_are (in_front ps k p c)) front
 
 -- no tree has a greater rank than a start
 pub ranked_any : (label_of : ℕ → ChoiceLabel) (ts : SpannedForest) → IsRankedWithin label_of 4294967298 ts

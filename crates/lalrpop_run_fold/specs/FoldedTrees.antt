@@ -7,6 +7,7 @@ use Rattle.lalrpop_grammar.specs.declared.origin.Origin as choices
 use Rattle.lalrpop_grammar_repr.specs.Productions.{productions_of}
 use Rattle.lalrpop_grammar_repr.specs.declared.action.ActionFnDefn.{ActionFnDefn}
 use Rattle.lalrpop_grammar_repr.specs.declared.grammar.Grammar.{Grammar}
+use Rattle.lalrpop_grammar_repr.specs.declared.production.Production as repr
 use Rattle.lalrpop_grammar_symbols.specs.declared.names.NonterminalString.{NonterminalString}
 use Rattle.lalrpop_lr1_build.specs.BuiltStates.{theory_grammar}
 use Rattle.lalrpop_lr1_items.specs.Views.{production_view}
@@ -45,6 +46,18 @@ TellsFoldedBy G label_of p q most None =
     → label_rank (label_of p.action) ≤ most → ⊥
 TellsFoldedBy G label_of p q most (Some tree) =
     AreFoldedTo G label_of (nonterminal p.left ∷ []) (shown_part q ∷ []) (expanded_view tree)
+
+-- each of the productions is one of the grammar's
+abbrev pub AreOfGrammar : Grammar → List repr.Production → Type 0
+AreOfGrammar g ps = (p : repr.Production) → Contains ps p → Contains (theory_grammar g) (production_view p)
+
+-- the same by one of the productions; or there is none by any
+abbrev pub TellsFoldedByAny : (Production → Type 0) → (ℕ → ChoiceLabel) → List repr.Production → TreePart → ℕ →
+    Option ExpandedTree → Type 0
+TellsFoldedByAny G label_of ps q most None =
+    (p : repr.Production) → Contains ps p → TellsFoldedBy G label_of (production_view p) q most None
+TellsFoldedByAny G label_of ps q most (Some tree) =
+    (p : repr.Production) × Contains ps p × TellsFoldedBy G label_of (production_view p) q most (Some tree)
 
 -- they are trees of the symbols to which the parts are folded; or there are none, those of the whole part under this rank
 abbrev pub TellsAllFolded : (Production → Type 0) → (ℕ → ChoiceLabel) → List Symbol → List TreePart → ℕ

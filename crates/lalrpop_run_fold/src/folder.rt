@@ -9,14 +9,15 @@ ghost use Rattle.lalrpop_lr1_build.specs.BuiltStates.{theory_grammar};
 ghost use Rattle.lalrpop_lr1_items.specs.Views.{production_symbol_view, production_view};
 ghost use Rattle.lalrpop_lr1_theory.specs.Productions as theory;
 ghost use Rattle.lalrpop_run_written.specs.ActionLabels.{ChoiceLabel};
-ghost use Rattle.lalrpop_run_fold.specs.FoldedTrees.{AreFoldable, TellsAllFolded, TellsFolded, TellsFoldedBy};
-ghost use Rattle.lalrpop_run_fold.specs.FoldedTrees.{TellsPartFolded};
+ghost use Rattle.lalrpop_run_fold.specs.FoldedTrees.{AreFoldable, AreOfGrammar, TellsAllFolded, TellsFolded, TellsFoldedBy};
+ghost use Rattle.lalrpop_run_fold.specs.FoldedTrees.{TellsFoldedByAny, TellsPartFolded};
 ghost use Rattle.lalrpop_run_parts.specs.PartViews.{shown_part};
 
 use lalrpop_grammar::{Origin, WrittenTree};
 use lalrpop_grammar_repr::{Grammar, Production, Symbol};
 use lalrpop_grammar_symbols::{NonterminalString, Span, TerminalString};
 use lalrpop_lr1_parse::ExpandedTree;
+use lalrpop_run_flat_labels::LabelTable;
 use lalrpop_run_parts::{Piece, TreePart, parts_by_action};
 use std::alloc::{AllocError, Global};
 
@@ -30,6 +31,10 @@ pub(crate) struct Folder<'g> {
     pub(crate) alloc: Global,
     pub(crate) grammar: &'g Grammar,
     pub(crate) origins: &'g [Origin],
+    /// The productions before inlining.
+    pub(crate) lowered: &'g Grammar,
+    /// Those after it by the choices that they stand for.
+    pub(crate) labels: &'g LabelTable,
 }
 
 /// The leaf to which the part is folded.
@@ -93,7 +98,7 @@ impl<'g> Folder<'g> {
         }
     }
 
-    /// The same of a nonterminal.
+    /// The same of a nonterminal. What the part's choices look like says which production is tried first.
     #[cycle(folding)]
     pub(crate) fn tree_of_nonterminal(
         self,
@@ -105,7 +110,28 @@ impl<'g> Folder<'g> {
             → IfOk result (TellsFolded (Contains (theory_grammar self.entry.grammar.now)) label_of
             (theory.nonterminal name.now.0) part.entry passes) }
     {
-        for production in self.grammar.productions_for(name) {
+        let productions = self.grammar.productions_for(name);
+        let likely = self.likely_place(name, part)?;
+        let (before, from_likely) = productions.split_at(likely.min(productions.len()));
+        match self.tree_by_any(from_likely, part, passes)? {
+            Some(tree) => Ok(Some(tree)),
+            None => self.tree_by_any(before, part, passes),
+        }
+    }
+
+    /// The same by the first of the productions that has one.
+    #[cycle(folding)]
+    fn tree_by_any(
+        self,
+        productions: &'g [Production],
+        part: TreePart<'_>,
+        passes: usize,
+    ) -> Result<Option<ExpandedTree<'g>>, AllocError>
+        ensures { (label_of : ℕ → ChoiceLabel) → AreFoldable self.entry.grammar.now self.entry.origins.now label_of
+            → AreOfGrammar self.entry.grammar.now productions.now
+            → IfOk result (TellsFoldedByAny (Contains (theory_grammar self.entry.grammar.now)) label_of productions.now part.entry passes) }
+    {
+        for production in productions {
             if let Some(tree) = self.tree_by_production(production, part, passes)? {
                 return Ok(Some(tree));
             }

@@ -36,6 +36,8 @@ pub fn fold<'p>(
         alloc,
         grammar,
         origins: prepared.origins(),
+        lowered: prepared.lowered(),
+        labels: prepared.labels(),
     };
     let whole = TreePart {
         piece: Piece::Whole(tree),

@@ -1,7 +1,8 @@
 -- What is seen of a prepared grammar, and what it is.
-use Rattle.std.specs.Prelude.{◌≡◌, ◌++◌, Bool, List, Option, Contains}
+use Rattle.std.specs.Prelude.{◌≡◌, ◌++◌, ℕ, Bool, List, Option, Vec, Contains}
 use Rattle.std.specs.List.Sorted.{IsStrictlySortedBy}
 use Rattle.std.specs.Map.{keys_of}
+use Rattle.std.specs.declared.alloc.Global.{Global}
 use Rattle.lalrpop_grammar_symbols.specs.Symbols.{Text}
 use Rattle.lalrpop_grammar_symbols.specs.contracts.names.NonterminalStringOrd.TheImpl as names
 use Rattle.lalrpop_grammar_symbols.specs.declared.names.NonterminalString.{NonterminalString}
@@ -18,6 +19,9 @@ use Rattle.lalrpop_lr1_first.specs.NumberedGrammars.{HasItsTerminals}
 use Rattle.lalrpop_lr1_inline.specs.InlinedGrammars.{IsInlinedGrammar}
 use Rattle.lalrpop_lr1_theory.specs.CheckedStates.{IsStartAlone}
 use Rattle.lalrpop_lr1_theory.specs.ValidItems.{NoneBarren}
+use Rattle.lalrpop_run_flat_labels.specs.LabelTables.{kept_place, label_places, last_place}
+use Rattle.lalrpop_run_flat_labels.specs.declared.label_table.LabelTable.{LabelTable}
+use Rattle.lalrpop_run_flat_labels.specs.declared.mark.LabelMark.{LabelMark}
 use Rattle.lalrpop_run_label_laws.specs.PassedOn.{IsNormalized}
 use Rattle.lalrpop_norm_expansion.specs.Premises.{IsReadGrammar}
 use Rattle.lalrpop_norm_lower.specs.declared.lowering.Normalized.{Normalized}
@@ -70,3 +74,7 @@ pub record IsPreparedWhereRead (finds : Text → Text → Option Bool) (deep : T
   pub named : HasNamedProductions v.expansion
   pub parsed : MayBeParsedFrom v.expansion v.start_name
   pub prepared : IsReadGrammar (grammar_view v.written) → IsPrepared finds deep v
+
+-- the table has the places of the grammar's productions by their flat labels, where so many actions are given ones
+abbrev pub AreLabelsOf : repr.Grammar → ℕ → LabelTable → Type 0
+AreLabelsOf g given t = (l : Vec LabelMark Global) → kept_place t l ≡ last_place l.items (label_places g given)

@@ -1,16 +1,17 @@
 //! What is known of a grammar once nothing is wrong with it.
 
-ghost use Rattle.std.specs.Prelude.{◌≡◌, ◌++◌};
+ghost use Rattle.std.specs.Prelude.{◌≡◌, ◌++◌, length};
 ghost use Rattle.lalrpop_grammar.specs.Views.{grammar_view};
 ghost use Rattle.lalrpop_judge_search.specs.Search.{finds, is_too_deep};
 ghost use Rattle.lalrpop_lr1_first.specs.NumberedGrammars.{HasItsTerminals};
 ghost use Rattle.lalrpop_norm_expansion.specs.Premises.{IsReadGrammar};
-ghost use Rattle.lalrpop_run_prepare.specs.PreparedGrammars.{HasNamedProductions, IsPrepared, MayBeParsedFrom};
+ghost use Rattle.lalrpop_run_prepare.specs.PreparedGrammars.{AreLabelsOf, HasNamedProductions, IsPrepared, MayBeParsedFrom};
 
 use lalrpop_grammar::{Atom, Grammar, Origin};
 use lalrpop_grammar_repr::{Grammar as LoweredGrammar, Session};
 use lalrpop_grammar_symbols::{List, NonterminalString};
 use lalrpop_lexer_scan::Scanner;
+use lalrpop_run_flat_labels::LabelTable;
 use std::marker::Model;
 
 /// A written grammar in which nothing is wrong, for one of its starts: its plain productions, before and after inlining, with the
@@ -26,6 +27,8 @@ pub struct Prepared {
     pub(crate) origins: List<Origin>,
     pub(crate) scanner: Scanner,
     pub(crate) expansion: LoweredGrammar,
+    // The expansion's productions by the choices that they stand for.
+    pub(crate) labels: LabelTable,
 }
 
 impl Model for Prepared {
@@ -34,7 +37,8 @@ impl Model for Prepared {
     ghost use Rattle.lalrpop_grammar.specs.contracts.origin.Origin as written_choice;
     ghost use Rattle.lalrpop_grammar_repr.specs.contracts.grammar.Grammar as plain_grammar;
     ghost use Rattle.lalrpop_judge_search.specs.Search.{finds, is_too_deep};
-    ghost use Rattle.lalrpop_run_prepare.specs.PreparedGrammars.{IsPreparedWhereRead, PreparedGrammar};
+    ghost use Rattle.lalrpop_run_prepare.specs.PreparedGrammars.{AreLabelsOf, IsPreparedWhereRead, PreparedGrammar};
+    ghost use Rattle.std.specs.Prelude.{length};
 
     ghost Value = { PreparedGrammar };
 
@@ -60,7 +64,7 @@ impl Model for Prepared {
       origins = p.origins;
       scanner = p.scanner;
       expansion = p.expansion;
-    }) };
+    }) × AreLabelsOf p.expansion (length p.origins) p.labels };
 }
 
 impl Prepared {
@@ -69,6 +73,20 @@ impl Prepared {
         ensures { result.now ≡ self.now.expansion }
     {
         &self.expansion
+    }
+
+    /// The grammar's plain productions before its inlined rules are inlined.
+    pub fn lowered(&self) -> &LoweredGrammar
+        ensures { result.now ≡ self.now.lowered }
+    {
+        &self.lowered
+    }
+
+    /// The productions after inlining by the choices before it that they stand for.
+    pub fn labels(&self) -> &LabelTable
+        ensures { AreLabelsOf self.now.expansion (length self.now.origins) result.now }
+    {
+        &self.labels
     }
 
     /// For the number of each action of the plain productions before inlining the written choice that its production stands for.

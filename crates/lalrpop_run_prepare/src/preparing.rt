@@ -20,6 +20,7 @@ use lalrpop_grammar_repr::{Grammar as LoweredGrammar, Session};
 use lalrpop_grammar_symbols::List;
 use lalrpop_lexer::dfa::Dfa;
 use lalrpop_lexer_scan::Scanner;
+use lalrpop_run_flat_labels::LabelTable;
 use lalrpop_run_refusals::GenerateError;
 use lalrpop_run_tokens::{Normalized, normalize_for_start, terminals_of};
 use std::alloc::{AllocError, Global};
@@ -80,6 +81,7 @@ pub fn prepare(
         origins,
         entries,
     } = made;
+    let labels = LabelTable::new(alloc, &expansion, origins.len())?;
     let scanner = scanner_of(alloc, dfa, entries)?;
     let start = start.try_clone()?;
     Ok(Prepared {
@@ -91,5 +93,6 @@ pub fn prepare(
         origins,
         scanner,
         expansion,
+        labels,
     })
 }

@@ -2,6 +2,7 @@
 
 ghost use Rattle.lalrpop_lr1_first.specs.NumberedGrammars.{HasItsTerminals};
 
+use crate::sentence::tell_sentence;
 use anyhow::Result;
 use clap::ArgMatches;
 use lalrpop_grammar_repr::Grammar;
@@ -12,11 +13,11 @@ use lalrpop_lr1_answers::{
 use lalrpop_lr1_check::check_states;
 use std::alloc::Global;
 use std::io;
-use std::rt::Clock;
+use std::rt::{Clock, Files};
 use std::time::Instant;
 
 /// Answers what the words ask for.
-pub(crate) fn answer<R: Alloc<A = Global> + Clock + Eprint + Input + Print>(
+pub(crate) fn answer<R: Alloc<A = Global> + Clock + Eprint + Files + Input + Print>(
     rt: &R,
     matches: &ArgMatches<'_>,
 ) -> Result<()> {
@@ -25,8 +26,11 @@ pub(crate) fn answer<R: Alloc<A = Global> + Clock + Eprint + Input + Print>(
     let grammar = read_productions(alloc, text.as_str())?;
     let start = start_of(alloc, matches.get_str("start").unwrap_or(""))?;
     let timed = matches.get_flag("time");
-    match matches.get_str("tokens") {
-        Some(tokens) => tell_tree(rt, &grammar, &start, tokens, timed),
+    if let Some(tokens) = matches.get_str("tokens") {
+        return tell_tree(rt, &grammar, &start, tokens, timed);
+    }
+    match matches.get_str("sentence") {
+        Some(file) => tell_sentence(rt, &grammar, &start, file, timed),
         None if matches.get_flag("check") => tell_check(rt, &grammar, &start, timed),
         None => tell_counts(rt, &grammar, &start, timed),
     }
@@ -89,7 +93,7 @@ fn tell_tree<R: Alloc<A = Global> + Clock + Eprint + Print>(
 }
 
 /// Tells how long it took since then, where that is asked for.
-fn tell_time<R: Clock + Eprint>(rt: &R, began: Instant, timed: bool) -> Result<()> {
+pub(crate) fn tell_time<R: Clock + Eprint>(rt: &R, began: Instant, timed: bool) -> Result<()> {
     if timed {
         let micros = began.elapsed(rt)?.as_micros();
         eprintln!(rt; "{}.{:03} ms", micros / 1000, micros % 1000)?;

@@ -4,6 +4,7 @@
 
 mod answer;
 mod options;
+mod sentence;
 
 use crate::answer::answer;
 use crate::options::command;
@@ -11,7 +12,7 @@ use anyhow::Result;
 use std::alloc::Global;
 use std::env;
 use std::process::ExitCode;
-use std::rt::{Clock, Env};
+use std::rt::{Clock, Env, Files};
 
 /// The status where the words are wrong.
 const WRONG_WORDS: u8 = 4;
@@ -21,7 +22,9 @@ fn main(rt: HostRuntime) -> Result<ExitCode> {
 }
 
 /// Reads the words, and answers them.
-fn respond<R: Alloc<A = Global> + Clock + Env + Eprint + Input + Print>(rt: &R) -> Result<u8> {
+fn respond<R: Alloc<A = Global> + Clock + Env + Eprint + Files + Input + Print>(
+    rt: &R,
+) -> Result<u8> {
     let arguments: Vec<String> = env::args(rt)?.collect(rt.alloc())?;
     let words: Vec<&str> = arguments
         .iter()

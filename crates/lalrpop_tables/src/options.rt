@@ -12,6 +12,7 @@ pub(crate) fn command<'a>(alloc: Global) -> Result<Command<'a>, AllocError> {
         )
         .arg(start(alloc))?
         .arg(tokens(alloc))?
+        .arg(sentence(alloc))?
         .arg(check(alloc))?
         .arg(time(alloc))
 }
@@ -33,6 +34,16 @@ fn tokens<'a>(alloc: Global) -> Arg<'a> {
         .action(ArgAction::Set)
 }
 
+fn sentence<'a>(alloc: Global) -> Arg<'a> {
+    Arg::new(alloc, "sentence")
+        .long("sentence")
+        .value_name("FILE")
+        .help(
+            "A file with tokens between blanks; whether they are a sentence is told in place of the counts, without a tree",
+        )
+        .action(ArgAction::Set)
+}
+
 fn check<'a>(alloc: Global) -> Arg<'a> {
     Arg::new(alloc, "check")
         .long("check")
@@ -43,6 +54,8 @@ fn check<'a>(alloc: Global) -> Arg<'a> {
 fn time<'a>(alloc: Global) -> Arg<'a> {
     Arg::new(alloc, "time")
         .long("time")
-        .help("Tell on standard error how long the canonical tables took")
+        .help(
+            "Tell on standard error how long the canonical tables took, or what is told in their place",
+        )
         .action(ArgAction::SetTrue)
 }

@@ -1,9 +1,10 @@
-use Rattle.std.proofs.Common.{refl, subst}
+use Rattle.std.proofs.Common.{◌∙◌, ap, refl, subst}
 use Rattle.std.proofs.lemmas.Result.{err_from_is_err_and}
 use Rattle.lalrpop_grammar.specs.Views.{grammar_view}
 use Rattle.lalrpop_grammar.specs.declared.grammar.Grammar.{Grammar}
 use Rattle.lalrpop_judge_search.specs.Search.{finds, is_too_deep}
 use Rattle.lalrpop_norm_expansion.specs.Premises.{IsReadGrammar}
+use Rattle.lalrpop_run_flat_labels.specs.LabelTables.{label_places, last_place}
 use Rattle.lalrpop_run_prepare.specs.PrepareRefusals.{IsPrepareRefusal}
 use Rattle.lalrpop_run_prepare.proofs.PrepareLemmas.{prepared_where_read, start_refused}
 use Rattle.lalrpop_run_prepare.proofs.preparing.prepare.Goals as goal
@@ -30,6 +31,11 @@ returns-in_err-expansion-clause-refused c =
     c.args.start.now (grammar_view c.args.grammar) c.in_ok-made.made c.in_ok-made.dfa read (normal read) c.in_ok-made.ensures.ready
     c.see_order.ensures c.args.grammar.span c.in_err-expansion.field-0.0 refl c.in_err-expansion.ensures.refused)
 
+pub returns-in_err-labels-clause-refused : goal.returns-in_err-labels-clause-refused
+returns-in_err-labels-clause-refused c =
+    let p = err_from_is_err_and c.from_residual-in_err-labels.result c.from_residual-in_err-labels.ensures.1 in
+    rw p.1 (λ read. IsPrepareRefusal.before (IsGrammarRefusal.memory p.2))
+
 pub returns-in_err-scanner-clause-refused : goal.returns-in_err-scanner-clause-refused
 returns-in_err-scanner-clause-refused c =
     let p = err_from_is_err_and c.from_residual-in_err-scanner.result c.from_residual-in_err-scanner.ensures.1 in
@@ -45,7 +51,9 @@ invariant_of-result c =
     let normal =
     subst (λ (g : Grammar). IsReadGrammar (grammar_view g)
     → IsNormalizedFor finds is_too_deep c.args.session.features.items c.args.session.macro_recursion_limit c.args.start.now
-    (grammar_view g) c.in_ok-made.made c.in_ok-made.dfa) c.in_ok-copy.ensures c.in_ok-made.ensures.made in
-    prepared_where_read finds is_too_deep _ c.in_ok-made.made c.in_ok-made.dfa c.args.start.now refl refl c.in_ok-start.ensures
-    c.in_ok-expansion.ensures.name c.in_ok-expansion.ensures.terminals c.in_ok-expansion.ensures.parsed
-    c.in_ok-expansion.ensures.inlined c.in_ok-made.ensures.ready c.see_order.ensures normal c.in_ok-scanner.ensures
+    (grammar_view g) c.in_ok-made.made c.in_ok-made.dfa) c.in_ok-copy.ensures c.in_ok-made.ensures.made in (
+      prepared_where_read finds is_too_deep _ c.in_ok-made.made c.in_ok-made.dfa c.args.start.now refl refl c.in_ok-start.ensures
+          c.in_ok-expansion.ensures.name c.in_ok-expansion.ensures.terminals c.in_ok-expansion.ensures.parsed
+          c.in_ok-expansion.ensures.inlined c.in_ok-made.ensures.ready c.see_order.ensures normal c.in_ok-scanner.ensures,
+      λ l. c.in_ok-labels.ensures l ∙ ap (λ n. last_place l.items (label_places c.in_ok-expansion.expansion n)) c.len.ensures,
+    )

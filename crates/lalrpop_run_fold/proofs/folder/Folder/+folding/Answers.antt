@@ -1,7 +1,9 @@
 use Rattle.std.proofs.Common.{◌≡◌, ◌∙◌, ◌+◌, ◌⊎◌, ◌∷◌, [], ◌++◌, ℕ, List, ap, arith, drop}
 use Rattle.std.proofs.Common.{inl, inr, length, map, refl, subst, sym, take, Contains}
 use Rattle.std.specs.Prelude.{IfOk, None, false}
+use Rattle.std.proofs.lemmas.Result.{IfOk-weaker}
 use Rattle.std.proofs.lemmas.List.{drop-map, drop_more, length-map, map-append, take-map, take_all, take_more}
+use Rattle.lalrpop_grammar_repr.specs.Productions.{productions_of}
 use Rattle.lalrpop_lr1_build.specs.BuiltStates.{theory_grammar}
 use Rattle.lalrpop_lr1_items.specs.Views.{production_symbol_view, production_view}
 use Rattle.lalrpop_lr1_parse.specs.ExpandedViews.{expanded_view, expanded_views}
@@ -11,11 +13,11 @@ use Rattle.lalrpop_run_parts.specs.KeptTrees.{AreKeptBy}
 use Rattle.lalrpop_run_parts.specs.PartViews.{AllWithin, LieWithin, TellsKept, shown_part}
 use Rattle.lalrpop_run_parts.specs.declared.tree_part.TreePart.{TreePart}
 use Rattle.lalrpop_run_fold.specs.Folds.{AreFoldedTo}
-use Rattle.lalrpop_run_fold.specs.FoldedTrees.{TellsAllFolded, TellsFolded, TellsFoldedBy, TellsPartFolded}
+use Rattle.lalrpop_run_fold.specs.FoldedTrees.{TellsAllFolded, TellsFolded, TellsFoldedBy, TellsFoldedByAny, TellsPartFolded}
 use Rattle.lalrpop_run_fold.proofs.FoldLemmas.{folded_long, none_at_place}
 use Rattle.lalrpop_run_fold.proofs.MeasureLemmas.{part_below, within_measure}
-use Rattle.lalrpop_run_fold.proofs.SearchLemmas.{found_by, none_by_parts, none_of_name, of_name, one_more_none, part_spent, parts_more}
-use Rattle.lalrpop_run_fold.proofs.SearchLemmas.{told_here}
+use Rattle.lalrpop_run_fold.proofs.SearchLemmas.{at_back, found_by, found_of_name, none_by_parts, of_names, one_more_none, part_spent, parts_more}
+use Rattle.lalrpop_run_fold.proofs.SearchLemmas.{in_front, told_here, told_in_front}
 use Rattle.lalrpop_run_fold.proofs.folder.Folder.+folding.Goals as goal
 
 pub tree_by_production-trees_of_parts-requires : goal.tree_by_production-trees_of_parts-requires
@@ -70,43 +72,75 @@ tree_by_production-returns t c = λ label_of f belongs.
     (subst (λ l. TellsAllFolded (Contains (theory_grammar g)) label_of (map production_symbol_view l) c.as_slice.result.now
     c.args.passes None) c.as_slice-symbols.ensures none)
 
-pub tree_of_nonterminal-returns-in-Some : goal.tree_of_nonterminal-returns-in-Some
-tree_of_nonterminal-returns-in-Some t c = λ label_of f.
-    let g = c.args.self.grammar.now in
+pub tree_by_any-returns-in-Some : goal.tree_by_any-returns-in-Some
+tree_by_any-returns-in-Some t c = λ label_of f belong.
     let q = c.production-item.result in
-    let there : Contains c.productions_for-production-items.result.now q =
-    (c.loop-production.production-index, c.loop-production-test.true, sym c.production-item.is) in
-    let own = of_name g c.args.self.origins.now label_of f c.args.name.now q
-    (subst (λ l. Contains l q) c.productions_for-production-items.ensures there) in
-    subst (λ n. AreFoldedTo (Contains (theory_grammar g)) label_of (theory.nonterminal n ∷ []) (shown_part c.args.part ∷ [])
-    (expanded_view c.in-Some.tree)) own.1
-    (subst (TellsFoldedBy (Contains (theory_grammar g)) label_of (production_view q) c.args.part c.args.passes) c.in-Some.is
-    (c.in_ok-tree.ensures label_of f own.0))
+    let here : Contains c.args.productions.now q =
+    (c.loop-production.production-index, c.loop-production-test.true, sym c.production-item.is) in (
+      q,
+      here,
+      subst (TellsFoldedBy (Contains (theory_grammar c.args.self.grammar.now)) label_of (production_view q) c.args.part c.args.passes)
+          c.in-Some.is (c.in_ok-tree.ensures label_of f (belong q here)),
+    )
 
-pub tree_of_nonterminal-loop-production-preserved : goal.tree_of_nonterminal-loop-production-preserved
-tree_of_nonterminal-loop-production-preserved t c = λ label_of f p there.
-    let g = c.args.self.grammar.now in
-    let all = c.productions_for-production-items.result.now in
+pub tree_by_any-loop-production-preserved : goal.tree_by_any-loop-production-preserved
+tree_by_any-loop-production-preserved t c = λ label_of f belong p there.
+    let all = c.args.productions.now in
     let i = c.loop-production.production-index in
     let q = c.production-item.result in
     let here : Contains all q = (i, c.loop-production-test.true, sym c.production-item.is) in
-    let own = of_name g c.args.self.origins.now label_of f c.args.name.now q
-    (subst (λ l. Contains l q) c.productions_for-production-items.ensures here) in
-    one_more_none (Contains (theory_grammar g)) label_of all i q c.args.part c.args.passes
+    one_more_none (Contains (theory_grammar c.args.self.grammar.now)) label_of all i q c.args.part c.args.passes
     (take_more all i q c.loop-production-test.true ∙ ap (λ x. take i all ++ x ∷ []) (sym c.production-item.is))
-    (c.loop-production.invariant label_of f)
-    (subst (TellsFoldedBy (Contains (theory_grammar g)) label_of (production_view q) c.args.part c.args.passes) c.in_default.is
-    (c.in_ok-tree.ensures label_of f own.0)) p there
+    (c.loop-production.invariant label_of f belong)
+    (subst (TellsFoldedBy (Contains (theory_grammar c.args.self.grammar.now)) label_of (production_view q) c.args.part c.args.passes)
+    c.in_default.is (c.in_ok-tree.ensures label_of f (belong q here))) p there
 
-pub tree_of_nonterminal-returns : goal.tree_of_nonterminal-returns
-tree_of_nonterminal-returns t c = λ label_of f.
-    let all = c.productions_for-production-items.result.now in
-    none_of_name c.args.self.grammar.now c.args.self.origins.now label_of f c.args.name.now c.args.part c.args.passes all
-    c.productions_for-production-items.ensures
-    (λ p there.
-    c.loop-production.invariant label_of f p
-    (subst (λ l. Contains l p) (sym (take_all c.loop-production.production-index all
-    (omega (arith, c.loop-production-test.false)))) there))
+pub tree_by_any-returns : goal.tree_by_any-returns
+tree_by_any-returns t c = λ label_of f belong p there.
+    c.loop-production.invariant label_of f belong p
+    (subst (λ l. Contains l p) (sym (take_all c.loop-production.production-index c.args.productions.now
+    (omega (arith, c.loop-production-test.false)))) there)
+
+pub tree_of_nonterminal-returns-in-Some : goal.tree_of_nonterminal-returns-in-Some
+tree_of_nonterminal-returns-in-Some t c = λ label_of f.
+    let g = c.args.self.grammar.now in
+    let origins = c.args.self.origins.now in
+    let all = c.productions_for-productions.result.now in
+    let k = c.min.result in
+    let own : (p : Production) → Contains c.split_at.result.1.now p → Contains (productions_of g.nonterminals c.args.name.now) p =
+    λ p there. subst (λ l. Contains l p) c.productions_for-productions.ensures
+    (at_back all k p (subst (λ l. Contains l p) c.split_at.ensures.back there)) in
+    found_of_name g origins label_of f c.args.name.now c.args.part c.args.passes c.split_at.result.1.now c.in-Some.tree own
+    (subst (TellsFoldedByAny (Contains (theory_grammar g)) label_of c.split_at.result.1.now c.args.part c.args.passes) c.in-Some.is
+    (c.in_ok-tree.ensures label_of f (of_names g origins label_of f c.args.name.now c.split_at.result.1.now own)))
+
+pub tree_of_nonterminal-returns-in-None : goal.tree_of_nonterminal-returns-in-None
+tree_of_nonterminal-returns-in-None t c = λ label_of f.
+    let g = c.args.self.grammar.now in
+    let origins = c.args.self.origins.now in
+    let name = c.args.name.now in
+    let part = c.args.part in
+    let passes = c.args.passes in
+    let all = c.productions_for-productions.result.now in
+    let k = c.min.result in
+    let before = c.split_at.result.0.now in
+    let back = c.split_at.result.1.now in
+    let own_before : (p : Production) → Contains before p → Contains (productions_of g.nonterminals name) p =
+    λ p there. subst (λ l. Contains l p) c.productions_for-productions.ensures
+    (in_front all k p (subst (λ l. Contains l p) c.split_at.ensures.front there)) in
+    let own_back : (p : Production) → Contains back p → Contains (productions_of g.nonterminals name) p =
+    λ p there. subst (λ l. Contains l p) c.productions_for-productions.ensures
+    (at_back all k p (subst (λ l. Contains l p) c.split_at.ensures.back there)) in
+    let none =
+    subst (TellsFoldedByAny (Contains (theory_grammar g)) label_of back part passes) c.in-None.is
+    (c.in_ok-tree.ensures label_of f (of_names g origins label_of f name back own_back)) in
+    IfOk-weaker c.tree_by_any-in-None.result (TellsFoldedByAny (Contains (theory_grammar g)) label_of before part passes)
+    (TellsFolded (Contains (theory_grammar g)) label_of (theory.nonterminal name.0) part passes)
+    (λ r front.
+    told_in_front g origins label_of f name part passes all k c.productions_for-productions.ensures
+    (subst (λ l. TellsFoldedByAny (Contains (theory_grammar g)) label_of l part passes None) c.split_at.ensures.back none) r
+    (subst (λ l. TellsFoldedByAny (Contains (theory_grammar g)) label_of l part passes r) c.split_at.ensures.front front))
+    (c.tree_by_any-in-None.ensures label_of f (of_names g origins label_of f name before own_before))
 
 pub tree_of_part-returns-then-passes-eq0 : goal.tree_of_part-returns-then-passes-eq0
 tree_of_part-returns-then-passes-eq0 t c = λ label_of f.

@@ -7,15 +7,18 @@ use Rattle.lalrpop_lr1_parse.specs.ExpandedViews.{expanded_views}
 use Rattle.lalrpop_run_written.specs.ActionLabels.{ChoiceLabel}
 use Rattle.lalrpop_run_parts.specs.PartViews.{shown_part}
 use Rattle.lalrpop_run_fold.specs.Folds.{AreFoldedTo}
-use Rattle.lalrpop_run_fold.specs.FoldedTrees.{AreFoldable, TellsFoldedBy}
+use Rattle.lalrpop_run_fold.specs.FoldedTrees.{AreFoldable, AreOfGrammar, TellsFoldedBy}
 use Rattle.lalrpop_run_fold.proofs.MeasureLemmas.{part_measure, parts_measure, size_measure}
 use Rattle.lalrpop_run_fold.proofs.folder.Folder.+folding.Given as goal
 
 abbrev pub decreases-tree_of_symbol : goal.decreases-tree_of_symbol
-decreases-tree_of_symbol l = size_measure l.part + 8 * l.passes + 4
+decreases-tree_of_symbol l = size_measure l.part + 8 * l.passes + 5
 
 abbrev pub decreases-tree_of_nonterminal : goal.decreases-tree_of_nonterminal
-decreases-tree_of_nonterminal l = size_measure l.part + 8 * l.passes + 3
+decreases-tree_of_nonterminal l = size_measure l.part + 8 * l.passes + 4
+
+abbrev pub decreases-tree_by_any : goal.decreases-tree_by_any
+decreases-tree_by_any l = size_measure l.part + 8 * l.passes + 3
 
 abbrev pub decreases-tree_by_production : goal.decreases-tree_by_production
 decreases-tree_by_production l = size_measure l.part + 8 * l.passes + 2
@@ -27,10 +30,10 @@ abbrev pub decreases-tree_of_part : goal.decreases-tree_of_part
 decreases-tree_of_part l = part_measure l.part l.passes
 
 -- none of the productions up to here has a tree
-abbrev pub invariant-tree_of_nonterminal-loop-production : goal.invariant-tree_of_nonterminal-loop-production
-invariant-tree_of_nonterminal-loop-production l =
-    (label_of : ℕ → ChoiceLabel) → AreFoldable l.self.grammar.now l.self.origins.now label_of → (p : Production)
-    → Contains (take l.production-index l.production-items) p
+abbrev pub invariant-tree_by_any-loop-production : goal.invariant-tree_by_any-loop-production
+invariant-tree_by_any-loop-production l =
+    (label_of : ℕ → ChoiceLabel) → AreFoldable l.self.grammar.now l.self.origins.now label_of
+    → AreOfGrammar l.self.grammar.now l.productions → (p : Production) → Contains (take l.production-index l.productions) p
     → TellsFoldedBy (Contains (theory_grammar l.self.grammar.now)) label_of (production_view p) l.part l.passes None
 
 -- the trees are of the parts up to here

@@ -1,0 +1,2 @@
+pub mod FlatLabelLemmas
+pub mod LabelTableLemmas

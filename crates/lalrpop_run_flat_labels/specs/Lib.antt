@@ -1,0 +1,2 @@
+pub mod FlatLabels
+pub mod LabelTables
