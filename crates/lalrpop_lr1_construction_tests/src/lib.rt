@@ -1,4 +1,5 @@
-//! Tests of the construction as an object: its states, the items that a dot brings, and kernels of items.
+//! Tests of the construction as an object: its states, the items that a dot brings, and kernels of items; of light paths to states, and
+//! ways out of them.
 #![tactic(auto)]
 
 #[cfg(test)]
@@ -9,3 +10,5 @@ mod given;
 mod kernels;
 #[cfg(test)]
 mod moves;
+#[cfg(test)]
+mod ways_out;
