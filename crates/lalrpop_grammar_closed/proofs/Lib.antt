@@ -1,4 +1,5 @@
 pub mod SizeLemmas
+pub mod SoundLemmas
 pub mod ArgumentLemmas
 pub mod ClosedListLemmas
 pub mod CallLemmas

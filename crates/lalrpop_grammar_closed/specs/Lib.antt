@@ -1,3 +1,4 @@
 pub mod Views
 pub mod Scopes
 pub mod Finding
+pub mod formers

@@ -1,11 +1,12 @@
 -- What parameters stand for and where symbols are closed, as definitions see it.
-use Rattle.std.specs.Prelude.{ℕ, Option, Some, None, if◌then◌else◌}
+use Rattle.std.specs.Prelude.{◌≡◌, ℕ, Option, Some, None, map, if◌then◌else◌}
 use Rattle.lalrpop_grammar_symbols.specs.Symbols.{Closed}
 use Rattle.lalrpop_grammar_language.specs.Closing as pure
+use Rattle.lalrpop_grammar_language.specs.Closing.{are_sound}
 use Rattle.lalrpop_grammar_language.specs.Levels.{Rank, reaches}
 use Rattle.lalrpop_grammar_rules.specs.Ranks.{assoc_view}
 use Rattle.lalrpop_grammar_rules.specs.RuleTable.{rules_view}
-use Rattle.lalrpop_grammar_closed.specs.Views.{binding_of, closed_view}
+use Rattle.lalrpop_grammar_closed.specs.Views.{binding_of, closed_view, closeds}
 use Rattle.lalrpop_grammar_closed.specs.declared.binding.Binding.{Binding}
 use Rattle.lalrpop_grammar_closed.specs.declared.binding.Bound.{Bound}
 use Rattle.lalrpop_grammar_closed.specs.declared.binding.Bound.TheVariants as bounds
@@ -22,6 +23,10 @@ bound_view bounds.Unclear = Some Closed.faulty
 -- the level that occurrence k of the owner may have
 abbrev pub level_view : Scope → ℕ → Option ℕ
 level_view s k = if reaches (assoc_view s.side) s.count k then s.reached else s.others
+
+-- it is noted rightly whether no part of what the parameters stand for is faulty
+abbrev pub KnowsSound : Scope → Type 0
+KnowsSound s = s.has_sound_args ≡ are_sound (closeds (map closed_view s.binding.args.now))
 
 abbrev pub scope_view : Scope → pure.Scope
 scope_view s = record {

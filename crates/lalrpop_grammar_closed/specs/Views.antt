@@ -1,5 +1,5 @@
 -- What definitions see of closed symbols.
-use Rattle.std.specs.Prelude.{List, [], ◌∷◌, map, zip}
+use Rattle.std.specs.Prelude.{Bool, true, false, List, [], ◌∷◌, map, zip}
 use Rattle.lalrpop_grammar_symbols.specs.Symbols.{Text, Syms, WrittenSymbol, syms, Closed, Closeds}
 use Rattle.lalrpop_grammar_symbols.specs.Views.{terminal_view, repeat_op_view, all_without_marks}
 use Rattle.lalrpop_grammar_symbols.specs.declared.names.NonterminalString.{NonterminalString}
@@ -25,6 +25,18 @@ closed_step layer.Faulty = Closed.faulty
 -- the closed symbol as definitions see it
 abbrev pub closed_view : ClosedSymbol → Closed
 closed_view = fold-ClosedSymbol Closed closed_step
+
+-- the symbol itself is faulty
+abbrev pub is_faulty : Closed → Bool
+is_faulty (Closed.terminal t) = false
+is_faulty (Closed.call n args level) = false
+is_faulty (Closed.repeat op x) = false
+is_faulty (Closed.group xs) = false
+is_faulty (Closed.choose x) = false
+is_faulty (Closed.name m n x) = false
+is_faulty Closed.lookahead = false
+is_faulty Closed.lookbehind = false
+is_faulty Closed.faulty = true
 
 -- the parameters with what they are bound to
 abbrev pub binding_of : List NonterminalString → List ClosedSymbol → Binding

@@ -2,27 +2,28 @@
 
 ghost use Rattle.std.specs.Prelude.{◌≡◌, IfOk, map};
 ghost use Rattle.lalrpop_grammar_language.specs.Closing.{inner, is_sound, are_sound};
-ghost use Rattle.lalrpop_grammar_closed.specs.Views.{closed_view, closeds};
+ghost use Rattle.lalrpop_grammar_closed.specs.Views.{closed_view, closeds, is_faulty};
 
-use lalrpop_grammar_symbols::{Atom, Boxed, List, Name, RepeatOp, TerminalString};
-use std::alloc::{AllocError, Global};
+use crate::shared::Shared;
+use lalrpop_grammar_symbols::{Atom, List, Name, RepeatOp, TerminalString};
+use std::alloc::AllocError;
 
-/// A symbol without macro parameters and spans.
+/// A symbol without macro parameters and spans. A copy of it shares the parts.
 #[cycle(closed)]
 #[derive(Debug, PartialEq, Eq, PartialOrd, Ord, Hash, Drop)]
 pub enum ClosedSymbol {
     /// A terminal.
     Terminal(TerminalString),
     /// A call of the rule with these arguments, of at most that level where the rule has levels.
-    Call(Atom, List<ClosedSymbol>, Option<u32>),
+    Call(Atom, Shared<List<ClosedSymbol>>, Option<u32>),
     /// A repeated symbol.
-    Repeat(RepeatOp, Boxed<ClosedSymbol>),
+    Repeat(RepeatOp, Shared<ClosedSymbol>),
     /// A group.
-    Group(List<ClosedSymbol>),
+    Group(Shared<List<ClosedSymbol>>),
     /// A symbol chosen for the action.
-    Choose(Boxed<ClosedSymbol>),
+    Choose(Shared<ClosedSymbol>),
     /// A symbol with a name for the action.
-    Name(Name, Boxed<ClosedSymbol>),
+    Name(Name, Shared<ClosedSymbol>),
     /// The place where the next token begins.
     Lookahead,
     /// The place where the last token ended.
@@ -40,6 +41,23 @@ impl ClosedSymbol {
             ClosedSymbol::Choose(symbol) => symbol.get().inner(),
             ClosedSymbol::Name(_, symbol) => symbol.get().inner(),
             _ => self,
+        }
+    }
+
+    /// Whether it is faulty itself.
+    pub(crate) fn is_faulty(&self) -> bool
+        ensures { result ≡ is_faulty (closed_view self.now) }
+    {
+        match self {
+            ClosedSymbol::Terminal(_)
+            | ClosedSymbol::Call(_, _, _)
+            | ClosedSymbol::Repeat(_, _)
+            | ClosedSymbol::Group(_)
+            | ClosedSymbol::Choose(_)
+            | ClosedSymbol::Name(_, _)
+            | ClosedSymbol::Lookahead
+            | ClosedSymbol::Lookbehind => false,
+            ClosedSymbol::Faulty => true,
         }
     }
 
@@ -61,33 +79,24 @@ impl ClosedSymbol {
         }
     }
 
-    /// A copy that equals it.
-    #[cycle(try_clone)]
-    pub fn try_clone(&self, alloc: Global) -> Result<ClosedSymbol, AllocError>
+    /// A copy that equals it, at once however large it is: the parts are shared.
+    pub fn try_clone(&self) -> Result<ClosedSymbol, AllocError>
         ensures { IfOk result (λ copy. copy ≡ self.now) }
     {
         match self {
             ClosedSymbol::Terminal(terminal) => Ok(ClosedSymbol::Terminal(terminal.try_clone()?)),
             ClosedSymbol::Call(name, args, level) => {
                 let name = name.try_clone()?;
-                let args = clone_closed(alloc, args.as_slice())?;
+                let args = args.try_clone()?;
                 Ok(ClosedSymbol::Call(name, args, *level))
             }
-            ClosedSymbol::Repeat(op, symbol) => {
-                let copy = symbol.get().try_clone(alloc)?;
-                Ok(ClosedSymbol::Repeat(*op, Boxed::new(alloc, copy)?))
-            }
-            ClosedSymbol::Group(symbols) => {
-                Ok(ClosedSymbol::Group(clone_closed(alloc, symbols.as_slice())?))
-            }
-            ClosedSymbol::Choose(symbol) => {
-                let copy = symbol.get().try_clone(alloc)?;
-                Ok(ClosedSymbol::Choose(Boxed::new(alloc, copy)?))
-            }
+            ClosedSymbol::Repeat(op, symbol) => Ok(ClosedSymbol::Repeat(*op, symbol.try_clone()?)),
+            ClosedSymbol::Group(symbols) => Ok(ClosedSymbol::Group(symbols.try_clone()?)),
+            ClosedSymbol::Choose(symbol) => Ok(ClosedSymbol::Choose(symbol.try_clone()?)),
             ClosedSymbol::Name(name, symbol) => {
                 let name = name.try_clone()?;
-                let copy = symbol.get().try_clone(alloc)?;
-                Ok(ClosedSymbol::Name(name, Boxed::new(alloc, copy)?))
+                let symbol = symbol.try_clone()?;
+                Ok(ClosedSymbol::Name(name, symbol))
             }
             ClosedSymbol::Lookahead => Ok(ClosedSymbol::Lookahead),
             ClosedSymbol::Lookbehind => Ok(ClosedSymbol::Lookbehind),
@@ -96,8 +105,9 @@ impl ClosedSymbol {
     }
 }
 
+/// Whether no part of the symbols is faulty.
 #[cycle(sound)]
-fn sound_symbols(symbols: &[ClosedSymbol]) -> bool
+pub(crate) fn sound_symbols(symbols: &[ClosedSymbol]) -> bool
     ensures { result ≡ are_sound (closeds (map closed_view symbols.now)) }
 {
     for symbol in symbols {
@@ -106,15 +116,4 @@ fn sound_symbols(symbols: &[ClosedSymbol]) -> bool
         }
     }
     true
-}
-
-#[cycle(try_clone)]
-fn clone_closed(alloc: Global, symbols: &[ClosedSymbol]) -> Result<List<ClosedSymbol>, AllocError>
-    ensures { IfOk result (λ copies. copies ≡ symbols.now) }
-{
-    let mut copies = List::new(alloc);
-    for symbol in symbols {
-        copies.push(symbol.try_clone(alloc)?)?;
-    }
-    Ok(copies)
 }

@@ -1,23 +1,24 @@
 //! The closed symbols that the written symbols of an alternative stand for.
 
-ghost use Rattle.std.specs.Prelude.{◌≡◌, ◌+◌, ℕ, Bool, IfOk, Option, map, option_map};
+ghost use Rattle.std.specs.Prelude.{◌≡◌, ◌+◌, ◌&&◌, ℕ, Bool, not, IfOk, IsTrue, Option, map, option_map};
 ghost use Rattle.lalrpop_grammar_symbols.specs.Symbols.{Text, syms, Closed};
 ghost use Rattle.lalrpop_grammar_symbols.specs.Views.{symbol_view, terminal_view};
 ghost use Rattle.lalrpop_grammar.specs.WrittenGrammar.{Origin};
 ghost use Rattle.lalrpop_grammar.specs.Views.{alternative_view};
-ghost use Rattle.lalrpop_grammar_language.specs.Closing.{parameter_value, call_level, close as close_seen, close_all as close_all_seen, close_list, close_terminal, name_meaning, name_or, occurrences, occurrences_in, plain_call, plain_name, right_side as right_side_of, sound_or_faulty};
+ghost use Rattle.lalrpop_grammar_language.specs.Closing.{are_sound, is_sound, parameter_value, call_level, close as close_seen, close_all as close_all_seen, close_list, close_terminal, name_meaning, name_or, occurrences, occurrences_in, plain_call, plain_name, right_side as right_side_of, sound_or_faulty};
 ghost use Rattle.lalrpop_grammar_language.specs.Enabled.{choice_of};
 ghost use Rattle.lalrpop_grammar_language.specs.Levels.{levels};
 ghost use Rattle.lalrpop_grammar_rules.specs.Details.{enabled_rule_view, tighter_in};
 ghost use Rattle.lalrpop_grammar_rules.specs.Ranks.{rank_view};
-ghost use Rattle.lalrpop_grammar_closed.specs.Scopes.{allowed_level_by, binding_view, level_view, scope_view};
+ghost use Rattle.lalrpop_grammar_closed.specs.Scopes.{KnowsSound, allowed_level_by, binding_view, level_view, scope_view};
 ghost use Rattle.lalrpop_grammar_rules.specs.RuleTable.{IsKept, IsTable, rules_view, rules_with};
-ghost use Rattle.lalrpop_grammar_closed.specs.Views.{binding_of, closed_view, closeds};
+ghost use Rattle.lalrpop_grammar_closed.specs.Views.{binding_of, closed_view, closeds, is_faulty};
 
 use crate::binding::{Binding, Bound, bound_to, occurrences_in, owner_count, rule_count, sum};
-use crate::closed_symbol::ClosedSymbol;
+use crate::closed_symbol::{ClosedSymbol, sound_symbols};
+use crate::shared::Shared;
 use lalrpop_grammar_rules::{Assoc, Choice, EnabledRule, Meaning, Rules};
-use lalrpop_grammar_symbols::{Atom, Boxed, List, Symbol, SymbolKind, TerminalString};
+use lalrpop_grammar_symbols::{Atom, List, Symbol, SymbolKind, TerminalString};
 use std::alloc::{AllocError, Global};
 
 /// Where a symbol is closed: in an alternative of the owner, with the levels that the owner's occurrences may have.
@@ -34,6 +35,8 @@ struct Scope<'s, 'g> {
     reached: Option<u32>,
     /// The greatest level of the others.
     others: Option<u32>,
+    /// Whether no part of what the parameters stand for is faulty.
+    has_sound_args: bool,
 }
 
 /// The closed symbols that an enabled alternative of the rule asks for, one for each of its symbols, where the rule's
@@ -77,6 +80,7 @@ fn scope_of<'s, 'g>(
     ensures owner { result.owner.now ≡ rule.now.written.now.name.0 }
     ensures levels { (k : ℕ) → level_view result k
         ≡ allowed_level_by rule.now.loosest (option_map rank_view choice.now.rank) choice.now.tighter count k }
+    ensures knows { KnowsSound result }
 {
     let owner = &rule.written.name.0;
     let (side, reached, others) = match choice.rank {
@@ -94,6 +98,7 @@ fn scope_of<'s, 'g>(
         side,
         reached,
         others,
+        has_sound_args: sound_symbols(binding.args),
     }
 }
 
@@ -103,7 +108,8 @@ fn close_each(
     scope: &Scope<'_, '_>,
     symbols: &[Symbol],
 ) -> Result<List<ClosedSymbol>, AllocError>
-    requires { IsTable scope.now.rules.now }
+    requires table { IsTable scope.now.rules.now }
+    requires knows { KnowsSound scope.now }
     ensures { IfOk result (λ side. map closed_view side
         ≡ close_list (scope_view scope.now) 0 (map symbol_view symbols.now)) }
 {
@@ -112,32 +118,42 @@ fn close_each(
     for symbol in symbols {
         let found = close(alloc, scope, count, symbol)?;
         count = found.next;
-        side.push(sound(found.symbol))?;
+        side.push(found.sound_or_faulty())?;
     }
     Ok(side)
 }
 
-fn sound(symbol: ClosedSymbol) -> ClosedSymbol
-    ensures { closed_view result ≡ sound_or_faulty (closed_view symbol) }
-{
-    if symbol.is_sound() {
-        symbol
-    } else {
-        ClosedSymbol::Faulty
-    }
-}
-
-/// A closed symbol, and how many occurrences of the owner stand up to its end.
+/// A closed symbol.
 #[derive(Drop)]
 struct Closing {
     symbol: ClosedSymbol,
+    /// Whether no part of it is faulty.
+    is_sound: bool,
+    /// How many occurrences of the owner stand up to its end.
     next: u64,
 }
 
-/// Closed symbols, and how many occurrences of the owner stand up to their end.
+impl Closing {
+    /// The symbol, or the faulty one where a part of it is faulty.
+    fn sound_or_faulty(self) -> ClosedSymbol
+        requires { self.is_sound ≡ is_sound (closed_view self.symbol) }
+        ensures { closed_view result ≡ sound_or_faulty (closed_view self.symbol) }
+    {
+        if self.is_sound {
+            self.symbol
+        } else {
+            ClosedSymbol::Faulty
+        }
+    }
+}
+
+/// Closed symbols.
 #[derive(Drop)]
 struct Closings {
     symbols: List<ClosedSymbol>,
+    /// Whether no part of them is faulty.
+    are_sound: bool,
+    /// How many occurrences of the owner stand up to their end.
     next: u64,
 }
 
@@ -149,9 +165,11 @@ fn close(
     before: u64,
     symbol: &Symbol,
 ) -> Result<Closing, AllocError>
-    requires { IsTable scope.now.rules.now }
+    requires table { IsTable scope.now.rules.now }
+    requires knows { KnowsSound scope.now }
     ensures symbol { IfOk result (λ c. closed_view c.symbol
         ≡ close_seen (scope_view scope.now) before (symbol_view symbol.now)) }
+    ensures sound { IfOk result (λ c. c.is_sound ≡ is_sound (closed_view c.symbol)) }
     ensures count { IfOk result (λ c. c.next
         ≡ before + occurrences (binding_view scope.now.binding) scope.now.owner.now (symbol_view symbol.now)) }
 {
@@ -159,43 +177,60 @@ fn close(
         SymbolKind::Expr(group) => {
             let inside = close_all(alloc, scope, before, group.symbols.as_slice())?;
             Ok(Closing {
-                symbol: ClosedSymbol::Group(inside.symbols),
+                symbol: ClosedSymbol::Group(Shared::new(alloc, inside.symbols)?),
+                is_sound: inside.are_sound,
                 next: inside.next,
             })
         }
         SymbolKind::AmbiguousId(name) => {
             let symbol = close_name(alloc, scope, before, name)?;
             let next = sum(before, owner_count(scope.binding, scope.owner, name))?;
-            Ok(Closing { symbol, next })
+            Ok(Closing {
+                is_sound: is_sound_name(scope.has_sound_args, &symbol),
+                symbol,
+                next,
+            })
         }
         SymbolKind::Nonterminal(name) => {
             let symbol = close_rule(alloc, scope, before, &name.0)?;
             let next = sum(before, rule_count(scope.owner, &name.0))?;
-            Ok(Closing { symbol, next })
+            Ok(Closing {
+                is_sound: symbol.is_sound(),
+                symbol,
+                next,
+            })
         }
-        SymbolKind::Terminal(terminal) => Ok(Closing {
-            symbol: close_terminal(scope.rules, terminal)?,
-            next: before,
-        }),
+        SymbolKind::Terminal(terminal) => {
+            let symbol = close_terminal(scope.rules, terminal)?;
+            Ok(Closing {
+                is_sound: symbol.is_sound(),
+                symbol,
+                next: before,
+            })
+        }
         SymbolKind::Macro(call) => {
             let own = owner_count(scope.binding, scope.owner, &call.name.0);
             let inside = close_all(alloc, scope, sum(before, own)?, call.args.as_slice())?;
+            let symbol = close_call(alloc, scope, before, &call.name.0, inside.symbols)?;
             Ok(Closing {
-                symbol: close_call(scope, before, &call.name.0, inside.symbols)?,
+                is_sound: is_sound_call(inside.are_sound, &symbol),
+                symbol,
                 next: inside.next,
             })
         }
         SymbolKind::Repeat(repeat) => {
             let inside = close(alloc, scope, before, &repeat.get().symbol)?;
             Ok(Closing {
-                symbol: ClosedSymbol::Repeat(repeat.get().op, Boxed::new(alloc, inside.symbol)?),
+                symbol: ClosedSymbol::Repeat(repeat.get().op, Shared::new(alloc, inside.symbol)?),
+                is_sound: inside.is_sound,
                 next: inside.next,
             })
         }
         SymbolKind::Choose(chosen) => {
             let inside = close(alloc, scope, before, chosen.get())?;
             Ok(Closing {
-                symbol: ClosedSymbol::Choose(Boxed::new(alloc, inside.symbol)?),
+                symbol: ClosedSymbol::Choose(Shared::new(alloc, inside.symbol)?),
+                is_sound: inside.is_sound,
                 next: inside.next,
             })
         }
@@ -203,20 +238,24 @@ fn close(
             let inside = close(alloc, scope, before, named.get())?;
             let name = name.try_clone()?;
             Ok(Closing {
-                symbol: ClosedSymbol::Name(name, Boxed::new(alloc, inside.symbol)?),
+                symbol: ClosedSymbol::Name(name, Shared::new(alloc, inside.symbol)?),
+                is_sound: inside.is_sound,
                 next: inside.next,
             })
         }
         SymbolKind::Lookahead => Ok(Closing {
             symbol: ClosedSymbol::Lookahead,
+            is_sound: true,
             next: before,
         }),
         SymbolKind::Lookbehind => Ok(Closing {
             symbol: ClosedSymbol::Lookbehind,
+            is_sound: true,
             next: before,
         }),
         SymbolKind::Error => Ok(Closing {
             symbol: ClosedSymbol::Terminal(TerminalString::Error),
+            is_sound: true,
             next: before,
         }),
     }
@@ -230,23 +269,48 @@ fn close_all(
     before: u64,
     symbols: &[Symbol],
 ) -> Result<Closings, AllocError>
-    requires { IsTable scope.now.rules.now }
+    requires table { IsTable scope.now.rules.now }
+    requires knows { KnowsSound scope.now }
     ensures symbols { IfOk result (λ c. closeds (map closed_view c.symbols)
         ≡ close_all_seen (scope_view scope.now) before (syms (map symbol_view symbols.now))) }
+    ensures sound { IfOk result (λ c. c.are_sound ≡ are_sound (closeds (map closed_view c.symbols))) }
     ensures count { IfOk result (λ c. c.next ≡ before
         + occurrences_in (binding_view scope.now.binding) scope.now.owner.now (syms (map symbol_view symbols.now))) }
 {
     let mut closings = List::new(alloc);
+    let mut are_sound = true;
     let mut count = before;
     for symbol in symbols {
         let found = close(alloc, scope, count, symbol)?;
+        are_sound &= found.is_sound;
         count = found.next;
         closings.push(found.symbol)?;
     }
     Ok(Closings {
         symbols: closings,
+        are_sound,
         next: count,
     })
+}
+
+/// Whether no part is faulty of what a name stands for. Where no part of an argument is, only the symbol itself can be.
+fn is_sound_name(has_sound_args: bool, symbol: &ClosedSymbol) -> bool
+    requires { IsTrue has_sound_args → is_sound (closed_view symbol.now) ≡ not (is_faulty (closed_view symbol.now)) }
+    ensures { result ≡ is_sound (closed_view symbol.now) }
+{
+    if has_sound_args {
+        !symbol.is_faulty()
+    } else {
+        symbol.is_sound()
+    }
+}
+
+/// Whether no part is faulty of what a call stands for, by whether none of its arguments is.
+fn is_sound_call(has_sound_args: bool, symbol: &ClosedSymbol) -> bool
+    requires { is_sound (closed_view symbol.now) ≡ (has_sound_args && not (is_faulty (closed_view symbol.now))) }
+    ensures { result ≡ is_sound (closed_view symbol.now) }
+{
+    has_sound_args && !symbol.is_faulty()
 }
 
 /// What a terminal stands for: a bare name has to be a mapped one.
@@ -280,7 +344,7 @@ fn close_name(
 {
     match bound_to(scope.binding, name) {
         Bound::Free => close_rule(alloc, scope, before, name),
-        Bound::To(symbol) => Ok(symbol.try_clone(alloc)?),
+        Bound::To(symbol) => Ok(symbol.try_clone()?),
         Bound::Unclear => Ok(ClosedSymbol::Faulty),
     }
 }
@@ -302,7 +366,9 @@ fn close_rule(
                 return Ok(ClosedSymbol::Faulty);
             }
             let level = level_carried(scope, before, name, rule);
-            Ok(ClosedSymbol::Call(name.try_clone()?, List::new(alloc), level))
+            let name = name.try_clone()?;
+            let args = Shared::new(alloc, List::new(alloc))?;
+            Ok(ClosedSymbol::Call(name, args, level))
         }
         Meaning::Terminal => Ok(ClosedSymbol::Terminal(TerminalString::Bare(name.try_clone()?))),
         Meaning::Unclear => Ok(ClosedSymbol::Faulty),
@@ -311,6 +377,7 @@ fn close_rule(
 
 /// What a call of a macro with these arguments stands for. A parameter takes no arguments.
 fn close_call(
+    alloc: Global,
     scope: &Scope<'_, '_>,
     before: u64,
     name: &Atom,
@@ -323,7 +390,7 @@ fn close_call(
         (name_meaning (rules_view scope.now.rules.now) name.now))) }
 {
     match bound_to(scope.binding, name) {
-        Bound::Free => close_macro(scope, before, name, args),
+        Bound::Free => close_macro(alloc, scope, before, name, args),
         Bound::To(_) => Ok(ClosedSymbol::Faulty),
         Bound::Unclear => Ok(ClosedSymbol::Faulty),
     }
@@ -331,6 +398,7 @@ fn close_call(
 
 /// What a call of a macro stands for that no parameter hides.
 fn close_macro(
+    alloc: Global,
     scope: &Scope<'_, '_>,
     before: u64,
     name: &Atom,
@@ -350,7 +418,9 @@ fn close_macro(
                 return Ok(ClosedSymbol::Faulty);
             }
             let level = level_carried(scope, before, name, rule);
-            Ok(ClosedSymbol::Call(name.try_clone()?, args, level))
+            let name = name.try_clone()?;
+            let args = Shared::new(alloc, args)?;
+            Ok(ClosedSymbol::Call(name, args, level))
         }
         Meaning::Terminal => Ok(ClosedSymbol::Faulty),
         Meaning::Unclear => Ok(ClosedSymbol::Faulty),

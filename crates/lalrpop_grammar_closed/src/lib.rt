@@ -8,9 +8,11 @@ mod closed_symbol;
 mod closing;
 mod comparing;
 mod condition;
+mod shared;
 
 pub use binding::{Binding, Bound, bound_to, occurrences_in, owner_count, rule_count, sum};
 pub use closed_symbol::ClosedSymbol;
 pub use closing::right_side;
 pub use comparing::{same_name, same_terminal, show_as};
 pub use condition::{ConditionFault, Finder, Finding, holds};
+pub use shared::Shared;

@@ -14,7 +14,7 @@ use crate::leaves::are_leaves;
 use crate::patterns::CompiledPatterns;
 use crate::walk::admits;
 use lalrpop_grammar::{Atom, Grammar, List, ScanToken, WrittenTree};
-use lalrpop_grammar_closed::ClosedSymbol;
+use lalrpop_grammar_closed::{ClosedSymbol, Shared};
 use lalrpop_grammar_rules::Rules;
 use std::alloc::Global;
 
@@ -97,7 +97,9 @@ fn admits_start(
     if !rule.written.args.is_empty() {
         return Ok(false);
     }
-    let symbol = ClosedSymbol::Call(start.try_clone()?, List::new(alloc), rule.loosest);
+    let name = start.try_clone()?;
+    let args = Shared::new(alloc, List::new(alloc))?;
+    let symbol = ClosedSymbol::Call(name, args, rule.loosest);
     let yes = admits(alloc, rules, patterns, tree, &symbol)?;
     Ok(yes)
 }

@@ -9,8 +9,8 @@ ghost use Rattle.lalrpop_norm_key_table.specs.Standing.{keys_of_repeat};
 ghost use Rattle.lalrpop_norm_key_place_law.specs.MetKeys.{all_met_at, keys_met, keys_met_in_row};
 ghost use Rattle.lalrpop_norm_key_places.specs.Views.{met_view};
 
-use lalrpop_grammar_closed::ClosedSymbol;
-use lalrpop_grammar_symbols::{Boxed, List, RepeatOp, Span, Symbol, SymbolKind};
+use lalrpop_grammar_closed::{ClosedSymbol, Shared};
+use lalrpop_grammar_symbols::{List, RepeatOp, Span, Symbol, SymbolKind};
 use lalrpop_norm_key_table::keys_in_symbols;
 use std::alloc::{AllocError, Global};
 use std::slice;
@@ -53,8 +53,8 @@ fn note_all(
 fn repeat_of(alloc: Global, op: RepeatOp, inside: &ClosedSymbol) -> Result<ClosedSymbol, AllocError>
     ensures { IfOk result (λ made. closed_view made ≡ Closed.repeat (repeat_op_view op) (closed_view inside.now)) }
 {
-    let copy = inside.try_clone(alloc)?;
-    Ok(ClosedSymbol::Repeat(op, Boxed::new(alloc, copy)?))
+    let copy = inside.try_clone()?;
+    Ok(ClosedSymbol::Repeat(op, Shared::new(alloc, copy)?))
 }
 
 /// The repeat of the symbol, and what it is made of.
@@ -75,15 +75,10 @@ fn repeats_of(
 }
 
 /// Puts the key behind the others.
-fn note_one(
-    alloc: Global,
-    key: &ClosedSymbol,
-    span: Span,
-    met: &mut List<MetKey>,
-) -> Result<(), AllocError>
+fn note_one(key: &ClosedSymbol, span: Span, met: &mut List<MetKey>) -> Result<(), AllocError>
     ensures { OnOk result (map met_view met.new ≡ map met_view met.old ++ (closed_view key.now, span_view span) ∷ []) }
 {
-    let key = key.try_clone(alloc)?;
+    let key = key.try_clone()?;
     met.push(MetKey { key, span })
 }
 
@@ -101,7 +96,7 @@ fn note_keys_of(
     match &symbol.kind {
         SymbolKind::Expr(group) => match closed {
             ClosedSymbol::Group(inside) => {
-                note_one(alloc, closed, symbol.span, met)?;
+                note_one(closed, symbol.span, met)?;
                 note_keys_met(alloc, group.symbols.as_slice(), inside.as_slice(), met)
             }
             _ => Ok(()),

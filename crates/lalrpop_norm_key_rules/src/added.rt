@@ -19,9 +19,9 @@ ghost use Rattle.lalrpop_norm_key_symbols.specs.KeyNaming.{AreSymbolsFor};
 
 use crate::types::{place_type, repeat_type};
 use lalrpop_grammar::{ActionKind, Alternative, NonterminalData, Origin, Visibility};
-use lalrpop_grammar_closed::ClosedSymbol;
+use lalrpop_grammar_closed::{ClosedSymbol, Shared};
 use lalrpop_grammar_rules::INLINE;
-use lalrpop_grammar_symbols::{Atom, Boxed, List, NonterminalString, RepeatOp, Span};
+use lalrpop_grammar_symbols::{Atom, List, NonterminalString, RepeatOp, Span};
 use lalrpop_grammar_types::{Attribute, AttributeArg, TypeRef};
 use lalrpop_norm_key_symbols::{KeyNames, written_side};
 use std::alloc::{AllocError, Global};
@@ -77,8 +77,8 @@ fn two_alternatives(
 fn plus_of(alloc: Global, inside: &ClosedSymbol) -> Result<ClosedSymbol, AllocError>
     ensures { IfOk result (λ made. closed_view made ≡ Closed.repeat Op.plus (closed_view inside.now)) }
 {
-    let copy = inside.try_clone(alloc)?;
-    Ok(ClosedSymbol::Repeat(RepeatOp::Plus, Boxed::new(alloc, copy)?))
+    let copy = inside.try_clone()?;
+    Ok(ClosedSymbol::Repeat(RepeatOp::Plus, Shared::new(alloc, copy)?))
 }
 
 /// The two symbols, in order.
@@ -106,7 +106,7 @@ fn plus_alternatives(
         (added_choices (Closed.repeat Op.plus (closed_view inside.now))) (map alternative_view made)) }
 {
     let one = added_alternative(alloc, added, None, Origin::PlusOne, slice::from_ref(inside))?;
-    let side = two_symbols(alloc, plus_of(alloc, inside)?, inside.try_clone(alloc)?)?;
+    let side = two_symbols(alloc, plus_of(alloc, inside)?, inside.try_clone()?)?;
     let more = added_alternative(alloc, added, None, Origin::PlusMore, side.as_slice())?;
     two_alternatives(alloc, one, more)
 }

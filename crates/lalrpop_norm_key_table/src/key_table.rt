@@ -74,14 +74,14 @@ impl KeyTable {
         match self.find_by_text(text.as_str(), key) {
             Some(_) => Ok(()),
             None => {
-                self.put(alloc, text, key)?;
+                self.put(text, key)?;
                 Ok(())
             }
         }
     }
 
     /// Puts a copy of the key, which isn't there, behind the others.
-    fn put(&mut self, alloc: Global, text: String, key: &ClosedSymbol) -> Result<(), AllocError>
+    fn put(&mut self, text: String, key: &ClosedSymbol) -> Result<(), AllocError>
         requires places { (n : Text) → kept_places self.old.places n ≡ places_of_text n 0 (table_keys self.old) }
         requires text { string_bytes text ≡ flat_key_text (closed_view key.now) }
         ensures places { OnOk result ((n : Text) → kept_places self.new.places n ≡ places_of_text n 0 (table_keys self.new)) }
@@ -89,7 +89,7 @@ impl KeyTable {
     {
         let place = self.keys.len();
         add_place(&mut self.places, text, place)?;
-        let copy = key.try_clone(alloc)?;
+        let copy = key.try_clone()?;
         self.keys.push(copy)?;
         Ok(())
     }

@@ -8,8 +8,8 @@ ghost use Rattle.lalrpop_norm_pass_laws.specs.KeyTables.{keys_in, keys_in_all};
 ghost use Rattle.lalrpop_grammar_closed.specs.Views.{closed_view, closeds};
 ghost use Rattle.lalrpop_norm_key_table.specs.Standing.{keys_of_repeat};
 
-use lalrpop_grammar_closed::ClosedSymbol;
-use lalrpop_grammar_symbols::{Boxed, List, RepeatOp, TerminalLiteral, TerminalString};
+use lalrpop_grammar_closed::{ClosedSymbol, Shared};
+use lalrpop_grammar_symbols::{List, RepeatOp, TerminalLiteral, TerminalString};
 use std::alloc::{AllocError, Global};
 
 /// The calls of macros that stand in the symbols, in order, through groups, repeats, names and choices. One that stands as an
@@ -21,7 +21,7 @@ pub fn calls_in_symbols(
     ensures { IfOk result (λ calls. map closed_view calls ≡ calls_in_all (closeds (map closed_view symbols.now))) }
 {
     let mut calls = List::new(alloc);
-    note_calls_in(alloc, symbols, &mut calls)?;
+    note_calls_in(symbols, &mut calls)?;
     Ok(calls)
 }
 
@@ -39,34 +39,26 @@ pub fn keys_in_symbols(
 }
 
 /// Puts a copy of the symbol behind the others.
-fn push_copy(
-    alloc: Global,
-    symbol: &ClosedSymbol,
-    others: &mut List<ClosedSymbol>,
-) -> Result<(), AllocError>
+fn push_copy(symbol: &ClosedSymbol, others: &mut List<ClosedSymbol>) -> Result<(), AllocError>
     ensures { OnOk result (map closed_view others.new ≡ map closed_view others.old ++ closed_view symbol.now ∷ []) }
 {
-    others.push(symbol.try_clone(alloc)?)
+    others.push(symbol.try_clone()?)
 }
 
 /// Puts the calls in the symbol behind the others.
 #[cycle(calls)]
-fn note_calls(
-    alloc: Global,
-    symbol: &ClosedSymbol,
-    calls: &mut List<ClosedSymbol>,
-) -> Result<(), AllocError>
+fn note_calls(symbol: &ClosedSymbol, calls: &mut List<ClosedSymbol>) -> Result<(), AllocError>
     ensures { OnOk result (map closed_view calls.new ≡ map closed_view calls.old ++ calls_in (closed_view symbol.now)) }
 {
     match symbol {
         ClosedSymbol::Call(_, args, _) => match args.as_slice().split_first() {
             None => Ok(()),
-            Some(_) => push_copy(alloc, symbol, calls),
+            Some(_) => push_copy(symbol, calls),
         },
-        ClosedSymbol::Repeat(_, inside) => note_calls(alloc, inside.get(), calls),
-        ClosedSymbol::Group(symbols) => note_calls_in(alloc, symbols.as_slice(), calls),
-        ClosedSymbol::Choose(inside) => note_calls(alloc, inside.get(), calls),
-        ClosedSymbol::Name(_, inside) => note_calls(alloc, inside.get(), calls),
+        ClosedSymbol::Repeat(_, inside) => note_calls(inside.get(), calls),
+        ClosedSymbol::Group(symbols) => note_calls_in(symbols.as_slice(), calls),
+        ClosedSymbol::Choose(inside) => note_calls(inside.get(), calls),
+        ClosedSymbol::Name(_, inside) => note_calls(inside.get(), calls),
         ClosedSymbol::Terminal(_) => Ok(()),
         ClosedSymbol::Lookahead => Ok(()),
         ClosedSymbol::Lookbehind => Ok(()),
@@ -76,16 +68,12 @@ fn note_calls(
 
 /// Puts the calls in the symbols behind the others.
 #[cycle(calls)]
-fn note_calls_in(
-    alloc: Global,
-    symbols: &[ClosedSymbol],
-    calls: &mut List<ClosedSymbol>,
-) -> Result<(), AllocError>
+fn note_calls_in(symbols: &[ClosedSymbol], calls: &mut List<ClosedSymbol>) -> Result<(), AllocError>
     ensures { OnOk result (map closed_view calls.new
         ≡ map closed_view calls.old ++ calls_in_all (closeds (map closed_view symbols.now))) }
 {
     for symbol in symbols {
-        note_calls(alloc, symbol, calls)?;
+        note_calls(symbol, calls)?;
     }
     Ok(())
 }
@@ -100,8 +88,8 @@ fn push_repeat(
     ensures { OnOk result (map closed_view keys.new
         ≡ map closed_view keys.old ++ Closed.repeat (repeat_op_view op) (closed_view inside.now) ∷ []) }
 {
-    let copy = inside.try_clone(alloc)?;
-    keys.push(ClosedSymbol::Repeat(op, Boxed::new(alloc, copy)?))
+    let copy = inside.try_clone()?;
+    keys.push(ClosedSymbol::Repeat(op, Shared::new(alloc, copy)?))
 }
 
 /// Puts the repeat of the symbol behind the others, and what it is made of.
@@ -148,20 +136,20 @@ fn note_keys(
 {
     match symbol {
         ClosedSymbol::Terminal(terminal) => note_terminal(terminal, keys),
-        ClosedSymbol::Call(_, _, _) => push_copy(alloc, symbol, keys),
+        ClosedSymbol::Call(_, _, _) => push_copy(symbol, keys),
         ClosedSymbol::Repeat(op, inside) => {
             note_repeat(alloc, *op, inside.get(), keys)?;
             note_keys(alloc, inside.get(), keys)
         }
         ClosedSymbol::Group(symbols) => {
-            push_copy(alloc, symbol, keys)?;
+            push_copy(symbol, keys)?;
             note_keys_in(alloc, symbols.as_slice(), keys)
         }
         ClosedSymbol::Choose(inside) => note_keys(alloc, inside.get(), keys),
         ClosedSymbol::Name(_, inside) => note_keys(alloc, inside.get(), keys),
-        ClosedSymbol::Lookahead => push_copy(alloc, symbol, keys),
-        ClosedSymbol::Lookbehind => push_copy(alloc, symbol, keys),
-        ClosedSymbol::Faulty => push_copy(alloc, symbol, keys),
+        ClosedSymbol::Lookahead => push_copy(symbol, keys),
+        ClosedSymbol::Lookbehind => push_copy(symbol, keys),
+        ClosedSymbol::Faulty => push_copy(symbol, keys),
     }
 }
 

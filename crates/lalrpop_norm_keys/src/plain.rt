@@ -8,7 +8,7 @@ ghost use Rattle.lalrpop_grammar_closed.specs.Views.{closed_view};
 ghost use Rattle.lalrpop_norm_keys.specs.FoundCalls.{plain_call_of, plain_calls};
 
 use lalrpop_grammar::{Grammar, NonterminalData};
-use lalrpop_grammar_closed::ClosedSymbol;
+use lalrpop_grammar_closed::{ClosedSymbol, Shared};
 use lalrpop_grammar_symbols::{Atom, List};
 use std::alloc::{AllocError, Global};
 
@@ -16,7 +16,9 @@ use std::alloc::{AllocError, Global};
 fn plain_call(alloc: Global, name: &Atom) -> Result<ClosedSymbol, AllocError>
     ensures { IfOk result (λ call. closed_view call ≡ Closed.call name.now Closeds.none None) }
 {
-    Ok(ClosedSymbol::Call(name.try_clone()?, List::new(alloc), None))
+    let name = name.try_clone()?;
+    let args = Shared::new(alloc, List::new(alloc))?;
+    Ok(ClosedSymbol::Call(name, args, None))
 }
 
 /// Puts the call of the rule behind the others, where it is no macro.

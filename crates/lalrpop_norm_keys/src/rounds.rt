@@ -107,7 +107,7 @@ fn copies(alloc: Global, symbols: &[ClosedSymbol]) -> Result<List<ClosedSymbol>,
 {
     let mut copies = List::new(alloc);
     for symbol in symbols {
-        copies.push(symbol.try_clone(alloc)?)?;
+        copies.push(symbol.try_clone()?)?;
     }
     Ok(copies)
 }
@@ -143,7 +143,7 @@ fn tell_deep_call<F: Finder>(
         (map closed_view callers.now)) }
 {
     match place_of_call(alloc, finder, rules, callers, call)? {
-        Some(span) => Ok(FoundCalls::TooDeep(call.try_clone(alloc)?, span)),
+        Some(span) => Ok(FoundCalls::TooDeep(call.try_clone()?, span)),
         None => unreachable!(),
     }
 }

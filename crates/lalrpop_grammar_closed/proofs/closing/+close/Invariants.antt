@@ -1,9 +1,9 @@
 use Rattle.std.proofs.Common.{◌≡◌, ◌+◌, map, drop}
 use Rattle.lalrpop_grammar_symbols.specs.Symbols.{syms}
 use Rattle.lalrpop_grammar_symbols.specs.Views.{symbol_view}
-use Rattle.lalrpop_grammar_language.specs.Closing.{close_all, occurrences_in}
+use Rattle.lalrpop_grammar_language.specs.Closing.{are_sound, close_all, occurrences_in}
 use Rattle.lalrpop_grammar_closed.specs.Scopes.{binding_view, scope_view}
-use Rattle.lalrpop_grammar_closed.specs.Views.{closed_view}
+use Rattle.lalrpop_grammar_closed.specs.Views.{closed_view, closeds}
 use Rattle.lalrpop_grammar_closed.proofs.ClosedListLemmas.{joined}
 use Rattle.lalrpop_grammar_closed.proofs.SizeLemmas.{breadth, breadths}
 use Rattle.lalrpop_grammar_closed.proofs.closing.+close.Given as goal
@@ -22,4 +22,5 @@ invariant-close_all-loop-symbol l = record {
   counted : l.count + occurrences_in (binding_view l.scope.binding) l.scope.owner.now
       (syms (map symbol_view (drop l.symbol-index l.symbols)))
       ≡ l.before + occurrences_in (binding_view l.scope.binding) l.scope.owner.now (syms (map symbol_view l.symbols));
+  sound : l.are_sound ≡ are_sound (closeds (map closed_view l.closings));
 }

@@ -11,11 +11,12 @@ returns-then-len c =
     c.in-Rule.rule.now.written.now.args refl c.in-Rule.ensures.0 c.args.args
     (λ same. c.if-len.true (c.len.ensures ∙ same ∙ sym c.len-in-Rule.ensures))
 
-pub returns-in_ok-try_clone-in-Rule : goal.returns-in_ok-try_clone-in-Rule
-returns-in_ok-try_clone-in-Rule c =
+pub returns-in_ok-args-in-Rule : goal.returns-in_ok-args-in-Rule
+returns-in_ok-args-in-Rule c =
     let some : c.in-Rule.rule.now.written.now.args ≡ [] → ⊥ = λ none. search (rules, none) in
-    seen-Call c.in_ok-try_clone-in-Rule.field-0 c.args.args c.level_carried-level.result
-    ∙ rw c.in_ok-try_clone-in-Rule.ensures (call_given (scope_view c.args.scope.now) c.args.before c.args.name.now
+    seen-Call c.in_ok-name-in-Rule.name c.in_ok-args-in-Rule.args c.level_carried-level.result
+    ∙ rw (c.in_ok-name-in-Rule.ensures, c.in_ok-args-in-Rule.ensures)
+    (call_given (scope_view c.args.scope.now) c.args.before c.args.name.now
     (enabled_rule_view c.args.scope.now.rules.now.features.now c.in-Rule.rule.now)
     c.in-Rule.rule.now.written.now.args refl c.in-Rule.ensures.0 c.args.args c.level_carried-level.result some
     (sym c.len.ensures ∙ c.if-len.false ∙ c.len-in-Rule.ensures) c.level_carried-level.ensures)
