@@ -2,6 +2,7 @@
 
 use anyhow::{Result, bail};
 use lalrpop_grammar::Grammar;
+use lalrpop_json_document::lend_value;
 use lalrpop_json_grammar::{print_tree, read_grammar, read_tree};
 use lalrpop_json_symbols::{symbol_of, terminal_of};
 use lalrpop_json_writer::write_grammar;
@@ -10,7 +11,8 @@ use std::alloc::Global;
 
 /// The text of the symbol.
 pub(crate) fn symbol_text(alloc: Global, symbol: &Value) -> Result<Value> {
-    let Ok(symbol) = symbol_of(alloc, symbol) else {
+    let document = lend_value(alloc, symbol)?;
+    let Ok(symbol) = symbol_of(alloc, &document) else {
         bail!("no symbol");
     };
     Ok(Value::from(symbol.canonical_form(alloc)?))
@@ -18,7 +20,8 @@ pub(crate) fn symbol_text(alloc: Global, symbol: &Value) -> Result<Value> {
 
 /// The text of the terminal, and the number of bytes that it says to have.
 pub(crate) fn terminal_text(alloc: Global, terminal: &Value) -> Result<Value> {
-    let Ok(terminal) = terminal_of(alloc, terminal) else {
+    let document = lend_value(alloc, terminal)?;
+    let Ok(terminal) = terminal_of(alloc, &document) else {
         bail!("no terminal");
     };
     let text = terminal.canonical_form(alloc)?;

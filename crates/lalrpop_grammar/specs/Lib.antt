@@ -1,5 +1,6 @@
 pub mod Items
 pub mod Leaves
+pub mod PassedOn
 pub mod RulesLeft
 pub mod Trees
 pub mod Views

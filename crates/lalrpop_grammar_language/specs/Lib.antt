@@ -9,3 +9,4 @@ pub mod Starts
 pub mod Expansion
 pub mod Derivations
 pub mod OneToOne
+pub mod PassedOn

@@ -3,8 +3,7 @@
 ghost use Rattle.std.specs.Prelude.{◌≡◌, ◌<◌, ◌^◌, IfOk};
 
 use crate::production::{Symbol, clone_symbols};
-use lalrpop_grammar_symbols::{Atom, List};
-use lalrpop_grammar_types::TypeRepr;
+use lalrpop_grammar::{Atom, List, TypeRepr};
 use std::alloc::{AllocError, Global};
 
 /// The number of an action.

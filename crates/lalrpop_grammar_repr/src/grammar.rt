@@ -10,7 +10,7 @@ use crate::map::Map;
 use crate::production::{NonterminalData, Production, Symbol};
 use crate::terminal_set::TerminalSet;
 use crate::types::Types;
-use lalrpop_grammar_symbols::{Atom, List, NonterminalString};
+use lalrpop_grammar::{Atom, List, NonterminalString};
 use std::alloc::{AllocError, Global};
 
 /// A grammar of plain productions.

@@ -21,7 +21,7 @@ pub use action::{
 };
 pub use algorithm::{Algorithm, read_algorithm};
 pub use grammar::Grammar;
-pub use lalrpop_grammar_types::{NominalTypeRepr, TypeRepr};
+pub use lalrpop_grammar::{NominalTypeRepr, TypeRepr};
 pub use map::Map;
 pub use norm_error::{NormError, NormErrorKind};
 pub use production::{NonterminalData, Production, Symbol};

@@ -3,7 +3,7 @@
 ghost use Rattle.std.specs.Prelude.{◌≡◌, IfOk, Some, string_bytes};
 ghost use Rattle.lalrpop_grammar_repr.specs.NormErrorTexts.{norm_error_text};
 
-use lalrpop_grammar_symbols::{Atom, NonterminalString, Span, TerminalLiteral};
+use lalrpop_grammar::{Atom, NonterminalString, Span, TerminalLiteral};
 use std::error::Error;
 use std::fmt::{self, Display, Formatter, Write};
 

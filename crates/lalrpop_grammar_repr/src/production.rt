@@ -3,8 +3,7 @@
 ghost use Rattle.std.specs.Prelude.{◌≡◌, IfOk};
 
 use crate::action::ActionFn;
-use lalrpop_grammar::Attribute;
-use lalrpop_grammar_symbols::{List, NonterminalString, Span, TerminalString};
+use lalrpop_grammar::{Attribute, List, NonterminalString, Span, TerminalString};
 use std::alloc::{AllocError, Global};
 
 /// A symbol of a right side.

@@ -4,7 +4,7 @@ ghost use Rattle.std.specs.Prelude.{◌≡◌, Some};
 ghost use Rattle.lalrpop_grammar_repr.specs.NormErrorTexts.{norm_fault_text};
 
 use crate::norm_error::NormError;
-use lalrpop_grammar_symbols::Atom;
+use lalrpop_grammar::Atom;
 use std::alloc::{AllocError, AllocFailed};
 use std::error::Error;
 use std::fmt::{self, Display, Formatter, Write};

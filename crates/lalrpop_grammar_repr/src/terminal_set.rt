@@ -3,7 +3,7 @@
 ghost use Rattle.std.specs.Prelude.{◌≡◌, IfOk};
 
 use crate::map::Map;
-use lalrpop_grammar_symbols::{List, TerminalString};
+use lalrpop_grammar::{List, TerminalString};
 use std::alloc::{AllocError, Global};
 
 /// The terminals of a grammar.

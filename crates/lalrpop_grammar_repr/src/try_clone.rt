@@ -3,8 +3,7 @@
 ghost use Rattle.std.specs.Prelude.{◌≡◌, IfOk};
 
 use crate::production::NonterminalData;
-use lalrpop_grammar_symbols::{NonterminalString, TerminalString};
-use lalrpop_grammar_types::TypeRepr;
+use lalrpop_grammar::{NonterminalString, TerminalString, TypeRepr};
 use std::alloc::{AllocError, Global};
 
 /// What can be copied, where there is memory for it.

@@ -7,8 +7,7 @@ ghost use Rattle.std.specs.Option.{option_copied};
 
 use crate::map::Map;
 use crate::production::Symbol;
-use lalrpop_grammar_symbols::{NonterminalString, TerminalString};
-use lalrpop_grammar_types::TypeRepr;
+use lalrpop_grammar::{NonterminalString, TerminalString, TypeRepr};
 use std::alloc::{AllocError, Global};
 
 /// Which type each terminal and each nonterminal has.

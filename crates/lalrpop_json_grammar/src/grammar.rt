@@ -2,6 +2,7 @@
 
 ghost use Rattle.std.specs.Prelude.{◌≡◌, IfOk, Ok};
 ghost use Rattle.serde_json.specs.View.{view};
+ghost use Rattle.lalrpop_json_document.specs.DocumentViews as documents;
 ghost use Rattle.lalrpop_json_values.specs.Gives.{Gives};
 ghost use Rattle.lalrpop_json_grammar.specs.Grammars.{grammar_at};
 ghost use Rattle.lalrpop_json_grammar.specs.Laws.{Spells};
@@ -10,15 +11,17 @@ ghost use Rattle.lalrpop_json_values.specs.Prefix.{IsFreePrefix};
 ghost use Rattle.lalrpop_grammar.specs.declared.grammar.Grammar.{Grammar};
 
 use lalrpop_grammar::Grammar;
+use lalrpop_json_document::{JsonValue, lend_value};
 use lalrpop_json_items::items_field;
 use lalrpop_json_symbols::attributes_field;
 use lalrpop_json_values::{Key, ReadError, keys, longest_in, prefix_past, span_field, text_field};
 use serde_json::Value;
 use std::alloc::Global;
 
+/// The grammar that a value of a document spells, as `read_grammar` reads it.
 #[tactic(auto, unfolding(crate::specs::Grammars::grammar_at))]
-fn grammar_of(alloc: Global, value: &Value) -> Result<Grammar, ReadError>
-    ensures { Gives result (grammar_at (view value.now)) }
+pub fn grammar_of_document(alloc: Global, value: &JsonValue<'_>) -> Result<Grammar, ReadError>
+    ensures { Gives result (grammar_at (documents.view value.now)) }
 {
     keys(
         alloc,
@@ -63,5 +66,6 @@ pub fn read_grammar(alloc: Global, value: &Value) -> Result<Grammar, ReadError>
     ensures found { (grammar : Grammar) → Spells (view value.now) grammar → Gives result (Ok grammar) }
     ensures prefix { IfOk result (λ grammar. IsFreePrefix (texts_of grammar) grammar.prefix) }
 {
-    grammar_of(alloc, value)
+    let document = lend_value(alloc, value)?;
+    grammar_of_document(alloc, &document)
 }

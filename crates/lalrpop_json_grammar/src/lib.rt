@@ -9,8 +9,8 @@ mod laws;
 mod printing;
 mod tree;
 
-pub use grammar::read_grammar;
+pub use grammar::{grammar_of_document, read_grammar};
 pub use lalrpop_json_values::{Fault, FaultKind, JsonText, Key, PathText, ReadError, Step};
 pub use laws::{grammar_laws, tree_laws};
 pub use printing::{TreeText, print_tree};
-pub use tree::read_tree;
+pub use tree::{read_tree, tree_of_document};

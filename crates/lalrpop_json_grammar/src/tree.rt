@@ -1,7 +1,8 @@
 //! How written trees are read from JSON values.
 
 ghost use Rattle.std.specs.Prelude.{◌≡◌, IfOk, Ok};
-ghost use Rattle.serde_json.specs.View.{view};
+ghost use Rattle.serde_json.specs.View as owned;
+ghost use Rattle.lalrpop_json_document.specs.DocumentViews.{view};
 ghost use Rattle.lalrpop_json_values.specs.Gives.{Gives, within};
 ghost use Rattle.lalrpop_json_values.specs.Lists.{list_at};
 ghost use Rattle.lalrpop_json_values.specs.Objects.{field_at};
@@ -13,6 +14,7 @@ ghost use Rattle.lalrpop_json_values.specs.declared.fault.Step.TheVariants as st
 
 use lalrpop_grammar::WrittenTree;
 use lalrpop_grammar_symbols::{Boxed, List, NonterminalString};
+use lalrpop_json_document::{JsonValue, lend_value};
 use lalrpop_json_symbols::{symbols_field, terminal_field};
 use lalrpop_json_values::{
     FaultKind, Form, Key, ReadError, Step, at_key, form_by_key, here, keys, member, name_field,
@@ -23,7 +25,7 @@ use std::alloc::Global;
 
 /// A token.
 #[tactic(auto, unfolding(crate::specs::ReadTrees::leaf_at))]
-fn leaf_of(alloc: Global, value: &Value) -> Result<WrittenTree, ReadError>
+fn leaf_of(alloc: Global, value: &JsonValue<'_>) -> Result<WrittenTree, ReadError>
     ensures { Gives result (leaf_at (view value.now)) }
 {
     keys(alloc, value, &[Key::Span, Key::Terminal, Key::Text])?;
@@ -39,7 +41,7 @@ fn leaf_of(alloc: Global, value: &Value) -> Result<WrittenTree, ReadError>
 
 /// `@L` or `@R`.
 #[tactic(auto, unfolding(crate::specs::ReadTrees::look_tree_at))]
-fn look_of(alloc: Global, value: &Value) -> Result<WrittenTree, ReadError>
+fn look_of(alloc: Global, value: &JsonValue<'_>) -> Result<WrittenTree, ReadError>
     ensures { Gives result (look_tree_at (view value.now)) }
 {
     keys(alloc, value, &[Key::Look])?;
@@ -50,7 +52,7 @@ fn look_of(alloc: Global, value: &Value) -> Result<WrittenTree, ReadError>
 /// A rule, by one of its alternatives.
 #[cycle(trees)]
 #[tactic(auto, using(crate::proofs::TreeNestingLemmas::tree_nesting), unfolding(crate::specs::ReadTrees::node_at))]
-fn node_of(alloc: Global, value: &Value) -> Result<WrittenTree, ReadError>
+fn node_of(alloc: Global, value: &JsonValue<'_>) -> Result<WrittenTree, ReadError>
     ensures { Gives result (node_at tree_at (view value.now)) }
 {
     keys(
@@ -73,7 +75,7 @@ fn node_of(alloc: Global, value: &Value) -> Result<WrittenTree, ReadError>
 /// The elements of a repetition.
 #[cycle(trees)]
 #[tactic(auto, using(crate::proofs::TreeNestingLemmas::tree_nesting), unfolding(crate::specs::ReadTrees::list_tree_at))]
-fn repeated_of(alloc: Global, value: &Value) -> Result<WrittenTree, ReadError>
+fn repeated_of(alloc: Global, value: &JsonValue<'_>) -> Result<WrittenTree, ReadError>
     ensures { Gives result (list_tree_at tree_at (view value.now)) }
 {
     keys(alloc, value, &[Key::List])?;
@@ -84,7 +86,7 @@ fn repeated_of(alloc: Global, value: &Value) -> Result<WrittenTree, ReadError>
 /// What an option holds.
 #[cycle(trees)]
 #[tactic(auto, using(crate::proofs::TreeNestingLemmas::tree_nesting), unfolding(crate::specs::ReadTrees::option_tree_at))]
-fn option_of(alloc: Global, value: &Value) -> Result<WrittenTree, ReadError>
+fn option_of(alloc: Global, value: &JsonValue<'_>) -> Result<WrittenTree, ReadError>
     ensures { Gives result (option_tree_at tree_at (view value.now)) }
 {
     keys(alloc, value, &[Key::Opt])?;
@@ -95,7 +97,7 @@ fn option_of(alloc: Global, value: &Value) -> Result<WrittenTree, ReadError>
 /// The trees of a group.
 #[cycle(trees)]
 #[tactic(auto, using(crate::proofs::TreeNestingLemmas::tree_nesting), unfolding(crate::specs::ReadTrees::group_tree_at))]
-fn group_of(alloc: Global, value: &Value) -> Result<WrittenTree, ReadError>
+fn group_of(alloc: Global, value: &JsonValue<'_>) -> Result<WrittenTree, ReadError>
     ensures { Gives result (group_tree_at tree_at (view value.now)) }
 {
     keys(alloc, value, &[Key::Group])?;
@@ -104,7 +106,7 @@ fn group_of(alloc: Global, value: &Value) -> Result<WrittenTree, ReadError>
 }
 
 #[tactic(auto, unfolding(crate::specs::ReadTrees::form_of_tree))]
-fn form_of_tree(value: &Value) -> Option<Form>
+fn form_of_tree(value: &JsonValue<'_>) -> Option<Form>
     ensures { result ≡ form_of_tree (view value.now) }
 {
     let rows = [
@@ -123,9 +125,10 @@ fn form_of_tree(value: &Value) -> Option<Form>
     form_by_key(&rows, value)
 }
 
+/// The tree that a value of a document spells, as `read_tree` reads it.
 #[cycle(trees)]
 #[tactic(auto, using(crate::proofs::TreeNestingLemmas::tree_nesting), unfolding(crate::specs::ReadTrees::tree_layer_at))]
-fn tree_of(alloc: Global, value: &Value) -> Result<WrittenTree, ReadError>
+pub fn tree_of_document(alloc: Global, value: &JsonValue<'_>) -> Result<WrittenTree, ReadError>
     ensures { Gives result (tree_at (view value.now)) }
 {
     match form_of_tree(value) {
@@ -141,13 +144,16 @@ fn tree_of(alloc: Global, value: &Value) -> Result<WrittenTree, ReadError>
 
 /// `null`, or a tree.
 #[cycle(trees)]
-fn optional_of(alloc: Global, value: &Value) -> Result<Option<Boxed<WrittenTree>>, ReadError>
+fn optional_of(
+    alloc: Global,
+    value: &JsonValue<'_>,
+) -> Result<Option<Boxed<WrittenTree>>, ReadError>
     ensures { Gives result (optional tree_at (view value.now)) }
 {
     if value.is_null() {
         return Ok(None);
     }
-    let tree = tree_of(alloc, value)?;
+    let tree = tree_of_document(alloc, value)?;
     let tree = Boxed::new(alloc, tree)?;
     Ok(Some(tree))
 }
@@ -156,7 +162,7 @@ fn optional_of(alloc: Global, value: &Value) -> Result<Option<Boxed<WrittenTree>
 #[tactic(auto, using(crate::proofs::TreeNestingLemmas::tree_nesting), unfolding(lalrpop_json_values::specs::Objects::field_at, lalrpop_json_values::specs::Objects::member_at))]
 fn optional_field(
     alloc: Global,
-    value: &Value,
+    value: &JsonValue<'_>,
     key: Key,
 ) -> Result<Option<Boxed<WrittenTree>>, ReadError>
     ensures { Gives result (field_at key (optional tree_at) (view value.now)) }
@@ -166,10 +172,10 @@ fn optional_field(
 }
 
 #[cycle(trees)]
-fn tree_in(alloc: Global, value: &Value, index: usize) -> Result<WrittenTree, ReadError>
+fn tree_in(alloc: Global, value: &JsonValue<'_>, index: usize) -> Result<WrittenTree, ReadError>
     ensures { Gives result (within (step.Index index) (tree_at (view value.now))) }
 {
-    match tree_of(alloc, value) {
+    match tree_of_document(alloc, value) {
         Ok(found) => Ok(found),
         Err(error) => Err(outside(error, Step::Index(index))),
     }
@@ -177,7 +183,7 @@ fn tree_in(alloc: Global, value: &Value, index: usize) -> Result<WrittenTree, Re
 
 #[cycle(trees)]
 #[tactic(auto, using(crate::proofs::TreeNestingLemmas::tree_nesting, lalrpop_json_values::proofs::ListReadingLemmas::lists), unfolding(lalrpop_json_values::specs::Lists::list_at))]
-fn trees_of(alloc: Global, value: &Value) -> Result<List<WrittenTree>, ReadError>
+fn trees_of(alloc: Global, value: &JsonValue<'_>) -> Result<List<WrittenTree>, ReadError>
     ensures { Gives result (list_at (λ _. tree_at) (view value.now)) }
 {
     let Some(values) = value.as_array() else {
@@ -193,7 +199,11 @@ fn trees_of(alloc: Global, value: &Value) -> Result<List<WrittenTree>, ReadError
 
 #[cycle(trees)]
 #[tactic(auto, using(crate::proofs::TreeNestingLemmas::tree_nesting), unfolding(lalrpop_json_values::specs::Objects::field_at, lalrpop_json_values::specs::Objects::member_at))]
-fn trees_field(alloc: Global, value: &Value, key: Key) -> Result<List<WrittenTree>, ReadError>
+fn trees_field(
+    alloc: Global,
+    value: &JsonValue<'_>,
+    key: Key,
+) -> Result<List<WrittenTree>, ReadError>
     ensures { Gives result (field_at key (list_at (λ _. tree_at)) (view value.now)) }
 {
     let found = member(alloc, value, key)?;
@@ -206,9 +216,10 @@ fn trees_field(alloc: Global, value: &Value, key: Key) -> Result<List<WrittenTre
 /// the first unknown one, then the values in byte order of their keys; in a list from the front. The first of its keys that
 /// belongs to a form tells the form of a tree.
 pub fn read_tree(alloc: Global, value: &Value) -> Result<WrittenTree, ReadError>
-    ensures reads { Gives result (tree_at (view value.now)) }
-    ensures spelled { IfOk result (λ tree. SpellsTree (view value.now) tree) }
-    ensures found { (tree : WrittenTree) → SpellsTree (view value.now) tree → Gives result (Ok tree) }
+    ensures reads { Gives result (tree_at (owned.view value.now)) }
+    ensures spelled { IfOk result (λ tree. SpellsTree (owned.view value.now) tree) }
+    ensures found { (tree : WrittenTree) → SpellsTree (owned.view value.now) tree → Gives result (Ok tree) }
 {
-    tree_of(alloc, value)
+    let document = lend_value(alloc, value)?;
+    tree_of_document(alloc, &document)
 }

@@ -1,7 +1,7 @@
 //! How the alternatives of a rule are read from JSON values.
 
 ghost use Rattle.std.specs.Prelude.{◌≡◌};
-ghost use Rattle.serde_json.specs.View.{view};
+ghost use Rattle.lalrpop_json_document.specs.DocumentViews.{view};
 ghost use Rattle.lalrpop_json_values.specs.Gives.{Gives, within};
 ghost use Rattle.lalrpop_json_values.specs.Lists.{list_at};
 ghost use Rattle.lalrpop_json_values.specs.Objects.{field_at};
@@ -11,16 +11,16 @@ ghost use Rattle.lalrpop_json_values.specs.declared.fault.Step.TheVariants as st
 
 use lalrpop_grammar::{ActionKind, Alternative, Condition, ConditionOp, Origin};
 use lalrpop_grammar_symbols::{Atom, List, NonterminalString};
+use lalrpop_json_document::JsonValue;
 use lalrpop_json_symbols::{attributes_field, symbols_field};
 use lalrpop_json_values::{
     FaultKind, Form, Key, ReadError, Word, at_index, at_key, form_by_key, here, keys, member,
     name_field, span_field, text_field,
 };
-use serde_json::Value;
 use std::alloc::Global;
 
 #[tactic(auto, unfolding(crate::specs::Alternatives::user_at))]
-fn user_of(alloc: Global, value: &Value) -> Result<ActionKind, ReadError>
+fn user_of(alloc: Global, value: &JsonValue<'_>) -> Result<ActionKind, ReadError>
     ensures { Gives result (user_at (view value.now)) }
 {
     keys(alloc, value, &[Key::User])?;
@@ -29,7 +29,7 @@ fn user_of(alloc: Global, value: &Value) -> Result<ActionKind, ReadError>
 }
 
 #[tactic(auto, unfolding(crate::specs::Alternatives::fallible_at))]
-fn fallible_of(alloc: Global, value: &Value) -> Result<ActionKind, ReadError>
+fn fallible_of(alloc: Global, value: &JsonValue<'_>) -> Result<ActionKind, ReadError>
     ensures { Gives result (fallible_at (view value.now)) }
 {
     keys(alloc, value, &[Key::Fallible])?;
@@ -39,7 +39,7 @@ fn fallible_of(alloc: Global, value: &Value) -> Result<ActionKind, ReadError>
 
 /// What an alternative does.
 #[tactic(auto, unfolding(crate::specs::Alternatives::action_at))]
-fn action_of(alloc: Global, value: &Value) -> Result<Option<ActionKind>, ReadError>
+fn action_of(alloc: Global, value: &JsonValue<'_>) -> Result<Option<ActionKind>, ReadError>
     ensures { Gives result (action_at (view value.now)) }
 {
     if value.is_null() {
@@ -61,7 +61,11 @@ fn action_of(alloc: Global, value: &Value) -> Result<Option<ActionKind>, ReadErr
 
 /// What an alternative does, at a key.
 #[tactic(auto, unfolding(lalrpop_json_values::specs::Objects::field_at, lalrpop_json_values::specs::Objects::member_at))]
-fn action_field(alloc: Global, value: &Value, key: Key) -> Result<Option<ActionKind>, ReadError>
+fn action_field(
+    alloc: Global,
+    value: &JsonValue<'_>,
+    key: Key,
+) -> Result<Option<ActionKind>, ReadError>
     ensures { Gives result (field_at key action_at (view value.now)) }
 {
     let found = member(alloc, value, key)?;
@@ -70,7 +74,7 @@ fn action_field(alloc: Global, value: &Value, key: Key) -> Result<Option<ActionK
 
 /// How a condition compares.
 #[tactic(auto, unfolding(crate::specs::Alternatives::test_at))]
-fn test_of(alloc: Global, value: &Value) -> Result<ConditionOp, ReadError>
+fn test_of(alloc: Global, value: &JsonValue<'_>) -> Result<ConditionOp, ReadError>
     ensures { Gives result (test_at (view value.now)) }
 {
     let Some(text) = value.as_str() else {
@@ -91,7 +95,7 @@ fn test_of(alloc: Global, value: &Value) -> Result<ConditionOp, ReadError>
 
 /// How a condition compares, at a key.
 #[tactic(auto, unfolding(lalrpop_json_values::specs::Objects::field_at, lalrpop_json_values::specs::Objects::member_at))]
-fn test_field(alloc: Global, value: &Value, key: Key) -> Result<ConditionOp, ReadError>
+fn test_field(alloc: Global, value: &JsonValue<'_>, key: Key) -> Result<ConditionOp, ReadError>
     ensures { Gives result (field_at key test_at (view value.now)) }
 {
     let found = member(alloc, value, key)?;
@@ -100,7 +104,7 @@ fn test_field(alloc: Global, value: &Value, key: Key) -> Result<ConditionOp, Rea
 
 /// When an alternative is there.
 #[tactic(auto, unfolding(crate::specs::Alternatives::condition_at))]
-fn condition_of(alloc: Global, value: &Value) -> Result<Condition, ReadError>
+fn condition_of(alloc: Global, value: &JsonValue<'_>) -> Result<Condition, ReadError>
     ensures { Gives result (condition_at (view value.now)) }
 {
     keys(alloc, value, &[Key::Lhs, Key::Op, Key::Rhs, Key::Span])?;
@@ -117,7 +121,10 @@ fn condition_of(alloc: Global, value: &Value) -> Result<Condition, ReadError>
 }
 
 /// `null`, or a condition.
-fn optional_condition_of(alloc: Global, value: &Value) -> Result<Option<Condition>, ReadError>
+fn optional_condition_of(
+    alloc: Global,
+    value: &JsonValue<'_>,
+) -> Result<Option<Condition>, ReadError>
     ensures { Gives result (optional condition_at (view value.now)) }
 {
     if value.is_null() {
@@ -129,7 +136,11 @@ fn optional_condition_of(alloc: Global, value: &Value) -> Result<Option<Conditio
 
 /// The condition at a key, or `null`.
 #[tactic(auto, unfolding(lalrpop_json_values::specs::Objects::field_at, lalrpop_json_values::specs::Objects::member_at))]
-fn condition_field(alloc: Global, value: &Value, key: Key) -> Result<Option<Condition>, ReadError>
+fn condition_field(
+    alloc: Global,
+    value: &JsonValue<'_>,
+    key: Key,
+) -> Result<Option<Condition>, ReadError>
     ensures { Gives result (field_at key (optional condition_at) (view value.now)) }
 {
     let found = member(alloc, value, key)?;
@@ -150,7 +161,7 @@ fn place_of(alloc: Global, index: usize) -> Result<u32, ReadError>
 #[tactic(auto, unfolding(crate::specs::Alternatives::alternative_at, crate::specs::Alternatives::alternative_at_place))]
 fn alternative_of(
     alloc: Global,
-    value: &Value,
+    value: &JsonValue<'_>,
     rule: &Atom,
     index: usize,
 ) -> Result<Alternative, ReadError>
@@ -191,7 +202,7 @@ fn alternative_of(
 
 fn alternative_in(
     alloc: Global,
-    value: &Value,
+    value: &JsonValue<'_>,
     rule: &Atom,
     index: usize,
 ) -> Result<Alternative, ReadError>
@@ -204,7 +215,7 @@ fn alternative_in(
 #[tactic(auto, using(lalrpop_json_values::proofs::ListReadingLemmas::lists), unfolding(lalrpop_json_values::specs::Lists::list_at))]
 fn alternatives_of(
     alloc: Global,
-    value: &Value,
+    value: &JsonValue<'_>,
     rule: &Atom,
 ) -> Result<List<Alternative>, ReadError>
     ensures { Gives result (alternatives_at rule.now (view value.now)) }
@@ -224,7 +235,7 @@ fn alternatives_of(
 #[tactic(auto, unfolding(lalrpop_json_values::specs::Objects::field_at, lalrpop_json_values::specs::Objects::member_at))]
 pub fn alternatives_field(
     alloc: Global,
-    value: &Value,
+    value: &JsonValue<'_>,
     key: Key,
     rule: &Atom,
 ) -> Result<List<Alternative>, ReadError>

@@ -1,7 +1,7 @@
 //! How extern blocks are read from JSON values.
 
 ghost use Rattle.std.specs.Prelude.{◌≡◌};
-ghost use Rattle.serde_json.specs.View.{view};
+ghost use Rattle.lalrpop_json_document.specs.DocumentViews.{view};
 ghost use Rattle.lalrpop_json_values.specs.Gives.{Gives, within};
 ghost use Rattle.lalrpop_json_values.specs.Lists.{list_at};
 ghost use Rattle.lalrpop_json_values.specs.Objects.{field_at};
@@ -11,17 +11,17 @@ ghost use Rattle.lalrpop_json_values.specs.declared.fault.Step.TheVariants as st
 
 use lalrpop_grammar::{AssociatedType, Conversion, EnumToken, ExternToken};
 use lalrpop_grammar_symbols::List;
+use lalrpop_json_document::JsonValue;
 use lalrpop_json_symbols::terminal_field;
 use lalrpop_json_values::{
     FaultKind, Key, ReadError, Word, at_index, at_key, here, keys, member, name_field, span_field,
     text_field, word_field,
 };
-use serde_json::Value;
 use std::alloc::Global;
 
 /// An associated type.
 #[tactic(auto, unfolding(crate::specs::Externs::associated_at))]
-fn associated_of(alloc: Global, value: &Value) -> Result<AssociatedType, ReadError>
+fn associated_of(alloc: Global, value: &JsonValue<'_>) -> Result<AssociatedType, ReadError>
     ensures { Gives result (associated_at (view value.now)) }
 {
     keys(alloc, value, &[Key::Name, Key::DeclaredType])?;
@@ -30,7 +30,11 @@ fn associated_of(alloc: Global, value: &Value) -> Result<AssociatedType, ReadErr
     Ok(AssociatedType { name, type_text })
 }
 
-fn associated_in(alloc: Global, value: &Value, index: usize) -> Result<AssociatedType, ReadError>
+fn associated_in(
+    alloc: Global,
+    value: &JsonValue<'_>,
+    index: usize,
+) -> Result<AssociatedType, ReadError>
     ensures { Gives result (within (step.Index index) (associated_at (view value.now))) }
 {
     Ok(at_index(associated_of(alloc, value), index)?)
@@ -38,7 +42,10 @@ fn associated_in(alloc: Global, value: &Value, index: usize) -> Result<Associate
 
 /// A list of associated types.
 #[tactic(auto, using(lalrpop_json_values::proofs::ListReadingLemmas::lists), unfolding(lalrpop_json_values::specs::Lists::list_at))]
-fn associated_types_of(alloc: Global, value: &Value) -> Result<List<AssociatedType>, ReadError>
+fn associated_types_of(
+    alloc: Global,
+    value: &JsonValue<'_>,
+) -> Result<List<AssociatedType>, ReadError>
     ensures { Gives result (list_at (λ _. associated_at) (view value.now)) }
 {
     let Some(values) = value.as_array() else {
@@ -56,7 +63,7 @@ fn associated_types_of(alloc: Global, value: &Value) -> Result<List<AssociatedTy
 #[tactic(auto, unfolding(lalrpop_json_values::specs::Objects::field_at, lalrpop_json_values::specs::Objects::member_at))]
 fn associated_types_field(
     alloc: Global,
-    value: &Value,
+    value: &JsonValue<'_>,
     key: Key,
 ) -> Result<List<AssociatedType>, ReadError>
     ensures { Gives result (field_at key (list_at (λ _. associated_at)) (view value.now)) }
@@ -67,7 +74,7 @@ fn associated_types_field(
 
 /// How a token of the user is seen.
 #[tactic(auto, unfolding(crate::specs::Externs::conversion_at))]
-fn conversion_of(alloc: Global, value: &Value) -> Result<Conversion, ReadError>
+fn conversion_of(alloc: Global, value: &JsonValue<'_>) -> Result<Conversion, ReadError>
     ensures { Gives result (conversion_at (view value.now)) }
 {
     keys(alloc, value, &[Key::From, Key::To])?;
@@ -76,7 +83,11 @@ fn conversion_of(alloc: Global, value: &Value) -> Result<Conversion, ReadError>
     Ok(Conversion { from, to })
 }
 
-fn conversion_in(alloc: Global, value: &Value, index: usize) -> Result<Conversion, ReadError>
+fn conversion_in(
+    alloc: Global,
+    value: &JsonValue<'_>,
+    index: usize,
+) -> Result<Conversion, ReadError>
     ensures { Gives result (within (step.Index index) (conversion_at (view value.now))) }
 {
     Ok(at_index(conversion_of(alloc, value), index)?)
@@ -84,7 +95,7 @@ fn conversion_in(alloc: Global, value: &Value, index: usize) -> Result<Conversio
 
 /// A list of conversions.
 #[tactic(auto, using(lalrpop_json_values::proofs::ListReadingLemmas::lists), unfolding(lalrpop_json_values::specs::Lists::list_at))]
-fn conversions_of(alloc: Global, value: &Value) -> Result<List<Conversion>, ReadError>
+fn conversions_of(alloc: Global, value: &JsonValue<'_>) -> Result<List<Conversion>, ReadError>
     ensures { Gives result (list_at (λ _. conversion_at) (view value.now)) }
 {
     let Some(values) = value.as_array() else {
@@ -100,7 +111,11 @@ fn conversions_of(alloc: Global, value: &Value) -> Result<List<Conversion>, Read
 
 /// The conversions at a key.
 #[tactic(auto, unfolding(lalrpop_json_values::specs::Objects::field_at, lalrpop_json_values::specs::Objects::member_at))]
-fn conversions_field(alloc: Global, value: &Value, key: Key) -> Result<List<Conversion>, ReadError>
+fn conversions_field(
+    alloc: Global,
+    value: &JsonValue<'_>,
+    key: Key,
+) -> Result<List<Conversion>, ReadError>
     ensures { Gives result (field_at key (list_at (λ _. conversion_at)) (view value.now)) }
 {
     let found = member(alloc, value, key)?;
@@ -109,7 +124,7 @@ fn conversions_field(alloc: Global, value: &Value, key: Key) -> Result<List<Conv
 
 /// The user's own tokens.
 #[tactic(auto, unfolding(crate::specs::Externs::enum_at))]
-fn enum_of(alloc: Global, value: &Value) -> Result<EnumToken, ReadError>
+fn enum_of(alloc: Global, value: &JsonValue<'_>) -> Result<EnumToken, ReadError>
     ensures { Gives result (enum_at (view value.now)) }
 {
     keys(alloc, value, &[Key::Conversions, Key::DeclaredType])?;
@@ -122,7 +137,7 @@ fn enum_of(alloc: Global, value: &Value) -> Result<EnumToken, ReadError>
 }
 
 /// `null`, or the user's own tokens.
-fn optional_enum_of(alloc: Global, value: &Value) -> Result<Option<EnumToken>, ReadError>
+fn optional_enum_of(alloc: Global, value: &JsonValue<'_>) -> Result<Option<EnumToken>, ReadError>
     ensures { Gives result (optional enum_at (view value.now)) }
 {
     if value.is_null() {
@@ -134,7 +149,11 @@ fn optional_enum_of(alloc: Global, value: &Value) -> Result<Option<EnumToken>, R
 
 /// The user's own tokens at a key, or `null`.
 #[tactic(auto, unfolding(lalrpop_json_values::specs::Objects::field_at, lalrpop_json_values::specs::Objects::member_at))]
-fn enum_field(alloc: Global, value: &Value, key: Key) -> Result<Option<EnumToken>, ReadError>
+fn enum_field(
+    alloc: Global,
+    value: &JsonValue<'_>,
+    key: Key,
+) -> Result<Option<EnumToken>, ReadError>
     ensures { Gives result (field_at key (optional enum_at) (view value.now)) }
 {
     let found = member(alloc, value, key)?;
@@ -143,7 +162,7 @@ fn enum_field(alloc: Global, value: &Value, key: Key) -> Result<Option<EnumToken
 
 /// An extern block.
 #[tactic(auto, unfolding(crate::specs::Externs::extern_at))]
-pub fn extern_of(alloc: Global, value: &Value) -> Result<ExternToken, ReadError>
+pub fn extern_of(alloc: Global, value: &JsonValue<'_>) -> Result<ExternToken, ReadError>
     ensures { Gives result (extern_at (view value.now)) }
 {
     keys(

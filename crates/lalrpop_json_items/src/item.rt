@@ -1,7 +1,7 @@
 //! How the items of a grammar are read from JSON values.
 
 ghost use Rattle.std.specs.Prelude.{◌≡◌};
-ghost use Rattle.serde_json.specs.View.{view};
+ghost use Rattle.lalrpop_json_document.specs.DocumentViews.{view};
 ghost use Rattle.lalrpop_json_values.specs.Gives.{Gives, within};
 ghost use Rattle.lalrpop_json_values.specs.Lists.{list_at};
 ghost use Rattle.lalrpop_json_values.specs.Objects.{field_at};
@@ -13,16 +13,16 @@ use crate::match_block::match_of;
 use crate::rule::rule_of;
 use lalrpop_grammar::GrammarItem;
 use lalrpop_grammar_symbols::List;
+use lalrpop_json_document::JsonValue;
 use lalrpop_json_values::{
     FaultKind, Form, Key, ReadError, Word, at_index, at_key, form_of, here, keys, member,
     text_field, word_field,
 };
-use serde_json::Value;
 use std::alloc::Global;
 
 /// An import.
 #[tactic(auto, unfolding(crate::specs::Items::import_at))]
-fn import_of(alloc: Global, value: &Value) -> Result<GrammarItem, ReadError>
+fn import_of(alloc: Global, value: &JsonValue<'_>) -> Result<GrammarItem, ReadError>
     ensures { Gives result (import_at (view value.now)) }
 {
     keys(alloc, value, &[Key::Kind, Key::Text])?;
@@ -32,7 +32,7 @@ fn import_of(alloc: Global, value: &Value) -> Result<GrammarItem, ReadError>
 }
 
 #[tactic(auto, unfolding(crate::specs::Items::item_form))]
-fn item_form(value: &Value) -> Option<Form>
+fn item_form(value: &JsonValue<'_>) -> Option<Form>
     ensures { result ≡ item_form (view value.now) }
 {
     let words = [
@@ -59,7 +59,7 @@ fn item_form(value: &Value) -> Option<Form>
 
 /// An item of a grammar.
 #[tactic(auto, unfolding(crate::specs::Items::item_at))]
-pub fn item_of(alloc: Global, value: &Value) -> Result<GrammarItem, ReadError>
+pub fn item_of(alloc: Global, value: &JsonValue<'_>) -> Result<GrammarItem, ReadError>
     ensures { Gives result (item_at (view value.now)) }
 {
     match item_form(value) {
@@ -80,7 +80,7 @@ pub fn item_of(alloc: Global, value: &Value) -> Result<GrammarItem, ReadError>
     }
 }
 
-fn item_in(alloc: Global, value: &Value, index: usize) -> Result<GrammarItem, ReadError>
+fn item_in(alloc: Global, value: &JsonValue<'_>, index: usize) -> Result<GrammarItem, ReadError>
     ensures { Gives result (within (step.Index index) (item_at (view value.now))) }
 {
     Ok(at_index(item_of(alloc, value), index)?)
@@ -88,7 +88,7 @@ fn item_in(alloc: Global, value: &Value, index: usize) -> Result<GrammarItem, Re
 
 /// A list of grammar items.
 #[tactic(auto, using(lalrpop_json_values::proofs::ListReadingLemmas::lists), unfolding(lalrpop_json_values::specs::Lists::list_at))]
-fn items_of(alloc: Global, value: &Value) -> Result<List<GrammarItem>, ReadError>
+fn items_of(alloc: Global, value: &JsonValue<'_>) -> Result<List<GrammarItem>, ReadError>
     ensures { Gives result (list_at (λ _. item_at) (view value.now)) }
 {
     let Some(values) = value.as_array() else {
@@ -104,7 +104,11 @@ fn items_of(alloc: Global, value: &Value) -> Result<List<GrammarItem>, ReadError
 
 /// The grammar items at a key.
 #[tactic(auto, unfolding(lalrpop_json_values::specs::Objects::field_at, lalrpop_json_values::specs::Objects::member_at))]
-pub fn items_field(alloc: Global, value: &Value, key: Key) -> Result<List<GrammarItem>, ReadError>
+pub fn items_field(
+    alloc: Global,
+    value: &JsonValue<'_>,
+    key: Key,
+) -> Result<List<GrammarItem>, ReadError>
     ensures { Gives result (field_at key (list_at (λ _. item_at)) (view value.now)) }
 {
     let found = member(alloc, value, key)?;

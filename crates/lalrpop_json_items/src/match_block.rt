@@ -1,7 +1,7 @@
 //! How match blocks are read from JSON values.
 
 ghost use Rattle.std.specs.Prelude.{◌≡◌};
-ghost use Rattle.serde_json.specs.View.{view};
+ghost use Rattle.lalrpop_json_document.specs.DocumentViews.{view};
 ghost use Rattle.lalrpop_json_values.specs.Gives.{Gives, within};
 ghost use Rattle.lalrpop_json_values.specs.Lists.{list_at};
 ghost use Rattle.lalrpop_json_values.specs.Objects.{field_at};
@@ -11,12 +11,12 @@ ghost use Rattle.lalrpop_json_values.specs.declared.fault.Step.TheVariants as st
 
 use lalrpop_grammar::{MatchContents, MatchItem, MatchMapping, MatchToken};
 use lalrpop_grammar_symbols::{List, Span, TerminalLiteral};
+use lalrpop_json_document::JsonValue;
 use lalrpop_json_symbols::{literal_field, terminal_of};
 use lalrpop_json_values::{
     FaultKind, Form, Key, ReadError, Word, at_index, at_key, form_by_key, here, keys, member,
     span_field, word_field,
 };
-use serde_json::Value;
 use std::alloc::Global;
 
 fn word_mapping(alloc: Global, text: &str) -> Result<MatchMapping, ReadError>
@@ -31,7 +31,7 @@ fn word_mapping(alloc: Global, text: &str) -> Result<MatchMapping, ReadError>
 
 /// What an entry's matches become.
 #[tactic(auto, unfolding(crate::specs::Matches::mapping_at))]
-fn mapping_of(alloc: Global, value: &Value) -> Result<MatchMapping, ReadError>
+fn mapping_of(alloc: Global, value: &JsonValue<'_>) -> Result<MatchMapping, ReadError>
     ensures { Gives result (mapping_at (view value.now)) }
 {
     let Some(text) = value.as_str() else {
@@ -42,7 +42,10 @@ fn mapping_of(alloc: Global, value: &Value) -> Result<MatchMapping, ReadError>
 }
 
 /// `null`, or what an entry's matches become.
-fn optional_mapping_of(alloc: Global, value: &Value) -> Result<Option<MatchMapping>, ReadError>
+fn optional_mapping_of(
+    alloc: Global,
+    value: &JsonValue<'_>,
+) -> Result<Option<MatchMapping>, ReadError>
     ensures { Gives result (optional mapping_at (view value.now)) }
 {
     if value.is_null() {
@@ -54,7 +57,11 @@ fn optional_mapping_of(alloc: Global, value: &Value) -> Result<Option<MatchMappi
 
 /// What an entry's matches become, at a key.
 #[tactic(auto, unfolding(lalrpop_json_values::specs::Objects::field_at, lalrpop_json_values::specs::Objects::member_at))]
-fn mapping_field(alloc: Global, value: &Value, key: Key) -> Result<Option<MatchMapping>, ReadError>
+fn mapping_field(
+    alloc: Global,
+    value: &JsonValue<'_>,
+    key: Key,
+) -> Result<Option<MatchMapping>, ReadError>
     ensures { Gives result (field_at key (optional mapping_at) (view value.now)) }
 {
     let found = member(alloc, value, key)?;
@@ -71,7 +78,7 @@ fn entry_with(literal: TerminalLiteral, mapping: Option<MatchMapping>, span: Spa
 }
 
 #[tactic(auto, unfolding(crate::specs::Matches::listed_entry_at))]
-fn listed_of(alloc: Global, value: &Value) -> Result<MatchItem, ReadError>
+fn listed_of(alloc: Global, value: &JsonValue<'_>) -> Result<MatchItem, ReadError>
     ensures { Gives result (listed_entry_at (view value.now)) }
 {
     keys(alloc, value, &[Key::Literal, Key::Map, Key::Span])?;
@@ -82,7 +89,7 @@ fn listed_of(alloc: Global, value: &Value) -> Result<MatchItem, ReadError>
 }
 
 #[tactic(auto, unfolding(crate::specs::Matches::catch_all_at))]
-fn catch_all_of(alloc: Global, value: &Value) -> Result<MatchItem, ReadError>
+fn catch_all_of(alloc: Global, value: &JsonValue<'_>) -> Result<MatchItem, ReadError>
     ensures { Gives result (catch_all_at (view value.now)) }
 {
     keys(alloc, value, &[Key::CatchAll])?;
@@ -92,7 +99,7 @@ fn catch_all_of(alloc: Global, value: &Value) -> Result<MatchItem, ReadError>
 
 /// An entry of a match block.
 #[tactic(auto, unfolding(crate::specs::Matches::match_entry_at))]
-fn entry_of(alloc: Global, value: &Value) -> Result<MatchItem, ReadError>
+fn entry_of(alloc: Global, value: &JsonValue<'_>) -> Result<MatchItem, ReadError>
     ensures { Gives result (match_entry_at (view value.now)) }
 {
     let rows = [
@@ -108,7 +115,7 @@ fn entry_of(alloc: Global, value: &Value) -> Result<MatchItem, ReadError>
     }
 }
 
-fn entry_in(alloc: Global, value: &Value, index: usize) -> Result<MatchItem, ReadError>
+fn entry_in(alloc: Global, value: &JsonValue<'_>, index: usize) -> Result<MatchItem, ReadError>
     ensures { Gives result (within (step.Index index) (match_entry_at (view value.now))) }
 {
     Ok(at_index(entry_of(alloc, value), index)?)
@@ -116,7 +123,7 @@ fn entry_in(alloc: Global, value: &Value, index: usize) -> Result<MatchItem, Rea
 
 /// A list of entries.
 #[tactic(auto, using(lalrpop_json_values::proofs::ListReadingLemmas::lists), unfolding(lalrpop_json_values::specs::Lists::list_at))]
-fn entries_of(alloc: Global, value: &Value) -> Result<List<MatchItem>, ReadError>
+fn entries_of(alloc: Global, value: &JsonValue<'_>) -> Result<List<MatchItem>, ReadError>
     ensures { Gives result (list_at (λ _. match_entry_at) (view value.now)) }
 {
     let Some(values) = value.as_array() else {
@@ -132,14 +139,18 @@ fn entries_of(alloc: Global, value: &Value) -> Result<List<MatchItem>, ReadError
 
 /// A group of entries.
 #[tactic(auto, unfolding(crate::specs::Matches::contents_at))]
-fn contents_of(alloc: Global, value: &Value) -> Result<MatchContents, ReadError>
+fn contents_of(alloc: Global, value: &JsonValue<'_>) -> Result<MatchContents, ReadError>
     ensures { Gives result (contents_at (view value.now)) }
 {
     let items = entries_of(alloc, value)?;
     Ok(MatchContents { items })
 }
 
-fn contents_in(alloc: Global, value: &Value, index: usize) -> Result<MatchContents, ReadError>
+fn contents_in(
+    alloc: Global,
+    value: &JsonValue<'_>,
+    index: usize,
+) -> Result<MatchContents, ReadError>
     ensures { Gives result (within (step.Index index) (contents_at (view value.now))) }
 {
     Ok(at_index(contents_of(alloc, value), index)?)
@@ -147,7 +158,7 @@ fn contents_in(alloc: Global, value: &Value, index: usize) -> Result<MatchConten
 
 /// A list of groups.
 #[tactic(auto, using(lalrpop_json_values::proofs::ListReadingLemmas::lists), unfolding(lalrpop_json_values::specs::Lists::list_at))]
-fn groups_of(alloc: Global, value: &Value) -> Result<List<MatchContents>, ReadError>
+fn groups_of(alloc: Global, value: &JsonValue<'_>) -> Result<List<MatchContents>, ReadError>
     ensures { Gives result (list_at (λ _. contents_at) (view value.now)) }
 {
     let Some(values) = value.as_array() else {
@@ -163,7 +174,11 @@ fn groups_of(alloc: Global, value: &Value) -> Result<List<MatchContents>, ReadEr
 
 /// The groups at a key.
 #[tactic(auto, unfolding(lalrpop_json_values::specs::Objects::field_at, lalrpop_json_values::specs::Objects::member_at))]
-fn groups_field(alloc: Global, value: &Value, key: Key) -> Result<List<MatchContents>, ReadError>
+fn groups_field(
+    alloc: Global,
+    value: &JsonValue<'_>,
+    key: Key,
+) -> Result<List<MatchContents>, ReadError>
     ensures { Gives result (field_at key (list_at (λ _. contents_at)) (view value.now)) }
 {
     let found = member(alloc, value, key)?;
@@ -172,7 +187,7 @@ fn groups_field(alloc: Global, value: &Value, key: Key) -> Result<List<MatchCont
 
 /// A match block.
 #[tactic(auto, unfolding(crate::specs::Matches::match_at))]
-pub fn match_of(alloc: Global, value: &Value) -> Result<MatchToken, ReadError>
+pub fn match_of(alloc: Global, value: &JsonValue<'_>) -> Result<MatchToken, ReadError>
     ensures { Gives result (match_at (view value.now)) }
 {
     keys(alloc, value, &[Key::Contents, Key::Kind, Key::Span])?;

@@ -1,7 +1,7 @@
 //! How the rules of a grammar are read from JSON values.
 
 ghost use Rattle.std.specs.Prelude.{◌≡◌};
-ghost use Rattle.serde_json.specs.View.{view};
+ghost use Rattle.lalrpop_json_document.specs.DocumentViews.{view};
 ghost use Rattle.lalrpop_json_values.specs.Gives.{Gives, within};
 ghost use Rattle.lalrpop_json_values.specs.Lists.{list_at};
 ghost use Rattle.lalrpop_json_values.specs.Objects.{field_at};
@@ -11,12 +11,12 @@ ghost use Rattle.lalrpop_json_values.specs.declared.fault.Step.TheVariants as st
 use crate::alternative::alternatives_field;
 use lalrpop_grammar::{NonterminalData, Visibility};
 use lalrpop_grammar_symbols::{Atom, List, NonterminalString};
+use lalrpop_json_document::JsonValue;
 use lalrpop_json_symbols::{attributes_field, type_field};
 use lalrpop_json_values::{
     FaultKind, Form, Key, ReadError, Word, at_index, at_key, form_by_key, here, keys, member,
     name_field, name_of, span_field, text_field, word_field,
 };
-use serde_json::Value;
 use std::alloc::Global;
 
 fn word_visibility(alloc: Global, text: &str) -> Result<Visibility, ReadError>
@@ -32,7 +32,7 @@ fn word_visibility(alloc: Global, text: &str) -> Result<Visibility, ReadError>
 }
 
 #[tactic(auto, unfolding(crate::specs::Rules::pub_in_at))]
-fn pub_in_of(alloc: Global, value: &Value) -> Result<Visibility, ReadError>
+fn pub_in_of(alloc: Global, value: &JsonValue<'_>) -> Result<Visibility, ReadError>
     ensures { Gives result (pub_in_at (view value.now)) }
 {
     keys(alloc, value, &[Key::PubIn])?;
@@ -42,7 +42,7 @@ fn pub_in_of(alloc: Global, value: &Value) -> Result<Visibility, ReadError>
 
 /// Who may use a rule.
 #[tactic(auto, unfolding(crate::specs::Rules::visibility_at))]
-fn visibility_in(alloc: Global, value: &Value) -> Result<Visibility, ReadError>
+fn visibility_in(alloc: Global, value: &JsonValue<'_>) -> Result<Visibility, ReadError>
     ensures { Gives result (visibility_at (view value.now)) }
 {
     let Some(text) = value.as_str() else {
@@ -57,7 +57,7 @@ fn visibility_in(alloc: Global, value: &Value) -> Result<Visibility, ReadError>
 
 /// Who may use a rule, at a key.
 #[tactic(auto, unfolding(lalrpop_json_values::specs::Objects::field_at, lalrpop_json_values::specs::Objects::member_at))]
-fn visibility_field(alloc: Global, value: &Value, key: Key) -> Result<Visibility, ReadError>
+fn visibility_field(alloc: Global, value: &JsonValue<'_>, key: Key) -> Result<Visibility, ReadError>
     ensures { Gives result (field_at key visibility_at (view value.now)) }
 {
     let found = member(alloc, value, key)?;
@@ -66,14 +66,18 @@ fn visibility_field(alloc: Global, value: &Value, key: Key) -> Result<Visibility
 
 /// A parameter of a macro.
 #[tactic(auto, unfolding(crate::specs::Rules::parameter_at))]
-fn parameter_of(alloc: Global, value: &Value) -> Result<NonterminalString, ReadError>
+fn parameter_of(alloc: Global, value: &JsonValue<'_>) -> Result<NonterminalString, ReadError>
     ensures { Gives result (parameter_at (view value.now)) }
 {
     let name = name_of(alloc, value)?;
     Ok(NonterminalString(name))
 }
 
-fn parameter_in(alloc: Global, value: &Value, index: usize) -> Result<NonterminalString, ReadError>
+fn parameter_in(
+    alloc: Global,
+    value: &JsonValue<'_>,
+    index: usize,
+) -> Result<NonterminalString, ReadError>
     ensures { Gives result (within (step.Index index) (parameter_at (view value.now))) }
 {
     Ok(at_index(parameter_of(alloc, value), index)?)
@@ -81,7 +85,7 @@ fn parameter_in(alloc: Global, value: &Value, index: usize) -> Result<Nontermina
 
 /// A list of parameters.
 #[tactic(auto, using(lalrpop_json_values::proofs::ListReadingLemmas::lists), unfolding(lalrpop_json_values::specs::Lists::list_at))]
-fn parameters_of(alloc: Global, value: &Value) -> Result<List<NonterminalString>, ReadError>
+fn parameters_of(alloc: Global, value: &JsonValue<'_>) -> Result<List<NonterminalString>, ReadError>
     ensures { Gives result (list_at (λ _. parameter_at) (view value.now)) }
 {
     let Some(values) = value.as_array() else {
@@ -99,7 +103,7 @@ fn parameters_of(alloc: Global, value: &Value) -> Result<List<NonterminalString>
 #[tactic(auto, unfolding(lalrpop_json_values::specs::Objects::field_at, lalrpop_json_values::specs::Objects::member_at))]
 fn parameters_field(
     alloc: Global,
-    value: &Value,
+    value: &JsonValue<'_>,
     key: Key,
 ) -> Result<List<NonterminalString>, ReadError>
     ensures { Gives result (field_at key (list_at (λ _. parameter_at)) (view value.now)) }
@@ -110,7 +114,7 @@ fn parameters_field(
 
 /// The name that stands in a rule, to which its alternatives belong.
 #[tactic(auto, unfolding(crate::specs::Rules::name_in))]
-fn name_in(value: &Value) -> &str
+fn name_in<'t>(value: &JsonValue<'t>) -> &'t str
     ensures { result.now ≡ name_in (view value.now) }
 {
     let Some(name) = value.get(Key::Name.text()) else {
@@ -124,7 +128,7 @@ fn name_in(value: &Value) -> &str
 
 /// A rule.
 #[tactic(auto, unfolding(crate::specs::Rules::rule_at))]
-pub fn rule_of(alloc: Global, value: &Value) -> Result<NonterminalData, ReadError>
+pub fn rule_of(alloc: Global, value: &JsonValue<'_>) -> Result<NonterminalData, ReadError>
     ensures { Gives result (rule_at (view value.now)) }
 {
     keys(

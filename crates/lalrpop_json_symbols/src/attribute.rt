@@ -1,7 +1,7 @@
 //! How attributes are read from JSON values.
 
 ghost use Rattle.std.specs.Prelude.{◌≡◌};
-ghost use Rattle.serde_json.specs.View.{view};
+ghost use Rattle.lalrpop_json_document.specs.DocumentViews.{view};
 ghost use Rattle.lalrpop_json_values.specs.Gives.{Gives, within};
 ghost use Rattle.lalrpop_json_values.specs.Lists.{list_at};
 ghost use Rattle.lalrpop_json_values.specs.Objects.{field_at};
@@ -10,15 +10,15 @@ ghost use Rattle.lalrpop_json_values.specs.declared.fault.Step.TheVariants as st
 
 use lalrpop_grammar_symbols::List;
 use lalrpop_grammar_types::{Attribute, AttributeArg};
+use lalrpop_json_document::JsonValue;
 use lalrpop_json_values::{
     FaultKind, Form, Key, ReadError, Step, at_key, form_by_key, here, keys, member, name_field,
     outside, span_field, text_field,
 };
-use serde_json::Value;
 use std::alloc::Global;
 
 #[tactic(auto, unfolding(crate::specs::Attributes::equal_at))]
-fn equal_of(alloc: Global, value: &Value) -> Result<AttributeArg, ReadError>
+fn equal_of(alloc: Global, value: &JsonValue<'_>) -> Result<AttributeArg, ReadError>
     ensures { Gives result (equal_at (view value.now)) }
 {
     keys(alloc, value, &[Key::Equal])?;
@@ -28,7 +28,7 @@ fn equal_of(alloc: Global, value: &Value) -> Result<AttributeArg, ReadError>
 
 #[cycle(attributes)]
 #[tactic(auto, using(crate::proofs::AttributeNestingLemmas::attribute_nesting), unfolding(crate::specs::Attributes::paren_at))]
-fn paren_of(alloc: Global, value: &Value) -> Result<AttributeArg, ReadError>
+fn paren_of(alloc: Global, value: &JsonValue<'_>) -> Result<AttributeArg, ReadError>
     ensures { Gives result (paren_at attribute_at (view value.now)) }
 {
     keys(alloc, value, &[Key::Paren])?;
@@ -39,7 +39,7 @@ fn paren_of(alloc: Global, value: &Value) -> Result<AttributeArg, ReadError>
 /// What stands behind an attribute's name.
 #[cycle(attributes)]
 #[tactic(auto, using(crate::proofs::AttributeNestingLemmas::attribute_nesting), unfolding(crate::specs::Attributes::arg_at))]
-fn arg_of(alloc: Global, value: &Value) -> Result<AttributeArg, ReadError>
+fn arg_of(alloc: Global, value: &JsonValue<'_>) -> Result<AttributeArg, ReadError>
     ensures { Gives result (arg_at attribute_at (view value.now)) }
 {
     if value.is_null() {
@@ -56,7 +56,7 @@ fn arg_of(alloc: Global, value: &Value) -> Result<AttributeArg, ReadError>
 /// What stands behind an attribute's name, at a key.
 #[cycle(attributes)]
 #[tactic(auto, using(crate::proofs::AttributeNestingLemmas::attribute_nesting), unfolding(lalrpop_json_values::specs::Objects::field_at, lalrpop_json_values::specs::Objects::member_at))]
-fn arg_field(alloc: Global, value: &Value, key: Key) -> Result<AttributeArg, ReadError>
+fn arg_field(alloc: Global, value: &JsonValue<'_>, key: Key) -> Result<AttributeArg, ReadError>
     ensures { Gives result (field_at key (arg_at attribute_at) (view value.now)) }
 {
     let found = member(alloc, value, key)?;
@@ -66,7 +66,7 @@ fn arg_field(alloc: Global, value: &Value, key: Key) -> Result<AttributeArg, Rea
 /// An attribute.
 #[cycle(attributes)]
 #[tactic(auto, using(crate::proofs::AttributeNestingLemmas::attribute_nesting), unfolding(crate::specs::Attributes::attribute_layer_at))]
-pub fn attribute_of(alloc: Global, value: &Value) -> Result<Attribute, ReadError>
+pub fn attribute_of(alloc: Global, value: &JsonValue<'_>) -> Result<Attribute, ReadError>
     ensures { Gives result (attribute_at (view value.now)) }
 {
     keys(alloc, value, &[Key::Arg, Key::Id, Key::Span])?;
@@ -77,7 +77,7 @@ pub fn attribute_of(alloc: Global, value: &Value) -> Result<Attribute, ReadError
 }
 
 #[cycle(attributes)]
-fn attribute_in(alloc: Global, value: &Value, index: usize) -> Result<Attribute, ReadError>
+fn attribute_in(alloc: Global, value: &JsonValue<'_>, index: usize) -> Result<Attribute, ReadError>
     ensures { Gives result (within (step.Index index) (attribute_at (view value.now))) }
 {
     match attribute_of(alloc, value) {
@@ -89,7 +89,7 @@ fn attribute_in(alloc: Global, value: &Value, index: usize) -> Result<Attribute,
 /// A list of attributes.
 #[cycle(attributes)]
 #[tactic(auto, using(crate::proofs::AttributeNestingLemmas::attribute_nesting, lalrpop_json_values::proofs::ListReadingLemmas::lists), unfolding(lalrpop_json_values::specs::Lists::list_at))]
-fn attributes_of(alloc: Global, value: &Value) -> Result<List<Attribute>, ReadError>
+fn attributes_of(alloc: Global, value: &JsonValue<'_>) -> Result<List<Attribute>, ReadError>
     ensures { Gives result (list_at (λ _. attribute_at) (view value.now)) }
 {
     let Some(values) = value.as_array() else {
@@ -108,7 +108,7 @@ fn attributes_of(alloc: Global, value: &Value) -> Result<List<Attribute>, ReadEr
 #[tactic(auto, using(crate::proofs::AttributeNestingLemmas::attribute_nesting), unfolding(lalrpop_json_values::specs::Objects::field_at, lalrpop_json_values::specs::Objects::member_at))]
 pub fn attributes_field(
     alloc: Global,
-    value: &Value,
+    value: &JsonValue<'_>,
     key: Key,
 ) -> Result<List<Attribute>, ReadError>
     ensures { Gives result (field_at key (list_at (λ _. attribute_at)) (view value.now)) }

@@ -1,21 +1,21 @@
 //! How literals and the terminals of tokens are read from JSON values.
 
 ghost use Rattle.std.specs.Prelude.{◌≡◌};
-ghost use Rattle.serde_json.specs.View.{view};
+ghost use Rattle.lalrpop_json_document.specs.DocumentViews.{view};
 ghost use Rattle.lalrpop_json_values.specs.Gives.{Gives};
 ghost use Rattle.lalrpop_json_values.specs.Objects.{field_at};
 ghost use Rattle.lalrpop_json_symbols.specs.Literals.{bare_at, literal_at, quoted_at, regex_at, terminal_at};
 
 use lalrpop_grammar_symbols::{TerminalLiteral, TerminalString};
+use lalrpop_json_document::JsonValue;
 use lalrpop_json_values::{
     FaultKind, Form, Key, ReadError, at_key, form_by_key, here, keys, member, name_field,
     text_field,
 };
-use serde_json::Value;
 use std::alloc::Global;
 
 #[tactic(auto, unfolding(crate::specs::Literals::quoted_at))]
-fn quoted_of(alloc: Global, value: &Value) -> Result<TerminalLiteral, ReadError>
+fn quoted_of(alloc: Global, value: &JsonValue<'_>) -> Result<TerminalLiteral, ReadError>
     ensures { Gives result (quoted_at (view value.now)) }
 {
     keys(alloc, value, &[Key::Quoted])?;
@@ -24,7 +24,7 @@ fn quoted_of(alloc: Global, value: &Value) -> Result<TerminalLiteral, ReadError>
 }
 
 #[tactic(auto, unfolding(crate::specs::Literals::regex_at))]
-fn regex_of(alloc: Global, value: &Value) -> Result<TerminalLiteral, ReadError>
+fn regex_of(alloc: Global, value: &JsonValue<'_>) -> Result<TerminalLiteral, ReadError>
     ensures { Gives result (regex_at (view value.now)) }
 {
     keys(alloc, value, &[Key::Regex])?;
@@ -33,7 +33,7 @@ fn regex_of(alloc: Global, value: &Value) -> Result<TerminalLiteral, ReadError>
 }
 
 #[tactic(auto, unfolding(crate::specs::Literals::bare_at))]
-fn bare_of(alloc: Global, value: &Value) -> Result<TerminalString, ReadError>
+fn bare_of(alloc: Global, value: &JsonValue<'_>) -> Result<TerminalString, ReadError>
     ensures { Gives result (bare_at (view value.now)) }
 {
     keys(alloc, value, &[Key::Bare])?;
@@ -43,7 +43,7 @@ fn bare_of(alloc: Global, value: &Value) -> Result<TerminalString, ReadError>
 
 /// A quoted literal or a regular expression.
 #[tactic(auto, unfolding(crate::specs::Literals::literal_at))]
-pub fn literal_of(alloc: Global, value: &Value) -> Result<TerminalLiteral, ReadError>
+pub fn literal_of(alloc: Global, value: &JsonValue<'_>) -> Result<TerminalLiteral, ReadError>
     ensures { Gives result (literal_at (view value.now)) }
 {
     let rows = [(Key::Quoted, Form::Quoted), (Key::Regex, Form::Regex)];
@@ -56,7 +56,7 @@ pub fn literal_of(alloc: Global, value: &Value) -> Result<TerminalLiteral, ReadE
 
 /// A literal or a bare name.
 #[tactic(auto, unfolding(crate::specs::Literals::terminal_at))]
-pub fn terminal_of(alloc: Global, value: &Value) -> Result<TerminalString, ReadError>
+pub fn terminal_of(alloc: Global, value: &JsonValue<'_>) -> Result<TerminalString, ReadError>
     ensures { Gives result (terminal_at (view value.now)) }
 {
     let rows = [
@@ -80,7 +80,11 @@ pub fn terminal_of(alloc: Global, value: &Value) -> Result<TerminalString, ReadE
 
 /// The literal at a key.
 #[tactic(auto, unfolding(lalrpop_json_values::specs::Objects::field_at, lalrpop_json_values::specs::Objects::member_at))]
-pub fn literal_field(alloc: Global, value: &Value, key: Key) -> Result<TerminalLiteral, ReadError>
+pub fn literal_field(
+    alloc: Global,
+    value: &JsonValue<'_>,
+    key: Key,
+) -> Result<TerminalLiteral, ReadError>
     ensures { Gives result (field_at key literal_at (view value.now)) }
 {
     let found = member(alloc, value, key)?;
@@ -89,7 +93,11 @@ pub fn literal_field(alloc: Global, value: &Value, key: Key) -> Result<TerminalL
 
 /// The literal or bare name at a key.
 #[tactic(auto, unfolding(lalrpop_json_values::specs::Objects::field_at, lalrpop_json_values::specs::Objects::member_at))]
-pub fn terminal_field(alloc: Global, value: &Value, key: Key) -> Result<TerminalString, ReadError>
+pub fn terminal_field(
+    alloc: Global,
+    value: &JsonValue<'_>,
+    key: Key,
+) -> Result<TerminalString, ReadError>
     ensures { Gives result (field_at key terminal_at (view value.now)) }
 {
     let found = member(alloc, value, key)?;

@@ -1,7 +1,7 @@
 //! How symbols are read from JSON values.
 
 ghost use Rattle.std.specs.Prelude.{◌≡◌};
-ghost use Rattle.serde_json.specs.View.{view};
+ghost use Rattle.lalrpop_json_document.specs.DocumentViews.{view};
 ghost use Rattle.lalrpop_json_values.specs.Gives.{Gives, within};
 ghost use Rattle.lalrpop_json_values.specs.Lists.{list_at};
 ghost use Rattle.lalrpop_json_values.specs.Objects.{field_at};
@@ -13,16 +13,16 @@ use lalrpop_grammar_symbols::{
     Boxed, ExprSymbol, List, MacroSymbol, Name, NonterminalString, RepeatOp, RepeatSymbol, Symbol,
     SymbolKind, TerminalString,
 };
+use lalrpop_json_document::JsonValue;
 use lalrpop_json_values::{
     FaultKind, Form, Key, ReadError, Step, Word, at_key, flag_field, form_of, here, keys, member,
     name_field, outside, span_field, word_field,
 };
-use serde_json::Value;
 use std::alloc::Global;
 
 /// How often a symbol is repeated.
 #[tactic(auto, unfolding(crate::specs::Symbols::op_at))]
-fn op_of(alloc: Global, value: &Value) -> Result<RepeatOp, ReadError>
+fn op_of(alloc: Global, value: &JsonValue<'_>) -> Result<RepeatOp, ReadError>
     ensures { Gives result (op_at (view value.now)) }
 {
     let Some(text) = value.as_str() else {
@@ -41,7 +41,7 @@ fn op_of(alloc: Global, value: &Value) -> Result<RepeatOp, ReadError>
 
 /// The sign at a key.
 #[tactic(auto, unfolding(lalrpop_json_values::specs::Objects::field_at, lalrpop_json_values::specs::Objects::member_at))]
-fn op_field(alloc: Global, value: &Value, key: Key) -> Result<RepeatOp, ReadError>
+fn op_field(alloc: Global, value: &JsonValue<'_>, key: Key) -> Result<RepeatOp, ReadError>
     ensures { Gives result (field_at key op_at (view value.now)) }
 {
     let found = member(alloc, value, key)?;
@@ -49,7 +49,7 @@ fn op_field(alloc: Global, value: &Value, key: Key) -> Result<RepeatOp, ReadErro
 }
 
 #[tactic(auto, unfolding(crate::specs::Symbols::id_at))]
-fn id_of(alloc: Global, value: &Value) -> Result<Symbol, ReadError>
+fn id_of(alloc: Global, value: &JsonValue<'_>) -> Result<Symbol, ReadError>
     ensures { Gives result (id_at (view value.now)) }
 {
     keys(alloc, value, &[Key::Kind, Key::Name, Key::Span])?;
@@ -63,7 +63,7 @@ fn id_of(alloc: Global, value: &Value) -> Result<Symbol, ReadError>
 }
 
 #[tactic(auto, unfolding(crate::specs::Symbols::literal_symbol_at))]
-fn literal_symbol_of(alloc: Global, value: &Value) -> Result<Symbol, ReadError>
+fn literal_symbol_of(alloc: Global, value: &JsonValue<'_>) -> Result<Symbol, ReadError>
     ensures { Gives result (literal_symbol_at (view value.now)) }
 {
     keys(alloc, value, &[Key::Kind, Key::Span, Key::Terminal])?;
@@ -78,7 +78,12 @@ fn literal_symbol_of(alloc: Global, value: &Value) -> Result<Symbol, ReadError>
 
 /// A symbol that has no parts.
 #[tactic(auto, unfolding(crate::specs::Symbols::look_at))]
-fn look_of(alloc: Global, value: &Value, word: Word, kind: SymbolKind) -> Result<Symbol, ReadError>
+fn look_of(
+    alloc: Global,
+    value: &JsonValue<'_>,
+    word: Word,
+    kind: SymbolKind,
+) -> Result<Symbol, ReadError>
     ensures { Gives result (look_at word kind (view value.now)) }
 {
     keys(alloc, value, &[Key::Kind, Key::Span])?;
@@ -89,7 +94,7 @@ fn look_of(alloc: Global, value: &Value, word: Word, kind: SymbolKind) -> Result
 
 #[cycle(symbols)]
 #[tactic(auto, using(crate::proofs::SymbolNestingLemmas::symbol_nesting), unfolding(crate::specs::Symbols::group_at))]
-fn group_of(alloc: Global, value: &Value) -> Result<Symbol, ReadError>
+fn group_of(alloc: Global, value: &JsonValue<'_>) -> Result<Symbol, ReadError>
     ensures { Gives result (group_at symbol_at (view value.now)) }
 {
     keys(alloc, value, &[Key::Expr, Key::Kind, Key::Span])?;
@@ -104,7 +109,7 @@ fn group_of(alloc: Global, value: &Value) -> Result<Symbol, ReadError>
 
 #[cycle(symbols)]
 #[tactic(auto, using(crate::proofs::SymbolNestingLemmas::symbol_nesting), unfolding(crate::specs::Symbols::macro_at))]
-fn macro_of(alloc: Global, value: &Value) -> Result<Symbol, ReadError>
+fn macro_of(alloc: Global, value: &JsonValue<'_>) -> Result<Symbol, ReadError>
     ensures { Gives result (macro_at symbol_at (view value.now)) }
 {
     keys(alloc, value, &[Key::Args, Key::Kind, Key::Name, Key::Span])?;
@@ -121,7 +126,7 @@ fn macro_of(alloc: Global, value: &Value) -> Result<Symbol, ReadError>
 
 #[cycle(symbols)]
 #[tactic(auto, using(crate::proofs::SymbolNestingLemmas::symbol_nesting), unfolding(crate::specs::Symbols::repeat_at))]
-fn repeat_of(alloc: Global, value: &Value) -> Result<Symbol, ReadError>
+fn repeat_of(alloc: Global, value: &JsonValue<'_>) -> Result<Symbol, ReadError>
     ensures { Gives result (repeat_at symbol_at (view value.now)) }
 {
     keys(alloc, value, &[Key::Kind, Key::Op, Key::Span, Key::Symbol])?;
@@ -138,7 +143,7 @@ fn repeat_of(alloc: Global, value: &Value) -> Result<Symbol, ReadError>
 
 #[cycle(symbols)]
 #[tactic(auto, using(crate::proofs::SymbolNestingLemmas::symbol_nesting), unfolding(crate::specs::Symbols::choose_at))]
-fn choose_of(alloc: Global, value: &Value) -> Result<Symbol, ReadError>
+fn choose_of(alloc: Global, value: &JsonValue<'_>) -> Result<Symbol, ReadError>
     ensures { Gives result (choose_at symbol_at (view value.now)) }
 {
     keys(alloc, value, &[Key::Kind, Key::Span, Key::Symbol])?;
@@ -154,7 +159,7 @@ fn choose_of(alloc: Global, value: &Value) -> Result<Symbol, ReadError>
 
 #[cycle(symbols)]
 #[tactic(auto, using(crate::proofs::SymbolNestingLemmas::symbol_nesting), unfolding(crate::specs::Symbols::named_at))]
-fn named_of(alloc: Global, value: &Value) -> Result<Symbol, ReadError>
+fn named_of(alloc: Global, value: &JsonValue<'_>) -> Result<Symbol, ReadError>
     ensures { Gives result (named_at symbol_at (view value.now)) }
 {
     keys(
@@ -176,7 +181,7 @@ fn named_of(alloc: Global, value: &Value) -> Result<Symbol, ReadError>
 }
 
 #[tactic(auto, unfolding(crate::specs::Symbols::form_of_symbol))]
-fn form_of_symbol(value: &Value) -> Option<Form>
+fn form_of_symbol(value: &JsonValue<'_>) -> Option<Form>
     ensures { result ≡ form_of_symbol (view value.now) }
 {
     let words = [
@@ -207,7 +212,7 @@ fn form_of_symbol(value: &Value) -> Option<Form>
 /// A symbol.
 #[cycle(symbols)]
 #[tactic(auto, using(crate::proofs::SymbolNestingLemmas::symbol_nesting), unfolding(crate::specs::Symbols::symbol_layer_at))]
-pub fn symbol_of(alloc: Global, value: &Value) -> Result<Symbol, ReadError>
+pub fn symbol_of(alloc: Global, value: &JsonValue<'_>) -> Result<Symbol, ReadError>
     ensures { Gives result (symbol_at (view value.now)) }
 {
     match form_of_symbol(value) {
@@ -226,7 +231,7 @@ pub fn symbol_of(alloc: Global, value: &Value) -> Result<Symbol, ReadError>
 }
 
 #[cycle(symbols)]
-fn symbol_in(alloc: Global, value: &Value, index: usize) -> Result<Symbol, ReadError>
+fn symbol_in(alloc: Global, value: &JsonValue<'_>, index: usize) -> Result<Symbol, ReadError>
     ensures { Gives result (within (step.Index index) (symbol_at (view value.now))) }
 {
     match symbol_of(alloc, value) {
@@ -238,7 +243,7 @@ fn symbol_in(alloc: Global, value: &Value, index: usize) -> Result<Symbol, ReadE
 /// A list of symbols.
 #[cycle(symbols)]
 #[tactic(auto, using(crate::proofs::SymbolNestingLemmas::symbol_nesting, lalrpop_json_values::proofs::ListReadingLemmas::lists), unfolding(lalrpop_json_values::specs::Lists::list_at))]
-fn symbols_of(alloc: Global, value: &Value) -> Result<List<Symbol>, ReadError>
+fn symbols_of(alloc: Global, value: &JsonValue<'_>) -> Result<List<Symbol>, ReadError>
     ensures { Gives result (list_at (λ _. symbol_at) (view value.now)) }
 {
     let Some(values) = value.as_array() else {
@@ -255,7 +260,7 @@ fn symbols_of(alloc: Global, value: &Value) -> Result<List<Symbol>, ReadError>
 /// The symbol at a key.
 #[cycle(symbols)]
 #[tactic(auto, using(crate::proofs::SymbolNestingLemmas::symbol_nesting), unfolding(lalrpop_json_values::specs::Objects::field_at, lalrpop_json_values::specs::Objects::member_at))]
-pub fn symbol_field(alloc: Global, value: &Value, key: Key) -> Result<Symbol, ReadError>
+pub fn symbol_field(alloc: Global, value: &JsonValue<'_>, key: Key) -> Result<Symbol, ReadError>
     ensures { Gives result (field_at key symbol_at (view value.now)) }
 {
     let found = member(alloc, value, key)?;
@@ -265,7 +270,11 @@ pub fn symbol_field(alloc: Global, value: &Value, key: Key) -> Result<Symbol, Re
 /// The symbols at a key.
 #[cycle(symbols)]
 #[tactic(auto, using(crate::proofs::SymbolNestingLemmas::symbol_nesting), unfolding(lalrpop_json_values::specs::Objects::field_at, lalrpop_json_values::specs::Objects::member_at))]
-pub fn symbols_field(alloc: Global, value: &Value, key: Key) -> Result<List<Symbol>, ReadError>
+pub fn symbols_field(
+    alloc: Global,
+    value: &JsonValue<'_>,
+    key: Key,
+) -> Result<List<Symbol>, ReadError>
     ensures { Gives result (field_at key (list_at (λ _. symbol_at)) (view value.now)) }
 {
     let found = member(alloc, value, key)?;

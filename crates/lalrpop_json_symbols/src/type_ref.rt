@@ -1,7 +1,7 @@
 //! How declared types are read from JSON values.
 
 ghost use Rattle.std.specs.Prelude.{◌≡◌};
-ghost use Rattle.serde_json.specs.View.{view};
+ghost use Rattle.lalrpop_json_document.specs.DocumentViews.{view};
 ghost use Rattle.lalrpop_json_values.specs.Gives.{Gives, within};
 ghost use Rattle.lalrpop_json_values.specs.Lists.{list_at};
 ghost use Rattle.lalrpop_json_values.specs.Objects.{field_at};
@@ -12,15 +12,15 @@ ghost use Rattle.lalrpop_json_values.specs.declared.fault.Step.TheVariants as st
 use crate::symbol::symbol_field;
 use lalrpop_grammar_symbols::{Boxed, List};
 use lalrpop_grammar_types::TypeRef;
+use lalrpop_json_document::JsonValue;
 use lalrpop_json_values::{
     FaultKind, Form, Key, ReadError, Step, at_key, flag_field, form_by_key, here, keys, member,
     name_field, optional_text_field, outside, text_field,
 };
-use serde_json::Value;
 use std::alloc::Global;
 
 #[tactic(auto, unfolding(crate::specs::Types::id_type_at))]
-fn parameter_of(alloc: Global, value: &Value) -> Result<TypeRef, ReadError>
+fn parameter_of(alloc: Global, value: &JsonValue<'_>) -> Result<TypeRef, ReadError>
     ensures { Gives result (id_type_at (view value.now)) }
 {
     keys(alloc, value, &[Key::Id])?;
@@ -29,7 +29,7 @@ fn parameter_of(alloc: Global, value: &Value) -> Result<TypeRef, ReadError>
 }
 
 #[tactic(auto, unfolding(crate::specs::Types::of_symbol_at))]
-fn of_symbol_of(alloc: Global, value: &Value) -> Result<TypeRef, ReadError>
+fn of_symbol_of(alloc: Global, value: &JsonValue<'_>) -> Result<TypeRef, ReadError>
     ensures { Gives result (of_symbol_at (view value.now)) }
 {
     keys(alloc, value, &[Key::Symbol])?;
@@ -38,7 +38,7 @@ fn of_symbol_of(alloc: Global, value: &Value) -> Result<TypeRef, ReadError>
 }
 
 #[tactic(auto, unfolding(crate::specs::Types::opaque_at))]
-fn opaque_of(alloc: Global, value: &Value) -> Result<TypeRef, ReadError>
+fn opaque_of(alloc: Global, value: &JsonValue<'_>) -> Result<TypeRef, ReadError>
     ensures { Gives result (opaque_at (view value.now)) }
 {
     keys(alloc, value, &[Key::Text])?;
@@ -48,7 +48,7 @@ fn opaque_of(alloc: Global, value: &Value) -> Result<TypeRef, ReadError>
 
 #[cycle(types)]
 #[tactic(auto, using(crate::proofs::TypeNestingLemmas::type_nesting), unfolding(crate::specs::Types::tuple_at))]
-fn tuple_of(alloc: Global, value: &Value) -> Result<TypeRef, ReadError>
+fn tuple_of(alloc: Global, value: &JsonValue<'_>) -> Result<TypeRef, ReadError>
     ensures { Gives result (tuple_at type_at (view value.now)) }
 {
     keys(alloc, value, &[Key::Tuple])?;
@@ -58,7 +58,7 @@ fn tuple_of(alloc: Global, value: &Value) -> Result<TypeRef, ReadError>
 
 #[cycle(types)]
 #[tactic(auto, using(crate::proofs::TypeNestingLemmas::type_nesting), unfolding(crate::specs::Types::nominal_at))]
-fn nominal_of(alloc: Global, value: &Value) -> Result<TypeRef, ReadError>
+fn nominal_of(alloc: Global, value: &JsonValue<'_>) -> Result<TypeRef, ReadError>
     ensures { Gives result (nominal_at type_at (view value.now)) }
 {
     keys(alloc, value, &[Key::Args, Key::Path])?;
@@ -69,7 +69,7 @@ fn nominal_of(alloc: Global, value: &Value) -> Result<TypeRef, ReadError>
 
 #[cycle(types)]
 #[tactic(auto, using(crate::proofs::TypeNestingLemmas::type_nesting), unfolding(crate::specs::Types::ref_at))]
-fn ref_of(alloc: Global, value: &Value) -> Result<TypeRef, ReadError>
+fn ref_of(alloc: Global, value: &JsonValue<'_>) -> Result<TypeRef, ReadError>
     ensures { Gives result (ref_at type_at (view value.now)) }
 {
     keys(alloc, value, &[Key::Lifetime, Key::Mutable, Key::Ref])?;
@@ -87,7 +87,7 @@ fn ref_of(alloc: Global, value: &Value) -> Result<TypeRef, ReadError>
 /// A type.
 #[cycle(types)]
 #[tactic(auto, using(crate::proofs::TypeNestingLemmas::type_nesting), unfolding(crate::specs::Types::type_layer_at))]
-pub fn type_of(alloc: Global, value: &Value) -> Result<TypeRef, ReadError>
+pub fn type_of(alloc: Global, value: &JsonValue<'_>) -> Result<TypeRef, ReadError>
     ensures { Gives result (type_at (view value.now)) }
 {
     let rows = [
@@ -113,7 +113,7 @@ pub fn type_of(alloc: Global, value: &Value) -> Result<TypeRef, ReadError>
 }
 
 #[cycle(types)]
-fn type_in(alloc: Global, value: &Value, index: usize) -> Result<TypeRef, ReadError>
+fn type_in(alloc: Global, value: &JsonValue<'_>, index: usize) -> Result<TypeRef, ReadError>
     ensures { Gives result (within (step.Index index) (type_at (view value.now))) }
 {
     match type_of(alloc, value) {
@@ -125,7 +125,7 @@ fn type_in(alloc: Global, value: &Value, index: usize) -> Result<TypeRef, ReadEr
 /// A list of types.
 #[cycle(types)]
 #[tactic(auto, using(crate::proofs::TypeNestingLemmas::type_nesting, lalrpop_json_values::proofs::ListReadingLemmas::lists), unfolding(lalrpop_json_values::specs::Lists::list_at))]
-fn types_of(alloc: Global, value: &Value) -> Result<List<TypeRef>, ReadError>
+fn types_of(alloc: Global, value: &JsonValue<'_>) -> Result<List<TypeRef>, ReadError>
     ensures { Gives result (list_at (λ _. type_at) (view value.now)) }
 {
     let Some(values) = value.as_array() else {
@@ -142,7 +142,7 @@ fn types_of(alloc: Global, value: &Value) -> Result<List<TypeRef>, ReadError>
 /// The type at a key.
 #[cycle(types)]
 #[tactic(auto, using(crate::proofs::TypeNestingLemmas::type_nesting), unfolding(lalrpop_json_values::specs::Objects::field_at, lalrpop_json_values::specs::Objects::member_at))]
-fn referent_field(alloc: Global, value: &Value, key: Key) -> Result<TypeRef, ReadError>
+fn referent_field(alloc: Global, value: &JsonValue<'_>, key: Key) -> Result<TypeRef, ReadError>
     ensures { Gives result (field_at key type_at (view value.now)) }
 {
     let found = member(alloc, value, key)?;
@@ -152,7 +152,7 @@ fn referent_field(alloc: Global, value: &Value, key: Key) -> Result<TypeRef, Rea
 /// The types at a key.
 #[cycle(types)]
 #[tactic(auto, using(crate::proofs::TypeNestingLemmas::type_nesting), unfolding(lalrpop_json_values::specs::Objects::field_at, lalrpop_json_values::specs::Objects::member_at))]
-fn types_field(alloc: Global, value: &Value, key: Key) -> Result<List<TypeRef>, ReadError>
+fn types_field(alloc: Global, value: &JsonValue<'_>, key: Key) -> Result<List<TypeRef>, ReadError>
     ensures { Gives result (field_at key (list_at (λ _. type_at)) (view value.now)) }
 {
     let found = member(alloc, value, key)?;
@@ -160,7 +160,7 @@ fn types_field(alloc: Global, value: &Value, key: Key) -> Result<List<TypeRef>, 
 }
 
 /// `null`, or a type.
-fn optional_type_of(alloc: Global, value: &Value) -> Result<Option<TypeRef>, ReadError>
+fn optional_type_of(alloc: Global, value: &JsonValue<'_>) -> Result<Option<TypeRef>, ReadError>
     ensures { Gives result (optional type_at (view value.now)) }
 {
     if value.is_null() {
@@ -172,7 +172,11 @@ fn optional_type_of(alloc: Global, value: &Value) -> Result<Option<TypeRef>, Rea
 
 /// The type at a key, or `null`.
 #[tactic(auto, unfolding(lalrpop_json_values::specs::Objects::field_at, lalrpop_json_values::specs::Objects::member_at))]
-pub fn type_field(alloc: Global, value: &Value, key: Key) -> Result<Option<TypeRef>, ReadError>
+pub fn type_field(
+    alloc: Global,
+    value: &JsonValue<'_>,
+    key: Key,
+) -> Result<Option<TypeRef>, ReadError>
     ensures { Gives result (field_at key (optional type_at) (view value.now)) }
 {
     let found = member(alloc, value, key)?;

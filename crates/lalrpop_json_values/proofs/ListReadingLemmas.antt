@@ -3,8 +3,8 @@ use Rattle.std.proofs.Common.{◌≡◌, ℕ, ◌+◌, ◌<◌, ◌≤◌, List,
 use Rattle.std.proofs.Common.{Err, refl, ap, sym, ◌∙◌, append_assoc, append-nil, add-one, drop-cons}
 use Rattle.std.proofs.Math.ListN.{drop_of_length-le}
 use Rattle.serde_json.specs.Data.{Data}
-use Rattle.serde_json.specs.View.{view, items_view}
-use Rattle.serde_json.specs.declared.value.Value.{Value}
+use Rattle.lalrpop_json_document.specs.DocumentViews.{view, items_view}
+use Rattle.lalrpop_json_document.specs.declared.value.JsonValue.{JsonValue}
 use Rattle.lalrpop_json_values.specs.declared.fault.Fault.{Fault}
 use Rattle.lalrpop_json_values.specs.declared.fault.Step.TheVariants.{Index}
 use Rattle.lalrpop_json_values.specs.declared.fault.ReadError.{ReadError}
@@ -21,7 +21,7 @@ front_more : {A : Type 0} (front : List A) (x : A) (read : Result (List A) Fault
 front_more front x (Ok xs) = ap Ok (sym (append_assoc front (x ∷ []) xs))
 front_more front x (Err e) = refl
 
-module _ {A : Type 0} (read : ℕ → Data → Result A Fault) (vs : List Value) where
+module _ {A : Type 0} (read : ℕ → Data → Result A Fault) (vs : List JsonValue) where
   -- what is still to be read
   abbrev pub rest_of : ℕ → Result (List A) Fault
   rest_of i = list_from read i (items_view (drop i vs))
@@ -33,17 +33,17 @@ module _ {A : Type 0} (read : ℕ → Data → Result A Fault) (vs : List Value)
   pub starts : IsAt [] 0
   starts = front_none (rest_of 0)
 
-  opened : (i : ℕ) (v : Value) → i < length vs
+  opened : (i : ℕ) (v : JsonValue) → i < length vs
       → rest_of i ≡ (within (Index i) (read i (view (get_or vs i v))) >>= λ x. with_first x (rest_of (i + 1)))
   opened i v h = simp (add-one, drop-cons vs i v h) refl
 
-  pub goes_on : (front : List A) (i : ℕ) (v : Value) (x : A) → i < length vs
+  pub goes_on : (front : List A) (i : ℕ) (v : JsonValue) (x : A) → i < length vs
       → within (Index i) (read i (view (get_or vs i v))) ≡ Ok x → IsAt front i → IsAt (front ++ x ∷ []) (i + 1)
   goes_on front i v x h e at =
       let step : rest_of i ≡ with_first x (rest_of (i + 1)) = opened i v h ∙ rw e refl in
       sym (front_more front x (rest_of (i + 1))) ∙ ap (with_front front) (sym step) ∙ at
 
-  pub stops : (front : List A) (i : ℕ) (v : Value) (e : ReadError) → i < length vs
+  pub stops : (front : List A) (i : ℕ) (v : JsonValue) (e : ReadError) → i < length vs
       → Fails e (within (Index i) (read i (view (get_or vs i v)))) → IsAt front i
       → Fails e (rest_of 0)
   stops front i v Memory h fails at = tt

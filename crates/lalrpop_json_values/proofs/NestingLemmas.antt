@@ -6,8 +6,8 @@ use Rattle.std.specs.Cmp.Lexicographic.{slice_cmp}
 use Rattle.serde_json.specs.Data.{Data, null, boolean, number, string, array, object, Items, no_items, item, Members, no_members, member}
 use Rattle.serde_json.specs.Data.{depth, items_depth, members_depth}
 use Rattle.serde_json.specs.Find.{get, get_member, as_array}
-use Rattle.serde_json.specs.View.{view, items_view}
-use Rattle.serde_json.specs.declared.value.Value.{Value}
+use Rattle.lalrpop_json_document.specs.DocumentViews.{view, items_view}
+use Rattle.lalrpop_json_document.specs.declared.value.JsonValue.{JsonValue}
 use Rattle.lalrpop_json_values.specs.declared.fault.Step.TheVariants as step
 use Rattle.lalrpop_json_values.specs.declared.key.Key.{Key}
 use Rattle.lalrpop_json_values.specs.Gives.{◌>>=◌, required_value, within}
@@ -45,7 +45,7 @@ unfolding member_at
 below_member k d e h = below_get (key_text k) d e (required_ok (get (key_text k) d) e h)
 
 -- so is one of a list
-pub below_items : (vs : List Value) (i : ℕ) (v : Value) → i < length vs
+pub below_items : (vs : List JsonValue) (i : ℕ) (v : JsonValue) → i < length vs
     → depth (view (get_or vs i v)) < suc (items_depth (items_view vs))
 below_items [] i v h = absurd (omega arith)
 below_items (x ∷ vs) zero v h = omega arith

@@ -1,12 +1,12 @@
 //! Telling which form a value has.
 
 ghost use Rattle.std.specs.Prelude.{◌≡◌};
-ghost use Rattle.serde_json.specs.View.{view};
+ghost use Rattle.lalrpop_json_document.specs.DocumentViews.{view};
 ghost use Rattle.lalrpop_json_values.specs.Forms.{form_by_word, form_by_key, form_at};
 
 use crate::key::Key;
 use crate::word::Word;
-use serde_json::Value;
+use lalrpop_json_document::JsonValue;
 
 /// A form of a value that has several.
 #[derive(Clone, Copy, Debug, PartialEq, Eq)]
@@ -91,7 +91,7 @@ fn form_by_word(words: &[(Word, Form)], text: &str) -> Option<Form>
 }
 
 /// The form that the first of these keys tells which the value has. The keys are in byte order.
-pub fn form_by_key(rows: &[(Key, Form)], value: &Value) -> Option<Form>
+pub fn form_by_key(rows: &[(Key, Form)], value: &JsonValue<'_>) -> Option<Form>
     ensures { result ≡ form_by_key rows.now (view value.now) }
 {
     for (key, form) in rows {
@@ -104,7 +104,7 @@ pub fn form_by_key(rows: &[(Key, Form)], value: &Value) -> Option<Form>
 
 /// The form that `kind` tells, or without one the first key.
 #[tactic(auto, unfolding(crate::specs::Forms::form_at))]
-pub fn form_of(words: &[(Word, Form)], rows: &[(Key, Form)], value: &Value) -> Option<Form>
+pub fn form_of(words: &[(Word, Form)], rows: &[(Key, Form)], value: &JsonValue<'_>) -> Option<Form>
     ensures { result ≡ form_at words.now rows.now (view value.now) }
 {
     let Some(kind) = value.get(Key::Kind.text()) else {

@@ -1,17 +1,16 @@
 //! The members of an object, and the faults that are told at it.
 
-ghost use Rattle.std.specs.Prelude.{◌≡◌, [], map, option_map, string_bytes, IsErrAnd, IfOk, IfErr};
-ghost use Rattle.std.specs.BTreeMap.{keys};
-ghost use Rattle.serde_json.specs.View.{view};
+ghost use Rattle.std.specs.Prelude.{◌≡◌, [], option_map, IsErrAnd, IfOk, IfErr};
+ghost use Rattle.lalrpop_json_document.specs.DocumentViews.{members_view, view};
 ghost use Rattle.lalrpop_json_values.specs.Gives.{Gives, GivesBy, IsWithin};
-ghost use Rattle.lalrpop_json_values.specs.Objects.{are_named, first_missing, first_unknown, is_listed, keys_at, member_at, keys_fault};
+ghost use Rattle.lalrpop_json_values.specs.Objects.{are_named, first_missing, first_unknown, is_listed, keys_at, member_at, keys_fault, names};
 ghost use Rattle.lalrpop_json_values.specs.declared.fault.Step.TheVariants as step;
 ghost use Rattle.lalrpop_json_values.specs.declared.fault.ReadError.TheVariants as errors;
 
 use crate::fault::{FaultKind, ReadError, Step};
 use crate::key::Key;
 use lalrpop_grammar_symbols::{Atom, List};
-use serde_json::{Map, Value};
+use lalrpop_json_document::{JsonValue, Members};
 use std::alloc::{AllocError, Global};
 
 /// A fault of the value itself.
@@ -38,16 +37,15 @@ pub fn outside(error: ReadError, step: Step) -> ReadError
 }
 
 /// Whether the members are named so, in this order.
-#[tactic(auto, using(crate::proofs::MemberNameLemmas::named_none))]
-fn are_named(members: &Map<String, Value>, wanted: &[Key]) -> bool
-    ensures { result ≡ are_named wanted.now (map (λ k. string_bytes k) (keys members.now)) }
+fn are_named(members: &Members<'_>, wanted: &[Key]) -> bool
+    ensures { result ≡ are_named wanted.now (names (members_view members.now.items)) }
 {
     let mut rest = wanted;
-    for name in members.keys() {
+    for (name, _) in members {
         let Some((key, more)) = rest.split_first() else {
             return false;
         };
-        if key.text() != name.as_str() {
+        if key.text() != *name {
             return false;
         }
         rest = more;
@@ -55,7 +53,7 @@ fn are_named(members: &Map<String, Value>, wanted: &[Key]) -> bool
     rest.is_empty()
 }
 
-fn missing(value: &Value, wanted: &[Key]) -> Option<Key>
+fn missing(value: &JsonValue<'_>, wanted: &[Key]) -> Option<Key>
     ensures { result ≡ first_missing wanted.now (view value.now) }
 {
     for key in wanted {
@@ -77,13 +75,13 @@ fn is_listed(wanted: &[Key], name: &str) -> bool
     false
 }
 
-fn unknown<'v>(members: &'v Map<String, Value>, wanted: &[Key]) -> Option<&'v str>
+fn unknown<'t>(members: &Members<'t>, wanted: &[Key]) -> Option<&'t str>
     ensures { option_map (λ k. k.now) result
-        ≡ first_unknown wanted.now (map (λ k. string_bytes k) (keys members.now)) }
+        ≡ first_unknown wanted.now (names (members_view members.now.items)) }
 {
-    for name in members.keys() {
-        if !is_listed(wanted, name.as_str()) {
-            return Some(name.as_str());
+    for (name, _) in members {
+        if !is_listed(wanted, name) {
+            return Some(*name);
         }
     }
     None
@@ -92,12 +90,12 @@ fn unknown<'v>(members: &'v Map<String, Value>, wanted: &[Key]) -> Option<&'v st
 /// What is wrong with the keys of an object that aren't the wanted ones.
 fn wrong_keys(
     alloc: Global,
-    value: &Value,
-    members: &Map<String, Value>,
+    value: &JsonValue<'_>,
+    members: &Members<'_>,
     wanted: &[Key],
 ) -> Result<FaultKind, AllocError>
     ensures { IfOk result (λ kind. kind ≡ keys_fault (first_missing wanted.now (view value.now))
-        (first_unknown wanted.now (map (λ k. string_bytes k) (keys members.now)))) }
+        (first_unknown wanted.now (names (members_view members.now.items)))) }
 {
     if let Some(key) = missing(value, wanted) {
         return Ok(FaultKind::MissingKey(key));
@@ -109,8 +107,8 @@ fn wrong_keys(
 }
 
 /// That the value is an object with these keys and no others. The keys are in byte order.
-#[tactic(auto, using(crate::proofs::MemberNameLemmas::member_names), unfolding(crate::specs::Objects::keys_at))]
-pub fn keys(alloc: Global, value: &Value, wanted: &[Key]) -> Result<(), ReadError>
+#[tactic(auto, unfolding(crate::specs::Objects::keys_at))]
+pub fn keys(alloc: Global, value: &JsonValue<'_>, wanted: &[Key]) -> Result<(), ReadError>
     ensures { Gives result (keys_at wanted.now (view value.now)) }
 {
     let Some(members) = value.as_object() else {
@@ -125,7 +123,11 @@ pub fn keys(alloc: Global, value: &Value, wanted: &[Key]) -> Result<(), ReadErro
 
 /// The value at a key.
 #[tactic(auto, unfolding(crate::specs::Objects::member_at))]
-pub fn member<'v>(alloc: Global, value: &'v Value, key: Key) -> Result<&'v Value, ReadError>
+pub fn member<'v, 't>(
+    alloc: Global,
+    value: &'v JsonValue<'t>,
+    key: Key,
+) -> Result<&'v JsonValue<'t>, ReadError>
     ensures { GivesBy (λ v. view v.now) result (member_at key (view value.now)) }
 {
     match value.get(key.text()) {

@@ -2,7 +2,7 @@
 
 ghost use Rattle.std.specs.Prelude.{◌≡◌, ⊤};
 ghost use Rattle.std.specs.List.{list_all};
-ghost use Rattle.serde_json.specs.View.{view};
+ghost use Rattle.lalrpop_json_document.specs.DocumentViews.{view};
 ghost use Rattle.lalrpop_json_values.specs.Gives.{Gives};
 ghost use Rattle.lalrpop_json_values.specs.Objects.{field_at};
 ghost use Rattle.lalrpop_json_values.specs.Scalars.{number_at, span_at, text_at, flag_at, null_at, optional, name_at, word_at, begins_name, continues_name, is_name};
@@ -12,12 +12,12 @@ use crate::key::Key;
 use crate::object::{at_index, at_key, here, member};
 use crate::word::Word;
 use lalrpop_grammar_symbols::{Atom, Span};
-use serde_json::Value;
+use lalrpop_json_document::JsonValue;
 use std::alloc::Global;
 
 /// A whole number below 2^32.
 #[tactic(auto, unfolding(crate::specs::Scalars::number_at))]
-pub fn number_of(alloc: Global, value: &Value) -> Result<u32, ReadError>
+pub fn number_of(alloc: Global, value: &JsonValue<'_>) -> Result<u32, ReadError>
     ensures { Gives result (number_at (view value.now)) }
 {
     if value.as_number().is_none() {
@@ -31,7 +31,7 @@ pub fn number_of(alloc: Global, value: &Value) -> Result<u32, ReadError>
 
 /// Two numbers in a list, the first not above the second.
 #[tactic(auto, using(crate::proofs::PairLemmas::pairs), unfolding(crate::specs::Scalars::span_at))]
-pub fn span_of(alloc: Global, value: &Value) -> Result<Span, ReadError>
+pub fn span_of(alloc: Global, value: &JsonValue<'_>) -> Result<Span, ReadError>
     ensures { Gives result (span_at (view value.now)) }
 {
     let Some(ends) = value.as_array() else {
@@ -50,7 +50,7 @@ pub fn span_of(alloc: Global, value: &Value) -> Result<Span, ReadError>
 
 /// Any text.
 #[tactic(auto, unfolding(crate::specs::Scalars::text_at))]
-pub fn text_of(alloc: Global, value: &Value) -> Result<Atom, ReadError>
+pub fn text_of(alloc: Global, value: &JsonValue<'_>) -> Result<Atom, ReadError>
     ensures { Gives result (text_at (view value.now)) }
 {
     match value.as_str() {
@@ -89,7 +89,7 @@ pub fn is_name(text: &str) -> bool
 
 /// A name.
 #[tactic(auto, unfolding(crate::specs::Scalars::name_at))]
-pub fn name_of(alloc: Global, value: &Value) -> Result<Atom, ReadError>
+pub fn name_of(alloc: Global, value: &JsonValue<'_>) -> Result<Atom, ReadError>
     ensures { Gives result (name_at (view value.now)) }
 {
     let Some(text) = value.as_str() else {
@@ -104,7 +104,7 @@ pub fn name_of(alloc: Global, value: &Value) -> Result<Atom, ReadError>
 
 /// This very word.
 #[tactic(auto, unfolding(crate::specs::Scalars::word_at))]
-pub fn word_of(alloc: Global, value: &Value, word: Word) -> Result<(), ReadError>
+pub fn word_of(alloc: Global, value: &JsonValue<'_>, word: Word) -> Result<(), ReadError>
     ensures { Gives result (word_at word (view value.now)) }
 {
     match value.as_str() {
@@ -115,7 +115,7 @@ pub fn word_of(alloc: Global, value: &Value, word: Word) -> Result<(), ReadError
 
 /// `true` or `false`.
 #[tactic(auto, unfolding(crate::specs::Scalars::flag_at))]
-pub fn flag_of(alloc: Global, value: &Value) -> Result<bool, ReadError>
+pub fn flag_of(alloc: Global, value: &JsonValue<'_>) -> Result<bool, ReadError>
     ensures { Gives result (flag_at (view value.now)) }
 {
     match value.as_bool() {
@@ -126,7 +126,7 @@ pub fn flag_of(alloc: Global, value: &Value) -> Result<bool, ReadError>
 
 /// `null` alone.
 #[tactic(auto, unfolding(crate::specs::Scalars::null_at))]
-pub fn null_of(alloc: Global, value: &Value) -> Result<(), ReadError>
+pub fn null_of(alloc: Global, value: &JsonValue<'_>) -> Result<(), ReadError>
     ensures { Gives result (null_at (view value.now)) }
 {
     if value.is_null() {
@@ -137,7 +137,7 @@ pub fn null_of(alloc: Global, value: &Value) -> Result<(), ReadError>
 }
 
 /// `null`, or any text.
-pub fn optional_text_of(alloc: Global, value: &Value) -> Result<Option<Atom>, ReadError>
+pub fn optional_text_of(alloc: Global, value: &JsonValue<'_>) -> Result<Option<Atom>, ReadError>
     ensures { Gives result (optional text_at (view value.now)) }
 {
     if value.is_null() {
@@ -149,7 +149,7 @@ pub fn optional_text_of(alloc: Global, value: &Value) -> Result<Option<Atom>, Re
 
 /// The span at a key.
 #[tactic(auto, unfolding(crate::specs::Objects::field_at, crate::specs::Objects::member_at))]
-pub fn span_field(alloc: Global, value: &Value, key: Key) -> Result<Span, ReadError>
+pub fn span_field(alloc: Global, value: &JsonValue<'_>, key: Key) -> Result<Span, ReadError>
     ensures { Gives result (field_at key span_at (view value.now)) }
 {
     let found = member(alloc, value, key)?;
@@ -158,7 +158,7 @@ pub fn span_field(alloc: Global, value: &Value, key: Key) -> Result<Span, ReadEr
 
 /// The text at a key.
 #[tactic(auto, unfolding(crate::specs::Objects::field_at, crate::specs::Objects::member_at))]
-pub fn text_field(alloc: Global, value: &Value, key: Key) -> Result<Atom, ReadError>
+pub fn text_field(alloc: Global, value: &JsonValue<'_>, key: Key) -> Result<Atom, ReadError>
     ensures { Gives result (field_at key text_at (view value.now)) }
 {
     let found = member(alloc, value, key)?;
@@ -167,7 +167,7 @@ pub fn text_field(alloc: Global, value: &Value, key: Key) -> Result<Atom, ReadEr
 
 /// The name at a key.
 #[tactic(auto, unfolding(crate::specs::Objects::field_at, crate::specs::Objects::member_at))]
-pub fn name_field(alloc: Global, value: &Value, key: Key) -> Result<Atom, ReadError>
+pub fn name_field(alloc: Global, value: &JsonValue<'_>, key: Key) -> Result<Atom, ReadError>
     ensures { Gives result (field_at key name_at (view value.now)) }
 {
     let found = member(alloc, value, key)?;
@@ -176,7 +176,7 @@ pub fn name_field(alloc: Global, value: &Value, key: Key) -> Result<Atom, ReadEr
 
 /// The number at a key.
 #[tactic(auto, unfolding(crate::specs::Objects::field_at, crate::specs::Objects::member_at))]
-pub fn number_field(alloc: Global, value: &Value, key: Key) -> Result<u32, ReadError>
+pub fn number_field(alloc: Global, value: &JsonValue<'_>, key: Key) -> Result<u32, ReadError>
     ensures { Gives result (field_at key number_at (view value.now)) }
 {
     let found = member(alloc, value, key)?;
@@ -185,7 +185,12 @@ pub fn number_field(alloc: Global, value: &Value, key: Key) -> Result<u32, ReadE
 
 /// That this word stands at a key.
 #[tactic(auto, unfolding(crate::specs::Objects::field_at, crate::specs::Objects::member_at))]
-pub fn word_field(alloc: Global, value: &Value, key: Key, word: Word) -> Result<(), ReadError>
+pub fn word_field(
+    alloc: Global,
+    value: &JsonValue<'_>,
+    key: Key,
+    word: Word,
+) -> Result<(), ReadError>
     ensures { Gives result (field_at key (word_at word) (view value.now)) }
 {
     let found = member(alloc, value, key)?;
@@ -194,7 +199,7 @@ pub fn word_field(alloc: Global, value: &Value, key: Key, word: Word) -> Result<
 
 /// The `true` or `false` at a key.
 #[tactic(auto, unfolding(crate::specs::Objects::field_at, crate::specs::Objects::member_at))]
-pub fn flag_field(alloc: Global, value: &Value, key: Key) -> Result<bool, ReadError>
+pub fn flag_field(alloc: Global, value: &JsonValue<'_>, key: Key) -> Result<bool, ReadError>
     ensures { Gives result (field_at key flag_at (view value.now)) }
 {
     let found = member(alloc, value, key)?;
@@ -203,7 +208,7 @@ pub fn flag_field(alloc: Global, value: &Value, key: Key) -> Result<bool, ReadEr
 
 /// That `null` stands at a key.
 #[tactic(auto, unfolding(crate::specs::Objects::field_at, crate::specs::Objects::member_at))]
-pub fn null_field(alloc: Global, value: &Value, key: Key) -> Result<(), ReadError>
+pub fn null_field(alloc: Global, value: &JsonValue<'_>, key: Key) -> Result<(), ReadError>
     ensures { Gives result (field_at key null_at (view value.now)) }
 {
     let found = member(alloc, value, key)?;
@@ -214,7 +219,7 @@ pub fn null_field(alloc: Global, value: &Value, key: Key) -> Result<(), ReadErro
 #[tactic(auto, unfolding(crate::specs::Objects::field_at, crate::specs::Objects::member_at))]
 pub fn optional_text_field(
     alloc: Global,
-    value: &Value,
+    value: &JsonValue<'_>,
     key: Key,
 ) -> Result<Option<Atom>, ReadError>
     ensures { Gives result (field_at key (optional text_at) (view value.now)) }

@@ -12,6 +12,7 @@ ghost use Rattle.lalrpop_json_writer.specs.Written.{AreReadableParts, WritesGram
 use crate::fault::WriteError;
 use lalrpop_grammar::Grammar;
 use lalrpop_grammar_symbols::Atom;
+use lalrpop_json_document::lend_value;
 use lalrpop_json_items_writer::{are_readable_items, items_value};
 use lalrpop_json_symbols_writer::{
     are_readable_attributes, attributes_value, is_readable_span, span_value,
@@ -34,7 +35,8 @@ fn is_free_prefix(alloc: Global, prefix: &Atom, value: &Value) -> Result<bool, A
     ensures { IfOk result (λ is. IsTrue is
         ↔ IsFreePrefix (strings (view value.now)) prefix.now) }
 {
-    let wanted = prefix_past(alloc, longest_in(value))?;
+    let document = lend_value(alloc, value)?;
+    let wanted = prefix_past(alloc, longest_in(&document))?;
     Ok(wanted == *prefix)
 }
 

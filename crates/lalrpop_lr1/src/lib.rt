@@ -9,6 +9,7 @@ pub use lalrpop_lr1_collapse::collapse_to_lalr_states;
 pub use lalrpop_lr1_construction::{Kernel, LookaheadBuild, Lr};
 pub use lalrpop_lr1_first::FirstSets;
 pub use lalrpop_lr1_inline::{InlineFault, inline, inline_order};
+pub use lalrpop_lr1_interpret::{InterpretError, InterpretFault, interpret, interpret_partial};
 pub use lalrpop_lr1_items::{
     Action, Conflict, Item, Items, Lookahead, LookaheadInterpret, Lr0Conflict, Lr0Item, Lr0Items,
     Lr0State, Lr0TableConstructionError, Lr1Conflict, Lr1Item, Lr1Items, Lr1Result, Lr1State,
@@ -16,6 +17,6 @@ pub use lalrpop_lr1_items::{
     SymbolSets, TableConstructionError, TableFault,
 };
 pub use lalrpop_lr1_parse::{
-    ActionTable, Columns, ExpandedTree, InterpretError, InterpretFault, NoTrees, ParseTree, Stop,
-    TreeRef, TreeStack, interpret, interpret_partial, parse_limited,
+    ActionTable, Columns, ExpandedTree, NoTrees, Stop, TreeRef, TreeStack, parse_limited,
 };
+pub use lalrpop_lr1_parse_trees::ParseTree;

@@ -8,11 +8,11 @@ use Rattle.lalrpop_lr1_theory.specs.Productions.{Production}
 use Rattle.lalrpop_sets.specs.TokenTexts.{next_text}
 use Rattle.lalrpop_lr1_items.specs.Views.{lr_state_view, token_lookahead}
 use Rattle.lalrpop_lr1_items.specs.declared.state.State.{State}
-use Rattle.lalrpop_lr1_parse.specs.Interpretations.{IsRightInterpretation}
+use Rattle.lalrpop_lr1_interpret.specs.Interpretations.{IsRightInterpretation}
 use Rattle.lalrpop_lr1_parse_trees.specs.ParseTreeTexts.{parse_tree_text}
-use Rattle.lalrpop_lr1_parse.specs.declared.interpret_fault.InterpretError.{InterpretError}
-use Rattle.lalrpop_lr1_parse.specs.declared.interpret_fault.InterpretFault.{InterpretFault}
-use Rattle.lalrpop_lr1_parse.specs.declared.interpret_fault.InterpretFault.TheVariants as faults
+use Rattle.lalrpop_lr1_interpret.specs.declared.interpret_fault.InterpretError.{InterpretError}
+use Rattle.lalrpop_lr1_interpret.specs.declared.interpret_fault.InterpretFault.{InterpretFault}
+use Rattle.lalrpop_lr1_interpret.specs.declared.interpret_fault.InterpretFault.TheVariants as faults
 use Rattle.lalrpop_lr1_parse_trees.specs.declared.parse_tree.ParseTree.{ParseTree}
 
 -- in which state tokens are stuck, and on what

@@ -7,9 +7,9 @@ ghost use Rattle.lalrpop_lr1_answers.specs.TokenAnswers.{TellsFault, TellsTokens
 use crate::fault::AnswerFault;
 use lalrpop_grammar_repr::TerminalSet;
 use lalrpop_grammar_symbols::TerminalString;
+use lalrpop_lr1_interpret::{InterpretError, InterpretFault, interpret};
 use lalrpop_lr1_items::Lr1State;
 use lalrpop_lr1_lines::read_tokens;
-use lalrpop_lr1_parse::{InterpretError, InterpretFault, interpret};
 use std::alloc::{AllocError, Global};
 
 /// The text of what is stuck.

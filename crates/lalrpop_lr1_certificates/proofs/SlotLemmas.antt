@@ -7,7 +7,7 @@ use Rattle.std.proofs.Common.{◌+◌, ◌⊎◌, length-append}
 use Rattle.std.proofs.Common.{append_assoc}
 use Rattle.std.proofs.lemmas.List.{length-map, length-set, map-append}
 use Rattle.std.proofs.lemmas.Option.{slice_get_within}
-use Rattle.lalrpop_lr1_shown_laws.proofs.PassedOnLemmas.{before_or_end}
+use Rattle.lalrpop_lr1_theory.proofs.ListLemmas.{before_or_end}
 use Rattle.lalrpop_lr1_theory.proofs.StepLemmas.{some_same}
 use Rattle.lalrpop_sets.specs.TokensLeft.{token_seen}
 use Rattle.lalrpop_sets.specs.declared.token.TokenRef.{TokenRef}

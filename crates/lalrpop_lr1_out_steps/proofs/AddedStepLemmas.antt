@@ -7,7 +7,7 @@ use Rattle.lalrpop_grammar_symbols.specs.declared.names.NonterminalString.{Nonte
 use Rattle.lalrpop_grammar_repr.specs.declared.production.Symbol.{Symbol}
 use Rattle.lalrpop_grammar_repr.specs.declared.production.Symbol.TheVariants as symbols
 use Rattle.lalrpop_lr1_theory.specs.Productions as theory
-use Rattle.lalrpop_lr1_theory.proofs.ListLemmas.{get_front}
+use Rattle.lalrpop_lr1_theory.proofs.ListLemmas.{before_or_end, get_front}
 use Rattle.lalrpop_lr1_theory.proofs.StepLemmas.{some_same}
 use Rattle.lalrpop_lr1_items.specs.Dots.{at_dot, behind_cursor, symbol_and_rest}
 use Rattle.lalrpop_lr1_items.specs.declared.item.Item.{Item}
@@ -19,7 +19,7 @@ use Rattle.lalrpop_lr1_out_steps.specs.OutSteps.{IsNodeIfSome, StepsAreBelow}
 use Rattle.lalrpop_lr1_out_steps.specs.ToldSteps.{AddsOutSteps, AreStepsOfStates, HasNameNumber, HasToldStep, IsBackBy, IsNodeBy}
 use Rattle.lalrpop_lr1_out_steps.specs.ToldSteps.{IsOutItem, IsStepOfStates, IsToldStep}
 use Rattle.lalrpop_lr1_out_steps.specs.declared.out_steps.OutStep.{OutStep}
-use Rattle.lalrpop_lr1_out_steps.proofs.ListLemmas.{alone, at_end, before_or_end}
+use Rattle.lalrpop_lr1_out_steps.proofs.ListLemmas.{alone, at_end}
 
 -- the symbol behind a dot with those behind it
 pub dot_parts : {L : Type 0} (item : Item L) (parts : Symbol × List Symbol) → Some parts ≡ symbol_and_rest item →

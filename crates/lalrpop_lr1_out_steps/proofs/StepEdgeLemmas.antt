@@ -6,7 +6,7 @@ use Rattle.std.proofs.lemmas.List.{length_push}
 use Rattle.std.proofs.lemmas.Option.{slice_get_within}
 use Rattle.lalrpop_grammar_repr.specs.declared.grammar.Grammar.{Grammar}
 use Rattle.lalrpop_lr1_theory.specs.Productions as theory
-use Rattle.lalrpop_lr1_theory.proofs.ListLemmas.{get_front}
+use Rattle.lalrpop_lr1_theory.proofs.ListLemmas.{before_or_end, get_front}
 use Rattle.lalrpop_lr1_theory.proofs.StepLemmas.{some_same}
 use Rattle.lalrpop_lr1_first.specs.FirstSetsOf.{IsProductionOf}
 use Rattle.lalrpop_lr1_first.specs.NumberedGrammars.{IsNumberTableOf}
@@ -20,7 +20,7 @@ use Rattle.lalrpop_lr1_out_steps.specs.OutSteps.{LeadsAsStep, StepsAreBelow, ste
 use Rattle.lalrpop_lr1_out_steps.specs.EmptySteps.{ListsStep}
 use Rattle.lalrpop_lr1_out_steps.specs.declared.out_steps.OutStep.{OutStep}
 use Rattle.lalrpop_lr1_out_steps.specs.declared.out_graphs.ListedSteps.{ListedSteps}
-use Rattle.lalrpop_lr1_out_steps.proofs.ListLemmas.{at_end, before_or_end}
+use Rattle.lalrpop_lr1_out_steps.proofs.ListLemmas.{at_end}
 
 -- no edges of no steps
 pub no_step_edges : AreStepEdges [] []

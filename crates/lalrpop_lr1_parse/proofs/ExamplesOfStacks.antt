@@ -1,4 +1,4 @@
--- Stacks of trees and of states, trees without productions, parts of lists and numbers of names, computed.
+-- Stacks of trees and of states, parts of lists and numbers of names, computed.
 use Rattle.std.proofs.Common.{◌≡◌, ℕ, zero, suc, ◌<◌, ◌≤◌, [], ◌∷◌, Some, None}
 use Rattle.std.proofs.Common.{refl, ap, arith, length, length-append, take}
 use Rattle.std.specs.Prelude.{slice_index}
@@ -9,7 +9,6 @@ use Rattle.lalrpop_lr1_theory.specs.Spans.{SpannedForest, leaf_at, node_at, none
 use Rattle.lalrpop_lr1_theory.specs.Trees.{reduce, roots, shift}
 use Rattle.lalrpop_lr1_theory.proofs.TreeLemmas.{roots-and}
 use Rattle.lalrpop_lr1_parse.specs.ExpandedViews.{nth_tree, root_children}
-use Rattle.lalrpop_lr1_parse_trees.specs.NamedTrees.{name_forest, named_leaf, named_leaves, named_node, no_trees}
 use Rattle.lalrpop_lr1_parse.specs.Rows.{AreNumbersOf, part_at}
 use Rattle.lalrpop_lr1_parse.specs.Stacks.{AreStatesOn, EndsByShift, HasChildren, by_shift, no_moves, ◌beside◌}
 use Rattle.lalrpop_lr1_parse.proofs.StackLemmas.{states_on, without-beside}
@@ -68,13 +67,6 @@ no_child_there h =
       length-append (roots (without_spans h.kept)) (roots (without_spans h.children)),
       ap length h.roots_are,
     )
-
--- a tree without productions, and its leaves
-without_productions : name_forest (without_spans a_node) ≡ named_node (78 ∷ []) (named_leaf one no_trees) no_trees
-without_productions = refl
-
-leaves_without_productions : named_leaves (name_forest (without_spans (a_node beside a_leaf))) ≡ one ∷ one ∷ []
-leaves_without_productions = refl
 
 -- one edge: from state 0 by the terminal to state 2
 data OneEdge : ℕ → Symbol → ℕ → Type 0 where

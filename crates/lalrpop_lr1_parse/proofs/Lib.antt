@@ -1,13 +1,11 @@
 pub mod ColumnLemmas
 pub mod DropLemmas
-pub mod NamedStackLemmas
 pub mod NumberLemmas
 pub mod StackLemmas
 pub mod ExamplesOfLimits
 pub mod ExamplesOfParses
 pub mod ExamplesOfStacks
 pub mod ExpandedLemmas
-pub mod InterpretLemmas
 pub mod LimitLemmas
 pub mod MadeTableLemmas
 pub mod MoveCountLemmas

@@ -1,7 +1,6 @@
 pub mod Columns
 pub mod Ends
 pub mod ExpandedViews
-pub mod Interpretations
 pub mod MadeTables
 pub mod Numbers
 pub mod Outcomes

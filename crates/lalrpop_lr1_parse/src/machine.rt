@@ -20,7 +20,7 @@ use std::alloc::{AllocError, Global};
 
 /// Why the machine stops before it accepts.
 #[derive(Drop)]
-pub(crate) enum Halt {
+pub enum Halt {
     /// The state does nothing before the token at this place, or before the end.
     Stuck {
         /// The place of the token; the number of all tokens at the end.
@@ -55,7 +55,7 @@ fn push_number(numbers: &mut Vec<usize>, number: usize) -> Result<(), AllocError
 /// Runs the table over the tokens, whose numbers are so found, from no tree: until it accepts, where the parse is to be whole, or else
 /// until all tokens are shifted. What is made stands on the stack, which keeps what it was given. Answers the states on the stack, by
 /// their numbers.
-pub(crate) fn run<'g, S: TreeStack<'g>>(
+pub fn run<'g, S: TreeStack<'g>>(
     alloc: Global,
     table: &ActionTable<'g>,
     tokens: &[ScanToken<'_>],

@@ -13,7 +13,7 @@ use lalrpop_grammar::ScanToken;
 
 /// How the numbers of tokens are found.
 #[derive(Clone, Copy)]
-pub(crate) enum TokenNumbers<'c> {
+pub enum TokenNumbers<'c> {
     /// The table looks each terminal up.
     ByTerminal,
     /// They stand in columns.

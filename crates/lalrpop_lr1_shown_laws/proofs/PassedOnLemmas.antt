@@ -1,3 +1,2 @@
 -- Lemmas of crates below, for crates above that do not name those crates themselves.
 pub use Rattle.lalrpop_lr1_made_trees.proofs.MakingLemmas.{moves_lead}
-pub use Rattle.lalrpop_lr1_shown_moves.proofs.PassedOnLemmas.{before_or_end}

@@ -1,3 +1,2 @@
 pub mod NextLemmas
-pub mod PassedOnLemmas
 pub mod ShownLemmas

@@ -2,7 +2,6 @@ pub mod AlongLemmas
 pub mod EdgeStepLemmas
 pub mod ExamplesOfWaysFound
 pub mod FoundLemmas
-pub mod PassedOnLemmas
 pub mod WantedLemmas
 pub mod WantedWayLemmas
 pub mod WayLemmas

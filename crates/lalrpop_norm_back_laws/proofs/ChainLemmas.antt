@@ -1,16 +1,16 @@
 -- Chains of macro calls are the same under the names of the levels; for the law of chains.
 use Rattle.std.proofs.Common.{◌≡◌, ℕ, zero, suc, List, [], ◌∷◌, ◌++◌, refl, ap, sym, ◌∙◌, subst, Bool}
 use Rattle.std.specs.Prelude.{Option, map}
-use Rattle.lalrpop_grammar_symbols.specs.Symbols.{Text, Closed, Closeds}
-use Rattle.lalrpop_grammar.specs.WrittenGrammar.{Grammar}
+use Rattle.lalrpop_grammar_language.specs.PassedOn.{Text, Closed, Closeds}
+use Rattle.lalrpop_grammar_language.specs.PassedOn.{Grammar}
 use Rattle.lalrpop_grammar_language.specs.Among.{Among}
 use Rattle.lalrpop_grammar_language.specs.Expansion.{GrammarSymbol, Nonterminal, IsRoot, InExpansion}
 use Rattle.lalrpop_grammar_language.proofs.PlaceLemmas.{among_map}
 use Rattle.lalrpop_norm_expansion.specs.Depth.{calls_in, calls_in_all, calls_in_grammar_symbol, CallOccursIn, HasCallChain}
 use Rattle.lalrpop_norm_expansion.specs.Same.{rename_symbol}
 use Rattle.lalrpop_norm_expansion.proofs.AmongLemmas.{map_among}
-use Rattle.lalrpop_norm_pass_laws.specs.LevelRules.{by_level_names, all_by_level_names}
-use Rattle.lalrpop_norm_pass_laws.proofs.KeyTableLemmas.{chain_reached}
+use Rattle.lalrpop_norm_expansion.specs.LevelRules.{by_level_names, all_by_level_names}
+use Rattle.lalrpop_norm_expansion.proofs.KeyTableLemmas.{chain_reached}
 use Rattle.lalrpop_norm_level_laws.specs.LevelLaws.{nonterminal_by_level, IsLevelable}
 use Rattle.lalrpop_norm_level_laws.proofs.LevelNameLemmas.{before, after}
 use Rattle.lalrpop_norm_level_laws.proofs.LevelExpansionLemmas.{well_in, forth, back, root_forth, root_back}

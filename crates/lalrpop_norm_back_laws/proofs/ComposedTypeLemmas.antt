@@ -1,5 +1,5 @@
 -- Types that each of two passes keeps, both keep; for normalizing.
-use Rattle.lalrpop_grammar_symbols.specs.Symbols.{Closed}
+use Rattle.lalrpop_grammar_language.specs.PassedOn.{Closed}
 use Rattle.lalrpop_grammar_language.specs.Enabled.{EnabledGrammar}
 use Rattle.lalrpop_grammar_language.specs.Expansion.{Nonterminal, InExpansion}
 use Rattle.lalrpop_norm_expansion.specs.Types.{SameTypes}

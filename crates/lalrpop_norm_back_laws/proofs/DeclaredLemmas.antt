@@ -3,9 +3,9 @@ use Rattle.std.specs.Str.{bytes_eq}
 use Rattle.std.proofs.Common.{◌≡◌, ℕ, ◌+◌, List, [], ◌∷◌, refl, ap, sym, ◌∙◌, subst, cond, Bool, true, false, inl}
 use Rattle.std.proofs.Common.{inr, ◌⊎◌}
 use Rattle.std.specs.Prelude.{Option, Some, None, zip, option_map}
-use Rattle.lalrpop_grammar_symbols.specs.Symbols.{Text, TextSpan, Syms, Sym, syms, WrittenSymbol, Closed, Closeds, closed_list}
-use Rattle.lalrpop_grammar_symbols.specs.Subsymbols.{subsymbols}
-use Rattle.lalrpop_grammar.specs.WrittenGrammar.{Action, Origin, Rule, Grammar, Ty, rules_of}
+use Rattle.lalrpop_grammar_language.specs.PassedOn.{Text, TextSpan, Syms, Sym, syms, WrittenSymbol, Closed, Closeds, closed_list}
+use Rattle.lalrpop_grammar_language.specs.PassedOn.{subsymbols}
+use Rattle.lalrpop_grammar_language.specs.PassedOn.{Action, Origin, Rule, Grammar, Ty, rules_of}
 use Rattle.lalrpop_grammar_language.specs.Among.{Among}
 use Rattle.lalrpop_grammar_language.specs.Enabled.{Choice}
 use Rattle.lalrpop_grammar_language.specs.Levels.{loosest}
@@ -16,9 +16,9 @@ use Rattle.lalrpop_norm_expansion.specs.Between.{rule_between}
 use Rattle.lalrpop_norm_expansion.specs.Premises.{symbols_of_type, IsResolvedIn}
 use Rattle.lalrpop_norm_expansion.specs.Types.{GroundType, IsTypeOfName, IsTypeOf, type_scope}
 use Rattle.lalrpop_norm_expansion.proofs.AmongLemmas.{map_among, among_parts}
-use Rattle.lalrpop_norm_pass_laws.specs.LevelRules.{level_name, by_level_names, all_by_level_names, occurrence_name}
-use Rattle.lalrpop_norm_pass_laws.specs.LevelRules.{rename_occurrences, rename_all_occurrences, IsLeveledScope}
-use Rattle.lalrpop_norm_pass_laws.proofs.LevelRuleLemmas.{close_list_leveled}
+use Rattle.lalrpop_norm_expansion.specs.LevelRules.{level_name, by_level_names, all_by_level_names, occurrence_name}
+use Rattle.lalrpop_norm_expansion.specs.LevelRules.{rename_occurrences, rename_all_occurrences, IsLeveledScope}
+use Rattle.lalrpop_norm_expansion.proofs.LevelRuleLemmas.{close_list_leveled}
 use Rattle.lalrpop_norm_level_laws.specs.LevelLaws.{IsLevelable}
 use Rattle.lalrpop_norm_level_laws.proofs.LevelAttrLemmas.{flat_key, key_parameters}
 use Rattle.lalrpop_norm_level_laws.proofs.RightLevelLemmas.{has_loosest}

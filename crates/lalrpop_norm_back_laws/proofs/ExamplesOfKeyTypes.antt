@@ -2,8 +2,8 @@
 use Prim.Native.String.{String}
 use Rattle.std.proofs.Common.{List, [], ◌∷◌, refl, inl, inr}
 use Rattle.std.specs.Prelude.{Some, None, codes}
-use Rattle.lalrpop_grammar_symbols.specs.Symbols.{Text, Op, Terminal, Sym, WrittenSymbol, Closed, Closeds}
-use Rattle.lalrpop_grammar.specs.WrittenGrammar.{Ty, Tys}
+use Rattle.lalrpop_grammar_language.specs.PassedOn.{Text, Op, Terminal, Sym, WrittenSymbol, Closed, Closeds}
+use Rattle.lalrpop_grammar_language.specs.PassedOn.{Ty, Tys}
 use Rattle.lalrpop_grammar_language.specs.Enabled.{EnabledGrammar, enabled_grammar}
 use Rattle.lalrpop_grammar_language.specs.Closing.{Scope}
 use Rattle.lalrpop_grammar_language.proofs.WrittenTreeLemmas.{here, lit, rule_of, with, grammar, finds}

@@ -3,7 +3,7 @@ use Rattle.std.specs.Str.{bytes_eq}
 use Rattle.std.proofs.Common.{◌≡◌, ℕ, ◌+◌, List, [], ◌∷◌, refl, ap, sym, ◌∙◌, subst, cond, Bool, true, false, inl}
 use Rattle.std.proofs.Common.{inr}
 use Rattle.std.specs.Prelude.{Option, Some, None, map, option_map}
-use Rattle.lalrpop_grammar_symbols.specs.Symbols.{Text, Terminal, Sym, WrittenSymbol, Closed, Closeds}
+use Rattle.lalrpop_grammar_language.specs.PassedOn.{Text, Terminal, Sym, WrittenSymbol, Closed, Closeds}
 use Rattle.lalrpop_grammar_language.specs.Among.{Among}
 use Rattle.lalrpop_grammar_language.specs.Enabled.{EnabledGrammar, EnabledRule, Choice, IsRule}
 use Rattle.lalrpop_grammar_language.specs.Levels.{has_levels, loosest}
@@ -12,8 +12,8 @@ use Rattle.lalrpop_grammar_language.specs.Closing.{call_level, if_plain, if_macr
 use Rattle.lalrpop_grammar_language.specs.Closing.{is_sound, sound_or_faulty, close_list, right_side}
 use Rattle.lalrpop_grammar_language.specs.Expansion.{GrammarSymbol, Nonterminal, grammar_symbol}
 use Rattle.lalrpop_norm_expansion.proofs.LevelLemmas.{no_loosest}
-use Rattle.lalrpop_norm_pass_laws.specs.KeyRules.{IsWrittenFor, AreWrittenFor, by_name, IsMacroExpansion}
-use Rattle.lalrpop_norm_pass_laws.proofs.KeyRuleLemmas.{ReadsKeys, key_called, close-written}
+use Rattle.lalrpop_norm_expansion.specs.KeyRules.{IsWrittenFor, AreWrittenFor, by_name, IsMacroExpansion}
+use Rattle.lalrpop_norm_expansion.proofs.KeyRuleLemmas.{ReadsKeys, key_called, close-written}
 use Rattle.lalrpop_norm_level_laws.proofs.LevelOrderLemmas.{rule_meant, meant_rule, one_rule}
 use Rattle.lalrpop_norm_back_laws.specs.KeyTypes.{HasKeyRule, IsLeftAsWritten}
 

@@ -1,8 +1,8 @@
 -- Steps of a derivation under the names of the keys, there and back; for the law of the types of keys.
 use Rattle.std.proofs.Common.{◌≡◌, ℕ, zero, suc, List, [], ◌∷◌, refl, ap, sym, ◌∙◌, subst, false, inl, inr}
 use Rattle.std.specs.Prelude.{Option, Some, None, is_some, codes}
-use Rattle.lalrpop_grammar_symbols.specs.Symbols.{Text, Terminal, Op, WrittenSymbol, Closed, Closeds, closed_list}
-use Rattle.lalrpop_grammar.specs.WrittenGrammar.{Ty, Tys}
+use Rattle.lalrpop_grammar_language.specs.PassedOn.{Text, Terminal, Op, WrittenSymbol, Closed, Closeds, closed_list}
+use Rattle.lalrpop_grammar_language.specs.PassedOn.{Ty, Tys}
 use Rattle.lalrpop_grammar_language.specs.Among.{Among}
 use Rattle.lalrpop_grammar_language.specs.Enabled.{EnabledGrammar, EnabledRule, IsRule}
 use Rattle.lalrpop_grammar_language.specs.Levels.{Rank, has_levels, loosest, ranked_choices}
@@ -12,8 +12,8 @@ use Rattle.lalrpop_grammar_language.specs.Expansion.{Nonterminal, InExpansion}
 use Rattle.lalrpop_norm_expansion.specs.Types.{GroundType, GroundTypes, place_type, repeat_type, chosen_or_all, HaveTupleType}
 use Rattle.lalrpop_norm_expansion.specs.Types.{IsTypeOf, type_scope, CallStep, TypeStep, IsGroundedIn, SameTypes}
 use Rattle.lalrpop_norm_expansion.proofs.LevelLemmas.{no_loosest, no_rank}
-use Rattle.lalrpop_norm_pass_laws.specs.KeyRules.{AreWrittenFor, by_name, IsKeyRule, IsMacroExpansion, nonterminal_by_name}
-use Rattle.lalrpop_norm_pass_laws.proofs.KeyRuleLemmas.{in_keys, key_called, expanded}
+use Rattle.lalrpop_norm_expansion.specs.KeyRules.{AreWrittenFor, by_name, IsKeyRule, IsMacroExpansion, nonterminal_by_name}
+use Rattle.lalrpop_norm_expansion.proofs.KeyRuleLemmas.{in_keys, key_called, expanded}
 use Rattle.lalrpop_norm_level_laws.proofs.LevelOrderLemmas.{one_rule}
 use Rattle.lalrpop_norm_back_laws.specs.KeyTypes.{HasKeyRule, IsPutType, IsPutDeclaration, repeat_ty, DeclareKeyTypes}
 use Rattle.lalrpop_norm_back_laws.proofs.TypeListLemmas.{Typing}

@@ -1,8 +1,8 @@
 -- A declared type with its parameters put in means what it meant; for the law of the types of keys.
 use Rattle.std.proofs.Common.{◌≡◌, List, sym, subst}
 use Rattle.std.specs.Prelude.{Option, Some, None}
-use Rattle.lalrpop_grammar_symbols.specs.Symbols.{Text, WrittenSymbol, Closed}
-use Rattle.lalrpop_grammar.specs.WrittenGrammar.{Ty, Tys}
+use Rattle.lalrpop_grammar_language.specs.PassedOn.{Text, WrittenSymbol, Closed}
+use Rattle.lalrpop_grammar_language.specs.PassedOn.{Ty, Tys}
 use Rattle.lalrpop_grammar_language.specs.Closing.{Scope, parameter_value, close, sound_or_faulty}
 use Rattle.lalrpop_norm_expansion.specs.Types.{GroundType, GroundTypes, IsTypeOfName, IsTypeOf, AreTypesOf}
 use Rattle.lalrpop_norm_back_laws.specs.KeyTypes.{StandsInType, IsSymbolType, IsNamedType, IsPutType, ArePutTypes}

@@ -6,9 +6,9 @@ use Rattle.std.proofs.Common.{false, inl, inr, arith}
 use Rattle.std.specs.Prelude.{Option, Some, map, codes, decimal, ◌+◌, ◌==◌, ◌/◌, ◌%◌, ◌&&◌, nat_le}
 use Rattle.std.proofs.lemmas.Bool.{true≢false, and_from}
 use Rattle.std.proofs.lemmas.Bool.Decides.{nat_tests}
-use Rattle.lalrpop_grammar_symbols.specs.Symbols.{Text, Terminal, Op, Closed, Closeds, closed_list}
-use Rattle.lalrpop_grammar_symbols.specs.Texts.{join_texts}
-use Rattle.lalrpop_grammar.specs.WrittenGrammar.{Origin}
+use Rattle.lalrpop_grammar_language.specs.PassedOn.{Text, Terminal, Op, Closed, Closeds, closed_list}
+use Rattle.lalrpop_grammar_language.specs.PassedOn.{join_texts}
+use Rattle.lalrpop_grammar_language.specs.PassedOn.{Origin}
 use Rattle.lalrpop_grammar_language.specs.Among.{Among}
 use Rattle.lalrpop_grammar_language.specs.Enabled.{EnabledGrammar}
 use Rattle.lalrpop_grammar_language.specs.Levels.{loosest}

@@ -5,9 +5,9 @@ use Rattle.std.proofs.Common.{inl, inr, ◌⊎◌, length, zero}
 use Rattle.std.specs.Prelude.{Option, Some, None, map, filter, ◌==◌}
 use Rattle.std.specs.Prelude.{if◌then◌else◌}
 use Rattle.std.proofs.lemmas.Bool.{true≢false, eqb-true, eq-eqb, or_parts, or_from}
-use Rattle.lalrpop_grammar_symbols.specs.Symbols.{Text, Closed, Closeds}
-use Rattle.lalrpop_grammar_symbols.specs.Texts.{macro_text, group_text, choose_text, named_text, repeat_text}
-use Rattle.lalrpop_grammar.specs.WrittenGrammar.{Rule, Grammar, rules_of}
+use Rattle.lalrpop_grammar_language.specs.PassedOn.{Text, Closed, Closeds}
+use Rattle.lalrpop_grammar_language.specs.PassedOn.{macro_text, group_text, choose_text, named_text, repeat_text}
+use Rattle.lalrpop_grammar_language.specs.PassedOn.{Rule, Grammar, rules_of}
 use Rattle.lalrpop_grammar_language.specs.Among.{Among}
 use Rattle.lalrpop_grammar_language.specs.Enabled.{has_text}
 use Rattle.lalrpop_grammar_language.specs.Levels.{has_levels, loosest}
@@ -19,7 +19,7 @@ use Rattle.lalrpop_norm_expansion.specs.Between.{rule_between}
 use Rattle.lalrpop_norm_expansion.specs.Keys.{closed_texts, text_beside, text_at_level, level_text, leveled_key_text}
 use Rattle.lalrpop_norm_expansion.specs.Keys.{flat_key_text, with_number, before_tilde}
 use Rattle.lalrpop_norm_expansion.proofs.AmongLemmas.{map_among, flat_map_among}
-use Rattle.lalrpop_norm_pass_laws.specs.LevelRules.{level_name, by_level_names, all_by_level_names}
+use Rattle.lalrpop_norm_expansion.specs.LevelRules.{level_name, by_level_names, all_by_level_names}
 use Rattle.lalrpop_norm_level_laws.specs.LevelNames.{tighter_levels, numbered_text, plain_levels_of, plain_levels, times_taken}
 use Rattle.lalrpop_norm_level_laws.specs.LevelNames.{AreNumberedInOrder, HasNoTildes}
 use Rattle.lalrpop_norm_level_laws.specs.LevelLaws.{IsLevelable}

@@ -1,8 +1,8 @@
 -- What is in the expansion has the same types under the names of the levels; for the law of types.
 use Rattle.std.proofs.Common.{◌≡◌, ℕ, zero, suc, refl, ap, sym, ◌∙◌, subst, Bool, inl, inr}
 use Rattle.std.specs.Prelude.{Option, Some, None, ◌↔◌}
-use Rattle.lalrpop_grammar_symbols.specs.Symbols.{Text, Terminal, Closed, Closeds, closed_list}
-use Rattle.lalrpop_grammar.specs.WrittenGrammar.{Action, Rule, Grammar}
+use Rattle.lalrpop_grammar_language.specs.PassedOn.{Text, Terminal, Closed, Closeds, closed_list}
+use Rattle.lalrpop_grammar_language.specs.PassedOn.{Action, Rule, Grammar}
 use Rattle.lalrpop_grammar_language.specs.Among.{Among}
 use Rattle.lalrpop_grammar_language.specs.Enabled.{EnabledRule, Choice}
 use Rattle.lalrpop_grammar_language.specs.Levels.{Rank, tighter, ranked_choices}
@@ -14,7 +14,7 @@ use Rattle.lalrpop_norm_expansion.specs.Between.{rule_between}
 use Rattle.lalrpop_norm_expansion.specs.Types.{GroundType, is_chosen, chosen_or_all, HaveTupleType, IsTypeOf, type_scope}
 use Rattle.lalrpop_norm_expansion.specs.Types.{CallStep, TypeStep, IsGroundedIn, IsGrounded}
 use Rattle.lalrpop_norm_expansion.proofs.LevelLemmas.{no_rank}
-use Rattle.lalrpop_norm_pass_laws.specs.LevelRules.{level_name, by_level_names, all_by_level_names}
+use Rattle.lalrpop_norm_expansion.specs.LevelRules.{level_name, by_level_names, all_by_level_names}
 use Rattle.lalrpop_norm_level_laws.specs.LevelLaws.{IsLevelable}
 use Rattle.lalrpop_norm_level_laws.proofs.LevelOrderLemmas.{one_rule}
 use Rattle.lalrpop_norm_level_laws.proofs.LeveledRuleLemmas.{key_rule}

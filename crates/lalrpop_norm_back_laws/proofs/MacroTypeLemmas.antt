@@ -1,8 +1,8 @@
 -- What is in the expansion has the same types under the names of the keys; for the law of the types of keys.
 use Rattle.std.proofs.Common.{◌≡◌, List, [], ◌∷◌, refl, ap, sym, ◌∙◌, subst, false, inl, inr, length}
 use Rattle.std.specs.Prelude.{Option, Some, None, map, zip}
-use Rattle.lalrpop_grammar_symbols.specs.Symbols.{Text, Op, WrittenSymbol, Closed, Closeds, closed_list}
-use Rattle.lalrpop_grammar.specs.WrittenGrammar.{Action, Origin, Ty}
+use Rattle.lalrpop_grammar_language.specs.PassedOn.{Text, Op, WrittenSymbol, Closed, Closeds, closed_list}
+use Rattle.lalrpop_grammar_language.specs.PassedOn.{Action, Origin, Ty}
 use Rattle.lalrpop_grammar_language.specs.Among.{Among}
 use Rattle.lalrpop_grammar_language.specs.Enabled.{EnabledGrammar, EnabledRule, Choice, IsRule}
 use Rattle.lalrpop_grammar_language.specs.Levels.{Rank, has_levels, loosest, ranked_choices}
@@ -13,8 +13,8 @@ use Rattle.lalrpop_grammar_language.specs.Expansion.{GrammarSymbol, Nonterminal,
 use Rattle.lalrpop_norm_expansion.specs.Types.{GroundType, is_chosen, chosen_or_all, HaveTupleType, IsTypeOf, type_scope}
 use Rattle.lalrpop_norm_expansion.specs.Types.{CallStep}
 use Rattle.lalrpop_norm_expansion.proofs.LevelLemmas.{no_loosest, no_rank}
-use Rattle.lalrpop_norm_pass_laws.specs.KeyRules.{AreWrittenFor, by_name, AreInstanceChoices}
-use Rattle.lalrpop_norm_pass_laws.specs.KeyRules.{IsKeyRule, IsMacroExpansion}
+use Rattle.lalrpop_norm_expansion.specs.KeyRules.{AreWrittenFor, by_name, AreInstanceChoices}
+use Rattle.lalrpop_norm_expansion.specs.KeyRules.{IsKeyRule, IsMacroExpansion}
 use Rattle.lalrpop_norm_level_laws.proofs.LevelOrderLemmas.{one_rule}
 use Rattle.lalrpop_norm_level_laws.proofs.LevelChoiceLemmas.{choice_listed}
 use Rattle.lalrpop_norm_level_laws.proofs.LevelFitLemmas.{flat_written}

@@ -2,8 +2,8 @@
 use Rattle.std.proofs.Common.{◌≡◌, ◌≢◌, ℕ, zero, suc, List, [], ◌∷◌, refl, ap, sym, ◌∙◌, subst, Bool, true, false}
 use Rattle.std.proofs.Common.{length, inl, inr}
 use Rattle.std.specs.Prelude.{Option, Some, None, map, if◌then◌else◌}
-use Rattle.lalrpop_grammar_symbols.specs.Symbols.{Text, Closed, Closeds}
-use Rattle.lalrpop_grammar.specs.WrittenGrammar.{Rule, Grammar, rules_of}
+use Rattle.lalrpop_grammar_language.specs.PassedOn.{Text, Closed, Closeds}
+use Rattle.lalrpop_grammar_language.specs.PassedOn.{Rule, Grammar, rules_of}
 use Rattle.lalrpop_grammar_language.specs.Among.{Among}
 use Rattle.lalrpop_grammar_language.specs.Enabled.{EnabledRule, IsRule, has_text}
 use Rattle.lalrpop_grammar_language.specs.Levels.{loosest}
@@ -16,7 +16,7 @@ use Rattle.lalrpop_norm_expansion.proofs.AmongLemmas.{map_among, flat_map_among,
 use Rattle.lalrpop_norm_expansion.proofs.ExpansionListLemmas.{rule_there}
 use Rattle.lalrpop_norm_expansion.proofs.LevelLemmas.{no_loosest}
 use Rattle.lalrpop_norm_expansion.specs.Same.{SameExpansion}
-use Rattle.lalrpop_norm_pass_laws.specs.LevelRules.{level_name, by_level_names}
+use Rattle.lalrpop_norm_expansion.specs.LevelRules.{level_name, by_level_names}
 use Rattle.lalrpop_norm_level_laws.specs.LevelNames.{LeveledKey, leveled_keys_of, leveled_keys, tighter_levels}
 use Rattle.lalrpop_norm_level_laws.specs.LevelNames.{plain_levels_of, plain_levels, HasNoTildes}
 use Rattle.lalrpop_norm_level_laws.specs.LevelLaws.{nonterminal_by_level, IsLevelable, TellsOwnRules}

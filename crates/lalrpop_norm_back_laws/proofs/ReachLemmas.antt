@@ -1,13 +1,13 @@
 -- The expansion reaches the same closed symbols under the names of the levels; for the law of types.
 use Rattle.std.proofs.Common.{◌≡◌, ℕ, ap, sym, ◌∙◌, subst, Bool, true, inl, inr, refl}
 use Rattle.std.specs.Prelude.{Option}
-use Rattle.lalrpop_grammar_symbols.specs.Symbols.{Text, Closed}
-use Rattle.lalrpop_grammar.specs.WrittenGrammar.{Grammar}
+use Rattle.lalrpop_grammar_language.specs.PassedOn.{Text, Closed}
+use Rattle.lalrpop_grammar_language.specs.PassedOn.{Grammar}
 use Rattle.lalrpop_grammar_language.specs.Enabled.{EnabledGrammar}
 use Rattle.lalrpop_grammar_language.specs.Closing.{is_sound}
 use Rattle.lalrpop_grammar_language.specs.Expansion.{Nonterminal, InExpansion}
-use Rattle.lalrpop_norm_pass_laws.specs.LevelRules.{by_level_names}
-use Rattle.lalrpop_norm_pass_laws.proofs.LevelRuleLemmas.{sound-renamed}
+use Rattle.lalrpop_norm_expansion.specs.LevelRules.{by_level_names}
+use Rattle.lalrpop_norm_expansion.proofs.LevelRuleLemmas.{sound-renamed}
 use Rattle.lalrpop_norm_level_laws.specs.LevelLaws.{nonterminal_by_level, IsLevelable}
 use Rattle.lalrpop_norm_level_laws.proofs.LevelNameLemmas.{before, after}
 use Rattle.lalrpop_norm_level_laws.proofs.LevelExpansionLemmas.{well_in, reached_there, reached_from}

@@ -2,9 +2,9 @@
 use Rattle.std.proofs.Common.{◌≡◌, List, [], ◌∷◌, refl, ap, sym, ◌∙◌, subst, cond, Bool, true, false, inl, inr}
 use Rattle.std.specs.Prelude.{map, filter, ◌||◌}
 use Rattle.std.specs.List.{list_any}
-use Rattle.lalrpop_grammar_symbols.specs.Symbols.{Text, WrittenSymbol, Closed}
-use Rattle.lalrpop_grammar_symbols.specs.Subsymbols.{subsymbols}
-use Rattle.lalrpop_grammar.specs.WrittenGrammar.{Ty, Tys}
+use Rattle.lalrpop_grammar_language.specs.PassedOn.{Text, WrittenSymbol, Closed}
+use Rattle.lalrpop_grammar_language.specs.PassedOn.{subsymbols}
+use Rattle.lalrpop_grammar_language.specs.PassedOn.{Ty, Tys}
 use Rattle.lalrpop_grammar_language.specs.Among.{Among}
 use Rattle.lalrpop_grammar_language.specs.Closing.{Scope, parameter_value, close, sound_or_faulty}
 use Rattle.lalrpop_grammar_language.proofs.PlaceLemmas.{among_filter}

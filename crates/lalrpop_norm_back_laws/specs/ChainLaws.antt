@@ -1,11 +1,11 @@
 -- What the laws say of chains of macro calls in the grammar in which each level has a rule of its own.
 use Rattle.std.specs.Prelude.{ℕ, ◌≡◌, Bool, Option}
-use Rattle.lalrpop_grammar_symbols.specs.Symbols.{Text, Closed}
-use Rattle.lalrpop_grammar.specs.WrittenGrammar.{Grammar}
+use Rattle.lalrpop_grammar_language.specs.PassedOn.{Text, Closed}
+use Rattle.lalrpop_grammar_language.specs.PassedOn.{Grammar}
 use Rattle.lalrpop_grammar_language.specs.Enabled.{EnabledGrammar}
 use Rattle.lalrpop_norm_expansion.specs.Between.{grammar_between}
 use Rattle.lalrpop_norm_expansion.specs.Depth.{HasCallChain, IsTooDeep}
-use Rattle.lalrpop_norm_pass_laws.specs.LevelRules.{by_level_names}
+use Rattle.lalrpop_norm_expansion.specs.LevelRules.{by_level_names}
 use Rattle.lalrpop_norm_level_laws.specs.LeveledGrammar.{leveled_grammar}
 use Rattle.lalrpop_norm_level_laws.specs.LevelLaws.{IsLevelable}
 

@@ -1,12 +1,12 @@
 -- The types that the rules of keys declare, once macros are expanded.
 use Rattle.std.specs.Prelude.{◌≡◌, ◌⊎◌, List, Option, Some, None, codes}
-use Rattle.lalrpop_grammar_symbols.specs.Symbols.{Text, Op, Terminal, Sym, WrittenSymbol, Closed}
-use Rattle.lalrpop_grammar.specs.WrittenGrammar.{Ty, Tys}
+use Rattle.lalrpop_grammar_language.specs.PassedOn.{Text, Op, Terminal, Sym, WrittenSymbol, Closed}
+use Rattle.lalrpop_grammar_language.specs.PassedOn.{Ty, Tys}
 use Rattle.lalrpop_grammar_language.specs.Among.{Among}
 use Rattle.lalrpop_grammar_language.specs.Enabled.{EnabledGrammar, EnabledRule, IsRule}
 use Rattle.lalrpop_grammar_language.specs.Closing.{Scope, parameter_value, close, sound_or_faulty}
 use Rattle.lalrpop_norm_expansion.specs.Types.{type_scope}
-use Rattle.lalrpop_norm_pass_laws.specs.KeyRules.{IsWrittenFor}
+use Rattle.lalrpop_norm_expansion.specs.KeyRules.{IsWrittenFor}
 
 -- a terminal but that of error recovery, or a key that has a rule, maybe named or chosen
 abbrev pub HasKeyRule : List Closed → Closed → Type 0

@@ -1,10 +1,10 @@
 -- What the laws say of types once macros are expanded, and of passes that follow one another.
 use Rattle.std.specs.Prelude.{List}
-use Rattle.lalrpop_grammar_symbols.specs.Symbols.{Text, Closed}
+use Rattle.lalrpop_grammar_language.specs.PassedOn.{Text, Closed}
 use Rattle.lalrpop_grammar_language.specs.Enabled.{EnabledGrammar}
 use Rattle.lalrpop_grammar_language.specs.Expansion.{Nonterminal, InExpansion}
 use Rattle.lalrpop_norm_expansion.specs.Types.{SameTypes}
-use Rattle.lalrpop_norm_pass_laws.specs.KeyRules.{by_name, IsMacroExpansion}
+use Rattle.lalrpop_norm_expansion.specs.KeyRules.{by_name, IsMacroExpansion}
 use Rattle.lalrpop_norm_back_laws.specs.KeyTypes.{DeclareKeyTypes}
 
 -- where the rules of keys declare what their macros do, the types are the same under the names of the keys

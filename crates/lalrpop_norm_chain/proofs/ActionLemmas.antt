@@ -16,8 +16,8 @@ use Rattle.lalrpop_norm_expansion.specs.Premises.{IsReadGrammar}
 use Rattle.lalrpop_norm_expansion.proofs.AmongLemmas.{map_among}
 use Rattle.lalrpop_norm_expansion.proofs.BetweenLemmas.{rules_left}
 use Rattle.lalrpop_norm_expansion.proofs.ExpansionListLemmas.{rule_there}
-use Rattle.lalrpop_norm_pass_laws.specs.KeyRules.{AreInstanceChoices, AreKeyChoices, AreTwoChoices, IsOneChoice}
-use Rattle.lalrpop_norm_pass_laws.specs.LevelRules.{by_level_names}
+use Rattle.lalrpop_norm_expansion.specs.KeyRules.{AreInstanceChoices, AreKeyChoices, AreTwoChoices, IsOneChoice}
+use Rattle.lalrpop_norm_expansion.specs.LevelRules.{by_level_names}
 use Rattle.lalrpop_norm_name_laws.specs.Resolving.{resolved_grammar}
 use Rattle.lalrpop_norm_level_laws.specs.LeveledGrammar.{leveled_grammar}
 use Rattle.lalrpop_norm_level_laws.proofs.LevelChoiceLemmas.{choice_listed}

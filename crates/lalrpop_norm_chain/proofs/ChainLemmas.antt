@@ -32,9 +32,9 @@ use Rattle.lalrpop_norm_expansion.specs.Productions.{NamedProduction, StandsForL
 use Rattle.lalrpop_norm_expansion.specs.Types.{IsGrounded, SameTypes}
 use Rattle.lalrpop_norm_expansion.proofs.PassLemmas.{productions_before}
 use Rattle.lalrpop_norm_expansion.proofs.ExpansionListLemmas.{rule_there}
-use Rattle.lalrpop_norm_pass_laws.specs.KeyRules.{by_name, nonterminal_by_name}
-use Rattle.lalrpop_norm_pass_laws.specs.LevelRules.{by_level_names}
-use Rattle.lalrpop_norm_pass_laws.proofs.KeyRuleLemmas.{key_called, in_keys}
+use Rattle.lalrpop_norm_expansion.specs.KeyRules.{by_name, nonterminal_by_name}
+use Rattle.lalrpop_norm_expansion.specs.LevelRules.{by_level_names}
+use Rattle.lalrpop_norm_expansion.proofs.KeyRuleLemmas.{key_called, in_keys}
 use Rattle.lalrpop_norm_name_laws.proofs.DroppingLemmas.{dropped_names}
 use Rattle.lalrpop_norm_name_laws.proofs.ResolvingLemmas.{resolved_names}
 use Rattle.lalrpop_norm_level_laws.specs.LevelLaws.{nonterminal_by_level}

@@ -13,9 +13,9 @@ use Rattle.lalrpop_norm_expansion.specs.Same.{SameExpansion}
 use Rattle.lalrpop_norm_expansion.specs.Inlined.{SameInlined}
 use Rattle.lalrpop_norm_expansion.specs.Types.{SameTypes}
 use Rattle.lalrpop_norm_expansion.proofs.PassLemmas.{SameExpansion-trans}
-use Rattle.lalrpop_norm_pass_laws.specs.KeyRules.{by_name, nonterminal_by_name}
-use Rattle.lalrpop_norm_pass_laws.specs.LevelRules.{by_level_names}
-use Rattle.lalrpop_norm_pass_laws.proofs.KeyRuleLemmas.{key_called, in_keys, expanded as expanded_so, expanded_inlined}
+use Rattle.lalrpop_norm_expansion.specs.KeyRules.{by_name, nonterminal_by_name}
+use Rattle.lalrpop_norm_expansion.specs.LevelRules.{by_level_names}
+use Rattle.lalrpop_norm_expansion.proofs.KeyRuleLemmas.{key_called, in_keys, expanded as expanded_so, expanded_inlined}
 use Rattle.lalrpop_norm_name_laws.proofs.DroppingLemmas.{dropping_expansion, dropping_inlined, dropping_types}
 use Rattle.lalrpop_norm_name_laws.proofs.ResolvingLemmas.{resolving_expansion, resolving_inlined, resolving_types}
 use Rattle.lalrpop_norm_name_laws.proofs.ResolvedLemmas.{right_names_resolve}

@@ -13,7 +13,7 @@ use Rattle.lalrpop_grammar_language.specs.Expansion.{GrammarSymbol, Nonterminal,
 use Rattle.lalrpop_norm_expansion.specs.Keys.{closed_text, closed_texts, before_tilde, flat_key_text, with_number}
 use Rattle.lalrpop_norm_expansion.specs.Premises.{IsExpanded}
 use Rattle.lalrpop_norm_expansion.proofs.ExpansionListLemmas.{rule_there}
-use Rattle.lalrpop_norm_pass_laws.specs.KeyRules.{IsKey, IsMappedTerminal, IsWrittenFor, AreWrittenFor, AreKeyChoices, IsMacroExpansion}
+use Rattle.lalrpop_norm_expansion.specs.KeyRules.{IsKey, IsMappedTerminal, IsWrittenFor, AreWrittenFor, AreKeyChoices, IsMacroExpansion}
 use Rattle.lalrpop_norm_level_laws.proofs.LevelOrderLemmas.{found_text}
 use Rattle.lalrpop_norm_checks.specs.Names.{has_prefix}
 use Rattle.lalrpop_norm_chain.specs.PremiseLaws.{HasFreePrefix}

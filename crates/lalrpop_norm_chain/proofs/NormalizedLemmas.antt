@@ -19,9 +19,9 @@ use Rattle.lalrpop_norm_expansion.specs.Keys.{leveled_key_text, IsNaming}
 use Rattle.lalrpop_norm_expansion.specs.Productions.{NamedProduction, StandsForLabel}
 use Rattle.lalrpop_norm_expansion.proofs.PassLemmas.{productions_before}
 use Rattle.lalrpop_norm_expansion.proofs.ExpansionListLemmas.{rule_there}
-use Rattle.lalrpop_norm_pass_laws.specs.KeyRules.{nonterminal_by_name}
-use Rattle.lalrpop_norm_pass_laws.specs.LevelRules.{all_by_level_names, by_level_names, level_name}
-use Rattle.lalrpop_norm_pass_laws.proofs.KeyRuleLemmas.{in_keys}
+use Rattle.lalrpop_norm_expansion.specs.KeyRules.{nonterminal_by_name}
+use Rattle.lalrpop_norm_expansion.specs.LevelRules.{all_by_level_names, by_level_names, level_name}
+use Rattle.lalrpop_norm_expansion.proofs.KeyRuleLemmas.{in_keys}
 use Rattle.lalrpop_norm_level_laws.specs.LevelLaws.{nonterminal_by_level}
 use Rattle.lalrpop_norm_level_laws.proofs.LevelExpansionLemmas.{call_of, well_in}
 use Rattle.lalrpop_norm_level_laws.proofs.WellLeveledLemmas.{IsWell}

@@ -18,8 +18,8 @@ use Rattle.lalrpop_norm_expansion.proofs.AmongLemmas.{among_parts}
 use Rattle.std.proofs.lemmas.List.{append-nil}
 use Rattle.lalrpop_norm_expansion.proofs.ExpansionListLemmas.{rule_there}
 use Rattle.lalrpop_norm_expansion.proofs.LevelLemmas.{ranked_flat}
-use Rattle.lalrpop_norm_pass_laws.specs.KeyRules.{AreKeyChoices, AreInstanceChoices, AreTwoChoices}
-use Rattle.lalrpop_norm_pass_laws.specs.KeyRules.{IsMacroExpansion}
+use Rattle.lalrpop_norm_expansion.specs.KeyRules.{AreKeyChoices, AreInstanceChoices, AreTwoChoices}
+use Rattle.lalrpop_norm_expansion.specs.KeyRules.{IsMacroExpansion}
 use Rattle.lalrpop_norm_name_laws.specs.Resolving.{DefinedNames, defined_names, resolved_alternative, resolved_grammar}
 use Rattle.lalrpop_norm_level_laws.specs.LeveledGrammar.{has_rank_level, leveled_alternative, level_alternatives}
 use Rattle.lalrpop_norm_level_laws.specs.LeveledGrammar.{pass_down_to, pass_downs, leveled_grammar}

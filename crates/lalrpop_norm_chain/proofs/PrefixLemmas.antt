@@ -20,7 +20,7 @@ use Rattle.lalrpop_norm_expansion.specs.Keys.{with_number}
 use Rattle.lalrpop_norm_expansion.specs.Premises.{IsReadGrammar}
 use Rattle.lalrpop_norm_expansion.proofs.AmongLemmas.{map_among, flat_map_among, among_flat_map, among_left, among_right, among_parts}
 use Rattle.lalrpop_norm_expansion.proofs.BetweenLemmas.{bares_left}
-use Rattle.lalrpop_norm_pass_laws.specs.LevelRules.{level_name}
+use Rattle.lalrpop_norm_expansion.specs.LevelRules.{level_name}
 use Rattle.lalrpop_norm_name_laws.specs.Resolving.{defined_names, resolved_grammar}
 use Rattle.lalrpop_norm_name_laws.proofs.ResolvingLemmas.{bares_resolved}
 use Rattle.lalrpop_norm_level_laws.specs.LeveledGrammar.{leveled_grammar}

@@ -14,7 +14,7 @@ use Rattle.lalrpop_norm_expansion.specs.Between.{choice_without_cfg, rule_withou
 use Rattle.lalrpop_norm_expansion.specs.Premises.{IsReadGrammar, IsNoRecovery, HasNoRecovery}
 use Rattle.lalrpop_norm_expansion.proofs.AmongLemmas.{map_among, among_parts}
 use Rattle.lalrpop_norm_expansion.proofs.BetweenLemmas.{rules_left}
-use Rattle.lalrpop_norm_pass_laws.specs.LevelRules.{rename_occurrences}
+use Rattle.lalrpop_norm_expansion.specs.LevelRules.{rename_occurrences}
 use Rattle.lalrpop_norm_name_laws.specs.Resolving.{DefinedNames, NameUse, use_of_name, resolved_name, defined_names}
 use Rattle.lalrpop_norm_name_laws.specs.Resolving.{resolved_symbol, resolved_alternative, resolved_grammar}
 use Rattle.lalrpop_norm_level_laws.specs.LeveledGrammar.{ranked_alternatives, has_rank_level, occurrence_scope, leveled_alternative}

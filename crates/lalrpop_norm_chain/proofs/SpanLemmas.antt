@@ -12,7 +12,7 @@ use Rattle.lalrpop_grammar_language.proofs.PlaceLemmas.{among_filter, among_map}
 use Rattle.lalrpop_norm_expansion.specs.Between.{alternative_without_cfg, rule_between, without_disabled}
 use Rattle.lalrpop_norm_expansion.specs.Premises.{IsReadGrammar}
 use Rattle.lalrpop_norm_expansion.proofs.AmongLemmas.{among_parts, flat_map_among, map_among}
-use Rattle.lalrpop_norm_pass_laws.specs.LevelRules.{level_name}
+use Rattle.lalrpop_norm_expansion.specs.LevelRules.{level_name}
 use Rattle.lalrpop_norm_name_laws.specs.Resolving.{resolved_grammar}
 use Rattle.lalrpop_norm_level_laws.specs.LeveledGrammar.{has_rank_level, level_alternatives, leveled_alternative, leveled_grammar}
 use Rattle.lalrpop_norm_level_laws.specs.LeveledGrammar.{pass_downs, ranked_alternatives}

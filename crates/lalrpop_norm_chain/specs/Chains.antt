@@ -9,7 +9,7 @@ use Rattle.lalrpop_grammar_types.specs.declared.type_repr.TypeRepr.{TypeRepr}
 use Rattle.lalrpop_norm_expansion.specs.Between.{grammar_between, without_disabled}
 use Rattle.lalrpop_norm_expansion.specs.Premises.{IsReadGrammar, IsExpanded}
 use Rattle.lalrpop_norm_expansion.specs.Keys.{flat_key_text, IsNaming}
-use Rattle.lalrpop_norm_pass_laws.specs.KeyRules.{IsMacroExpansion}
+use Rattle.lalrpop_norm_expansion.specs.KeyRules.{IsMacroExpansion}
 use Rattle.lalrpop_norm_back_laws.specs.KeyTypes.{DeclareKeyTypes}
 use Rattle.lalrpop_norm_name_laws.specs.NameFaults.{HasRightNames}
 use Rattle.lalrpop_norm_level_laws.specs.LevelFaults.{HasRightLevels}

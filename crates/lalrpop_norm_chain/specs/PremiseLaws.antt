@@ -8,7 +8,7 @@ use Rattle.lalrpop_norm_expansion.specs.Between.{grammar_between, without_disabl
 use Rattle.lalrpop_norm_expansion.specs.Keys.{flat_key_text, with_number}
 use Rattle.lalrpop_norm_expansion.specs.Premises.{IsReadGrammar, HasNoRecovery, IsExpanded}
 use Rattle.lalrpop_norm_expansion.specs.Productions.{IsOriginBefore}
-use Rattle.lalrpop_norm_pass_laws.specs.KeyRules.{IsMacroExpansion}
+use Rattle.lalrpop_norm_expansion.specs.KeyRules.{IsMacroExpansion}
 use Rattle.lalrpop_norm_name_laws.specs.Resolving.{resolved_grammar}
 use Rattle.lalrpop_norm_name_laws.specs.NameFaults.{HasRightNames}
 use Rattle.lalrpop_norm_level_laws.specs.LeveledGrammar.{leveled_grammar}

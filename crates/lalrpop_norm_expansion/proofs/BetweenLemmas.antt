@@ -5,8 +5,8 @@ use Rattle.std.specs.Prelude.{Some, None, map, filter, filter_map, flat_map, ◌
 use Rattle.std.specs.List.{cons_option, list_any}
 use Rattle.std.specs.Prelude.{codes, ◌||◌}
 use Rattle.lalrpop_grammar_language.proofs.PlaceLemmas.{same_text-eq}
-use Rattle.lalrpop_grammar_symbols.specs.Symbols.{Text}
-use Rattle.lalrpop_grammar.specs.WrittenGrammar.{Attr, attr_id, Alternative, Rule, Origin, WrittenItem, rules_of}
+use Rattle.lalrpop_grammar_language.specs.PassedOn.{Text}
+use Rattle.lalrpop_grammar_language.specs.PassedOn.{Attr, attr_id, Alternative, Rule, Origin, WrittenItem, rules_of}
 use Rattle.lalrpop_grammar_language.specs.Among.{Among}
 use Rattle.lalrpop_grammar_language.specs.Enabled.{EnabledRule, Choice, has_attr, is_active, choice_of}
 use Rattle.lalrpop_grammar_language.specs.Enabled.{enabled_choices, enabled_rule, bares_of, bare_of}

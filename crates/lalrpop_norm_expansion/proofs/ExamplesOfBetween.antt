@@ -3,9 +3,9 @@ use Prim.Native.String.{String}
 use Rattle.std.proofs.Common.{◌≡◌, ℕ, zero, suc, ◌≤◌, List, [], ◌∷◌, refl, ap, sym, ◌∙◌, inl, inr, arith}
 use Rattle.std.specs.Prelude.{Option, Some, None, codes, false, true, map, replicate, length}
 use Rattle.std.proofs.lemmas.Bool.{true≢false}
-use Rattle.lalrpop_grammar_symbols.specs.Symbols.{Closed, Closeds, Terminal, WrittenSymbol, Sym, syms, Op}
-use Rattle.lalrpop_grammar_symbols.specs.Subsymbols.{subsymbols_of}
-use Rattle.lalrpop_grammar.specs.WrittenGrammar.{Alternative, Rule, InternEntry, WrittenItem, WrittenEntry, Origin, Grammar}
+use Rattle.lalrpop_grammar_language.specs.PassedOn.{Closed, Closeds, Terminal, WrittenSymbol, Sym, syms, Op}
+use Rattle.lalrpop_grammar_language.specs.PassedOn.{subsymbols_of}
+use Rattle.lalrpop_grammar_language.specs.PassedOn.{Alternative, Rule, InternEntry, WrittenItem, WrittenEntry, Origin, Grammar}
 use Rattle.lalrpop_grammar_language.specs.Among.{Among}
 use Rattle.lalrpop_grammar_language.specs.Enabled.{EnabledGrammar, EnabledRule, Choice, IsRule, enabled_grammar}
 use Rattle.lalrpop_grammar_language.specs.Levels.{has_levels}

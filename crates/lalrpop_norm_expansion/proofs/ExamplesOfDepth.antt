@@ -2,8 +2,8 @@
 use Prim.Native.String.{String}
 use Rattle.std.proofs.Common.{◌≡◌, ℕ, zero, suc, [], ◌∷◌, refl, inl, inr, arith}
 use Rattle.std.specs.Prelude.{Some, None, codes, ◌≤◌}
-use Rattle.lalrpop_grammar_symbols.specs.Symbols.{Closed, Closeds, Terminal}
-use Rattle.lalrpop_grammar.specs.WrittenGrammar.{ConditionTest}
+use Rattle.lalrpop_grammar_language.specs.PassedOn.{Closed, Closeds, Terminal}
+use Rattle.lalrpop_grammar_language.specs.PassedOn.{ConditionTest}
 use Rattle.lalrpop_grammar_language.specs.Enabled.{EnabledGrammar, enabled_grammar}
 use Rattle.lalrpop_grammar_language.proofs.WrittenTreeLemmas.{lit, id, of_macro, in_group, many_of, level, with, alt, on_K, rule_of}
 use Rattle.lalrpop_grammar_language.proofs.WrittenTreeLemmas.{macro_of, grammar, finds}

@@ -4,9 +4,9 @@ use Rattle.std.specs.Fmt.{digits}
 use Rattle.std.proofs.Common.{◌≡◌, ◌≢◌, ℕ, List, [], ◌∷◌, refl, ap, sym, ◌∙◌, cond, Bool, inl, inr, arith}
 use Rattle.std.specs.Prelude.{Option, Some, None, codes, map, false, true}
 use Rattle.std.proofs.lemmas.Bool.{true≢false}
-use Rattle.lalrpop_grammar_symbols.specs.Symbols.{Text, Closed, Closeds, Terminal, Sym, Op}
+use Rattle.lalrpop_grammar_language.specs.PassedOn.{Text, Closed, Closeds, Terminal, Sym, Op}
 use Rattle.lalrpop_grammar_symbols.specs.Texts.{escape_byte}
-use Rattle.lalrpop_grammar.specs.WrittenGrammar.{Alternative, WrittenItem}
+use Rattle.lalrpop_grammar_language.specs.PassedOn.{Alternative, WrittenItem}
 use Rattle.lalrpop_grammar_language.specs.Enabled.{EnabledGrammar, enabled_grammar}
 use Rattle.lalrpop_grammar_language.specs.Expansion.{Nonterminal}
 use Rattle.lalrpop_grammar_language.proofs.WrittenTreeLemmas.{here, lit, id, of_macro, in_group, many_of, maybe, level, side, with, alt}

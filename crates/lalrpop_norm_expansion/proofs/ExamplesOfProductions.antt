@@ -4,8 +4,8 @@ use Rattle.std.proofs.Common.{◌≡◌, ℕ, zero, suc, ◌<◌, List, [], ◌�
 use Rattle.std.specs.Prelude.{Option, Some, None, codes, slice_get}
 use Rattle.std.specs.Fmt.{digits}
 use Rattle.lalrpop_grammar_symbols.specs.Texts.{escape_byte}
-use Rattle.lalrpop_grammar_symbols.specs.Symbols.{Text, Closed, Closeds, Terminal, Op, Sym, Argument}
-use Rattle.lalrpop_grammar.specs.WrittenGrammar.{Origin}
+use Rattle.lalrpop_grammar_language.specs.PassedOn.{Text, Closed, Closeds, Terminal, Op, Sym, Argument}
+use Rattle.lalrpop_grammar_language.specs.PassedOn.{Origin}
 use Rattle.lalrpop_grammar_language.specs.Enabled.{EnabledGrammar, enabled_grammar}
 use Rattle.lalrpop_grammar_language.specs.Expansion.{GrammarSymbol, Nonterminal, InExpansion, IsWrittenProduction, WrittenLabel}
 use Rattle.lalrpop_grammar_language.proofs.WrittenTreeLemmas.{lit, id, of_macro, many_of, maybe, level, side, with, alt, rule_of}

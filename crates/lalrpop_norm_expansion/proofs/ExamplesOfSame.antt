@@ -5,9 +5,9 @@ use Rattle.std.proofs.Common.{◌≡◌, ℕ, List, [], ◌∷◌, ◌++◌, ref
 use Rattle.std.proofs.Common.{◌⊎◌}
 use Rattle.std.specs.Prelude.{None, codes}
 use Rattle.std.proofs.lemmas.Bool.{true≢false}
-use Rattle.lalrpop_grammar_symbols.specs.Symbols.{Closed, Closeds, Terminal, WrittenSymbol, Sym, Argument, Op}
+use Rattle.lalrpop_grammar_language.specs.PassedOn.{Closed, Closeds, Terminal, WrittenSymbol, Sym, Argument, Op}
 use Rattle.lalrpop_grammar_symbols.specs.Texts.{escape_byte}
-use Rattle.lalrpop_grammar.specs.WrittenGrammar.{Attr, Alternative, WrittenItem, Origin}
+use Rattle.lalrpop_grammar_language.specs.PassedOn.{Attr, Alternative, WrittenItem, Origin}
 use Rattle.lalrpop_grammar_language.specs.Among.{Among}
 use Rattle.lalrpop_grammar_language.specs.Enabled.{EnabledGrammar, enabled_grammar}
 use Rattle.lalrpop_grammar_language.specs.Expansion.{Nonterminal, InExpansion}

@@ -2,8 +2,8 @@
 use Prim.Native.String.{String}
 use Rattle.std.proofs.Common.{◌≡◌, ◌≢◌, ℕ, List, [], ◌∷◌, refl, inl, inr}
 use Rattle.std.specs.Prelude.{Option, Some, None, codes, zero, suc, false}
-use Rattle.lalrpop_grammar_symbols.specs.Symbols.{Closed, Closeds, Terminal, WrittenSymbol, Sym, Op}
-use Rattle.lalrpop_grammar.specs.WrittenGrammar.{Attr, Alternative, Action, WrittenItem, Ty, Tys}
+use Rattle.lalrpop_grammar_language.specs.PassedOn.{Closed, Closeds, Terminal, WrittenSymbol, Sym, Op}
+use Rattle.lalrpop_grammar_language.specs.PassedOn.{Attr, Alternative, Action, WrittenItem, Ty, Tys}
 use Rattle.lalrpop_grammar_language.specs.Enabled.{EnabledGrammar, enabled_grammar}
 use Rattle.lalrpop_grammar_language.specs.Expansion.{Nonterminal}
 use Rattle.lalrpop_grammar_language.proofs.WrittenTreeLemmas.{here, lit, id, of_macro, in_group, many_of, maybe, level, with, alt}

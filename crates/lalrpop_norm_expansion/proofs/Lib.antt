@@ -18,3 +18,8 @@ pub mod NamingListLemmas
 pub mod ExamplesOfKeys
 pub mod ExamplesOfBetween
 pub mod BetweenLemmas
+pub mod KeyRuleLemmas
+pub mod KeyTableLemmas
+pub mod LevelRuleLemmas
+pub mod ExamplesOfKeyRules
+pub mod ExamplesOfLevelRules

@@ -5,8 +5,8 @@ use Rattle.std.proofs.Common.{true, false, inl, inr}
 use Rattle.std.specs.Prelude.{Option, Some, None, option_map, ◌&&◌, is_some, if◌then◌else◌}
 use Rattle.std.specs.List.{list_all}
 use Rattle.std.proofs.lemmas.Bool.{and_from, and_parts}
-use Rattle.lalrpop_grammar_symbols.specs.Symbols.{Text, Terminal, Closed, Closeds, closed_list}
-use Rattle.lalrpop_grammar.specs.WrittenGrammar.{Ty, Tys, Action}
+use Rattle.lalrpop_grammar_language.specs.PassedOn.{Text, Terminal, Closed, Closeds, closed_list}
+use Rattle.lalrpop_grammar_language.specs.PassedOn.{Ty, Tys, Action}
 use Rattle.lalrpop_grammar_language.specs.Among.{Among}
 use Rattle.lalrpop_grammar_language.specs.Enabled.{EnabledGrammar, EnabledRule, Choice, rules_named}
 use Rattle.lalrpop_grammar_language.specs.Levels.{Rank, ranked_choices, tighter, has_levels}

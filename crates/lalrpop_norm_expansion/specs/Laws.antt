@@ -1,7 +1,7 @@
 -- What the laws say of what is disabled, of passes, of calls found by rounds and of tables of types.
 use Rattle.std.specs.Prelude.{ℕ, suc, ◌≡◌, ◌≤◌, ◌↔◌, Bool, List, [], ◌++◌, map, Option, Some, None}
-use Rattle.lalrpop_grammar_symbols.specs.Symbols.{Text, Closed, Closeds}
-use Rattle.lalrpop_grammar.specs.WrittenGrammar.{Origin, Grammar}
+use Rattle.lalrpop_grammar_language.specs.PassedOn.{Text, Closed, Closeds}
+use Rattle.lalrpop_grammar_language.specs.PassedOn.{Origin, Grammar}
 use Rattle.lalrpop_grammar_language.specs.Among.{Among}
 use Rattle.lalrpop_grammar_language.specs.Enabled.{EnabledGrammar, enabled_grammar}
 use Rattle.lalrpop_grammar_language.specs.Expansion.{Nonterminal, RightSide, Produces, IsRoot}

@@ -9,3 +9,7 @@ pub mod Between
 pub mod Premises
 pub mod Rounds
 pub mod Laws
+pub mod KeyRules
+pub mod KeyTables
+pub mod LevelRules
+pub mod PassLaws

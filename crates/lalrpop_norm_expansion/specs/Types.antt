@@ -3,8 +3,8 @@ use Rattle.std.specs.Prelude.{ℕ, zero, suc, ◌≡◌, ◌⊎◌, ◌↔◌, B
 use Rattle.std.specs.Prelude.{None, codes, filter}
 use Rattle.std.specs.Prelude.{if◌then◌else◌}
 use Rattle.std.specs.List.{list_any}
-use Rattle.lalrpop_grammar_symbols.specs.Symbols.{Text, Terminal, Op, Closed, Closeds, closed_list}
-use Rattle.lalrpop_grammar.specs.WrittenGrammar.{Ty, Tys, Action}
+use Rattle.lalrpop_grammar_language.specs.PassedOn.{Text, Terminal, Op, Closed, Closeds, closed_list}
+use Rattle.lalrpop_grammar_language.specs.PassedOn.{Ty, Tys, Action}
 use Rattle.lalrpop_grammar_language.specs.Enabled.{EnabledGrammar, EnabledRule, Choice, IsRule}
 use Rattle.lalrpop_grammar_language.specs.Levels.{Rank, tighter, loosest}
 use Rattle.lalrpop_grammar_language.specs.Closing.{Scope, parameter_value, close, sound_or_faulty, right_side}

@@ -4,11 +4,13 @@
 //! passes), `Premises` (how a grammar that was read looks, and what the passes before have made of it), `Depth` (how deep
 //! macro calls stand), `Rounds` (calls found by least depth), `Same` (what a pass keeps), `Keys` (texts and names of
 //! nonterminals), `Productions` (the lowered productions), `Rows` (productions numbered as they stand), `Inlined` (which
-//! nonterminals are inlined), `Types` (grounded types) and `Laws` (what the laws say). The examples in `proofs/` show each
-//! with what it refuses.
+//! nonterminals are inlined), `Types` (grounded types), `KeyRules` (a grammar in which each call, repeat, group and lookaround
+//! has a rule of its own), `KeyTables` (the finished table of keys), `LevelRules` (symbols under the names of levels), and
+//! `Laws` and `PassLaws` (what the laws say). The examples in `proofs/` show each with what it refuses.
 #![tactic(auto)]
 
 ghost use Rattle.lalrpop_norm_expansion.specs.Laws.{RulesAreLeft, BaresAreLeft, SameExpansionsCompose, AlikeHaveSameExpansion, ProductionsGoBack, ProductionsAreNumbered, RoundsBegin, RoundsDeepen, LeftAreTooDeep, AllCallsAreFound, NoneIsTooDeep, StepsAreGrounded, TablesAreGrounded, TablesHaveAll, LackingCallsAreUntyped, CallsHaveOneType};
+ghost use Rattle.lalrpop_norm_expansion.specs.PassLaws.{MacroExpansionsKeep, MacroExpansionsInlineAlike, TablesExpandMacros, ChainsAreReached, LeveledSymbolsClose, LeveledSidesClose};
 
 /// The law of what is disabled: what is left of a grammar that was read stands for its enabled rules and its mapped bare names.
 pub fn enabled_rules_are_left()
@@ -48,4 +50,21 @@ pub fn tables_have_types()
     ensures complete { TablesHaveAll }
     ensures untyped { LackingCallsAreUntyped }
     ensures once { CallsHaveOneType }
+{}
+
+/// The law of expanded macros: where each key has its rule, and no other rule is there, the expansion is the same under the
+/// names of the keys, and the same nonterminals are inlined. A finished table of keys, with all calls found, has just such
+/// rules.
+pub fn macros_keep_expansion()
+    ensures kept { MacroExpansionsKeep }
+    ensures inlined { MacroExpansionsInlineAlike }
+    ensures table { TablesExpandMacros }
+    ensures reached { ChainsAreReached }
+{}
+
+/// The law of levels: a symbol whose occurrences are renamed by their numbers closes, in the grammar where each level has a
+/// rule of its own, to its closed symbol under the names of the levels.
+pub fn levels_keep_symbols()
+    ensures symbol { LeveledSymbolsClose }
+    ensures side { LeveledSidesClose }
 {}

@@ -16,8 +16,8 @@ use Rattle.lalrpop_grammar_language.proofs.PlaceLemmas.{among_filter, among_map}
 use Rattle.lalrpop_norm_expansion.specs.Between.{with_origins, rule_between, grammar_between}
 use Rattle.lalrpop_norm_expansion.specs.Premises.{IsResolvedIn}
 use Rattle.lalrpop_norm_expansion.proofs.AmongLemmas.{map_among, flat_map_among, among_flat_map, among_left, among_right, among_parts}
-use Rattle.lalrpop_norm_pass_laws.specs.LevelRules.{occurrence_name, rename_occurrences, rename_all_occurrences}
-use Rattle.lalrpop_norm_pass_laws.specs.LevelRules.{rename_listed_occurrences}
+use Rattle.lalrpop_norm_expansion.specs.LevelRules.{occurrence_name, rename_occurrences, rename_all_occurrences}
+use Rattle.lalrpop_norm_expansion.specs.LevelRules.{rename_listed_occurrences}
 use Rattle.lalrpop_norm_name_laws.specs.Resolving.{NameUse, use_of_name, resolved_name, defined_names, name_resolution}
 use Rattle.lalrpop_norm_name_laws.specs.Resolving.{resolved_symbol, resolved_alternative, resolved_rule, resolved_grammar}
 use Rattle.lalrpop_norm_name_laws.proofs.RuleChangeLemmas.{RuleChange, changed_rule, named_kept}

@@ -12,7 +12,7 @@ use Rattle.lalrpop_grammar_language.specs.Expansion.{Nonterminal, HasLevel, IsRo
 use Rattle.lalrpop_grammar_language.proofs.PlaceLemmas.{among_map}
 use Rattle.lalrpop_norm_expansion.specs.Between.{with_origins, rule_between, grammar_between}
 use Rattle.lalrpop_norm_expansion.proofs.AmongLemmas.{map_among}
-use Rattle.lalrpop_norm_pass_laws.specs.LevelRules.{level_name, by_level_names, all_by_level_names}
+use Rattle.lalrpop_norm_expansion.specs.LevelRules.{level_name, by_level_names, all_by_level_names}
 use Rattle.lalrpop_norm_name_laws.specs.Resolving.{DefinedNames, defined_names, resolved_symbol, resolved_type, resolved_alternative}
 use Rattle.lalrpop_norm_name_laws.specs.Resolving.{resolved_rule, resolved_grammar}
 use Rattle.lalrpop_norm_name_laws.proofs.RuleChangeLemmas.{RuleChange, changed_choice, changed_rule, changed_pair, KeepsRanks}
@@ -27,7 +27,7 @@ use Rattle.lalrpop_norm_level_laws.proofs.LevelChoiceLemmas.{IsLevelChoice, leve
 use Rattle.lalrpop_norm_level_laws.proofs.LevelFitLemmas.{IsCallOf, flat_written}
 use Rattle.lalrpop_norm_level_laws.proofs.LevelExpansionLemmas.{call_of, well_in, root_forth, root_back}
 use Rattle.lalrpop_norm_level_laws.proofs.WellLeveledLemmas.{IsWellOrFaulty}
-use Rattle.lalrpop_norm_pass_laws.proofs.KeyTableLemmas.{chain_reached}
+use Rattle.lalrpop_norm_expansion.proofs.KeyTableLemmas.{chain_reached}
 use Rattle.lalrpop_norm_level_laws.proofs.LevelNameLemmas.{before, after, own_rule}
 use Rattle.lalrpop_norm_level_laws.proofs.LevelOrderLemmas.{one_rule}
 use Rattle.lalrpop_norm_level_laws.proofs.LevelAttrLemmas.{flat_key}

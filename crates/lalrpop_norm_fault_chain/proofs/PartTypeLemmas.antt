@@ -12,7 +12,7 @@ use Rattle.lalrpop_norm_expansion.specs.Types.{GroundType, GroundTypes, text_typ
 use Rattle.lalrpop_norm_expansion.specs.Types.{HaveTypes, HaveTupleType, IsGrounded}
 use Rattle.lalrpop_norm_expansion.proofs.AmongLemmas.{map_among}
 use Rattle.lalrpop_norm_expansion.proofs.TypeLemmas.{step_grounded}
-use Rattle.lalrpop_norm_pass_laws.specs.KeyRules.{IsKey, IsMacroExpansion}
+use Rattle.lalrpop_norm_expansion.specs.KeyRules.{IsKey, IsMacroExpansion}
 
 -- lists of types
 

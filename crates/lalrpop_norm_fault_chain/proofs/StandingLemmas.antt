@@ -19,7 +19,7 @@ use Rattle.lalrpop_norm_expansion.specs.Between.{grammar_between, without_disabl
 use Rattle.lalrpop_norm_expansion.specs.Depth.{HasCallChain, IsTooDeep}
 use Rattle.lalrpop_norm_expansion.specs.Premises.{IsExpanded, HasNoLevels}
 use Rattle.lalrpop_norm_expansion.proofs.ExpansionListLemmas.{rule_there}
-use Rattle.lalrpop_norm_pass_laws.specs.LevelRules.{by_level_names}
+use Rattle.lalrpop_norm_expansion.specs.LevelRules.{by_level_names}
 use Rattle.lalrpop_norm_name_laws.specs.NameFaults.{HasRightNames}
 use Rattle.lalrpop_norm_name_laws.proofs.DroppingLemmas.{dropping_chains}
 use Rattle.lalrpop_norm_name_laws.proofs.ResolvingLemmas.{resolving_chains}

@@ -22,9 +22,9 @@ use Rattle.lalrpop_norm_expansion.proofs.AmongLemmas.{map_among, among_parts}
 use Rattle.lalrpop_norm_expansion.proofs.ExpansionListLemmas.{rule_there}
 use Rattle.lalrpop_norm_expansion.proofs.LevelLemmas.{ranked_flat}
 use Rattle.lalrpop_norm_expansion.proofs.TypeLemmas.{step_grounded}
-use Rattle.lalrpop_norm_pass_laws.specs.KeyRules.{IsKey, by_name, AreKeyChoices, AreTwoChoices}
-use Rattle.lalrpop_norm_pass_laws.specs.LevelRules.{level_name, by_level_names}
-use Rattle.lalrpop_norm_pass_laws.proofs.KeyRuleLemmas.{key_called}
+use Rattle.lalrpop_norm_expansion.specs.KeyRules.{IsKey, by_name, AreKeyChoices, AreTwoChoices}
+use Rattle.lalrpop_norm_expansion.specs.LevelRules.{level_name, by_level_names}
+use Rattle.lalrpop_norm_expansion.proofs.KeyRuleLemmas.{key_called}
 use Rattle.lalrpop_norm_name_laws.proofs.DroppingLemmas.{dropped_names, dropping_expansion}
 use Rattle.lalrpop_norm_name_laws.proofs.ResolvingLemmas.{resolving_expansion, resolved_names}
 use Rattle.lalrpop_norm_level_laws.specs.LeveledGrammar.{ranked_alternatives, has_rank_level, leveled_alternative, level_alternatives}

@@ -17,7 +17,7 @@ use Rattle.lalrpop_grammar_language.proofs.WrittenTreeLemmas.{here}
 use Rattle.lalrpop_norm_expansion.specs.Between.{grammar_between, with_origins}
 use Rattle.lalrpop_norm_expansion.specs.Keys.{before_tilde, flat_key_text, with_number}
 use Rattle.lalrpop_norm_expansion.proofs.ExpansionListLemmas.{rule_there}
-use Rattle.lalrpop_norm_pass_laws.specs.KeyTables.{IsPlainKey}
+use Rattle.lalrpop_norm_expansion.specs.KeyTables.{IsPlainKey}
 use Rattle.lalrpop_norm_level_laws.specs.LevelNames.{times_taken}
 use Rattle.lalrpop_norm_back_laws.proofs.LastLemmas.{ends_in_digit}
 use Rattle.lalrpop_norm_level_names.specs.GivenNames.{Times}

@@ -13,9 +13,9 @@ use Rattle.lalrpop_grammar_language.specs.Expansion.{GrammarSymbol, Nonterminal,
 use Rattle.lalrpop_norm_expansion.specs.Keys.{before_tilde, closed_texts, flat_key_text, IsNaming, IsNextNumber}
 use Rattle.lalrpop_norm_expansion.proofs.ExpansionListLemmas.{rule_there}
 use Rattle.lalrpop_norm_expansion.proofs.LevelLemmas.{no_loosest}
-use Rattle.lalrpop_norm_pass_laws.specs.KeyRules.{AreWrittenFor, IsMacroExpansion}
-use Rattle.lalrpop_norm_pass_laws.specs.KeyRules.{IsKeyRule, IsMappedTerminal, IsWrittenFor}
-use Rattle.lalrpop_norm_pass_laws.proofs.KeyRuleLemmas.{in_keys}
+use Rattle.lalrpop_norm_expansion.specs.KeyRules.{AreWrittenFor, IsMacroExpansion}
+use Rattle.lalrpop_norm_expansion.specs.KeyRules.{IsKeyRule, IsMappedTerminal, IsWrittenFor}
+use Rattle.lalrpop_norm_expansion.proofs.KeyRuleLemmas.{in_keys}
 use Rattle.lalrpop_norm_level_laws.proofs.LevelOrderLemmas.{found_text}
 use Rattle.lalrpop_norm_key_names.specs.KeyNames.{AreKeyNames, IsNextAmongKeys}
 use Rattle.lalrpop_norm_key_names.specs.NameLaws.{LeavesPrefix, nonterminal_name}

@@ -8,7 +8,7 @@ use Rattle.lalrpop_grammar_language.specs.Expansion.{GrammarSymbol, Nonterminal}
 use Rattle.lalrpop_norm_expansion.specs.Depth.{calls_in, calls_in_all, calls_in_grammar_symbol, HasCallChain}
 use Rattle.lalrpop_norm_expansion.specs.Keys.{before_tilde, flat_key_text}
 use Rattle.lalrpop_norm_expansion.proofs.AmongLemmas.{among_parts}
-use Rattle.lalrpop_norm_pass_laws.specs.KeyTables.{keys_in, keys_in_all, IsMetKey, IsPlainKey}
+use Rattle.lalrpop_norm_expansion.specs.KeyTables.{keys_in, keys_in_all, IsMetKey, IsPlainKey}
 use Rattle.lalrpop_norm_back_laws.proofs.LastLemmas.{IsHead, ends_in_digit, named_alone}
 use Rattle.lalrpop_norm_key_names.specs.KeyNames.{HasFoundKeys}
 use Rattle.lalrpop_norm_key_names.specs.OrderedNames.{rule_alone}

@@ -17,7 +17,7 @@ use Rattle.lalrpop_grammar_language.proofs.ComparisonLemmas.{same_text-refl}
 use Rattle.lalrpop_norm_expansion.specs.Between.{grammar_between, rule_between}
 use Rattle.lalrpop_norm_expansion.specs.Keys.{with_number, before_tilde}
 use Rattle.lalrpop_norm_expansion.proofs.AmongLemmas.{flat_map_among, map_among}
-use Rattle.lalrpop_norm_pass_laws.specs.LevelRules.{level_name}
+use Rattle.lalrpop_norm_expansion.specs.LevelRules.{level_name}
 use Rattle.lalrpop_norm_level_laws.specs.LeveledGrammar.{leveled_grammar, leveled_rules, levels_in_order, rule_at_level}
 use Rattle.lalrpop_norm_level_laws.specs.LevelNames.{after_first, AreNumberedInOrder, HasNoTildes, numbered_text}
 use Rattle.lalrpop_norm_level_laws.specs.LevelNames.{plain_levels, plain_levels_of, tighter_levels, times_taken}

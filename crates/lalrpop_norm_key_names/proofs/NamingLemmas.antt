@@ -13,7 +13,7 @@ use Rattle.lalrpop_grammar_language.proofs.ComparisonLemmas.{same_text-refl}
 use Rattle.lalrpop_grammar_language.proofs.PlaceLemmas.{same_text-eq}
 use Rattle.lalrpop_norm_expansion.specs.Keys.{before_tilde, flat_key_text, with_number}
 use Rattle.lalrpop_norm_expansion.proofs.ExpansionListLemmas.{rule_there}
-use Rattle.lalrpop_norm_pass_laws.specs.KeyTables.{IsPlainKey}
+use Rattle.lalrpop_norm_expansion.specs.KeyTables.{IsPlainKey}
 use Rattle.lalrpop_norm_level_laws.proofs.LevelOrderLemmas.{one_rule}
 use Rattle.lalrpop_norm_back_laws.proofs.LastLemmas.{ends_in_digit}
 use Rattle.lalrpop_norm_key_table.specs.Tables.{HasEachOnce}

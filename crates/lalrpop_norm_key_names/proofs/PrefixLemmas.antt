@@ -16,7 +16,7 @@ use Rattle.lalrpop_grammar_language.specs.Expansion.{HasLevel}
 use Rattle.lalrpop_norm_expansion.specs.Between.{grammar_between, rule_between}
 use Rattle.lalrpop_norm_expansion.specs.Keys.{with_number, before_tilde}
 use Rattle.lalrpop_norm_expansion.proofs.AmongLemmas.{map_among}
-use Rattle.lalrpop_norm_pass_laws.specs.LevelRules.{level_name}
+use Rattle.lalrpop_norm_expansion.specs.LevelRules.{level_name}
 use Rattle.lalrpop_norm_level_laws.specs.LeveledGrammar.{leveled_grammar, levels_in_order}
 use Rattle.lalrpop_norm_level_laws.specs.LevelNames.{after_first, numbered_text}
 use Rattle.lalrpop_norm_level_laws.specs.LevelLaws.{IsLevelable}

@@ -6,7 +6,7 @@ use Rattle.lalrpop_grammar_language.specs.Enabled.{EnabledGrammar, EnabledRule, 
 use Rattle.lalrpop_norm_expansion.specs.Keys.{before_tilde, flat_key_text, with_number}
 use Rattle.lalrpop_norm_expansion.specs.Premises.{AreDifferent}
 use Rattle.lalrpop_norm_expansion.specs.Rounds.{AreCallsToDepth}
-use Rattle.lalrpop_norm_pass_laws.specs.KeyTables.{IsKeyTable}
+use Rattle.lalrpop_norm_expansion.specs.KeyTables.{IsKeyTable}
 use Rattle.lalrpop_norm_level_laws.specs.LevelNames.{numbered_text, times_taken}
 use Rattle.lalrpop_norm_key_names.specs.OrderedNames.{rule_text}
 

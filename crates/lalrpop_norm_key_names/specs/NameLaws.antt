@@ -8,7 +8,7 @@ use Rattle.lalrpop_grammar_language.specs.Expansion.{Nonterminal}
 use Rattle.lalrpop_norm_expansion.specs.Between.{grammar_between}
 use Rattle.lalrpop_norm_expansion.specs.Keys.{flat_key_text, IsNaming}
 use Rattle.lalrpop_norm_expansion.specs.Premises.{IsResolved}
-use Rattle.lalrpop_norm_pass_laws.specs.KeyRules.{IsMacroExpansion}
+use Rattle.lalrpop_norm_expansion.specs.KeyRules.{IsMacroExpansion}
 use Rattle.lalrpop_norm_level_laws.specs.LeveledGrammar.{leveled_grammar}
 use Rattle.lalrpop_norm_level_laws.specs.LevelNames.{HasNoTildes}
 use Rattle.lalrpop_norm_level_laws.specs.LevelLaws.{IsLevelable}

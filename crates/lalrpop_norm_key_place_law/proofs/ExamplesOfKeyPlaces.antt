@@ -2,8 +2,8 @@
 use Rattle.std.proofs.Common.{◌≡◌, ℕ, ◌+◌, List, [], ◌∷◌, refl, ap, sym, subst, true, false, inl, inr}
 use Rattle.std.proofs.Common.{◌⊎◌, arith}
 use Rattle.std.specs.Prelude.{Option, None, codes}
-use Rattle.lalrpop_grammar_symbols.specs.Symbols.{Text, Closed, Closeds, Op, Sym, Terminal, TextSpan, WrittenSymbol, syms}
-use Rattle.lalrpop_grammar.specs.WrittenGrammar.{Action, Grammar, Origin}
+use Rattle.lalrpop_grammar_language.specs.PassedOn.{Text, Closed, Closeds, Op, Sym, Terminal, TextSpan, WrittenSymbol, syms}
+use Rattle.lalrpop_grammar_language.specs.PassedOn.{Action, Grammar, Origin}
 use Rattle.lalrpop_grammar_language.specs.Among.{Among}
 use Rattle.lalrpop_grammar_language.specs.Enabled.{Choice, EnabledGrammar, EnabledRule, IsRule, enabled_grammar}
 use Rattle.lalrpop_grammar_language.specs.Levels.{Rank, ranked_choices}

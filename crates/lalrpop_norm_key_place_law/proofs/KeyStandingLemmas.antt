@@ -2,15 +2,15 @@
 use Rattle.std.proofs.Common.{◌≡◌, ℕ, ◌+◌, List, [], ◌∷◌, ◌++◌, refl, ap, sym, subst, cond, Bool}
 use Rattle.std.proofs.Common.{true, false, inl, inr, ◌⊎◌}
 use Rattle.std.specs.Prelude.{map}
-use Rattle.lalrpop_grammar_symbols.specs.Symbols.{TextSpan, Sym, Syms, syms, WrittenSymbol, Closed, Closeds, closed_list}
+use Rattle.lalrpop_grammar_language.specs.PassedOn.{TextSpan, Sym, Syms, syms, WrittenSymbol, Closed, Closeds, closed_list}
 use Rattle.lalrpop_grammar_language.specs.Among.{Among}
 use Rattle.lalrpop_grammar_language.specs.Closing.{Scope, close, close_list, is_sound, occurrences}
 use Rattle.lalrpop_grammar_language.specs.Expansion.{GrammarSymbol, Nonterminal, grammar_symbol}
 use Rattle.lalrpop_grammar_language.proofs.PlaceLemmas.{among_map}
 use Rattle.lalrpop_grammar_closed.specs.Views.{closeds}
 use Rattle.lalrpop_norm_expansion.proofs.AmongLemmas.{among_left, among_right, among_parts}
-use Rattle.lalrpop_norm_pass_laws.specs.KeyTables.{IsNoCall, keys_in, keys_in_all}
-use Rattle.lalrpop_norm_pass_laws.proofs.KeyTableLemmas.{part_stands}
+use Rattle.lalrpop_norm_expansion.specs.KeyTables.{IsNoCall, keys_in, keys_in_all}
+use Rattle.lalrpop_norm_expansion.proofs.KeyTableLemmas.{part_stands}
 use Rattle.lalrpop_norm_key_table.specs.Standing.{keys_of_repeat}
 use Rattle.lalrpop_norm_key_place_law.specs.MetKeys.{MetKey, all_met_at, key_of_met, keys_met, keys_met_in_row}
 use Rattle.lalrpop_norm_key_place_law.specs.KeyPlaces.{IsShapeKey}

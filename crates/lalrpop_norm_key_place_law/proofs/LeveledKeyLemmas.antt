@@ -1,9 +1,9 @@
 -- Places of keys go back over levels; for the law of places at levels.
 use Rattle.std.proofs.Common.{◌≡◌, ℕ, List, [], ◌∷◌, refl, ap, sym, ◌∙◌, subst, Bool, inl, inr}
 use Rattle.std.specs.Prelude.{Option, Some, None, is_some, map}
-use Rattle.lalrpop_grammar_symbols.specs.Symbols.{Text, TextSpan, WrittenSymbol, Closed, Closeds, closed_list, syms}
-use Rattle.lalrpop_grammar_symbols.specs.Subsymbols.{subsymbols_of}
-use Rattle.lalrpop_grammar.specs.WrittenGrammar.{Alternative, Rule, Grammar}
+use Rattle.lalrpop_grammar_language.specs.PassedOn.{Text, TextSpan, WrittenSymbol, Closed, Closeds, closed_list, syms}
+use Rattle.lalrpop_grammar_language.specs.PassedOn.{subsymbols_of}
+use Rattle.lalrpop_grammar_language.specs.PassedOn.{Alternative, Rule, Grammar}
 use Rattle.lalrpop_grammar_language.specs.Among.{Among}
 use Rattle.lalrpop_grammar_language.specs.Enabled.{EnabledRule, Choice, IsRule}
 use Rattle.lalrpop_grammar_language.specs.Levels.{Rank, allowed_level, has_levels, ranked_choices}
@@ -14,7 +14,7 @@ use Rattle.lalrpop_grammar_language.specs.Expansion.{Nonterminal, InExpansion}
 use Rattle.lalrpop_grammar_closed.specs.Views.{closeds}
 use Rattle.lalrpop_norm_expansion.specs.Between.{rule_between}
 use Rattle.lalrpop_norm_expansion.proofs.LevelLemmas.{no_rank, no_loosest}
-use Rattle.lalrpop_norm_pass_laws.specs.LevelRules.{level_name, by_level_names, all_by_level_names, rename_listed_occurrences}
+use Rattle.lalrpop_norm_expansion.specs.LevelRules.{level_name, by_level_names, all_by_level_names, rename_listed_occurrences}
 use Rattle.lalrpop_norm_level_laws.specs.LeveledGrammar.{leveled_alternative, occurrence_scope, own_call}
 use Rattle.lalrpop_norm_level_laws.specs.LeveledGrammar.{parameters_alone, ranked_alternatives}
 use Rattle.lalrpop_norm_level_laws.specs.LevelLaws.{nonterminal_by_level, IsLevelable}

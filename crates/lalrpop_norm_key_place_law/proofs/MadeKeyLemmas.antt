@@ -1,8 +1,8 @@
 -- Keys with places are made, and each repeat, group and lookaround that is made has a place; for the law of places.
 use Rattle.std.proofs.Common.{◌≡◌, ℕ, zero, suc, List, [], ◌∷◌, refl, sym, subst, inl, inr}
 use Rattle.std.specs.Prelude.{Option, Some, map}
-use Rattle.lalrpop_grammar_symbols.specs.Symbols.{Text, TextSpan, Closed, Closeds, closed_list, syms}
-use Rattle.lalrpop_grammar.specs.WrittenGrammar.{Origin}
+use Rattle.lalrpop_grammar_language.specs.PassedOn.{Text, TextSpan, Closed, Closeds, closed_list, syms}
+use Rattle.lalrpop_grammar_language.specs.PassedOn.{Origin}
 use Rattle.lalrpop_grammar_language.specs.Among.{Among}
 use Rattle.lalrpop_grammar_language.specs.Enabled.{Choice, EnabledGrammar, EnabledRule}
 use Rattle.lalrpop_grammar_language.specs.Levels.{Rank, loosest}
@@ -11,8 +11,8 @@ use Rattle.lalrpop_grammar_language.specs.Admitting.{Fits, argument_list, bind, 
 use Rattle.lalrpop_grammar_language.specs.Expansion.{GrammarSymbol, InExpansion, IsReachedIn, Nonterminal, Produces}
 use Rattle.lalrpop_grammar_language.specs.Expansion.{RightSide, grammar_symbol, origin_with}
 use Rattle.lalrpop_grammar_closed.specs.Views.{closeds}
-use Rattle.lalrpop_norm_pass_laws.specs.KeyTables.{keys_in, keys_in_all}
-use Rattle.lalrpop_norm_pass_laws.proofs.KeyTableLemmas.{reach_all, shape_makes, stands_trans_all}
+use Rattle.lalrpop_norm_expansion.specs.KeyTables.{keys_in, keys_in_all}
+use Rattle.lalrpop_norm_expansion.proofs.KeyTableLemmas.{reach_all, shape_makes, stands_trans_all}
 use Rattle.lalrpop_norm_key_place_law.specs.KeyPlaces.{IsKeyPlace, IsKeyPlaceIn, IsShapeKey}
 use Rattle.lalrpop_norm_key_place_law.proofs.KeyStandingLemmas.{listed_closeds, listed_met, part_of_side, row_met_stands, shape_no_call}
 

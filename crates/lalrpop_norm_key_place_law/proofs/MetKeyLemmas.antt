@@ -1,9 +1,9 @@
 -- The keys that are met in a symbol are those that stand in what it closes to; for the law of keys that are met.
 use Rattle.std.proofs.Common.{◌≡◌, ◌++◌, ◌+◌, ℕ, List, [], ◌∷◌, refl, ap, ◌∙◌, map}
 use Rattle.std.proofs.lemmas.List.{map-append}
-use Rattle.lalrpop_grammar_symbols.specs.Symbols.{Closed, Op, Sym, Syms, TextSpan, WrittenSymbol}
+use Rattle.lalrpop_grammar_language.specs.PassedOn.{Closed, Op, Sym, Syms, TextSpan, WrittenSymbol}
 use Rattle.lalrpop_grammar_language.specs.Closing.{Scope, close, close_all, occurrences}
-use Rattle.lalrpop_norm_pass_laws.specs.KeyTables.{keys_in, keys_in_all}
+use Rattle.lalrpop_norm_expansion.specs.KeyTables.{keys_in, keys_in_all}
 use Rattle.lalrpop_norm_key_table.specs.Standing.{keys_of_repeat}
 use Rattle.lalrpop_norm_key_place_law.specs.MetKeys.{MetKey, all_met_at, key_of_met, keys_met, keys_met_in_row}
 

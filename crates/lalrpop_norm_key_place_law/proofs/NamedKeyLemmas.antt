@@ -1,12 +1,12 @@
 -- Places of keys go back over resolving names and over what the features disable; for the laws of names and features.
 use Rattle.std.proofs.Common.{◌≡◌, List, refl, Bool}
 use Rattle.std.specs.Prelude.{Option}
-use Rattle.lalrpop_grammar_symbols.specs.Symbols.{Text, TextSpan, Closed}
-use Rattle.lalrpop_grammar.specs.WrittenGrammar.{Grammar}
+use Rattle.lalrpop_grammar_language.specs.PassedOn.{Text, TextSpan, Closed}
+use Rattle.lalrpop_grammar_language.specs.PassedOn.{Grammar}
 use Rattle.lalrpop_grammar_language.specs.Enabled.{EnabledRule, enabled_grammar}
 use Rattle.lalrpop_norm_expansion.specs.Between.{grammar_between, without_disabled}
 use Rattle.lalrpop_norm_expansion.specs.Premises.{IsReadGrammar}
-use Rattle.lalrpop_norm_pass_laws.specs.KeyTables.{keys_in}
+use Rattle.lalrpop_norm_expansion.specs.KeyTables.{keys_in}
 use Rattle.lalrpop_norm_name_laws.specs.Resolving.{NameUse, defined_names, resolved_grammar, resolved_name, use_of_name}
 use Rattle.lalrpop_norm_place_law.proofs.ResolvedPlaceLemmas.{name_change, replacement, replaces}
 use Rattle.lalrpop_norm_place_law.proofs.DroppedPlaceLemmas as dropped

@@ -2,14 +2,14 @@
 use Rattle.std.proofs.Common.{◌≡◌, ℕ, ◌+◌, List, [], ◌∷◌, ◌++◌, refl, ap, sym, ◌∙◌, subst}
 use Rattle.std.proofs.lemmas.List.{map-append}
 use Rattle.std.specs.Prelude.{map}
-use Rattle.lalrpop_grammar_symbols.specs.Symbols.{Text, TextSpan, Terminal, Op, Sym, Syms, syms, WrittenSymbol, Closed, Closeds}
+use Rattle.lalrpop_grammar_language.specs.PassedOn.{Text, TextSpan, Terminal, Op, Sym, Syms, syms, WrittenSymbol, Closed, Closeds}
 use Rattle.lalrpop_grammar_language.specs.Among.{Among}
 use Rattle.lalrpop_grammar_language.specs.Closing.{Scope, occurrences}
 use Rattle.lalrpop_grammar_language.proofs.PlaceLemmas.{among_map}
 use Rattle.lalrpop_grammar_closed.specs.Views.{closeds}
-use Rattle.lalrpop_norm_pass_laws.specs.KeyTables.{keys_in, keys_in_all}
-use Rattle.lalrpop_norm_pass_laws.specs.LevelRules.{all_by_level_names, by_level_names, rename_all_occurrences}
-use Rattle.lalrpop_norm_pass_laws.specs.LevelRules.{rename_listed_occurrences, rename_occurrences}
+use Rattle.lalrpop_norm_expansion.specs.KeyTables.{keys_in, keys_in_all}
+use Rattle.lalrpop_norm_expansion.specs.LevelRules.{all_by_level_names, by_level_names, rename_all_occurrences}
+use Rattle.lalrpop_norm_expansion.specs.LevelRules.{rename_listed_occurrences, rename_occurrences}
 use Rattle.lalrpop_norm_key_table.specs.Standing.{keys_of_repeat}
 use Rattle.lalrpop_norm_key_place_law.specs.KeyPlaces.{IsShapeKey}
 use Rattle.lalrpop_norm_key_place_law.specs.MetKeys.{MetKey, all_met_at, keys_met, keys_met_in_row}

@@ -1,8 +1,8 @@
 -- Places of keys go back where names are replaced by what closes as they do; for the laws of places in resolved grammars.
 use Rattle.std.proofs.Common.{◌≡◌, List, [], ◌∷◌, ◌++◌, refl, ap, sym, ◌∙◌, subst}
 use Rattle.std.specs.Prelude.{Option, map}
-use Rattle.lalrpop_grammar_symbols.specs.Symbols.{Text, TextSpan, Sym, Syms, syms, WrittenSymbol, Closed, Closeds}
-use Rattle.lalrpop_grammar_symbols.specs.SymbolMaps.{map_symbol, map_symbols}
+use Rattle.lalrpop_grammar_language.specs.PassedOn.{Text, TextSpan, Sym, Syms, syms, WrittenSymbol, Closed, Closeds}
+use Rattle.lalrpop_grammar_language.specs.PassedOn.{map_symbol, map_symbols}
 use Rattle.lalrpop_grammar_language.specs.Among.{Among}
 use Rattle.lalrpop_grammar_language.specs.Enabled.{EnabledGrammar, EnabledRule, Choice, IsRule}
 use Rattle.lalrpop_grammar_language.specs.Levels.{Rank, ranked_choices}
@@ -11,7 +11,7 @@ use Rattle.lalrpop_grammar_language.specs.Admitting.{Fits, bind, rank_level}
 use Rattle.lalrpop_grammar_language.specs.Expansion.{InExpansion, Nonterminal}
 use Rattle.lalrpop_grammar_language.proofs.PlaceLemmas.{among_map}
 use Rattle.lalrpop_grammar_closed.specs.Views.{closeds}
-use Rattle.lalrpop_norm_pass_laws.specs.KeyTables.{keys_in}
+use Rattle.lalrpop_norm_expansion.specs.KeyTables.{keys_in}
 use Rattle.lalrpop_norm_key_table.specs.Standing.{keys_of_repeat}
 use Rattle.lalrpop_norm_name_laws.proofs.RuleChangeLemmas.{RuleChange, changed_expansion, changed_pair, changed_rule, fits_before}
 use Rattle.lalrpop_norm_name_laws.proofs.RuleChangeLemmas.{ranked_kept, rule_before}

@@ -1,11 +1,11 @@
 -- Where a key is met after the passes over features, names and levels, there it is met in the written grammar; for the law of it.
 use Rattle.std.proofs.Common.{◌≡◌, ℕ, List, Bool}
 use Rattle.std.specs.Prelude.{Option}
-use Rattle.lalrpop_grammar_symbols.specs.Symbols.{Text, TextSpan, Closed}
-use Rattle.lalrpop_grammar.specs.WrittenGrammar.{Grammar}
+use Rattle.lalrpop_grammar_language.specs.PassedOn.{Text, TextSpan, Closed}
+use Rattle.lalrpop_grammar_language.specs.PassedOn.{Grammar}
 use Rattle.lalrpop_norm_expansion.specs.Between.{grammar_between, without_disabled}
 use Rattle.lalrpop_norm_expansion.specs.Premises.{IsReadGrammar}
-use Rattle.lalrpop_norm_pass_laws.specs.LevelRules.{by_level_names}
+use Rattle.lalrpop_norm_expansion.specs.LevelRules.{by_level_names}
 use Rattle.lalrpop_norm_name_laws.specs.Resolving.{resolved_grammar}
 use Rattle.lalrpop_norm_level_laws.specs.LeveledGrammar.{leveled_grammar}
 use Rattle.lalrpop_norm_level_laws.specs.LevelLaws.{IsLevelable}

@@ -1,7 +1,7 @@
 -- Where a grammar's repeats, groups and lookarounds are met: beside the symbols of an alternative that may be chosen.
 use Rattle.std.specs.Prelude.{ℕ, ◌≡◌, Bool, List, Option}
-use Rattle.lalrpop_grammar_symbols.specs.Symbols.{Text, TextSpan, Closed, Closeds, syms}
-use Rattle.lalrpop_grammar.specs.WrittenGrammar.{Grammar}
+use Rattle.lalrpop_grammar_language.specs.PassedOn.{Text, TextSpan, Closed, Closeds, syms}
+use Rattle.lalrpop_grammar_language.specs.PassedOn.{Grammar}
 use Rattle.lalrpop_grammar_language.specs.Among.{Among}
 use Rattle.lalrpop_grammar_language.specs.Enabled.{Choice, EnabledGrammar, EnabledRule, enabled_grammar}
 use Rattle.lalrpop_grammar_language.specs.Levels.{Rank}

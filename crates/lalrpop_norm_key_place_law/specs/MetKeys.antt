@@ -1,8 +1,8 @@
 -- Where keys are met in written symbols, beside what these close to: each at the innermost symbol that has it.
 use Rattle.std.specs.Prelude.{ℕ, ◌≡◌, List, [], ◌∷◌, ◌++◌, map}
-use Rattle.lalrpop_grammar_symbols.specs.Symbols.{Closed, Closeds, Sym, Syms, TextSpan, WrittenSymbol}
+use Rattle.lalrpop_grammar_language.specs.PassedOn.{Closed, Closeds, Sym, Syms, TextSpan, WrittenSymbol}
 use Rattle.lalrpop_grammar_language.specs.Closing.{Scope, close}
-use Rattle.lalrpop_norm_pass_laws.specs.KeyTables.{keys_in}
+use Rattle.lalrpop_norm_expansion.specs.KeyTables.{keys_in}
 use Rattle.lalrpop_norm_key_table.specs.Standing.{keys_of_repeat}
 
 -- a key, and where it is met

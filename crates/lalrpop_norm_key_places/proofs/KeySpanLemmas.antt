@@ -11,8 +11,8 @@ use Rattle.lalrpop_norm_expansion.specs.Premises.{HasNoLevels}
 use Rattle.lalrpop_norm_expansion.specs.Rounds.{AreCallsToDepth}
 use Rattle.lalrpop_norm_expansion.proofs.AmongLemmas.{among_left, among_parts, among_right}
 use Rattle.lalrpop_norm_expansion.proofs.ExpansionListLemmas.{rule_there}
-use Rattle.lalrpop_norm_pass_laws.specs.KeyTables.{IsKeyTable, IsMetKey, IsNoCall, IsPlainKey, KeyStandsIn}
-use Rattle.lalrpop_norm_pass_laws.proofs.KeyTableLemmas.{table_reached}
+use Rattle.lalrpop_norm_expansion.specs.KeyTables.{IsKeyTable, IsMetKey, IsNoCall, IsPlainKey, KeyStandsIn}
+use Rattle.lalrpop_norm_expansion.proofs.KeyTableLemmas.{table_reached}
 use Rattle.lalrpop_norm_keys.specs.FoundCalls.{plain_calls}
 use Rattle.lalrpop_norm_keys.proofs.FoundLemmas.{chain_is_call, plain_call_is, plain_is_root, root_is_plain}
 use Rattle.lalrpop_norm_keys.proofs.RightCallLemmas.{root_right}

@@ -14,7 +14,7 @@ use Rattle.lalrpop_norm_expansion.specs.Premises.{HasNoLevels}
 use Rattle.lalrpop_norm_expansion.proofs.AmongLemmas.{among_left, among_parts, among_right}
 use Rattle.lalrpop_norm_expansion.proofs.ExpansionListLemmas.{rule_there}
 use Rattle.lalrpop_norm_expansion.proofs.LevelLemmas.{no_rank}
-use Rattle.lalrpop_norm_pass_laws.specs.KeyTables.{IsNoCall, KeyStandsIn}
+use Rattle.lalrpop_norm_expansion.specs.KeyTables.{IsNoCall, KeyStandsIn}
 use Rattle.lalrpop_norm_keys.proofs.SymbolLemmas.{key_among, same_keys}
 use Rattle.lalrpop_norm_key_place_law.specs.KeyPlaces.{IsKeyPlaceIn, IsShapeKey, keys_met_in_side}
 use Rattle.lalrpop_norm_key_place_law.specs.MetKeys.{MetKey}

@@ -4,7 +4,7 @@ use Rattle.lalrpop_grammar_symbols.specs.Symbols.{Text, Closed, TextSpan}
 use Rattle.lalrpop_grammar.specs.WrittenGrammar.{Grammar, rules_of}
 use Rattle.lalrpop_grammar_language.specs.Enabled.{EnabledGrammar, enabled_grammar}
 use Rattle.lalrpop_norm_expansion.specs.Between.{grammar_between}
-use Rattle.lalrpop_norm_pass_laws.specs.KeyTables.{IsKeyTable}
+use Rattle.lalrpop_norm_expansion.specs.KeyTables.{IsKeyTable}
 use Rattle.lalrpop_norm_key_place_law.specs.KeyPlaces.{IsKeyPlace, IsShapeKey}
 use Rattle.lalrpop_norm_keys.specs.SearchPremises.{AreAllCalls, CanSearch}
 use Rattle.lalrpop_norm_keys.specs.TableLaws.{HasAllActive}

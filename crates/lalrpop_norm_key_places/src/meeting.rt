@@ -4,7 +4,7 @@ ghost use Rattle.std.specs.Prelude.{◌≡◌, ◌++◌, ◌∷◌, [], IfOk, On
 ghost use Rattle.lalrpop_grammar_symbols.specs.Symbols.{Closed, syms};
 ghost use Rattle.lalrpop_grammar_symbols.specs.Views.{repeat_op_view, span_view, symbol_view};
 ghost use Rattle.lalrpop_grammar_closed.specs.Views.{closed_view, closeds};
-ghost use Rattle.lalrpop_norm_pass_laws.specs.KeyTables.{keys_in};
+ghost use Rattle.lalrpop_norm_expansion.specs.KeyTables.{keys_in};
 ghost use Rattle.lalrpop_norm_key_table.specs.Standing.{keys_of_repeat};
 ghost use Rattle.lalrpop_norm_key_place_law.specs.MetKeys.{all_met_at, keys_met, keys_met_in_row};
 ghost use Rattle.lalrpop_norm_key_places.specs.Views.{met_view};

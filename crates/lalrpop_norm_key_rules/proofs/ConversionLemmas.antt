@@ -20,7 +20,7 @@ use Rattle.lalrpop_norm_expansion.specs.Rounds.{AreCallsToDepth}
 use Rattle.lalrpop_norm_expansion.proofs.AmongLemmas.{among_left, among_right, map_among}
 use Rattle.lalrpop_norm_expansion.proofs.ExpansionListLemmas.{rule_there}
 use Rattle.lalrpop_norm_expansion.proofs.LevelLemmas.{ranked_flat}
-use Rattle.lalrpop_norm_pass_laws.specs.KeyTables.{IsKeyTable, keys_in, keys_in_all}
+use Rattle.lalrpop_norm_expansion.specs.KeyTables.{IsKeyTable, keys_in, keys_in_all}
 use Rattle.lalrpop_grammar_rules.specs.RuleTable.{rules_with}
 use Rattle.lalrpop_grammar_repr.specs.declared.session.NormFault.{NormFault}
 use Rattle.lalrpop_grammar_repr.specs.declared.session.NormFault.TheVariants as faults

@@ -14,7 +14,7 @@ use Rattle.lalrpop_grammar_language.specs.Admitting.{bind}
 use Rattle.lalrpop_norm_expansion.specs.Between.{grammar_between, rule_between}
 use Rattle.lalrpop_norm_expansion.specs.Keys.{flat_key_text}
 use Rattle.lalrpop_norm_expansion.specs.Types.{type_scope}
-use Rattle.lalrpop_norm_pass_laws.specs.KeyRules.{AreWrittenFor}
+use Rattle.lalrpop_norm_expansion.specs.KeyRules.{AreWrittenFor}
 use Rattle.lalrpop_norm_back_laws.specs.KeyTypes.{IsPutDeclaration}
 use Rattle.lalrpop_norm_key_rules.specs.FinishedRules.{BecomesInInstance, IsFinishedRule}
 use Rattle.lalrpop_norm_key_rules.specs.InstanceRules.{AreInstancesBy, IsInstanceRule}

@@ -13,8 +13,8 @@ use Rattle.lalrpop_grammar_language.proofs.PlaceLemmas.{among_map, same_text-eq}
 use Rattle.lalrpop_norm_expansion.specs.Between.{grammar_between, rule_between, with_origins}
 use Rattle.lalrpop_norm_expansion.specs.Premises.{HasNoLevels, IsExpanded, IsExpandedChoice, IsExpandedSymbol}
 use Rattle.lalrpop_norm_expansion.proofs.ExpansionListLemmas.{rule_there}
-use Rattle.lalrpop_norm_pass_laws.specs.KeyRules.{AreWrittenFor, IsKey, IsWrittenFor}
-use Rattle.lalrpop_norm_pass_laws.specs.KeyTables.{AreKeyRules, IsKeyTable}
+use Rattle.lalrpop_norm_expansion.specs.KeyRules.{AreWrittenFor, IsKey, IsWrittenFor}
+use Rattle.lalrpop_norm_expansion.specs.KeyTables.{AreKeyRules, IsKeyTable}
 use Rattle.lalrpop_norm_back_laws.specs.KeyTypes.{DeclareKeyTypes, HasKeyRule, IsKeyDeclaration}
 use Rattle.lalrpop_norm_key_rules.specs.FinishedRules.{AreFinishedRules, AreRulesFrom, IsFinishedRule}
 use Rattle.lalrpop_norm_key_symbols.specs.KeyedSymbols.{AreKeyed, IsMappedSymbol}

@@ -16,8 +16,8 @@ use Rattle.lalrpop_norm_expansion.specs.Inlined.{IsInlined}
 use Rattle.lalrpop_norm_expansion.specs.Premises.{HasNoLevels}
 use Rattle.lalrpop_norm_expansion.proofs.ExpansionListLemmas.{rule_there}
 use Rattle.lalrpop_norm_expansion.proofs.LevelLemmas.{ranked_flat}
-use Rattle.lalrpop_norm_pass_laws.specs.KeyRules.{AreInstanceChoices, AreKeyChoices, IsKey, IsKeyRule}
-use Rattle.lalrpop_norm_pass_laws.specs.KeyRules.{AreTwoChoices, IsOneChoice}
+use Rattle.lalrpop_norm_expansion.specs.KeyRules.{AreInstanceChoices, AreKeyChoices, IsKey, IsKeyRule}
+use Rattle.lalrpop_norm_expansion.specs.KeyRules.{AreTwoChoices, IsOneChoice}
 use Rattle.lalrpop_norm_back_laws.specs.KeyTypes.{IsKeyDeclaration}
 use Rattle.lalrpop_norm_key_rules.specs.AddedRules.{AddedChoice, AreAddedAlternatives, added_choices}
 use Rattle.lalrpop_norm_key_rules.specs.FinishedRules.{BecomesInInstance, IsFinishedRule}

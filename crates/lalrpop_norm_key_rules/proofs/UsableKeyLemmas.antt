@@ -16,9 +16,9 @@ use Rattle.lalrpop_norm_expansion.specs.Rounds.{AreCallsToDepth}
 use Rattle.lalrpop_norm_expansion.proofs.AmongLemmas.{among_parts}
 use Rattle.lalrpop_norm_expansion.proofs.ExpansionListLemmas.{rule_there}
 use Rattle.lalrpop_norm_expansion.proofs.LevelLemmas.{ranked_flat}
-use Rattle.lalrpop_norm_pass_laws.specs.KeyRules.{IsKey}
-use Rattle.lalrpop_norm_pass_laws.specs.KeyTables.{IsKeyTable, IsMetKey, IsNoCall, IsPlainKey, KeyStandsIn, keys_in, keys_in_all}
-use Rattle.lalrpop_norm_pass_laws.proofs.KeyTableLemmas.{stands_trans}
+use Rattle.lalrpop_norm_expansion.specs.KeyRules.{IsKey}
+use Rattle.lalrpop_norm_expansion.specs.KeyTables.{IsKeyTable, IsMetKey, IsNoCall, IsPlainKey, KeyStandsIn, keys_in, keys_in_all}
+use Rattle.lalrpop_norm_expansion.proofs.KeyTableLemmas.{stands_trans}
 use Rattle.lalrpop_norm_back_laws.specs.KeyTypes.{HasKeyRule}
 use Rattle.lalrpop_norm_keys.proofs.FoundLemmas.{chain_is_call}
 use Rattle.lalrpop_norm_keys.proofs.RightCallLemmas.{IsRightCall, chain_right}

@@ -9,7 +9,7 @@ use Rattle.lalrpop_grammar_language.specs.Conditions.{Holds}
 use Rattle.lalrpop_grammar_language.specs.Admitting.{argument_list, bind}
 use Rattle.lalrpop_norm_expansion.specs.Between.{grammar_between, rule_between}
 use Rattle.lalrpop_norm_expansion.specs.Types.{type_scope}
-use Rattle.lalrpop_norm_pass_laws.specs.KeyRules.{IsWrittenFor}
+use Rattle.lalrpop_norm_expansion.specs.KeyRules.{IsWrittenFor}
 use Rattle.lalrpop_norm_back_laws.specs.KeyTypes.{IsPutDeclaration, repeat_ty}
 use Rattle.lalrpop_norm_key_rules.specs.AddedRules.{IsAddedRule}
 use Rattle.lalrpop_norm_key_symbols.specs.KeyedSymbols.{AreWrittenByName}

@@ -7,7 +7,7 @@ use Rattle.lalrpop_grammar_language.specs.Among.{Among}
 use Rattle.lalrpop_grammar_language.specs.Enabled.{EnabledGrammar, EnabledRule}
 use Rattle.lalrpop_grammar_language.specs.Levels.{loosest}
 use Rattle.lalrpop_grammar_language.specs.Closing.{Binding, Scope}
-use Rattle.lalrpop_norm_pass_laws.specs.KeyRules.{IsWrittenFor}
+use Rattle.lalrpop_norm_expansion.specs.KeyRules.{IsWrittenFor}
 use Rattle.lalrpop_norm_back_laws.specs.KeyTypes.{ArePutTypes, IsPutDeclaration, IsPutType, IsSymbolType, repeat_ty}
 use Rattle.lalrpop_norm_key_table.specs.Tables.{table_keys}
 use Rattle.lalrpop_norm_key_symbols.specs.KeyNaming.{SpellsNames}

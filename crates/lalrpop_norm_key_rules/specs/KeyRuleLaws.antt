@@ -11,8 +11,8 @@ use Rattle.lalrpop_norm_expansion.specs.Premises.{HasNoLevels, HasNoRecovery, Is
 use Rattle.lalrpop_norm_expansion.specs.Rounds.{AreCallsToDepth}
 use Rattle.lalrpop_norm_expansion.specs.Same.{SameExpansion}
 use Rattle.lalrpop_norm_expansion.specs.Types.{SameTypes}
-use Rattle.lalrpop_norm_pass_laws.specs.KeyRules.{IsMacroExpansion, by_name, nonterminal_by_name}
-use Rattle.lalrpop_norm_pass_laws.specs.KeyTables.{AreKeyRules, IsKeyTable}
+use Rattle.lalrpop_norm_expansion.specs.KeyRules.{IsMacroExpansion, by_name, nonterminal_by_name}
+use Rattle.lalrpop_norm_expansion.specs.KeyTables.{AreKeyRules, IsKeyTable}
 use Rattle.lalrpop_norm_back_laws.specs.KeyTypes.{DeclareKeyTypes}
 use Rattle.lalrpop_norm_key_table.specs.Tables.{HasEachOnce}
 use Rattle.lalrpop_norm_keys.specs.Arity.{arity_faults}

@@ -7,7 +7,7 @@ use Rattle.std.specs.Prelude.{Option, Some, None, IfSome, IsSome, slice_get, opt
 use Rattle.std.specs.Borrow.{Bor}
 use Rattle.lalrpop_grammar_symbols.specs.Symbols.{Text, Closed, WrittenSymbol}
 use Rattle.lalrpop_grammar_language.specs.Among.{Among}
-use Rattle.lalrpop_norm_pass_laws.specs.KeyRules.{AreWrittenFor}
+use Rattle.lalrpop_norm_expansion.specs.KeyRules.{AreWrittenFor}
 use Rattle.lalrpop_grammar_closed.specs.Views.{closed_view}
 use Rattle.lalrpop_grammar_closed.specs.declared.closed_symbol.ClosedSymbol.{ClosedSymbol}
 use Rattle.lalrpop_norm_key_table.specs.Tables.{table_keys}

@@ -5,7 +5,7 @@ use Rattle.lalrpop_grammar_symbols.specs.Symbols.{Text, TextSpan, WrittenSymbol,
 use Rattle.lalrpop_grammar_symbols.specs.Views.{symbol_view}
 use Rattle.lalrpop_grammar_symbols.specs.declared.symbol.Symbol.{Symbol}
 use Rattle.lalrpop_grammar_language.specs.Among.{Among}
-use Rattle.lalrpop_norm_pass_laws.specs.KeyRules.{IsWrittenFor}
+use Rattle.lalrpop_norm_expansion.specs.KeyRules.{IsWrittenFor}
 use Rattle.lalrpop_norm_back_laws.specs.KeyTypes.{HasKeyRule}
 use Rattle.lalrpop_norm_key_table.specs.Tables.{table_keys}
 use Rattle.lalrpop_norm_key_symbols.specs.KeyedSymbols.{AreKeyed, AreWrittenByName, IsMappedSymbol}

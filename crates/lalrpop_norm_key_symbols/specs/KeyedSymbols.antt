@@ -1,7 +1,7 @@
 -- Closed symbols that have a rule or are terminals, and what is written for them.
 use Rattle.std.specs.Prelude.{List, [], ◌∷◌}
 use Rattle.lalrpop_grammar_symbols.specs.Symbols.{Text, WrittenSymbol, Closed}
-use Rattle.lalrpop_norm_pass_laws.specs.KeyRules.{AreWrittenFor, IsMappedTerminal}
+use Rattle.lalrpop_norm_expansion.specs.KeyRules.{AreWrittenFor, IsMappedTerminal}
 use Rattle.lalrpop_norm_back_laws.specs.KeyTypes.{HasKeyRule}
 
 -- a bare name, maybe chosen or named, is a mapped one

@@ -4,7 +4,7 @@ ghost use Rattle.std.specs.Prelude.{◌≡◌, ◌++◌, ◌∷◌, [], IfOk, On
 ghost use Rattle.lalrpop_grammar_symbols.specs.Symbols.{Closed};
 ghost use Rattle.lalrpop_grammar_symbols.specs.Views.{repeat_op_view, terminal_view};
 ghost use Rattle.lalrpop_norm_expansion.specs.Depth.{calls_in, calls_in_all};
-ghost use Rattle.lalrpop_norm_pass_laws.specs.KeyTables.{keys_in, keys_in_all};
+ghost use Rattle.lalrpop_norm_expansion.specs.KeyTables.{keys_in, keys_in_all};
 ghost use Rattle.lalrpop_grammar_closed.specs.Views.{closed_view, closeds};
 ghost use Rattle.lalrpop_norm_key_table.specs.Standing.{keys_of_repeat};
 

@@ -18,7 +18,7 @@ use Rattle.lalrpop_norm_expansion.proofs.AmongLemmas.{among_either, among_left, 
 use Rattle.lalrpop_norm_expansion.proofs.DepthLemmas.{before_rounds, left_too_deep, one_deeper}
 use Rattle.lalrpop_norm_expansion.proofs.ExpansionListLemmas.{rule_there}
 use Rattle.lalrpop_norm_expansion.proofs.LevelLemmas.{keeps, no_levels}
-use Rattle.lalrpop_norm_pass_laws.specs.KeyTables.{IsNoCall}
+use Rattle.lalrpop_norm_expansion.specs.KeyTables.{IsNoCall}
 use Rattle.lalrpop_grammar_repr.specs.declared.session.NormFault.{NormFault}
 use Rattle.lalrpop_grammar_repr.specs.declared.session.NormFault.TheVariants as faults
 use Rattle.lalrpop_norm_key_table.specs.Tables.{AddsKeys}

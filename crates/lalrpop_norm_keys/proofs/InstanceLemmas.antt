@@ -19,7 +19,7 @@ use Rattle.lalrpop_norm_expansion.specs.Premises.{HasNoLevels}
 use Rattle.lalrpop_norm_expansion.proofs.AmongLemmas.{map_among}
 use Rattle.lalrpop_norm_expansion.proofs.ExpansionListLemmas.{rule_there}
 use Rattle.lalrpop_norm_expansion.proofs.LevelLemmas.{no_rank}
-use Rattle.lalrpop_norm_pass_laws.specs.KeyTables.{KeyStandsIn, keys_in_all}
+use Rattle.lalrpop_norm_expansion.specs.KeyTables.{KeyStandsIn, keys_in_all}
 use Rattle.lalrpop_grammar_closed.specs.Views.{binding_of, closed_view, closeds}
 use Rattle.lalrpop_grammar_closed.specs.declared.closed_symbol.ClosedSymbol.{ClosedSymbol}
 use Rattle.lalrpop_grammar_closed.proofs.ArgumentLemmas.{closed_list-closeds}

@@ -12,8 +12,8 @@ use Rattle.lalrpop_norm_expansion.specs.Premises.{HasNoLevels}
 use Rattle.lalrpop_norm_expansion.specs.Rounds.{AreCallsToDepth}
 use Rattle.lalrpop_norm_expansion.proofs.AmongLemmas.{among_either, among_parts}
 use Rattle.lalrpop_norm_expansion.proofs.ExpansionListLemmas.{rule_there}
-use Rattle.lalrpop_norm_pass_laws.specs.KeyTables.{IsKeyTable, IsMetKey, IsNoCall, IsPlainKey, KeyStandsIn}
-use Rattle.lalrpop_norm_pass_laws.specs.KeyTables.{keys_in_all}
+use Rattle.lalrpop_norm_expansion.specs.KeyTables.{IsKeyTable, IsMetKey, IsNoCall, IsPlainKey, KeyStandsIn}
+use Rattle.lalrpop_norm_expansion.specs.KeyTables.{keys_in_all}
 use Rattle.lalrpop_grammar_closed.specs.Views.{closeds}
 use Rattle.lalrpop_norm_keys.specs.Instances.{HasKeysOf}
 use Rattle.lalrpop_norm_key_table.specs.Tables.{AddsKey, AddsKeys}

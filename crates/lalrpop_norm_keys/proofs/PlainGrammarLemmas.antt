@@ -19,7 +19,7 @@ use Rattle.lalrpop_norm_expansion.specs.Between.{grammar_between, rule_between, 
 use Rattle.lalrpop_norm_expansion.specs.Depth.{CallOccursIn, HasCallChain, IsTooDeep}
 use Rattle.lalrpop_norm_expansion.specs.Rounds.{AreCallsToDepth}
 use Rattle.lalrpop_norm_expansion.proofs.AmongLemmas.{map_among}
-use Rattle.lalrpop_norm_pass_laws.specs.KeyTables.{IsKeyTable, IsMetKey, IsPlainKey, KeyStandsIn}
+use Rattle.lalrpop_norm_expansion.specs.KeyTables.{IsKeyTable, IsMetKey, IsPlainKey, KeyStandsIn}
 use Rattle.lalrpop_norm_keys.specs.TableLaws.{HasAllActive}
 use Rattle.lalrpop_norm_keys.proofs.OriginLemmas.{plain_choice, plain_rule, plain_pair, plain_grammar, levels_plain, ranked_plain}
 use Rattle.lalrpop_norm_keys.proofs.OriginLemmas.{rule_plain, plain_was, side_plain, tighter_plain, same_levels}

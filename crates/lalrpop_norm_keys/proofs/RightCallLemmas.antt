@@ -23,7 +23,7 @@ use Rattle.lalrpop_norm_expansion.specs.Premises.{HasNoLevels}
 use Rattle.lalrpop_norm_expansion.proofs.AmongLemmas.{among_left, among_parts, among_right}
 use Rattle.lalrpop_norm_expansion.proofs.ExpansionListLemmas.{rule_there}
 use Rattle.lalrpop_norm_expansion.proofs.LevelLemmas.{no_levels, no_loosest, no_rank}
-use Rattle.lalrpop_norm_pass_laws.specs.KeyTables.{IsNoCall, IsPlainKey, KeyStandsIn, keys_in, keys_in_all}
+use Rattle.lalrpop_norm_expansion.specs.KeyTables.{IsNoCall, IsPlainKey, KeyStandsIn, keys_in, keys_in_all}
 use Rattle.lalrpop_grammar.specs.WrittenGrammar.{Origin}
 use Rattle.lalrpop_norm_keys.proofs.FoundLemmas.{chain_is_call}
 use Rattle.lalrpop_norm_keys.proofs.SymbolLemmas.{calls_of_symbol, same_keys}

@@ -17,7 +17,7 @@ use Rattle.lalrpop_norm_expansion.specs.Premises.{HasNoLevels}
 use Rattle.lalrpop_norm_expansion.proofs.AmongLemmas.{map_among}
 use Rattle.lalrpop_norm_expansion.proofs.ExpansionListLemmas.{rule_there}
 use Rattle.lalrpop_norm_expansion.proofs.LevelLemmas.{no_levels, no_rank}
-use Rattle.lalrpop_norm_pass_laws.specs.KeyTables.{IsNoCall}
+use Rattle.lalrpop_norm_expansion.specs.KeyTables.{IsNoCall}
 use Rattle.lalrpop_grammar_closed.specs.Views.{closeds}
 use Rattle.lalrpop_norm_keys.specs.Instances.{AddsSides}
 use Rattle.lalrpop_norm_keys.specs.StandingCalls.{CallStandsIn, HasCallsOf, StandsInCall}

@@ -8,7 +8,7 @@ use Rattle.lalrpop_grammar_language.specs.Enabled.{EnabledGrammar}
 use Rattle.lalrpop_grammar_language.specs.Expansion.{Nonterminal, IsRoot}
 use Rattle.lalrpop_norm_expansion.specs.Depth.{HasCallChain, IsTooDeep}
 use Rattle.lalrpop_norm_expansion.specs.Rounds.{AreCallsToDepth}
-use Rattle.lalrpop_norm_pass_laws.specs.KeyTables.{IsNoCall}
+use Rattle.lalrpop_norm_expansion.specs.KeyTables.{IsNoCall}
 use Rattle.lalrpop_grammar_repr.specs.declared.session.NormFault.{NormFault}
 use Rattle.lalrpop_grammar_repr.specs.declared.session.NormFault.TheVariants as faults
 use Rattle.lalrpop_grammar_closed.specs.Views.{closed_view}

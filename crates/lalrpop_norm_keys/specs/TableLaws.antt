@@ -8,7 +8,7 @@ use Rattle.lalrpop_norm_expansion.specs.Between.{grammar_between}
 use Rattle.lalrpop_norm_expansion.specs.Depth.{IsTooDeep}
 use Rattle.lalrpop_norm_expansion.specs.Premises.{HasNoLevels}
 use Rattle.lalrpop_norm_expansion.specs.Rounds.{AreCallsToDepth}
-use Rattle.lalrpop_norm_pass_laws.specs.KeyTables.{IsKeyTable}
+use Rattle.lalrpop_norm_expansion.specs.KeyTables.{IsKeyTable}
 use Rattle.lalrpop_grammar_repr.specs.declared.session.NormFault.{NormFault}
 use Rattle.lalrpop_norm_keys.specs.Arity.{arity_faults}
 use Rattle.lalrpop_norm_keys.specs.FoundCalls.{TellsOfMadeCall}

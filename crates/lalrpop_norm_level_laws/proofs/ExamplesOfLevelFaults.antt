@@ -4,7 +4,7 @@ use Rattle.std.proofs.Common.{◌≡◌, ℕ, List, [], ◌∷◌, refl, ap, tru
 use Rattle.std.specs.Prelude.{codes, Some, None, ◌==◌}
 use Rattle.std.specs.List.{list_any}
 use Rattle.std.proofs.lemmas.Bool.{true≢false}
-use Rattle.lalrpop_grammar.specs.WrittenGrammar.{Attr, Attrs, Alternative, Grammar}
+use Rattle.lalrpop_grammar_language.specs.PassedOn.{Attr, Attrs, Alternative, Grammar}
 use Rattle.lalrpop_grammar_language.specs.Levels.{Assoc}
 use Rattle.lalrpop_grammar_language.proofs.WrittenTreeLemmas.{lit, with, grammar}
 use Rattle.lalrpop_norm_level_laws.specs.LevelFaults.{LevelFault, side_of, level_faults, HasRightLevels}

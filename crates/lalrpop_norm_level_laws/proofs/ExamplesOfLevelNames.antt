@@ -5,8 +5,8 @@ use Rattle.std.specs.Str.{bytes_eq}
 use Rattle.std.proofs.Common.{◌≡◌, ◌≢◌, ℕ, List, [], ◌∷◌, refl, ap, sym, true, false, inl, inr}
 use Rattle.std.specs.Prelude.{codes, map, length}
 use Rattle.std.proofs.lemmas.Bool.{true≢false}
-use Rattle.lalrpop_grammar_symbols.specs.Symbols.{Text}
-use Rattle.lalrpop_grammar.specs.WrittenGrammar.{Rule, Grammar, rules_of}
+use Rattle.lalrpop_grammar_language.specs.PassedOn.{Text}
+use Rattle.lalrpop_grammar_language.specs.PassedOn.{Rule, Grammar, rules_of}
 use Rattle.lalrpop_grammar_language.specs.Among.{Among}
 use Rattle.lalrpop_grammar_language.specs.Enabled.{has_text}
 use Rattle.lalrpop_grammar_language.specs.Levels.{loosest}
@@ -14,7 +14,7 @@ use Rattle.lalrpop_grammar_language.proofs.WrittenTreeLemmas.{lit, id, level, si
 use Rattle.lalrpop_norm_expansion.specs.Between.{rule_between}
 use Rattle.lalrpop_norm_expansion.specs.Keys.{with_number}
 use Rattle.lalrpop_norm_expansion.proofs.AmongLemmas.{all-among}
-use Rattle.lalrpop_norm_pass_laws.specs.LevelRules.{level_name}
+use Rattle.lalrpop_norm_expansion.specs.LevelRules.{level_name}
 use Rattle.lalrpop_norm_level_laws.specs.LeveledGrammar.{leveled_grammar}
 use Rattle.lalrpop_norm_level_laws.specs.LevelNames.{AreLevelNames, tighter_levels, numbered_text, plain_levels, leveled_keys}
 use Rattle.lalrpop_norm_level_laws.proofs.ExamplesOfLevels.{at, item, nonterminal, names, parameter_named, five_levels, five_names}

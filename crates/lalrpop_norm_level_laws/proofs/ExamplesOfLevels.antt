@@ -4,9 +4,9 @@ use Rattle.std.specs.Str.{bytes_eq}
 use Rattle.std.proofs.Common.{◌≡◌, ℕ, List, [], ◌∷◌, refl, ap, sym, Bool, true, false}
 use Rattle.std.specs.Prelude.{Option, Some, None, codes, map, ◌==◌, ◌&&◌, if◌then◌else◌}
 use Rattle.std.proofs.lemmas.Bool.{true≢false}
-use Rattle.lalrpop_grammar_symbols.specs.Symbols.{Text, WrittenSymbol, Sym}
-use Rattle.lalrpop_grammar.specs.WrittenGrammar.{Action, Origin, Alternative, Condition, ConditionTest, Rule, WrittenItem, Grammar}
-use Rattle.lalrpop_grammar.specs.WrittenGrammar.{rules_of}
+use Rattle.lalrpop_grammar_language.specs.PassedOn.{Text, WrittenSymbol, Sym}
+use Rattle.lalrpop_grammar_language.specs.PassedOn.{Action, Origin, Alternative, Condition, ConditionTest, Rule, WrittenItem, Grammar}
+use Rattle.lalrpop_grammar_language.specs.PassedOn.{rules_of}
 use Rattle.lalrpop_grammar_language.proofs.WrittenTreeLemmas.{here, lit, id, of_macro, many_of, in_group, level, side, with, alt, if_so}
 use Rattle.lalrpop_grammar_language.proofs.WrittenTreeLemmas.{of_parts, texts, grammar}
 use Rattle.lalrpop_norm_level_laws.specs.LeveledGrammar.{falling_levels, leveled_grammar}

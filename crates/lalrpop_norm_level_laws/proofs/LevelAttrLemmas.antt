@@ -4,8 +4,8 @@ use Rattle.std.proofs.Common.{◌≡◌, ℕ, List, [], ◌∷◌, ◌++◌, ref
 use Rattle.std.specs.Prelude.{Option, Some, None, map, filter, codes, ◌||◌, not}
 use Rattle.std.specs.List.{list_any}
 use Rattle.std.proofs.lemmas.Bool.{or_from}
-use Rattle.lalrpop_grammar_symbols.specs.Symbols.{Text}
-use Rattle.lalrpop_grammar.specs.WrittenGrammar.{Attr, attr_id, Alternative, Rule}
+use Rattle.lalrpop_grammar_language.specs.PassedOn.{Text}
+use Rattle.lalrpop_grammar_language.specs.PassedOn.{Attr, attr_id, Alternative, Rule}
 use Rattle.lalrpop_grammar_language.specs.Enabled.{choice_of, has_attr}
 use Rattle.lalrpop_grammar_language.specs.Levels.{Rank, has_levels, tighter}
 use Rattle.lalrpop_grammar_language.specs.Expansion.{HasLevel}

@@ -5,7 +5,7 @@ use Rattle.std.proofs.Common.{inl, inr, length}
 use Rattle.std.specs.Prelude.{Option, Some, None, map, filter, zip, option_map, is_some, ◌||◌}
 use Rattle.std.specs.List.{list_any}
 use Rattle.std.proofs.lemmas.Bool.{true≢false, or_parts}
-use Rattle.lalrpop_grammar_symbols.specs.Symbols.{Text, TextSpan, Sym, syms, Closed, Closeds, closed_list}
+use Rattle.lalrpop_grammar_language.specs.PassedOn.{Text, TextSpan, Sym, syms, Closed, Closeds, closed_list}
 use Rattle.lalrpop_grammar_language.specs.Among.{Among}
 use Rattle.lalrpop_grammar_language.specs.Enabled.{has_text}
 use Rattle.lalrpop_grammar_language.specs.Closing.{Scope, Binding, only_value, parameter_value, close_all, name_or, name_meaning}
@@ -14,7 +14,7 @@ use Rattle.lalrpop_grammar_language.specs.Closing.{occurrences}
 use Rattle.lalrpop_grammar_language.proofs.ComparisonLemmas.{same_text-refl}
 use Rattle.lalrpop_grammar_language.proofs.PlaceLemmas.{same_text-eq}
 use Rattle.lalrpop_norm_expansion.specs.Premises.{AreDifferent}
-use Rattle.lalrpop_norm_pass_laws.specs.LevelRules.{by_level_names, all_by_level_names}
+use Rattle.lalrpop_norm_expansion.specs.LevelRules.{by_level_names, all_by_level_names}
 use Rattle.lalrpop_norm_level_laws.specs.LeveledGrammar.{parameters_alone, names_alone}
 use Rattle.lalrpop_norm_level_laws.proofs.LevelOrderLemmas.{text_found}
 use Rattle.lalrpop_norm_level_laws.proofs.RenameLemmas.{HideAlike}

@@ -4,9 +4,9 @@ use Rattle.std.proofs.Common.{◌≡◌, ℕ, ◌+◌, List, [], ◌∷◌, refl
 use Rattle.std.proofs.Common.{length}
 use Rattle.std.specs.Prelude.{Option, Some, None, map, zip, option_map}
 use Rattle.std.proofs.lemmas.Bool.{eq-eqb}
-use Rattle.lalrpop_grammar_symbols.specs.Symbols.{Text, TextSpan, syms, Closed, Closeds, closed_list}
-use Rattle.lalrpop_grammar_symbols.specs.Subsymbols.{subsymbols_of}
-use Rattle.lalrpop_grammar.specs.WrittenGrammar.{Alternative, Rule, Grammar, rules_of}
+use Rattle.lalrpop_grammar_language.specs.PassedOn.{Text, TextSpan, syms, Closed, Closeds, closed_list}
+use Rattle.lalrpop_grammar_language.specs.PassedOn.{subsymbols_of}
+use Rattle.lalrpop_grammar_language.specs.PassedOn.{Alternative, Rule, Grammar, rules_of}
 use Rattle.lalrpop_grammar_language.specs.Among.{Among}
 use Rattle.lalrpop_grammar_language.specs.Enabled.{EnabledRule, Choice, IsRule}
 use Rattle.lalrpop_grammar_language.specs.Levels.{Rank, has_levels, levels, loosest, tighter, allowed_level}
@@ -18,9 +18,9 @@ use Rattle.lalrpop_norm_expansion.specs.Between.{rule_between}
 use Rattle.lalrpop_norm_expansion.specs.Premises.{AreDifferent}
 use Rattle.lalrpop_norm_expansion.proofs.AmongLemmas.{map_among}
 use Rattle.lalrpop_norm_expansion.proofs.LevelLemmas.{no_loosest}
-use Rattle.lalrpop_norm_pass_laws.specs.LevelRules.{by_level_names, all_by_level_names, occurrence_name, rename_listed_occurrences}
-use Rattle.lalrpop_norm_pass_laws.specs.LevelRules.{IsLeveledScope}
-use Rattle.lalrpop_norm_pass_laws.proofs.LevelRuleLemmas.{close_list_leveled, all-sound-renamed}
+use Rattle.lalrpop_norm_expansion.specs.LevelRules.{by_level_names, all_by_level_names, occurrence_name, rename_listed_occurrences}
+use Rattle.lalrpop_norm_expansion.specs.LevelRules.{IsLeveledScope}
+use Rattle.lalrpop_norm_expansion.proofs.LevelRuleLemmas.{close_list_leveled, all-sound-renamed}
 use Rattle.lalrpop_norm_level_laws.specs.LeveledGrammar.{ranked_alternatives, occurrence_scope, parameters_alone, leveled_alternative}
 use Rattle.lalrpop_norm_level_laws.specs.LeveledGrammar.{names_alone, own_call, pass_down_to, rule_at_level}
 use Rattle.lalrpop_norm_level_laws.specs.LevelLaws.{IsLevelable}

@@ -3,8 +3,8 @@ use Rattle.std.specs.Str.{bytes_eq}
 use Rattle.std.proofs.Common.{◌≡◌, ℕ, zero, suc, [], ◌∷◌, refl, ap, sym, ◌∙◌, subst, cond, Bool, true, false}
 use Rattle.std.proofs.Common.{inl, inr, length}
 use Rattle.std.specs.Prelude.{Option, Some, None, map, ◌↔◌}
-use Rattle.lalrpop_grammar_symbols.specs.Symbols.{Text, Op, Closed, Closeds, closed_list, syms}
-use Rattle.lalrpop_grammar.specs.WrittenGrammar.{Origin, Rule, Grammar, rules_of}
+use Rattle.lalrpop_grammar_language.specs.PassedOn.{Text, Op, Closed, Closeds, closed_list, syms}
+use Rattle.lalrpop_grammar_language.specs.PassedOn.{Origin, Rule, Grammar, rules_of}
 use Rattle.lalrpop_grammar_language.specs.Among.{Among}
 use Rattle.lalrpop_grammar_language.specs.Enabled.{EnabledGrammar, EnabledRule, Choice, IsRule}
 use Rattle.lalrpop_grammar_language.specs.Levels.{Rank, loosest, has_levels, ranked_choices, allowed_level}
@@ -19,7 +19,7 @@ use Rattle.lalrpop_norm_expansion.specs.Inlined.{IsInlined, SameInlined}
 use Rattle.lalrpop_norm_expansion.proofs.AmongLemmas.{map_among}
 use Rattle.lalrpop_norm_expansion.proofs.ExpansionListLemmas.{rule_there}
 use Rattle.lalrpop_norm_expansion.proofs.LevelLemmas.{no_levels, no_loosest}
-use Rattle.lalrpop_norm_pass_laws.specs.LevelRules.{level_name, by_level_names, all_by_level_names}
+use Rattle.lalrpop_norm_expansion.specs.LevelRules.{level_name, by_level_names, all_by_level_names}
 use Rattle.lalrpop_norm_level_laws.specs.LevelLaws.{nonterminal_by_level, IsLevelable, TellsOwnRules}
 use Rattle.lalrpop_norm_level_laws.proofs.LevelOrderLemmas.{one_rule}
 use Rattle.lalrpop_norm_level_laws.proofs.LeveledRuleLemmas.{rule_of_key, rule_key, key_rule, written_rule}

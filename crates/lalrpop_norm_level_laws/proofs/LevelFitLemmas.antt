@@ -1,8 +1,8 @@
 -- What an alternative becomes in the rule of its level, and back; for the laws of levels.
 use Rattle.std.proofs.Common.{◌≡◌, ℕ, List, [], ◌∷◌, refl, ap, sym, ◌∙◌, subst, Bool, false, length}
 use Rattle.std.specs.Prelude.{Option, Some, None, map, zip, option_map, is_some}
-use Rattle.lalrpop_grammar_symbols.specs.Symbols.{Text, Terminal, Closed, Closeds, closed_list}
-use Rattle.lalrpop_grammar.specs.WrittenGrammar.{Action, Condition, ConditionTest, Origin, Rule, Grammar, rules_of}
+use Rattle.lalrpop_grammar_language.specs.PassedOn.{Text, Terminal, Closed, Closeds, closed_list}
+use Rattle.lalrpop_grammar_language.specs.PassedOn.{Action, Condition, ConditionTest, Origin, Rule, Grammar, rules_of}
 use Rattle.lalrpop_grammar_language.specs.Among.{Among}
 use Rattle.lalrpop_grammar_language.specs.Enabled.{EnabledGrammar, EnabledRule, Choice}
 use Rattle.lalrpop_grammar_language.specs.Levels.{Rank, has_levels, tighter, ranked_choices}
@@ -13,7 +13,7 @@ use Rattle.lalrpop_grammar_language.specs.Expansion.{HasLevel}
 use Rattle.lalrpop_norm_expansion.specs.Between.{rule_between}
 use Rattle.lalrpop_norm_expansion.proofs.AmongLemmas.{map_among}
 use Rattle.lalrpop_norm_expansion.proofs.LevelLemmas.{ranked_flat}
-use Rattle.lalrpop_norm_pass_laws.specs.LevelRules.{level_name, by_level_names, all_by_level_names}
+use Rattle.lalrpop_norm_expansion.specs.LevelRules.{level_name, by_level_names, all_by_level_names}
 use Rattle.lalrpop_norm_level_laws.specs.LeveledGrammar.{leveled_alternative, pass_down_to, rule_at_level}
 use Rattle.lalrpop_norm_level_laws.specs.LevelLaws.{IsLevelable}
 use Rattle.lalrpop_norm_level_laws.proofs.LeveledRuleLemmas.{rule_of_key, key_rule, level_of_leveled}

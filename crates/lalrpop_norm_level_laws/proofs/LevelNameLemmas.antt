@@ -3,8 +3,8 @@ use Rattle.std.specs.Str.{bytes_eq}
 use Rattle.std.proofs.Common.{◌≡◌, ℕ, ◌≤◌, List, [], ◌∷◌, refl, ap, sym, ◌∙◌, subst, cond, Bool, true, false}
 use Rattle.std.proofs.Common.{inl, inr, ◌⊎◌, arith}
 use Rattle.std.specs.Prelude.{Option, Some, None, max}
-use Rattle.lalrpop_grammar_symbols.specs.Symbols.{Text}
-use Rattle.lalrpop_grammar.specs.WrittenGrammar.{Rule, Grammar, rules_of}
+use Rattle.lalrpop_grammar_language.specs.PassedOn.{Text}
+use Rattle.lalrpop_grammar_language.specs.PassedOn.{Rule, Grammar, rules_of}
 use Rattle.lalrpop_grammar_language.specs.Among.{Among}
 use Rattle.lalrpop_grammar_language.specs.Enabled.{EnabledGrammar, EnabledRule, IsRule, has_text}
 use Rattle.lalrpop_grammar_language.specs.Levels.{has_levels, levels, loosest, tighter, greatest, larger}
@@ -15,7 +15,7 @@ use Rattle.lalrpop_grammar_language.proofs.SoundnessLemmas.{tighter_below}
 use Rattle.lalrpop_norm_expansion.specs.Between.{grammar_between, rule_between}
 use Rattle.lalrpop_norm_expansion.proofs.AmongLemmas.{map_among}
 use Rattle.lalrpop_norm_expansion.proofs.LevelLemmas.{no_loosest}
-use Rattle.lalrpop_norm_pass_laws.specs.LevelRules.{level_name}
+use Rattle.lalrpop_norm_expansion.specs.LevelRules.{level_name}
 use Rattle.lalrpop_norm_level_laws.specs.LeveledGrammar.{leveled_grammar}
 use Rattle.lalrpop_norm_level_laws.specs.LevelNames.{tighter_levels}
 use Rattle.lalrpop_norm_level_laws.specs.LevelLaws.{IsLevelable}

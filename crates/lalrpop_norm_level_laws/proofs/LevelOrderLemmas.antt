@@ -4,7 +4,7 @@ use Rattle.std.proofs.Common.{◌≡◌, ℕ, List, [], ◌∷◌, refl, ap, sym
 use Rattle.std.proofs.Common.{◌⊎◌, arith}
 use Rattle.std.specs.Prelude.{Option, Some, None, map, filter, max, nat_lt, ◌==◌, ◌||◌}
 use Rattle.std.proofs.lemmas.Bool.{eqb-true, ltb-true, ltb-false, true≢false, or_parts, or_left, or_right}
-use Rattle.lalrpop_grammar_symbols.specs.Symbols.{Text}
+use Rattle.lalrpop_grammar_language.specs.PassedOn.{Text}
 use Rattle.lalrpop_grammar_language.specs.Among.{Among}
 use Rattle.lalrpop_grammar_language.specs.Enabled.{EnabledGrammar, EnabledRule, IsRule, has_name, has_text}
 use Rattle.lalrpop_grammar_language.specs.Levels.{greatest, larger, levels, loosest}

@@ -1,8 +1,8 @@
 -- The productions of a call are those of its level's rule; for the law of what levels keep.
 use Rattle.std.proofs.Common.{◌≡◌, ℕ, List, [], ◌∷◌, refl, ap, sym, ◌∙◌, subst, Bool, inl, inr}
 use Rattle.std.specs.Prelude.{Option, Some, None, map}
-use Rattle.lalrpop_grammar_symbols.specs.Symbols.{Text, Terminal, Closed, Closeds}
-use Rattle.lalrpop_grammar.specs.WrittenGrammar.{Origin, Rule, Grammar}
+use Rattle.lalrpop_grammar_language.specs.PassedOn.{Text, Terminal, Closed, Closeds}
+use Rattle.lalrpop_grammar_language.specs.PassedOn.{Origin, Rule, Grammar}
 use Rattle.lalrpop_grammar_language.specs.Among.{Among}
 use Rattle.lalrpop_grammar_language.specs.Enabled.{Choice}
 use Rattle.lalrpop_grammar_language.specs.Levels.{tighter, ranked_choices}
@@ -14,7 +14,7 @@ use Rattle.lalrpop_grammar_language.specs.Expansion.{ByAlternative, origin_with}
 use Rattle.lalrpop_norm_expansion.specs.Between.{rule_between}
 use Rattle.lalrpop_norm_expansion.specs.Same.{rename_symbol, rename_side}
 use Rattle.lalrpop_norm_expansion.proofs.LevelLemmas.{no_rank}
-use Rattle.lalrpop_norm_pass_laws.specs.LevelRules.{level_name, by_level_names, all_by_level_names}
+use Rattle.lalrpop_norm_expansion.specs.LevelRules.{level_name, by_level_names, all_by_level_names}
 use Rattle.lalrpop_norm_level_laws.specs.LevelLaws.{nonterminal_by_level, IsLevelable, TellsOwnRules}
 use Rattle.lalrpop_norm_level_laws.proofs.LevelOrderLemmas.{one_rule}
 use Rattle.lalrpop_norm_level_laws.proofs.LeveledRuleLemmas.{key_rule}

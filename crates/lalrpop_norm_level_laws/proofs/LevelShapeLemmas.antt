@@ -4,8 +4,8 @@ use Rattle.std.proofs.Common.{◌≡◌, ℕ, List, [], ◌∷◌, ◌++◌, ref
 use Rattle.std.proofs.Common.{inl, inr}
 use Rattle.std.specs.Prelude.{Option, Some, None, map, flat_map, codes, ◌↔◌}
 use Rattle.std.proofs.lemmas.Bool.{true≢false, and_parts, and_from, eqb-true, eq-eqb}
-use Rattle.lalrpop_grammar_symbols.specs.Symbols.{Text}
-use Rattle.lalrpop_grammar.specs.WrittenGrammar.{Rule, Grammar, WrittenItem, rules_of}
+use Rattle.lalrpop_grammar_language.specs.PassedOn.{Text}
+use Rattle.lalrpop_grammar_language.specs.PassedOn.{Rule, Grammar, WrittenItem, rules_of}
 use Rattle.lalrpop_grammar_language.specs.Among.{Among}
 use Rattle.lalrpop_grammar_language.specs.Enabled.{EnabledRule, IsRule}
 use Rattle.lalrpop_grammar_language.specs.Levels.{Assoc, assoc_of, or_assoc, has_levels, loosest}
@@ -13,7 +13,7 @@ use Rattle.lalrpop_grammar_language.proofs.PlaceLemmas.{among_map, same_text-eq}
 use Rattle.lalrpop_norm_expansion.specs.Between.{rule_between}
 use Rattle.lalrpop_norm_expansion.specs.Premises.{HasNoLevels}
 use Rattle.lalrpop_norm_expansion.proofs.AmongLemmas.{map_among}
-use Rattle.lalrpop_norm_pass_laws.specs.LevelRules.{level_name}
+use Rattle.lalrpop_norm_expansion.specs.LevelRules.{level_name}
 use Rattle.lalrpop_norm_level_laws.specs.LeveledGrammar.{levels_in_order, is_the_level, rule_at_level, leveled_rules, leveled_item}
 use Rattle.lalrpop_norm_level_laws.specs.LeveledGrammar.{leveled_grammar}
 use Rattle.lalrpop_norm_level_laws.specs.LevelFaults.{side_of}

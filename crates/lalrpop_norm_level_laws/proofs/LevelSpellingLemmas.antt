@@ -3,9 +3,9 @@ use Rattle.std.specs.Str.{bytes_eq}
 use Rattle.std.proofs.Common.{◌≡◌, ℕ, List, [], ◌∷◌, ◌++◌, refl, ap, sym, ◌∙◌, subst, cond, Bool, true, false}
 use Rattle.std.proofs.Common.{inl, inr}
 use Rattle.std.specs.Prelude.{Option, Some, None, map, filter, filter_map, flat_map, zip, option_map}
-use Rattle.lalrpop_grammar_symbols.specs.Symbols.{Text, Terminal, Syms, Sym, Closed, Closeds}
-use Rattle.lalrpop_grammar.specs.WrittenGrammar.{Alternative, Origin, Rule, Grammar, rules_of}
-use Rattle.lalrpop_grammar.specs.Trees.{as_argument, as_arguments}
+use Rattle.lalrpop_grammar_language.specs.PassedOn.{Text, Terminal, Syms, Sym, Closed, Closeds}
+use Rattle.lalrpop_grammar_language.specs.PassedOn.{Alternative, Origin, Rule, Grammar, rules_of}
+use Rattle.lalrpop_grammar_language.specs.PassedOn.{as_argument, as_arguments}
 use Rattle.lalrpop_grammar_language.specs.Among.{Among}
 use Rattle.lalrpop_grammar_language.specs.Enabled.{Choice, choice_of, has_name}
 use Rattle.lalrpop_grammar_language.specs.Levels.{Rank, levels, ranked_choices, tighter}
@@ -15,7 +15,7 @@ use Rattle.lalrpop_grammar_language.proofs.PlaceLemmas.{among_map, among_filter}
 use Rattle.lalrpop_norm_expansion.specs.Between.{rule_between, with_origins, name_in_origins, written_name}
 use Rattle.lalrpop_norm_expansion.proofs.AmongLemmas.{map_among}
 use Rattle.lalrpop_norm_expansion.proofs.LevelLemmas.{keeps}
-use Rattle.lalrpop_norm_pass_laws.specs.LevelRules.{level_name, by_level_names, all_by_level_names}
+use Rattle.lalrpop_norm_expansion.specs.LevelRules.{level_name, by_level_names, all_by_level_names}
 use Rattle.lalrpop_norm_level_laws.specs.LeveledGrammar.{ranked_alternatives, has_rank_level, leveled_alternative, level_alternatives}
 use Rattle.lalrpop_norm_level_laws.specs.LeveledGrammar.{pass_downs, rule_at_level, leveled_item}
 use Rattle.lalrpop_norm_level_laws.specs.LevelLaws.{IsLevelable, TellsOwnRules}

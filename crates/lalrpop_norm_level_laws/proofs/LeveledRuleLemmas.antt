@@ -2,8 +2,8 @@
 use Rattle.std.proofs.Common.{◌≡◌, ℕ, List, [], ◌∷◌, ◌++◌, refl, ap, sym, ◌∙◌, subst, cond, Bool, true, false}
 use Rattle.std.proofs.Common.{inl, inr}
 use Rattle.std.specs.Prelude.{Option, Some, None, map, flat_map}
-use Rattle.lalrpop_grammar_symbols.specs.Symbols.{Text}
-use Rattle.lalrpop_grammar.specs.WrittenGrammar.{Rule, Grammar, WrittenItem, rules_of}
+use Rattle.lalrpop_grammar_language.specs.PassedOn.{Text}
+use Rattle.lalrpop_grammar_language.specs.PassedOn.{Rule, Grammar, WrittenItem, rules_of}
 use Rattle.lalrpop_grammar_language.specs.Among.{Among}
 use Rattle.lalrpop_grammar_language.specs.Enabled.{EnabledRule, IsRule, bares_of, bare_of}
 use Rattle.lalrpop_grammar_language.specs.Levels.{has_levels, levels}
@@ -14,7 +14,7 @@ use Rattle.lalrpop_norm_expansion.specs.Premises.{AreDifferent}
 use Rattle.lalrpop_norm_expansion.proofs.AmongLemmas.{map_among, flat_map_among, among_flat_map}
 use Rattle.lalrpop_norm_expansion.proofs.ExpansionListLemmas.{rule_there}
 use Rattle.lalrpop_norm_expansion.proofs.LevelLemmas.{no_levels}
-use Rattle.lalrpop_norm_pass_laws.specs.LevelRules.{level_name}
+use Rattle.lalrpop_norm_expansion.specs.LevelRules.{level_name}
 use Rattle.lalrpop_norm_level_laws.specs.LeveledGrammar.{levels_in_order, rule_at_level, leveled_rules, leveled_item, leveled_grammar}
 use Rattle.lalrpop_norm_level_laws.specs.LevelNames.{leveled_keys_of, name_of_leveled_key, AreLevelNames}
 use Rattle.lalrpop_norm_level_laws.proofs.LevelOrderLemmas.{falling-has, falling-only, one_named}

@@ -9,8 +9,8 @@ use Rattle.std.specs.Prelude.{if◌then◌else◌}
 use Rattle.std.proofs.lemmas.Bool.{true≢false}
 use Rattle.std.proofs.lemmas.Bool.Decides.{nat_tests}
 use Rattle.std.proofs.lemmas.List.{append-nil, append_assoc}
-use Rattle.lalrpop_grammar_symbols.specs.Symbols.{Text}
-use Rattle.lalrpop_grammar.specs.WrittenGrammar.{Rule, Grammar, rules_of}
+use Rattle.lalrpop_grammar_language.specs.PassedOn.{Text}
+use Rattle.lalrpop_grammar_language.specs.PassedOn.{Rule, Grammar, rules_of}
 use Rattle.lalrpop_grammar_language.specs.Among.{Among}
 use Rattle.lalrpop_grammar_language.specs.Enabled.{EnabledGrammar, EnabledRule, IsRule, has_name}
 use Rattle.lalrpop_grammar_language.specs.Levels.{loosest}
@@ -22,7 +22,7 @@ use Rattle.lalrpop_norm_expansion.specs.Between.{rule_between}
 use Rattle.lalrpop_norm_expansion.specs.Keys.{with_number, before_tilde}
 use Rattle.lalrpop_norm_expansion.proofs.AmongLemmas.{map_among, flat_map_among, among_flat_map}
 use Rattle.lalrpop_norm_expansion.proofs.ExpansionListLemmas.{rule_there}
-use Rattle.lalrpop_norm_pass_laws.specs.LevelRules.{level_name}
+use Rattle.lalrpop_norm_expansion.specs.LevelRules.{level_name}
 use Rattle.lalrpop_norm_level_laws.specs.LevelNames.{tighter_levels, numbered_text, plain_levels_of, plain_levels, times_taken}
 use Rattle.lalrpop_norm_level_laws.specs.LevelNames.{AreNumberedInOrder}
 use Rattle.lalrpop_norm_level_laws.specs.LevelNames.{HasNoTildes, IsNextAmongRules, HasPackedNames}

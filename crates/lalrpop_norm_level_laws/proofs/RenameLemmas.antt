@@ -3,17 +3,17 @@ use Rattle.std.specs.Str.{bytes_eq}
 use Rattle.std.proofs.Common.{◌≡◌, ℕ, ◌+◌, List, [], ◌∷◌, refl, ap, sym, ◌∙◌, subst, cond, Bool, true}
 use Rattle.std.proofs.Common.{false, inl, inr, ◌⊎◌}
 use Rattle.std.specs.Prelude.{Some, None, is_some, not, ◌&&◌, if◌then◌else◌}
-use Rattle.lalrpop_grammar_symbols.specs.Symbols.{Text, TextSpan, Terminal, Syms, Sym, syms, WrittenSymbol, Closed}
-use Rattle.lalrpop_grammar_symbols.specs.Subsymbols.{subsymbols, subsymbols_of}
+use Rattle.lalrpop_grammar_language.specs.PassedOn.{Text, TextSpan, Terminal, Syms, Sym, syms, WrittenSymbol, Closed}
+use Rattle.lalrpop_grammar_language.specs.PassedOn.{subsymbols, subsymbols_of}
 use Rattle.lalrpop_grammar_language.specs.Among.{Among}
 use Rattle.lalrpop_grammar_language.specs.Enabled.{EnabledGrammar, EnabledRule, IsRule, has_text}
 use Rattle.lalrpop_grammar_language.specs.Levels.{loosest}
 use Rattle.lalrpop_grammar_language.specs.Closing.{Scope, Binding, parameter_value, names_owner, occurs_at, occurrences_among, occurrences}
 use Rattle.lalrpop_norm_expansion.specs.Premises.{IsResolvedIn, IsMacroFor, has_arguments}
 use Rattle.lalrpop_norm_expansion.proofs.AmongLemmas.{among_left, among_right, among_parts}
-use Rattle.lalrpop_norm_pass_laws.specs.LevelRules.{level_name, occurrence_name, rename_occurrences, rename_all_occurrences}
-use Rattle.lalrpop_norm_pass_laws.specs.LevelRules.{rename_listed_occurrences, IsResolvedAfter, AreResolvedAfter}
-use Rattle.lalrpop_norm_pass_laws.specs.LevelRules.{AreListedResolvedAfter}
+use Rattle.lalrpop_norm_expansion.specs.LevelRules.{level_name, occurrence_name, rename_occurrences, rename_all_occurrences}
+use Rattle.lalrpop_norm_expansion.specs.LevelRules.{rename_listed_occurrences, IsResolvedAfter, AreResolvedAfter}
+use Rattle.lalrpop_norm_expansion.specs.LevelRules.{AreListedResolvedAfter}
 use Rattle.lalrpop_norm_level_laws.proofs.LevelOrderLemmas.{rule_meant}
 
 -- scopes that count alike

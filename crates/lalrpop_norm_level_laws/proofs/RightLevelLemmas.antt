@@ -7,7 +7,7 @@ use Rattle.std.specs.Prelude.{Option, Some, None, map, filter, filter_map, flat_
 use Rattle.std.specs.Prelude.{if◌then◌else◌}
 use Rattle.std.specs.List.{cons_option, list_any}
 use Rattle.std.proofs.lemmas.Bool.{true≢false}
-use Rattle.lalrpop_grammar.specs.WrittenGrammar.{Attr, attr_id, Alternative, Rule, Grammar, rules_of}
+use Rattle.lalrpop_grammar_language.specs.PassedOn.{Attr, attr_id, Alternative, Rule, Grammar, rules_of}
 use Rattle.lalrpop_grammar_language.specs.Among.{Among}
 use Rattle.lalrpop_grammar_language.specs.Enabled.{EnabledRule, Choice, choice_of, has_attr}
 use Rattle.lalrpop_grammar_language.specs.Levels.{Rank, first_attr, level_in, written_level, written_assoc, rank_after, or_assoc, Assoc}

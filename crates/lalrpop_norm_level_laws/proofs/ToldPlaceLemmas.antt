@@ -3,8 +3,8 @@ use Rattle.std.proofs.Common.{◌≡◌, ℕ, ◌+◌, List, [], ◌∷◌, refl
 use Rattle.std.proofs.Common.{inr}
 use Rattle.std.specs.Prelude.{Some, None, filter, filter_map}
 use Rattle.std.specs.List.{cons_option}
-use Rattle.lalrpop_grammar_symbols.specs.Symbols.{Text}
-use Rattle.lalrpop_grammar.specs.WrittenGrammar.{Alternative, Rule, Origin, WrittenItem, Grammar, rules_of}
+use Rattle.lalrpop_grammar_language.specs.PassedOn.{Text}
+use Rattle.lalrpop_grammar_language.specs.PassedOn.{Alternative, Rule, Origin, WrittenItem, Grammar, rules_of}
 use Rattle.lalrpop_grammar_language.specs.Among.{Among}
 use Rattle.lalrpop_grammar_language.specs.Enabled.{is_active, at_places}
 use Rattle.lalrpop_grammar_language.proofs.PlaceLemmas.{among_map, among_filter}

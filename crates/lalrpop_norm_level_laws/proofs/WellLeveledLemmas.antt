@@ -5,8 +5,8 @@ use Rattle.std.proofs.Common.{◌≡◌, ℕ, ◌+◌, List, [], ◌∷◌, refl
 use Rattle.std.proofs.Common.{false, inl, inr, ◌⊎◌, length}
 use Rattle.std.specs.Prelude.{Option, Some, None, map, filter, zip, option_map, ◌==◌, if◌then◌else◌}
 use Rattle.std.proofs.lemmas.Bool.{true≢false, and_parts, and_from, eqb-true}
-use Rattle.lalrpop_grammar_symbols.specs.Symbols.{Text, TextSpan, Terminal, Syms, Sym, WrittenSymbol, Closed, Closeds, closed_list}
-use Rattle.lalrpop_grammar.specs.WrittenGrammar.{Rule, Grammar, rules_of}
+use Rattle.lalrpop_grammar_language.specs.PassedOn.{Text, TextSpan, Terminal, Syms, Sym, WrittenSymbol, Closed, Closeds, closed_list}
+use Rattle.lalrpop_grammar_language.specs.PassedOn.{Rule, Grammar, rules_of}
 use Rattle.lalrpop_grammar_language.specs.Among.{Among}
 use Rattle.lalrpop_grammar_language.specs.Enabled.{EnabledGrammar, EnabledRule, IsRule, has_text}
 use Rattle.lalrpop_grammar_language.specs.Levels.{levels}
@@ -20,7 +20,7 @@ use Rattle.lalrpop_grammar_language.proofs.SoundnessLemmas.{part-sub}
 use Rattle.lalrpop_norm_expansion.specs.Between.{grammar_between, rule_between}
 use Rattle.lalrpop_norm_expansion.specs.Premises.{AreDifferent}
 use Rattle.lalrpop_norm_expansion.proofs.AmongLemmas.{map_among, flat_map_among}
-use Rattle.lalrpop_norm_pass_laws.specs.LevelRules.{by_level_names, all_by_level_names}
+use Rattle.lalrpop_norm_expansion.specs.LevelRules.{by_level_names, all_by_level_names}
 use Rattle.lalrpop_norm_level_laws.specs.LeveledGrammar.{levels_in_order}
 use Rattle.lalrpop_norm_level_laws.specs.LevelNames.{LeveledKey, leveled_keys_of, leveled_keys, name_of_leveled_key, AreLevelNames}
 use Rattle.lalrpop_norm_level_laws.proofs.LevelOrderLemmas.{falling-has, text_found, meant_rule}

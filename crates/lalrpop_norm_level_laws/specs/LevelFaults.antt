@@ -2,8 +2,8 @@
 use Rattle.std.specs.Prelude.{ℕ, ◌≡◌, List, [], ◌∷◌, ◌++◌, Option, Some, None, option_and_then}
 use Rattle.std.specs.Prelude.{flat_map, if◌then◌else◌, codes}
 use Rattle.std.specs.Str.{bytes_eq}
-use Rattle.lalrpop_grammar_symbols.specs.Symbols.{Text, TextSpan}
-use Rattle.lalrpop_grammar.specs.WrittenGrammar.{Attr, Attrs, attr_id, Alternative, Rule, Grammar, rules_of}
+use Rattle.lalrpop_grammar_language.specs.PassedOn.{Text, TextSpan}
+use Rattle.lalrpop_grammar_language.specs.PassedOn.{Attr, Attrs, attr_id, Alternative, Rule, Grammar, rules_of}
 use Rattle.lalrpop_grammar_language.specs.Enabled.{has_attr}
 use Rattle.lalrpop_grammar_language.specs.Levels.{Assoc, Rank, value_of, first_attr, level_in, has_levels, tighter}
 use Rattle.lalrpop_norm_expansion.specs.Between.{rule_between}

@@ -1,7 +1,7 @@
 -- What the laws say of the grammar in which each level has a rule of its own.
 use Rattle.std.specs.Prelude.{ℕ, ◌≡◌, ◌↔◌, true, Bool, List, [], Option}
-use Rattle.lalrpop_grammar_symbols.specs.Symbols.{Text}
-use Rattle.lalrpop_grammar.specs.WrittenGrammar.{Alternative, Rule, Grammar, Origin, rules_of}
+use Rattle.lalrpop_grammar_language.specs.PassedOn.{Text}
+use Rattle.lalrpop_grammar_language.specs.PassedOn.{Alternative, Rule, Grammar, Origin, rules_of}
 use Rattle.lalrpop_grammar_language.specs.Among.{Among}
 use Rattle.lalrpop_grammar_language.specs.Enabled.{EnabledRule}
 use Rattle.lalrpop_grammar_language.specs.Levels.{assoc_of, or_assoc, Assoc}
@@ -12,7 +12,7 @@ use Rattle.lalrpop_norm_expansion.specs.Same.{SameExpansion}
 use Rattle.lalrpop_norm_expansion.specs.Inlined.{SameInlined}
 use Rattle.lalrpop_norm_expansion.specs.Keys.{leveled_key_text, flat_key_text, IsNaming}
 use Rattle.lalrpop_norm_expansion.specs.Types.{SameTypes}
-use Rattle.lalrpop_norm_pass_laws.specs.LevelRules.{by_level_names}
+use Rattle.lalrpop_norm_expansion.specs.LevelRules.{by_level_names}
 use Rattle.lalrpop_norm_level_laws.specs.LeveledGrammar.{leveled_grammar}
 use Rattle.lalrpop_norm_level_laws.specs.LevelNames.{AreLevelNames, HasNoTildes, HasPackedNames}
 use Rattle.lalrpop_norm_level_laws.specs.LevelFaults.{HasRightLevels, side_of}

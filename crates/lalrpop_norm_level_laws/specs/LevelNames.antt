@@ -2,8 +2,8 @@
 use Rattle.std.specs.Prelude.{ℕ, zero, suc, ◌≡◌, ◌≢◌, false, List, [], ◌∷◌, ◌++◌, Option, Some, None}
 use Rattle.std.specs.Prelude.{map, flat_map, filter, length, if◌then◌else◌, decimal}
 use Rattle.std.specs.Str.{bytes_eq}
-use Rattle.lalrpop_grammar_symbols.specs.Symbols.{Text}
-use Rattle.lalrpop_grammar.specs.WrittenGrammar.{Rule, Grammar, rules_of}
+use Rattle.lalrpop_grammar_language.specs.PassedOn.{Text}
+use Rattle.lalrpop_grammar_language.specs.PassedOn.{Rule, Grammar, rules_of}
 use Rattle.lalrpop_grammar_language.specs.Among.{Among}
 use Rattle.lalrpop_grammar_language.specs.Enabled.{EnabledGrammar, EnabledRule, has_text}
 use Rattle.lalrpop_grammar_language.specs.Levels.{has_levels, loosest}
@@ -11,7 +11,7 @@ use Rattle.lalrpop_grammar_language.specs.Starts.{has_none}
 use Rattle.lalrpop_norm_expansion.specs.Between.{rule_between}
 use Rattle.lalrpop_norm_expansion.specs.Keys.{with_number, before_tilde}
 use Rattle.lalrpop_norm_expansion.specs.Premises.{AreDifferent}
-use Rattle.lalrpop_norm_pass_laws.specs.LevelRules.{level_name}
+use Rattle.lalrpop_norm_expansion.specs.LevelRules.{level_name}
 use Rattle.lalrpop_norm_level_laws.specs.LeveledGrammar.{levels_in_order}
 
 -- the rules of the leveled grammar, each by the written rule and its level

@@ -2,13 +2,13 @@
 use Rattle.std.specs.Prelude.{ℕ, ◌==◌, nat_lt, Bool, false, ◌&&◌, ◌||◌, not, List, [], ◌∷◌, ◌++◌, Option}
 use Rattle.std.specs.Prelude.{Some, None, map, flat_map, filter, zip, if◌then◌else◌, codes}
 use Rattle.std.specs.Str.{bytes_eq}
-use Rattle.lalrpop_grammar_symbols.specs.Symbols.{Text, TextSpan, Sym, syms, WrittenSymbol, Closed}
-use Rattle.lalrpop_grammar.specs.WrittenGrammar.{Attr, attr_id, Action, Origin, Alternative, Rule, WrittenItem, Grammar}
+use Rattle.lalrpop_grammar_language.specs.PassedOn.{Text, TextSpan, Sym, syms, WrittenSymbol, Closed}
+use Rattle.lalrpop_grammar_language.specs.PassedOn.{Attr, attr_id, Action, Origin, Alternative, Rule, WrittenItem, Grammar}
 use Rattle.lalrpop_grammar_language.specs.Enabled.{EnabledGrammar, EnabledRule, choice_of}
 use Rattle.lalrpop_grammar_language.specs.Levels.{Rank, ranked_choices, has_levels, levels, loosest, tighter}
 use Rattle.lalrpop_grammar_language.specs.Closing.{Binding, Scope, scope_of}
 use Rattle.lalrpop_norm_expansion.specs.Between.{rule_between}
-use Rattle.lalrpop_norm_pass_laws.specs.LevelRules.{rename_listed_occurrences}
+use Rattle.lalrpop_norm_expansion.specs.LevelRules.{rename_listed_occurrences}
 
 -- the levels of a rule, each once, the loosest first
 

@@ -14,7 +14,7 @@ use Rattle.lalrpop_grammar_language.specs.Starts.{has_none}
 use Rattle.lalrpop_grammar_language.proofs.ComparisonLemmas.{same_text-refl}
 use Rattle.lalrpop_norm_expansion.specs.Between.{rule_between}
 use Rattle.lalrpop_norm_expansion.specs.Keys.{with_number, before_tilde}
-use Rattle.lalrpop_norm_pass_laws.specs.LevelRules.{level_name}
+use Rattle.lalrpop_norm_expansion.specs.LevelRules.{level_name}
 use Rattle.lalrpop_norm_level_laws.specs.LevelNames.{after_first, numbered_text, plain_levels_of, tighter_levels, times_taken}
 use Rattle.lalrpop_norm_level_laws.specs.LevelNames.{AreNumberedInOrder}
 use Rattle.lalrpop_norm_level_laws.proofs.LevelOrderLemmas.{falling-has, falling-only, found_text, loosest_or_tighter, loosest-among}

@@ -5,7 +5,7 @@ use Rattle.lalrpop_grammar_symbols.specs.Symbols.{WrittenSymbol}
 use Rattle.lalrpop_grammar_symbols.specs.Views.{symbol_view}
 use Rattle.lalrpop_grammar_symbols.specs.declared.symbol.Symbol.{Symbol}
 use Rattle.lalrpop_grammar_language.specs.Levels.{Assoc}
-use Rattle.lalrpop_norm_pass_laws.specs.LevelRules.{rename_listed_occurrences}
+use Rattle.lalrpop_norm_expansion.specs.LevelRules.{rename_listed_occurrences}
 use Rattle.lalrpop_norm_levels.specs.Occurrences.{name_by_side, scope_by_number}
 use Rattle.lalrpop_norm_levels.specs.NamedAlternatives.{OccurrenceNaming}
 

@@ -6,8 +6,8 @@ use Rattle.lalrpop_grammar_symbols.specs.Symbols.{Text, TextSpan, Syms, Sym, Wri
 use Rattle.lalrpop_grammar_language.specs.Enabled.{EnabledGrammar}
 use Rattle.lalrpop_grammar_language.specs.Closing.{Binding, Scope, names_owner, occurrences}
 use Rattle.lalrpop_grammar_language.proofs.PlaceLemmas.{same_text-eq}
-use Rattle.lalrpop_norm_pass_laws.specs.LevelRules.{level_name, occurrence_name, rename_occurrences, rename_all_occurrences}
-use Rattle.lalrpop_norm_pass_laws.specs.LevelRules.{rename_listed_occurrences}
+use Rattle.lalrpop_norm_expansion.specs.LevelRules.{level_name, occurrence_name, rename_occurrences, rename_all_occurrences}
+use Rattle.lalrpop_norm_expansion.specs.LevelRules.{rename_listed_occurrences}
 
 module _ (g : EnabledGrammar) (b : Binding) (o : Text) (f h : Text → ℕ → Text) (one two : ℕ → Option ℕ)
     (same : (k : ℕ) → level_name f o (one k) ≡ level_name h o (two k)) where

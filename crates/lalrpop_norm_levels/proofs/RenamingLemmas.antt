@@ -6,7 +6,7 @@ use Rattle.lalrpop_grammar_symbols.specs.Symbols.{Text, Syms, syms, WrittenSymbo
 use Rattle.lalrpop_grammar_symbols.specs.Views.{symbol_view}
 use Rattle.lalrpop_grammar_symbols.specs.declared.symbol.Symbol.{Symbol}
 use Rattle.lalrpop_grammar_language.specs.Closing.{Scope, occurrences}
-use Rattle.lalrpop_norm_pass_laws.specs.LevelRules.{rename_occurrences, rename_all_occurrences, rename_listed_occurrences}
+use Rattle.lalrpop_norm_expansion.specs.LevelRules.{rename_occurrences, rename_all_occurrences, rename_listed_occurrences}
 
 -- a list of symbols is renamed symbol by symbol
 pub listed_is_all : (f : Text → ℕ → Text) (s : Scope) (k : ℕ) (xs : List WrittenSymbol)

@@ -10,7 +10,7 @@ use Rattle.lalrpop_grammar_language.specs.Levels.{Rank, has_levels, loosest, tig
 use Rattle.lalrpop_grammar_closed.specs.Views.{binding_of, closed_view}
 use Rattle.lalrpop_grammar_closed.specs.declared.closed_symbol.ClosedSymbol.{ClosedSymbol}
 use Rattle.lalrpop_norm_expansion.specs.Between.{rule_between}
-use Rattle.lalrpop_norm_pass_laws.specs.LevelRules.{level_name}
+use Rattle.lalrpop_norm_expansion.specs.LevelRules.{level_name}
 use Rattle.lalrpop_norm_level_laws.specs.LeveledGrammar.{has_rank_level, is_the_level, leveled_alternative, leveled_rules, levels_in_order}
 use Rattle.lalrpop_norm_level_laws.specs.LeveledGrammar.{no_rules, parameters_alone, pass_downs, ranked_alternatives, rule_at_level}
 use Rattle.lalrpop_norm_level_laws.specs.LeveledGrammar.{without_ranks}

@@ -7,7 +7,7 @@ use Rattle.lalrpop_grammar_language.specs.Closing.{Binding, occurrences_in}
 use Rattle.lalrpop_grammar_language.specs.Levels.{Assoc, Rank}
 use Rattle.lalrpop_grammar_rules.specs.Ranks.{rank_view}
 use Rattle.lalrpop_grammar_closed.specs.Scopes.{binding_view}
-use Rattle.lalrpop_norm_pass_laws.specs.LevelRules.{rename_listed_occurrences}
+use Rattle.lalrpop_norm_expansion.specs.LevelRules.{rename_listed_occurrences}
 use Rattle.lalrpop_norm_level_laws.specs.LeveledGrammar.{without_ranks, pass_down_to}
 use Rattle.lalrpop_norm_levels.specs.Occurrences.{name_by_side, scope_by_number}
 use Rattle.lalrpop_norm_levels.specs.declared.alternatives.OccurrenceNames.{OccurrenceNames}

@@ -6,8 +6,8 @@ use Rattle.lalrpop_grammar_language.specs.Levels.{Assoc, reaches}
 use Rattle.lalrpop_grammar_rules.specs.Ranks.{assoc_view}
 use Rattle.lalrpop_grammar_closed.specs.Scopes.{binding_view}
 use Rattle.lalrpop_norm_level_laws.specs.LeveledGrammar.{no_rules}
-use Rattle.lalrpop_norm_pass_laws.specs.LevelRules.{occurrence_name, rename_all_occurrences, rename_listed_occurrences}
-use Rattle.lalrpop_norm_pass_laws.specs.LevelRules.{rename_occurrences}
+use Rattle.lalrpop_norm_expansion.specs.LevelRules.{occurrence_name, rename_all_occurrences, rename_listed_occurrences}
+use Rattle.lalrpop_norm_expansion.specs.LevelRules.{rename_occurrences}
 use Rattle.lalrpop_norm_levels.specs.declared.renaming.Occurrences.{Occurrences}
 
 -- the name of occurrence k of n: those that the side reaches have one, the others another

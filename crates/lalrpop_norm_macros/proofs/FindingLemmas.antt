@@ -17,7 +17,7 @@ use Rattle.lalrpop_grammar_closed.specs.declared.closed_symbol.ClosedSymbol.{Clo
 use Rattle.lalrpop_norm_expansion.specs.Between.{grammar_between}
 use Rattle.lalrpop_norm_expansion.specs.Rounds.{AreCallsToDepth}
 use Rattle.lalrpop_norm_expansion.proofs.DepthLemmas.{none_too_deep}
-use Rattle.lalrpop_norm_pass_laws.specs.KeyTables.{IsKeyTable}
+use Rattle.lalrpop_norm_expansion.specs.KeyTables.{IsKeyTable}
 use Rattle.lalrpop_norm_key_table.specs.Tables.{table_keys}
 use Rattle.lalrpop_norm_key_table.specs.declared.key_table.KeyTable.{KeyTable}
 use Rattle.lalrpop_norm_keys.specs.Arity.{arity_faults}

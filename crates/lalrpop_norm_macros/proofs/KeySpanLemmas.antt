@@ -19,7 +19,7 @@ use Rattle.lalrpop_norm_expansion.specs.Between.{grammar_between}
 use Rattle.lalrpop_norm_expansion.specs.Depth.{HasCallChain}
 use Rattle.lalrpop_norm_expansion.specs.Rounds.{AreCallsToDepth}
 use Rattle.lalrpop_norm_expansion.proofs.AmongLemmas.{among_parts}
-use Rattle.lalrpop_norm_pass_laws.specs.KeyTables.{IsKeyTable}
+use Rattle.lalrpop_norm_expansion.specs.KeyTables.{IsKeyTable}
 use Rattle.lalrpop_norm_fault_chain.specs.PassedOn.{IsKeyPlace, IsShapeKey}
 use Rattle.lalrpop_norm_keys.specs.FoundCalls.{TellsOfMadeCall, TellsOfOneCall, plain_calls}
 use Rattle.lalrpop_norm_keys.specs.SearchPremises.{CanSearch}

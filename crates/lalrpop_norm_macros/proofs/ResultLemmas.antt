@@ -9,8 +9,8 @@ use Rattle.lalrpop_grammar_repr.specs.declared.session.NormFault.{NormFault}
 use Rattle.lalrpop_norm_expansion.specs.Between.{grammar_between, rule_between}
 use Rattle.lalrpop_norm_expansion.specs.Rounds.{AreCallsToDepth}
 use Rattle.lalrpop_norm_expansion.proofs.ExpansionListLemmas.{rule_there}
-use Rattle.lalrpop_norm_pass_laws.specs.KeyTables.{IsKeyTable}
-use Rattle.lalrpop_norm_pass_laws.proofs.KeyTableLemmas.{table_expansion}
+use Rattle.lalrpop_norm_expansion.specs.KeyTables.{IsKeyTable}
+use Rattle.lalrpop_norm_expansion.proofs.KeyTableLemmas.{table_expansion}
 use Rattle.lalrpop_norm_fault_chain.specs.PassedOn.{IsMacroResult}
 use Rattle.lalrpop_norm_fault_chain.specs.PassedOn.{entries_of_items}
 use Rattle.lalrpop_norm_fault_chain.specs.PassedOn.{IsAddedOrigin, IsKeyPlace, IsMadeFrom, IsShapeKey}

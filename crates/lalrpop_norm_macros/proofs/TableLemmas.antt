@@ -11,7 +11,7 @@ use Rattle.lalrpop_grammar_rules.specs.declared.table.Rules as table
 use Rattle.lalrpop_norm_expansion.specs.Between.{grammar_between}
 use Rattle.lalrpop_norm_expansion.specs.Depth.{IsTooDeep}
 use Rattle.lalrpop_norm_expansion.specs.Rounds.{AreCallsToDepth}
-use Rattle.lalrpop_norm_pass_laws.specs.KeyTables.{IsKeyTable}
+use Rattle.lalrpop_norm_expansion.specs.KeyTables.{IsKeyTable}
 use Rattle.lalrpop_norm_keys.specs.Arity.{arity_faults}
 use Rattle.lalrpop_norm_place_law.specs.CallPlaces.{IsPlaceBelow}
 use Rattle.lalrpop_norm_keys.specs.FoundCalls.{TellsOfMadeCall}

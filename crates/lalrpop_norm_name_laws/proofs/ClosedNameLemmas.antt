@@ -3,9 +3,9 @@ use Rattle.std.proofs.Common.{◌≡◌, ℕ, ◌+◌, List, [], ◌∷◌, ◌+
 use Rattle.std.proofs.Common.{ap, sym, ◌∙◌, Bool, true, false, inl, inr, arith}
 use Rattle.std.specs.Prelude.{Option, Some, None, map, option_map, if◌then◌else◌}
 use Rattle.std.specs.Str.{bytes_eq}
-use Rattle.lalrpop_grammar_symbols.specs.Symbols.{Text, TextSpan, Terminal, Sym, Syms, syms, WrittenSymbol, Closed, Closeds}
-use Rattle.lalrpop_grammar_symbols.specs.Subsymbols.{subsymbols, subsymbols_of}
-use Rattle.lalrpop_grammar_symbols.specs.SymbolMaps.{SymbolMapping, map_symbol, map_symbols}
+use Rattle.lalrpop_grammar_language.specs.PassedOn.{Text, TextSpan, Terminal, Sym, Syms, syms, WrittenSymbol, Closed, Closeds}
+use Rattle.lalrpop_grammar_language.specs.PassedOn.{subsymbols, subsymbols_of}
+use Rattle.lalrpop_grammar_language.specs.PassedOn.{SymbolMapping, map_symbol, map_symbols}
 use Rattle.lalrpop_grammar_language.specs.Among.{Among}
 use Rattle.lalrpop_grammar_language.specs.Enabled.{EnabledGrammar, EnabledRule, Choice, has_text, rules_named}
 use Rattle.lalrpop_grammar_language.specs.Levels.{Rank, tighter, reaches, allowed_level, allowed_level_above}

@@ -3,8 +3,8 @@ use Rattle.std.specs.Str.{bytes_eq}
 use Rattle.std.proofs.Common.{◌≡◌, ℕ, ◌+◌, List, [], ◌∷◌, refl, ap, sym, ◌∙◌, cond, Bool, true, false, inl, inr}
 use Rattle.std.specs.Prelude.{Option, Some, None, ◌↔◌, option_map, map, filter, filter_map, not, codes, ◌||◌, if◌then◌else◌}
 use Rattle.std.specs.List.{cons_option}
-use Rattle.lalrpop_grammar_symbols.specs.Symbols.{Text, Sym, WrittenSymbol, TextSpan, Closed}
-use Rattle.lalrpop_grammar.specs.WrittenGrammar.{Attr, attr_id, Alternative, Origin, WrittenItem, Grammar, rules_of, Ty}
+use Rattle.lalrpop_grammar_language.specs.PassedOn.{Text, Sym, WrittenSymbol, TextSpan, Closed}
+use Rattle.lalrpop_grammar_language.specs.PassedOn.{Attr, attr_id, Alternative, Origin, WrittenItem, Grammar, rules_of, Ty}
 use Rattle.lalrpop_grammar_language.specs.Among.{Among}
 use Rattle.lalrpop_grammar_language.specs.Enabled.{EnabledGrammar, has_attr, is_active, at_places, enabled_grammar}
 use Rattle.lalrpop_grammar_language.specs.Levels.{first_attr}

@@ -3,9 +3,9 @@ use Prim.Native.String.{String}
 use Rattle.std.proofs.Common.{◌≡◌, ℕ, List, [], ◌∷◌, refl, sym, true, inl, inr}
 use Rattle.std.specs.Prelude.{Option, Some, None, codes}
 use Rattle.std.proofs.lemmas.Bool.{true≢false}
-use Rattle.lalrpop_grammar_symbols.specs.Symbols.{Terminal, WrittenSymbol, Sym, syms, Op}
-use Rattle.lalrpop_grammar.specs.WrittenGrammar.{Ty, Tys, Condition, ConditionTest, Alternative, WrittenItem}
-use Rattle.lalrpop_grammar.specs.WrittenGrammar.{Grammar, rules_of}
+use Rattle.lalrpop_grammar_language.specs.PassedOn.{Terminal, WrittenSymbol, Sym, syms, Op}
+use Rattle.lalrpop_grammar_language.specs.PassedOn.{Ty, Tys, Condition, ConditionTest, Alternative, WrittenItem}
+use Rattle.lalrpop_grammar_language.specs.PassedOn.{Grammar, rules_of}
 use Rattle.lalrpop_grammar_language.proofs.WrittenTreeLemmas.{lit, alt, grammar, maps, texts, cfg, feature}
 use Rattle.lalrpop_norm_expansion.specs.Between.{without_disabled}
 use Rattle.lalrpop_norm_name_laws.specs.Resolving.{resolved_grammar, resolved_symbol, defined_names}

@@ -3,8 +3,8 @@ use Rattle.std.specs.Str.{bytes_eq}
 use Rattle.std.proofs.Common.{◌≡◌, List, [], ◌∷◌, refl, ap, sym, ◌∙◌, cond, Bool, true, false, inl, inr, ◌⊎◌}
 use Rattle.std.specs.Prelude.{None, map, filter, not, zip, ◌||◌}
 use Rattle.std.proofs.lemmas.Bool.{or_parts, true≢false}
-use Rattle.lalrpop_grammar_symbols.specs.Symbols.{Text, Closed}
-use Rattle.lalrpop_grammar.specs.WrittenGrammar.{Rule}
+use Rattle.lalrpop_grammar_language.specs.PassedOn.{Text, Closed}
+use Rattle.lalrpop_grammar_language.specs.PassedOn.{Rule}
 use Rattle.lalrpop_grammar_language.specs.Among.{Among}
 use Rattle.lalrpop_grammar_language.specs.Enabled.{EnabledRule, has_text, has_name}
 use Rattle.lalrpop_grammar_language.specs.Closing.{Binding, parameter_value, only_value}

@@ -1,7 +1,7 @@
 -- Grammars whose rules differ by declared types, symbols and attributes alone have the same names; for dropping and resolving.
 use Rattle.std.proofs.Common.{◌≡◌, ℕ, List, [], ◌∷◌, refl, ap, sym, ◌∙◌, subst}
 use Rattle.std.specs.Prelude.{Option, Some, None, map}
-use Rattle.lalrpop_grammar_symbols.specs.Symbols.{Text, Closed, Closeds}
+use Rattle.lalrpop_grammar_language.specs.PassedOn.{Text, Closed, Closeds}
 use Rattle.lalrpop_grammar_language.specs.Among.{Among}
 use Rattle.lalrpop_grammar_language.specs.Enabled.{EnabledGrammar, EnabledRule, rules_named}
 use Rattle.lalrpop_grammar_language.specs.Expansion.{Nonterminal, InExpansion}

@@ -1,10 +1,10 @@
 -- The resolved grammar of one with right names is resolved, rule by rule; for resolving.
 use Rattle.std.proofs.Common.{◌≡◌, List, [], ◌∷◌, refl, ap, sym, ◌∙◌, subst, cond, Bool, true, false, inl, inr, ◌⊎◌}
 use Rattle.std.specs.Prelude.{Option, Some, None, map, flat_map, option_map}
-use Rattle.lalrpop_grammar_symbols.specs.Symbols.{Text, TextSpan, Syms, syms, WrittenSymbol}
-use Rattle.lalrpop_grammar_symbols.specs.Subsymbols.{subsymbols_of}
-use Rattle.lalrpop_grammar_symbols.specs.SymbolMaps.{SymbolMapping, map_symbol, map_symbols}
-use Rattle.lalrpop_grammar.specs.WrittenGrammar.{Ty, Tys, Condition, Alternative, Rule, Origin, Grammar, rules_of}
+use Rattle.lalrpop_grammar_language.specs.PassedOn.{Text, TextSpan, Syms, syms, WrittenSymbol}
+use Rattle.lalrpop_grammar_language.specs.PassedOn.{subsymbols_of}
+use Rattle.lalrpop_grammar_language.specs.PassedOn.{SymbolMapping, map_symbol, map_symbols}
+use Rattle.lalrpop_grammar_language.specs.PassedOn.{Ty, Tys, Condition, Alternative, Rule, Origin, Grammar, rules_of}
 use Rattle.lalrpop_grammar_language.specs.Among.{Among}
 use Rattle.lalrpop_grammar_language.specs.Enabled.{EnabledGrammar, EnabledRule, Choice, IsRule, has_text, choice_of}
 use Rattle.lalrpop_grammar_language.proofs.PlaceLemmas.{among_map}

@@ -3,8 +3,8 @@ use Rattle.std.specs.Str.{bytes_eq}
 use Rattle.std.proofs.Common.{◌≡◌, ℕ, ◌+◌, List, [], ◌∷◌, ◌++◌, refl}
 use Rattle.std.proofs.Common.{ap, sym, ◌∙◌, subst, Bool, true, false, inl}
 use Rattle.std.specs.Prelude.{Option, Some, None, ◌↔◌, map, flat_map, option_map, not, is_some, ◌&&◌, if◌then◌else◌}
-use Rattle.lalrpop_grammar_symbols.specs.Symbols.{Text, TextSpan, Terminal, Sym, WrittenSymbol, Closed, Closeds, closed_list}
-use Rattle.lalrpop_grammar.specs.WrittenGrammar.{Alternative, Rule, Origin, WrittenItem, Grammar, rules_of, Ty, Tys}
+use Rattle.lalrpop_grammar_language.specs.PassedOn.{Text, TextSpan, Terminal, Sym, WrittenSymbol, Closed, Closeds, closed_list}
+use Rattle.lalrpop_grammar_language.specs.PassedOn.{Alternative, Rule, Origin, WrittenItem, Grammar, rules_of, Ty, Tys}
 use Rattle.lalrpop_grammar_language.specs.Among.{Among}
 use Rattle.lalrpop_grammar_language.specs.Enabled.{EnabledGrammar, EnabledRule, Choice, IsRule, has_text, has_name, rules_named}
 use Rattle.lalrpop_grammar_language.specs.Enabled.{choice_of, bares_of, bare_of}

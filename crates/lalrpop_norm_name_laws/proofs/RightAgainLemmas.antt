@@ -3,9 +3,9 @@ use Rattle.std.specs.Str.{bytes_eq}
 use Rattle.std.proofs.Common.{◌≡◌, List, [], ◌∷◌, ◌++◌, refl, ap, sym, ◌∙◌, subst, cond, Bool, true, false}
 use Rattle.std.specs.Prelude.{Option, Some, None, map, filter, flat_map, not, option_map, ◌||◌}
 use Rattle.std.proofs.lemmas.Bool.{true≢false}
-use Rattle.lalrpop_grammar_symbols.specs.Symbols.{Text, TextSpan, syms}
-use Rattle.lalrpop_grammar_symbols.specs.Subsymbols.{subsymbols_of}
-use Rattle.lalrpop_grammar.specs.WrittenGrammar.{Ty, Alternative, Rule, Grammar, rules_of}
+use Rattle.lalrpop_grammar_language.specs.PassedOn.{Text, TextSpan, syms}
+use Rattle.lalrpop_grammar_language.specs.PassedOn.{subsymbols_of}
+use Rattle.lalrpop_grammar_language.specs.PassedOn.{Ty, Alternative, Rule, Grammar, rules_of}
 use Rattle.lalrpop_grammar_language.specs.Among.{Among}
 use Rattle.lalrpop_grammar_language.specs.Enabled.{has_text, bares_of}
 use Rattle.lalrpop_grammar_language.proofs.PlaceLemmas.{same_text-eq, among_map}

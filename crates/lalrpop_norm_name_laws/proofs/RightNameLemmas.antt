@@ -2,8 +2,8 @@
 use Rattle.std.specs.Str.{bytes_eq}
 use Rattle.std.proofs.Common.{◌≡◌, List, [], ◌∷◌, ◌++◌, refl, ap, sym, ◌∙◌, subst, cond, Bool, true, false, inl, inr}
 use Rattle.std.specs.Prelude.{Option, map, filter, not, ◌||◌}
-use Rattle.lalrpop_grammar_symbols.specs.Symbols.{Text, TextSpan}
-use Rattle.lalrpop_grammar.specs.WrittenGrammar.{Rule, Grammar, rules_of}
+use Rattle.lalrpop_grammar_language.specs.PassedOn.{Text, TextSpan}
+use Rattle.lalrpop_grammar_language.specs.PassedOn.{Rule, Grammar, rules_of}
 use Rattle.lalrpop_grammar_language.specs.Among.{Among}
 use Rattle.lalrpop_grammar_language.specs.Enabled.{EnabledGrammar, EnabledRule, IsRule, has_text, has_name}
 use Rattle.lalrpop_grammar_language.proofs.PlaceLemmas.{same_text-eq, among_filter, among_map}

@@ -2,9 +2,9 @@
 use Rattle.std.proofs.Common.{◌≡◌, ℕ, List, [], ◌∷◌, refl, ap, sym, ◌∙◌, subst, cond, Bool, true, false, inl, inr}
 use Rattle.std.specs.Prelude.{Option, Some, None, map, filter, filter_map, option_map, codes, ◌||◌, ◌↔◌, nat_lt, length}
 use Rattle.std.specs.List.{cons_option, list_any}
-use Rattle.lalrpop_grammar_symbols.specs.Symbols.{Text, Terminal, Op, Closed, Closeds}
-use Rattle.lalrpop_grammar_symbols.specs.Symbols.{WrittenSymbol}
-use Rattle.lalrpop_grammar.specs.WrittenGrammar.{Attr, Condition, ConditionTest, Ty, Origin}
+use Rattle.lalrpop_grammar_language.specs.PassedOn.{Text, Terminal, Op, Closed, Closeds}
+use Rattle.lalrpop_grammar_language.specs.PassedOn.{WrittenSymbol}
+use Rattle.lalrpop_grammar_language.specs.PassedOn.{Attr, Condition, ConditionTest, Ty, Origin}
 use Rattle.lalrpop_grammar_language.specs.Among.{Among}
 use Rattle.lalrpop_grammar_language.specs.Enabled.{EnabledGrammar, EnabledRule, Choice, IsRule, has_attr, has_name, rules_named}
 use Rattle.lalrpop_grammar_language.specs.Levels.{Rank, first_attr, level_in, assoc_in, written_level, written_assoc, rank_after}

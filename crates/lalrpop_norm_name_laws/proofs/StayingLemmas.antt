@@ -1,9 +1,9 @@
 -- A grammar whose names are resolved stays when they are resolved once more; for resolving.
 use Rattle.std.proofs.Common.{◌≡◌, List, [], ◌∷◌, refl, ap, ◌∙◌, true, inl, inr}
 use Rattle.std.specs.Prelude.{Bool, Option, Some, None, map, option_map}
-use Rattle.lalrpop_grammar_symbols.specs.Symbols.{Text, TextSpan, Sym, syms, WrittenSymbol}
-use Rattle.lalrpop_grammar_symbols.specs.Subsymbols.{subsymbols_of}
-use Rattle.lalrpop_grammar.specs.WrittenGrammar.{Ty, Tys, Alternative, Rule, Origin, WrittenItem, Grammar, rules_of}
+use Rattle.lalrpop_grammar_language.specs.PassedOn.{Text, TextSpan, Sym, syms, WrittenSymbol}
+use Rattle.lalrpop_grammar_language.specs.PassedOn.{subsymbols_of}
+use Rattle.lalrpop_grammar_language.specs.PassedOn.{Ty, Tys, Alternative, Rule, Origin, WrittenItem, Grammar, rules_of}
 use Rattle.lalrpop_grammar_language.specs.Among.{Among}
 use Rattle.lalrpop_grammar_language.specs.Enabled.{has_text, choice_of}
 use Rattle.lalrpop_norm_expansion.specs.Between.{with_origins, rule_between, grammar_between}

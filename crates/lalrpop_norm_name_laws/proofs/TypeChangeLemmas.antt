@@ -2,9 +2,9 @@
 -- close alike, and the same chains of calls; for dropping and resolving.
 use Rattle.std.proofs.Common.{◌≡◌, ℕ, zero, suc, refl, ap, sym, ◌∙◌, subst, inl, inr}
 use Rattle.std.specs.Prelude.{Option, Some, None, option_map, ◌↔◌}
-use Rattle.lalrpop_grammar_symbols.specs.Symbols.{Text, TextSpan, Terminal, WrittenSymbol, Closed, Closeds}
-use Rattle.lalrpop_grammar_symbols.specs.SymbolMaps.{map_symbol}
-use Rattle.lalrpop_grammar.specs.WrittenGrammar.{Ty, Tys}
+use Rattle.lalrpop_grammar_language.specs.PassedOn.{Text, TextSpan, Terminal, WrittenSymbol, Closed, Closeds}
+use Rattle.lalrpop_grammar_language.specs.PassedOn.{map_symbol}
+use Rattle.lalrpop_grammar_language.specs.PassedOn.{Ty, Tys}
 use Rattle.lalrpop_grammar_language.specs.Among.{Among}
 use Rattle.lalrpop_grammar_language.specs.Enabled.{EnabledGrammar, EnabledRule, Choice, IsRule}
 use Rattle.lalrpop_grammar_language.specs.Levels.{Rank, loosest, tighter, ranked_choices}

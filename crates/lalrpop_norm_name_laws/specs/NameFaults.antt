@@ -1,9 +1,9 @@
 -- What may be wrong with the names of a grammar from which what is disabled is gone.
 use Rattle.std.specs.Prelude.{◌≡◌, ◌⊎◌, true, List, [], ◌∷◌}
 use Rattle.std.specs.Prelude.{◌++◌, Option, Some, None, map, flat_map, if◌then◌else◌}
-use Rattle.lalrpop_grammar_symbols.specs.Symbols.{Text, TextSpan, Terminal, Sym, Syms, syms, WrittenSymbol}
-use Rattle.lalrpop_grammar_symbols.specs.Subsymbols.{subsymbols_of}
-use Rattle.lalrpop_grammar.specs.WrittenGrammar.{Ty, Condition, Alternative, Rule, Grammar, rules_of}
+use Rattle.lalrpop_grammar_language.specs.PassedOn.{Text, TextSpan, Terminal, Sym, Syms, syms, WrittenSymbol}
+use Rattle.lalrpop_grammar_language.specs.PassedOn.{subsymbols_of}
+use Rattle.lalrpop_grammar_language.specs.PassedOn.{Ty, Condition, Alternative, Rule, Grammar, rules_of}
 use Rattle.lalrpop_grammar_language.specs.Among.{Among}
 use Rattle.lalrpop_grammar_language.specs.Enabled.{has_text, bares_of}
 use Rattle.lalrpop_norm_expansion.specs.Premises.{symbols_of_type}

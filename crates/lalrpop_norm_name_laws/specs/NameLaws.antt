@@ -1,7 +1,7 @@
 -- What the laws say of what is disabled and of names that are resolved.
 use Rattle.std.specs.Prelude.{ℕ, ◌≡◌, ◌↔◌, Bool, List, Option}
-use Rattle.lalrpop_grammar_symbols.specs.Symbols.{Text, Closed}
-use Rattle.lalrpop_grammar.specs.WrittenGrammar.{Grammar}
+use Rattle.lalrpop_grammar_language.specs.PassedOn.{Text, Closed}
+use Rattle.lalrpop_grammar_language.specs.PassedOn.{Grammar}
 use Rattle.lalrpop_grammar_language.specs.Enabled.{enabled_grammar}
 use Rattle.lalrpop_grammar_language.specs.Expansion.{Nonterminal}
 use Rattle.lalrpop_norm_expansion.specs.Between.{grammar_between, without_disabled}

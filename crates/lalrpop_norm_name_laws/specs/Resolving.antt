@@ -1,8 +1,8 @@
 -- What names stand for in a grammar from which what is disabled is gone, and the grammar with each of them resolved.
 use Rattle.std.specs.Prelude.{Bool, true, false, not, List, [], ◌∷◌, map, filter, option_map, if◌then◌else◌}
-use Rattle.lalrpop_grammar_symbols.specs.Symbols.{Text, TextSpan, Terminal, WrittenSymbol, Sym}
-use Rattle.lalrpop_grammar_symbols.specs.SymbolMaps.{SymbolMapping, map_symbol}
-use Rattle.lalrpop_grammar.specs.WrittenGrammar.{Ty, Tys, Alternative, Rule, WrittenItem, Grammar, rules_of}
+use Rattle.lalrpop_grammar_language.specs.PassedOn.{Text, TextSpan, Terminal, WrittenSymbol, Sym}
+use Rattle.lalrpop_grammar_language.specs.PassedOn.{SymbolMapping, map_symbol}
+use Rattle.lalrpop_grammar_language.specs.PassedOn.{Ty, Tys, Alternative, Rule, WrittenItem, Grammar, rules_of}
 use Rattle.lalrpop_grammar_language.specs.Enabled.{has_text, bares_of}
 
 -- the names that a grammar defines: of rules that are no macros, of macros, and the mapped bare names

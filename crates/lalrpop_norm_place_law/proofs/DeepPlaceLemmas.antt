@@ -1,13 +1,13 @@
 -- A call that is too deep after the passes is one in the written grammar, with its place; for the law of such calls.
 use Rattle.std.proofs.Common.{ℕ, suc, sym, subst, Bool, List}
 use Rattle.std.specs.Prelude.{Option}
-use Rattle.lalrpop_grammar_symbols.specs.Symbols.{Text, TextSpan, Closed}
-use Rattle.lalrpop_grammar.specs.WrittenGrammar.{Grammar}
+use Rattle.lalrpop_grammar_language.specs.PassedOn.{Text, TextSpan, Closed}
+use Rattle.lalrpop_grammar_language.specs.PassedOn.{Grammar}
 use Rattle.lalrpop_grammar_language.specs.Enabled.{enabled_grammar}
 use Rattle.lalrpop_norm_expansion.specs.Between.{grammar_between, without_disabled}
 use Rattle.lalrpop_norm_expansion.specs.Depth.{HasCallChain, IsTooDeep}
 use Rattle.lalrpop_norm_expansion.specs.Premises.{IsReadGrammar}
-use Rattle.lalrpop_norm_pass_laws.specs.LevelRules.{by_level_names}
+use Rattle.lalrpop_norm_expansion.specs.LevelRules.{by_level_names}
 use Rattle.lalrpop_norm_name_laws.specs.Resolving.{resolved_grammar}
 use Rattle.lalrpop_norm_name_laws.proofs.DroppingLemmas.{dropping_chains}
 use Rattle.lalrpop_norm_name_laws.proofs.ResolvingLemmas.{resolving_chains}

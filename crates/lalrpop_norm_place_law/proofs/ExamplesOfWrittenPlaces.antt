@@ -2,8 +2,8 @@
 use Rattle.std.proofs.Common.{◌≡◌, ℕ, ◌+◌, [], ◌∷◌, refl, ap, sym, ◌∙◌, subst, true, false}
 use Rattle.std.proofs.Common.{inl, inr, ◌⊎◌, arith}
 use Rattle.std.specs.Prelude.{Option, Some, None, codes}
-use Rattle.lalrpop_grammar_symbols.specs.Symbols.{Text, Closed, Closeds, Op, Sym, Terminal, TextSpan, WrittenSymbol, syms}
-use Rattle.lalrpop_grammar.specs.WrittenGrammar.{Action, Grammar, Origin, Rule, WrittenItem, rules_of}
+use Rattle.lalrpop_grammar_language.specs.PassedOn.{Text, Closed, Closeds, Op, Sym, Terminal, TextSpan, WrittenSymbol, syms}
+use Rattle.lalrpop_grammar_language.specs.PassedOn.{Action, Grammar, Origin, Rule, WrittenItem, rules_of}
 use Rattle.lalrpop_grammar_language.specs.Among.{Among}
 use Rattle.lalrpop_grammar_language.specs.Enabled.{Choice, EnabledGrammar, EnabledRule, IsRule, enabled_grammar, enabled_rule}
 use Rattle.lalrpop_grammar_language.specs.Levels.{Assoc, Rank, ranked_choices}

@@ -1,7 +1,7 @@
 -- The innermost symbol of an alternative goes back to that of another, where symbols do; for the laws of places.
 use Rattle.std.proofs.Common.{◌≡◌, refl, ap, sym, ◌∙◌, subst, inl, inr, ◌⊎◌}
 use Rattle.std.specs.Prelude.{Option, map}
-use Rattle.lalrpop_grammar_symbols.specs.Symbols.{TextSpan, Closed}
+use Rattle.lalrpop_grammar_language.specs.PassedOn.{TextSpan, Closed}
 use Rattle.lalrpop_grammar_language.specs.Among.{Among}
 use Rattle.lalrpop_grammar_language.specs.Enabled.{EnabledGrammar, EnabledRule, Choice}
 use Rattle.lalrpop_grammar_language.specs.Levels.{Rank}

@@ -2,9 +2,9 @@
 use Rattle.std.proofs.Common.{◌≡◌, ℕ, zero, suc, List, [], ◌∷◌, refl, ap, sym, ◌∙◌, subst, cond, Bool, false}
 use Rattle.std.proofs.Common.{true, inl, inr, ◌⊎◌, length}
 use Rattle.std.specs.Prelude.{Option, Some, None}
-use Rattle.lalrpop_grammar_symbols.specs.Symbols.{Text, TextSpan, WrittenSymbol, Closed, Closeds, closed_list, syms}
-use Rattle.lalrpop_grammar_symbols.specs.Subsymbols.{subsymbols_of}
-use Rattle.lalrpop_grammar.specs.WrittenGrammar.{Alternative, Rule, Grammar, rules_of}
+use Rattle.lalrpop_grammar_language.specs.PassedOn.{Text, TextSpan, WrittenSymbol, Closed, Closeds, closed_list, syms}
+use Rattle.lalrpop_grammar_language.specs.PassedOn.{subsymbols_of}
+use Rattle.lalrpop_grammar_language.specs.PassedOn.{Alternative, Rule, Grammar, rules_of}
 use Rattle.lalrpop_grammar_language.specs.Among.{Among}
 use Rattle.lalrpop_grammar_language.specs.Enabled.{EnabledRule, Choice, IsRule}
 use Rattle.lalrpop_grammar_language.specs.Levels.{Rank, has_levels, tighter, ranked_choices, allowed_level}
@@ -16,9 +16,9 @@ use Rattle.lalrpop_norm_expansion.specs.Between.{rule_between}
 use Rattle.lalrpop_norm_expansion.specs.Depth.{calls_in}
 use Rattle.lalrpop_norm_expansion.proofs.AmongLemmas.{map_among}
 use Rattle.lalrpop_norm_expansion.proofs.LevelLemmas.{no_rank, no_loosest}
-use Rattle.lalrpop_norm_pass_laws.specs.LevelRules.{level_name, by_level_names, all_by_level_names, rename_listed_occurrences}
-use Rattle.lalrpop_norm_pass_laws.proofs.KeyTableLemmas.{chain_reached}
-use Rattle.lalrpop_norm_pass_laws.proofs.LevelRuleLemmas.{sound-renamed}
+use Rattle.lalrpop_norm_expansion.specs.LevelRules.{level_name, by_level_names, all_by_level_names, rename_listed_occurrences}
+use Rattle.lalrpop_norm_expansion.proofs.KeyTableLemmas.{chain_reached}
+use Rattle.lalrpop_norm_expansion.proofs.LevelRuleLemmas.{sound-renamed}
 use Rattle.lalrpop_norm_level_laws.specs.LeveledGrammar.{ranked_alternatives, occurrence_scope, parameters_alone, leveled_alternative}
 use Rattle.lalrpop_norm_level_laws.specs.LeveledGrammar.{own_call, pass_down_to, rule_at_level}
 use Rattle.lalrpop_norm_level_laws.specs.LevelLaws.{nonterminal_by_level, IsLevelable}

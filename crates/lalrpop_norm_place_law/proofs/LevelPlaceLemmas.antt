@@ -1,15 +1,15 @@
 -- Symbols whose occurrences are renamed go back to those before; for the law of places at levels.
 use Rattle.std.proofs.Common.{◌≡◌, ℕ, ◌+◌, List, [], ◌∷◌, ◌++◌, refl, ap, sym, ◌∙◌, subst, inl, inr, ◌⊎◌}
 use Rattle.std.specs.Prelude.{map}
-use Rattle.lalrpop_grammar_symbols.specs.Symbols.{Text, TextSpan, Syms, Sym, WrittenSymbol, Closed, Closeds}
+use Rattle.lalrpop_grammar_language.specs.PassedOn.{Text, TextSpan, Syms, Sym, WrittenSymbol, Closed, Closeds}
 use Rattle.lalrpop_grammar_language.specs.Among.{Among}
 use Rattle.lalrpop_grammar_language.specs.Closing.{Scope, close, occurrences}
 use Rattle.lalrpop_norm_expansion.specs.Depth.{calls_in, calls_in_all}
 use Rattle.lalrpop_norm_expansion.proofs.AmongLemmas.{among_left, among_right, among_parts}
-use Rattle.lalrpop_norm_pass_laws.specs.LevelRules.{by_level_names, all_by_level_names, rename_occurrences, rename_all_occurrences}
-use Rattle.lalrpop_norm_pass_laws.specs.LevelRules.{rename_listed_occurrences, IsLeveledScope, IsResolvedAfter, AreResolvedAfter}
-use Rattle.lalrpop_norm_pass_laws.specs.LevelRules.{AreListedResolvedAfter}
-use Rattle.lalrpop_norm_pass_laws.proofs.LevelRuleLemmas.{close_leveled}
+use Rattle.lalrpop_norm_expansion.specs.LevelRules.{by_level_names, all_by_level_names, rename_occurrences, rename_all_occurrences}
+use Rattle.lalrpop_norm_expansion.specs.LevelRules.{rename_listed_occurrences, IsLeveledScope, IsResolvedAfter, AreResolvedAfter}
+use Rattle.lalrpop_norm_expansion.specs.LevelRules.{AreListedResolvedAfter}
+use Rattle.lalrpop_norm_expansion.proofs.LevelRuleLemmas.{close_leveled}
 use Rattle.lalrpop_norm_place_law.specs.CallPlaces.{CountedSymbol, counted_symbols, place_of_symbol, symbols_of_row, symbols_within}
 use Rattle.lalrpop_norm_place_law.proofs.InnermostLemmas.{GoesBack}
 

@@ -2,14 +2,14 @@
 use Rattle.std.proofs.Common.{◌≡◌, ℕ, zero, suc, ◌+◌, List, [], ◌∷◌, ◌++◌, refl, ap, sym, ◌∙◌, subst, cond}
 use Rattle.std.proofs.Common.{inl, inr, ◌⊎◌, true, length}
 use Rattle.std.specs.Prelude.{Some, ◌≢◌, map}
-use Rattle.lalrpop_grammar_symbols.specs.Symbols.{Text, TextSpan, Syms, Sym, WrittenSymbol, Terminal, Closed, Closeds, closed_list}
-use Rattle.lalrpop_grammar.specs.WrittenGrammar.{Grammar}
+use Rattle.lalrpop_grammar_language.specs.PassedOn.{Text, TextSpan, Syms, Sym, WrittenSymbol, Terminal, Closed, Closeds, closed_list}
+use Rattle.lalrpop_grammar_language.specs.PassedOn.{Grammar}
 use Rattle.lalrpop_grammar_language.specs.Among.{Among}
 use Rattle.lalrpop_grammar_language.specs.Enabled.{EnabledGrammar}
 use Rattle.lalrpop_grammar_language.specs.Closing.{Scope, close, close_all, close_list, is_sound, occurrences, right_side, scope_of}
 use Rattle.lalrpop_grammar_language.specs.Admitting.{argument_list, bind}
 use Rattle.lalrpop_grammar_language.specs.Expansion.{GrammarSymbol, Nonterminal, grammar_symbol, origin_with, symbol_of_terminal}
-use Rattle.lalrpop_grammar.specs.WrittenGrammar.{Origin}
+use Rattle.lalrpop_grammar_language.specs.PassedOn.{Origin}
 use Rattle.lalrpop_norm_expansion.specs.Depth.{CallOccursIn, HasCallChain, calls_in, calls_in_all, calls_in_grammar_symbol}
 use Rattle.lalrpop_norm_expansion.proofs.AmongLemmas.{among_left, among_right, among_parts, map_among}
 use Rattle.lalrpop_norm_place_law.specs.CallPlaces.{CountedSymbol, IsPlaceOfCall, calls_at, counted_symbols, symbols_of_row}

@@ -2,8 +2,8 @@
 use Rattle.std.specs.Str.{bytes_eq}
 use Rattle.std.proofs.Common.{◌≡◌, ℕ, ◌+◌, List, [], ◌∷◌, refl, ap, sym, ◌∙◌, subst, Bool, true, false, inl}
 use Rattle.std.specs.Prelude.{Option, None, map, option_map, not, is_some, ◌&&◌, if◌then◌else◌}
-use Rattle.lalrpop_grammar_symbols.specs.Symbols.{Text, TextSpan, Terminal, Sym, WrittenSymbol, Closed, Closeds, closed_list}
-use Rattle.lalrpop_grammar.specs.WrittenGrammar.{Alternative, Rule, Origin, Grammar, rules_of}
+use Rattle.lalrpop_grammar_language.specs.PassedOn.{Text, TextSpan, Terminal, Sym, WrittenSymbol, Closed, Closeds, closed_list}
+use Rattle.lalrpop_grammar_language.specs.PassedOn.{Alternative, Rule, Origin, Grammar, rules_of}
 use Rattle.lalrpop_grammar_language.specs.Among.{Among}
 use Rattle.lalrpop_grammar_language.specs.Enabled.{EnabledGrammar, EnabledRule, Choice, IsRule, has_text, has_name, rules_named, choice_of}
 use Rattle.lalrpop_grammar_language.specs.Closing.{Binding, parameter_value, name_meaning, name_meaning_in, occurrences, plain_name}

@@ -1,6 +1,6 @@
 -- Where a call is written: the innermost symbol that has it, in an alternative of a call one less deep.
 use Rattle.std.specs.Prelude.{ℕ, zero, suc, ◌+◌, ◌≡◌, ◌⊎◌, true, List, [], ◌∷◌, ◌++◌, Option}
-use Rattle.lalrpop_grammar_symbols.specs.Symbols.{Text, TextSpan, Closed, Closeds, Sym, Syms, WrittenSymbol}
+use Rattle.lalrpop_grammar_language.specs.PassedOn.{Text, TextSpan, Closed, Closeds, Sym, Syms, WrittenSymbol}
 use Rattle.lalrpop_grammar_language.specs.Among.{Among}
 use Rattle.lalrpop_grammar_language.specs.Enabled.{EnabledGrammar, EnabledRule, Choice}
 use Rattle.lalrpop_grammar_language.specs.Levels.{Rank}

@@ -1,7 +1,7 @@
 -- Where a call stands in the written grammar: in an alternative, or at the rule of which one level passes down to another.
 use Rattle.std.specs.Prelude.{ℕ, ◌≡◌, ◌≢◌, ◌⊎◌, Bool, List, [], Option, Some, length}
-use Rattle.lalrpop_grammar_symbols.specs.Symbols.{Text, TextSpan, Closed, Closeds, closed_list}
-use Rattle.lalrpop_grammar.specs.WrittenGrammar.{Rule, Grammar, rules_of}
+use Rattle.lalrpop_grammar_language.specs.PassedOn.{Text, TextSpan, Closed, Closeds, closed_list}
+use Rattle.lalrpop_grammar_language.specs.PassedOn.{Rule, Grammar, rules_of}
 use Rattle.lalrpop_grammar_language.specs.Among.{Among}
 use Rattle.lalrpop_grammar_language.specs.Enabled.{EnabledGrammar, EnabledRule, IsRule, enabled_grammar}
 use Rattle.lalrpop_grammar_language.specs.Levels.{tighter}

@@ -1,20 +1,14 @@
--- One conflict more that is told with its written trees, and certificates of a prepared grammar's conflicts have trees to tell.
+-- One conflict more that is told with its written trees; for all conflicts that certificates show.
 use Rattle.std.proofs.Common.{◌≡◌, ◌∙◌, ◌+◌, ◌++◌, ◌∷◌, ◌⊎◌, ℕ, List, [], length}
-use Rattle.std.proofs.Common.{length-append, inl, inr, Some, ap, arith, subst, sym}
-use Rattle.std.proofs.lemmas.Option.{slice_get_within}
+use Rattle.std.proofs.Common.{length-append, inl, inr, Some, ap, subst, sym}
 use Rattle.std.specs.Prelude.{slice_get}
-use Rattle.lalrpop_grammar.specs.Views.{grammar_view}
 use Rattle.lalrpop_judge_certificates.specs.CertificateViews.{certificate_view}
 use Rattle.lalrpop_judge_certificates.specs.declared.certificate.Certificate.{Certificate}
+use Rattle.lalrpop_lr1_theory.proofs.ListLemmas.{before_or_end}
 use Rattle.lalrpop_lr1_theory.proofs.StepLemmas.{some_same}
-use Rattle.lalrpop_lr1_build.proofs.NumberedAutomatonLemmas.{get_some}
-use Rattle.lalrpop_run_witness.proofs.PassedOnLemmas.{before_or_end}
-use Rattle.lalrpop_run_conflicts.specs.WrittenConflicts.{AreWrittenOf, HaveTreesOf, IsWrittenConflict}
+use Rattle.lalrpop_run_conflicts.specs.WrittenConflicts.{AreWrittenOf, IsWrittenConflict}
 use Rattle.lalrpop_run_conflicts.specs.declared.written_conflict.WrittenConflict.{WrittenConflict}
-use Rattle.lalrpop_lr1_items.specs.declared.table_fault.TableConstructionError.{TableConstructionError}
-use Rattle.lalrpop_norm_expansion.specs.Premises.{IsReadGrammar}
 use Rattle.lalrpop_run_fold.specs.PassedOn.{PreparedGrammar}
-use Rattle.lalrpop_run_witness.specs.Witnesses.{AreWitnessesOf}
 
 -- the written conflicts of the first certificates, with the next one's behind them, are those of one more
 pub written_more : (v : PreparedGrammar) (certificates : List Certificate) (n : ℕ) (old new : List WrittenConflict) (c : Certificate)
@@ -32,11 +26,3 @@ written_more v certificates n old new c it are there is more = record {
         subst (IsWrittenConflict v (certificate_view d)) e.1
         (subst (λ x. IsWrittenConflict v (certificate_view x) it)
         (some_same c d (sym there ∙ ap (slice_get certificates) (sym (e.0 ∙ are.count)) ∙ at)) is)
-
--- certificates of a prepared grammar's conflicts have trees from its start over its productions
-pub witnessed_trees : (v : PreparedGrammar) (error : TableConstructionError (List ℕ)) (certificates : List Certificate) →
-    IsReadGrammar (grammar_view v.written) → AreWitnessesOf v error certificates → HaveTreesOf v certificates
-witnessed_trees v error certificates read are i c there =
-    let conflict = get_some error.conflicts.items i (omega (arith, slice_get_within certificates i c there, are.count)) in
-    let w = are.each i c there read conflict.0 conflict.1 in
-    record { tree1 = w.certifies.makes1.is_tree; tree2 = w.certifies.makes2.is_tree }

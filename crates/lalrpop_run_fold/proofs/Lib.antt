@@ -8,3 +8,4 @@ pub mod UnfoldLemmas
 pub mod PostOrderLemmas
 pub mod BuildingLemmas
 pub mod WholeFoldLemmas
+pub mod PassedOnLemmas

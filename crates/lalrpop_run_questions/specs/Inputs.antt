@@ -2,8 +2,8 @@
 use Rattle.std.specs.Prelude.{◌≡◌, ℕ, List, Option, Some, None, Result, Ok, Err, IsUtf8}
 use Rattle.serde_json.specs.Data.{Data}
 use Rattle.serde_json.specs.Read.{read}
-use Rattle.serde_json.specs.View.{view}
-use Rattle.serde_json.specs.declared.value.Value.{Value}
+use Rattle.lalrpop_json_document.specs.DocumentViews.{view}
+use Rattle.lalrpop_json_document.specs.declared.value.JsonValue.{JsonValue}
 use Rattle.lalrpop_json_values.specs.declared.fault.Fault.{Fault}
 use Rattle.lalrpop_run_questions.specs.declared.input.Input.{Input}
 use Rattle.lalrpop_run_questions.specs.declared.input.Input.TheVariants as inputs
@@ -16,7 +16,7 @@ abbrev pub IsNoJson : List ℕ → Type 0
 IsNoJson bytes = (d : Data) → IsJsonOf bytes d → ⊥
 
 -- the value, or none where the bytes spell none
-abbrev pub SpelledBy : List ℕ → Option Value → Type 0
+abbrev pub SpelledBy : List ℕ → Option JsonValue → Type 0
 SpelledBy bytes (Some value) = IsJsonOf bytes (view value)
 SpelledBy bytes None = IsNoJson bytes
 

@@ -4,13 +4,15 @@ ghost use Rattle.std.specs.Prelude.{IfOk};
 ghost use Rattle.lalrpop_json_grammar.specs.Grammars.{grammar_at};
 ghost use Rattle.lalrpop_json_grammar.specs.ReadTrees.{tree_at};
 ghost use Rattle.lalrpop_run_questions.specs.Inputs.{IsInput, IsInputFor};
-ghost use Rattle.serde_json.specs.View.{view};
+ghost use Rattle.lalrpop_json_document.specs.DocumentViews.{view};
 
-use crate::json_value::{value_of, value_of_text};
+use crate::json_value::value_of_text;
+use json::Scratch;
 use lalrpop_grammar::{Grammar, WrittenTree};
-use lalrpop_json_grammar::{Fault, ReadError, read_grammar, read_tree};
-use serde_json::Value;
+use lalrpop_json_document::JsonValue;
+use lalrpop_json_grammar::{Fault, ReadError, grammar_of_document, tree_of_document};
 use std::alloc::{AllocError, Global};
+use std::str;
 
 /// What bytes are read as.
 #[derive(Drop)]
@@ -31,7 +33,8 @@ pub enum Input<T> {
 pub fn tree_input(alloc: Global, text: &str) -> Result<Input<WrittenTree>, AllocError>
     ensures { IfOk result (IsInput tree_at text.now) }
 {
-    match value_of_text(alloc, text)? {
+    let mut scratch = Scratch::new(alloc);
+    match value_of_text(alloc, text, &mut scratch)? {
         Some(value) => {
             let input = tree_of_value(alloc, &value)?;
             Ok(input)
@@ -41,10 +44,10 @@ pub fn tree_input(alloc: Global, text: &str) -> Result<Input<WrittenTree>, Alloc
 }
 
 /// The tree that a value gives.
-fn tree_of_value(alloc: Global, value: &Value) -> Result<Input<WrittenTree>, AllocError>
+fn tree_of_value(alloc: Global, value: &JsonValue<'_>) -> Result<Input<WrittenTree>, AllocError>
     ensures { IfOk result (IsInputFor (tree_at (view value.now))) }
 {
-    match read_tree(alloc, value) {
+    match tree_of_document(alloc, value) {
         Ok(tree) => Ok(Input::Value(tree)),
         Err(ReadError::Shape { path, kind }) => Ok(Input::Fault(Fault { path, kind })),
         Err(ReadError::Memory) => Err(AllocError),
@@ -59,7 +62,18 @@ fn tree_of_value(alloc: Global, value: &Value) -> Result<Input<WrittenTree>, All
 pub fn grammar_input(alloc: Global, bytes: &[u8]) -> Result<Input<Grammar>, AllocError>
     ensures { IfOk result (IsInput grammar_at bytes.now) }
 {
-    match value_of(alloc, bytes)? {
+    match str::from_utf8(bytes) {
+        Ok(text) => grammar_of_text(alloc, text),
+        Err(_) => Ok(Input::NotJson),
+    }
+}
+
+/// The grammar that a text gives.
+fn grammar_of_text(alloc: Global, text: &str) -> Result<Input<Grammar>, AllocError>
+    ensures { IfOk result (IsInput grammar_at text.now) }
+{
+    let mut scratch = Scratch::new(alloc);
+    match value_of_text(alloc, text, &mut scratch)? {
         Some(value) => {
             let input = grammar_of_value(alloc, &value)?;
             Ok(input)
@@ -69,10 +83,10 @@ pub fn grammar_input(alloc: Global, bytes: &[u8]) -> Result<Input<Grammar>, Allo
 }
 
 /// The grammar that a value gives.
-fn grammar_of_value(alloc: Global, value: &Value) -> Result<Input<Grammar>, AllocError>
+fn grammar_of_value(alloc: Global, value: &JsonValue<'_>) -> Result<Input<Grammar>, AllocError>
     ensures { IfOk result (IsInputFor (grammar_at (view value.now))) }
 {
-    match read_grammar(alloc, value) {
+    match grammar_of_document(alloc, value) {
         Ok(grammar) => Ok(Input::Value(grammar)),
         Err(ReadError::Shape { path, kind }) => Ok(Input::Fault(Fault { path, kind })),
         Err(ReadError::Memory) => Err(AllocError),

@@ -1,3 +1,2 @@
 -- Lemmas of crates below, for crates above that do not name those crates themselves.
-pub use Rattle.lalrpop_lr1_certificates.proofs.PassedOnLemmas.{before_or_end}
 pub use Rattle.lalrpop_run_prepare.proofs.StartLemmas.{start_in_expansion}

@@ -1,6 +1,6 @@
 use Rattle.std.proofs.Common.{◌+◌, ◌*◌}
 use Rattle.serde_json.specs.Data.{depth}
-use Rattle.serde_json.specs.View.{view}
+use Rattle.lalrpop_json_document.specs.DocumentViews.{view}
 use Rattle.lalrpop_json_grammar.specs.ReadTrees.{tree_at}
 use Rattle.lalrpop_json_values.proofs.ListReadingLemmas.{IsAt}
 use Rattle.lalrpop_json_grammar.proofs.tree.+trees.Given as goal
@@ -17,8 +17,8 @@ decreases-option_of l = 4 * depth (view l.value.now) + 1
 abbrev pub decreases-group_of : goal.decreases-group_of
 decreases-group_of l = 4 * depth (view l.value.now) + 1
 
-abbrev pub decreases-tree_of : goal.decreases-tree_of
-decreases-tree_of l = 4 * depth (view l.value.now) + 2
+abbrev pub decreases-tree_of_document : goal.decreases-tree_of_document
+decreases-tree_of_document l = 4 * depth (view l.value.now) + 2
 
 abbrev pub decreases-optional_of : goal.decreases-optional_of
 decreases-optional_of l = 4 * depth (view l.value.now) + 3

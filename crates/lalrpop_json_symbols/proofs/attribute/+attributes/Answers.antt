@@ -1,6 +1,6 @@
 use Rattle.std.proofs.Common.{◌<◌, rules, arith, ap, sym}
 use Rattle.serde_json.specs.Data.{depth, items_depth}
-use Rattle.serde_json.specs.View.{view, items_view}
+use Rattle.lalrpop_json_document.specs.DocumentViews.{view, items_view}
 use Rattle.lalrpop_json_values.proofs.NestingLemmas.{below_items, below_array}
 use Rattle.lalrpop_json_symbols.proofs.attribute.+attributes.Goals as goal
 

@@ -1,6 +1,6 @@
 use Rattle.std.proofs.Common.{◌+◌, ◌*◌}
 use Rattle.serde_json.specs.Data.{depth}
-use Rattle.serde_json.specs.View.{view}
+use Rattle.lalrpop_json_document.specs.DocumentViews.{view}
 use Rattle.lalrpop_json_symbols.specs.Types.{type_at}
 use Rattle.lalrpop_json_values.proofs.ListReadingLemmas.{IsAt}
 use Rattle.lalrpop_json_symbols.proofs.type_ref.+types.Given as goal

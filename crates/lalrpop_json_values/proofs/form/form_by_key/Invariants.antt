@@ -1,5 +1,5 @@
 use Rattle.std.proofs.Common.{◌≡◌, drop}
-use Rattle.serde_json.specs.View.{view}
+use Rattle.lalrpop_json_document.specs.DocumentViews.{view}
 use Rattle.lalrpop_json_values.specs.Forms.{form_by_key}
 use Rattle.lalrpop_json_values.proofs.form.form_by_key.Given as goal
 

@@ -1,5 +1,5 @@
 use Rattle.std.proofs.Common.{◌≡◌, drop}
-use Rattle.serde_json.specs.View.{view}
+use Rattle.lalrpop_json_document.specs.DocumentViews.{view}
 use Rattle.lalrpop_json_values.specs.Objects.{first_missing}
 use Rattle.lalrpop_json_values.proofs.object.missing.Given as goal
 

@@ -1,7 +1,7 @@
 use Rattle.lalrpop_norm_expansion.specs.Between.{grammar_between}
 use Rattle.lalrpop_norm_expansion.proofs.ExpansionListLemmas.{rule_there}
-use Rattle.lalrpop_norm_pass_laws.proofs.KeyRuleLemmas.{expanded, expanded_inlined}
-use Rattle.lalrpop_norm_pass_laws.proofs.KeyTableLemmas.{table_expansion}
+use Rattle.lalrpop_norm_expansion.proofs.KeyRuleLemmas.{expanded, expanded_inlined}
+use Rattle.lalrpop_norm_expansion.proofs.KeyTableLemmas.{table_expansion}
 use Rattle.lalrpop_norm_back_laws.proofs.KeyStepLemmas.{macros_keep_types}
 use Rattle.lalrpop_norm_key_rules.specs.RuleItems.{grammar_with_rules}
 use Rattle.lalrpop_norm_key_rules.proofs.CountLemmas.{right_by_counts}

@@ -1,0 +1,3 @@
+mod DocumentLemmas
+mod ExamplesOfDocuments
+mod LendingLemmas

@@ -1,0 +1,2 @@
+pub mod MemberOrder
+pub mod TokenData

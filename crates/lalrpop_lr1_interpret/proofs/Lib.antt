@@ -1,0 +1,3 @@
+mod ExamplesOfNamedTrees
+pub mod InterpretLemmas
+pub mod NamedStackLemmas

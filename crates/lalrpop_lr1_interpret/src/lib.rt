@@ -1,0 +1,12 @@
+//! Interpreting states: the tree of terminals without productions, or the state in which they go wrong.
+//!
+//! The machine of the crate below runs the table of the states; its stack holds parse trees, or nothing. `Interpretations` in `specs/`
+//! says which answers are right.
+#![tactic(auto)]
+
+mod interpret_fault;
+mod interpreting;
+mod parse_tree_stack;
+
+pub use interpret_fault::{InterpretError, InterpretFault};
+pub use interpreting::{interpret, interpret_partial};

@@ -1,4 +1,0 @@
-pub mod KeyRules
-pub mod KeyTables
-pub mod LevelRules
-pub mod PassLaws
