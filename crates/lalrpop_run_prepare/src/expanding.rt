@@ -1,6 +1,7 @@
 //! The plain productions of a grammar after inlining, with the name of the start among them, where the start may be parsed from.
 
 ghost use Rattle.std.specs.Prelude.{◌≡◌, ◌⊎◌, ◌++◌, Contains, IfErr, IfOk};
+ghost use Rattle.lalrpop_lr1_barren.specs.LeastBarren.{IsLeastBarren};
 ghost use Rattle.lalrpop_lr1_build.specs.BuiltStates.{theory_grammar};
 ghost use Rattle.lalrpop_lr1_first.specs.NumberedGrammars.{HasItsTerminals};
 ghost use Rattle.lalrpop_lr1_inline.specs.InlinedGrammars.{IsInlinedGrammar};
@@ -29,6 +30,19 @@ fn name_of_start(
     Ok(NonterminalString(Atom::new(alloc, text.as_str())?))
 }
 
+/// The least nonterminal by name that the one with the name reaches before inlining, and of which no finite sentence comes.
+fn barren_before_inlining(
+    alloc: Global,
+    lowered: &Grammar,
+    name: &NonterminalString,
+) -> Result<Option<NonterminalString>, AllocError>
+    requires { IsReadyForTables lowered.now }
+    ensures { IfOk result (IsLeastBarren (Contains (theory_grammar lowered.now)) name.now.0) }
+{
+    let found = barren_nonterminal(alloc, lowered, name)?;
+    Ok(found)
+}
+
 /// The plain productions with the inlined rules inlined, where nothing that the start reaches is barren. That is found before inlining,
 /// and told after what is wrong with inlining.
 fn inline_reached(
@@ -43,7 +57,7 @@ fn inline_reached(
     ensures refused { IfErr result (IsRefusedExpansion whole lowered.now start.now) }
 {
     let name = NonterminalString(start.try_clone()?);
-    let barren = barren_nonterminal(alloc, lowered, &name)?;
+    let barren = barren_before_inlining(alloc, lowered, &name)?;
     let expansion = inline_rules(alloc, lowered, whole)?;
     match barren {
         Some(nonterminal) => Err(GenerateError::Barren(nonterminal.0)),

@@ -1,6 +1,6 @@
 //! The refusals of a grammar in their order, and what is prepared where none stands.
 
-ghost use Rattle.std.specs.Prelude.{◌≡◌, IfErr, IfOk, map};
+ghost use Rattle.std.specs.Prelude.{◌≡◌, IfErr, IfOk, length, map};
 ghost use Rattle.std.specs.List.Sorted.{IsStrictlySortedBy};
 ghost use Rattle.std.specs.Map.{keys_of};
 ghost use Rattle.lalrpop_grammar_symbols.specs.contracts.names.NonterminalStringOrd.TheImpl as names_order;
@@ -11,11 +11,12 @@ ghost use Rattle.lalrpop_lexer_scan.specs.Scanning.{IsScannerOf};
 ghost use Rattle.lalrpop_norm_entries.specs.Patterns.{entry_patterns, entry_precedences};
 ghost use Rattle.lalrpop_norm_expansion.specs.Premises.{IsReadGrammar};
 ghost use Rattle.lalrpop_run_prepare.specs.PrepareRefusals.{IsPrepareRefusal};
+ghost use Rattle.lalrpop_run_prepare.specs.PreparedGrammars.{AreLabelsOf};
 ghost use Rattle.lalrpop_run_tokens.specs.Tokenizers.{scan_entries};
 
 use crate::expanding::expand;
 use crate::prepared::Prepared;
-use lalrpop_grammar::{Atom, Grammar, MatchEntry};
+use lalrpop_grammar::{Atom, Grammar, MatchEntry, Origin};
 use lalrpop_grammar_repr::{Grammar as LoweredGrammar, Session};
 use lalrpop_grammar_symbols::List;
 use lalrpop_lexer::dfa::Dfa;
@@ -40,6 +41,18 @@ fn scanner_of(alloc: Global, dfa: Dfa, entries: List<MatchEntry>) -> Result<Scan
 {
     let terminals = terminals_of(alloc, entries)?;
     Ok(Scanner::new(dfa, terminals))
+}
+
+/// The productions after inlining by the choices that they stand for. An origin is given for each action that was there before it.
+fn labels_of(
+    alloc: Global,
+    expansion: &LoweredGrammar,
+    origins: &List<Origin>,
+) -> Result<LabelTable, AllocError>
+    ensures { IfOk result (AreLabelsOf expansion.now (length origins.now)) }
+{
+    let labels = LabelTable::new(alloc, expansion, origins.len())?;
+    Ok(labels)
 }
 
 /// What a parser of the grammar is made of, or why there is none. `start` names the rule to start from; the session's features say
@@ -81,7 +94,7 @@ pub fn prepare(
         origins,
         entries,
     } = made;
-    let labels = LabelTable::new(alloc, &expansion, origins.len())?;
+    let labels = labels_of(alloc, &expansion, &origins)?;
     let scanner = scanner_of(alloc, dfa, entries)?;
     let start = start.try_clone()?;
     Ok(Prepared {

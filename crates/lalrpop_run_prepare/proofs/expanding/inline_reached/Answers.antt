@@ -1,9 +1,5 @@
 use Rattle.lalrpop_run_prepare.proofs.ExpandLemmas.{barren_told}
-use Rattle.lalrpop_run_prepare.proofs.TableLemmas.{has_its_terminals}
 use Rattle.lalrpop_run_prepare.proofs.expanding.inline_reached.Goals as goal
-
-pub barren_nonterminal-requires : goal.barren_nonterminal-requires
-barren_nonterminal-requires c = has_its_terminals c.args.lowered.now c.requires
 
 pub returns-in-Some-clause-refused : goal.returns-in-Some-clause-refused
 returns-in-Some-clause-refused c =

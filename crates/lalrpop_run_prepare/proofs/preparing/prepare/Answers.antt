@@ -1,10 +1,9 @@
-use Rattle.std.proofs.Common.{◌∙◌, ap, refl, subst}
+use Rattle.std.proofs.Common.{refl, subst}
 use Rattle.std.proofs.lemmas.Result.{err_from_is_err_and}
 use Rattle.lalrpop_grammar.specs.Views.{grammar_view}
 use Rattle.lalrpop_grammar.specs.declared.grammar.Grammar.{Grammar}
 use Rattle.lalrpop_judge_search.specs.Search.{finds, is_too_deep}
 use Rattle.lalrpop_norm_expansion.specs.Premises.{IsReadGrammar}
-use Rattle.lalrpop_run_flat_labels.specs.LabelTables.{label_places, last_place}
 use Rattle.lalrpop_run_prepare.specs.PrepareRefusals.{IsPrepareRefusal}
 use Rattle.lalrpop_run_prepare.proofs.PrepareLemmas.{prepared_where_read, start_refused}
 use Rattle.lalrpop_run_prepare.proofs.preparing.prepare.Goals as goal
@@ -55,5 +54,5 @@ invariant_of-result c =
       prepared_where_read finds is_too_deep _ c.in_ok-made.made c.in_ok-made.dfa c.args.start.now refl refl c.in_ok-start.ensures
           c.in_ok-expansion.ensures.name c.in_ok-expansion.ensures.terminals c.in_ok-expansion.ensures.parsed
           c.in_ok-expansion.ensures.inlined c.in_ok-made.ensures.ready c.see_order.ensures normal c.in_ok-scanner.ensures,
-      λ l. c.in_ok-labels.ensures l ∙ ap (λ n. last_place l.items (label_places c.in_ok-expansion.expansion n)) c.len.ensures,
+      c.in_ok-labels.ensures,
     )
