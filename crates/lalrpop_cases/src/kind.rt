@@ -1,6 +1,6 @@
 //! Kinds of cases.
 
-use crate::runs;
+use crate::{conflicts, runs};
 use anyhow::Result;
 use lalrpop_case_files::Tally;
 use std::alloc::Global;
@@ -45,7 +45,7 @@ impl Kind {
             Kind::Calls => lalrpop_call_cases::run_tally(rt, file),
             Kind::Normalizing => lalrpop_norm_cases::run_tally(rt, file),
             Kind::Tables => lalrpop_table_cases::run_tally(rt, file),
-            Kind::Conflicts => lalrpop_conflict_cases::run_tally(rt, file),
+            Kind::Conflicts => conflicts::run_tally(rt, file),
         }
     }
 }

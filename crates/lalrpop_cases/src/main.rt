@@ -6,6 +6,7 @@
 #![tactic(auto)]
 
 mod case;
+mod conflicts;
 mod kind;
 mod line;
 mod outcome;

@@ -1,1 +1,3 @@
+pub mod ParserLemmas
 pub mod ReadLemmas
+pub mod WitnessedTreeLemmas

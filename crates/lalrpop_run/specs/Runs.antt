@@ -4,10 +4,10 @@ use Rattle.lalrpop_grammar.specs.declared.grammar.Grammar.{Grammar}
 use Rattle.lalrpop_grammar_streams.specs.Streams.{ReadsAll, Writes}
 use Rattle.lalrpop_run_questions.specs.Questions.{Question, reads_grammar, reads_text}
 use Rattle.lalrpop_run.specs.Replies.{GivesGrammar, IsRunReply}
-use Rattle.lalrpop_run_commands.specs.PassedOn.{Output, reply_output}
-use Rattle.lalrpop_run_commands.specs.PassedOn.{memory_text, fault_line}
-use Rattle.lalrpop_run_commands.specs.PassedOn.{Reply}
-use Rattle.lalrpop_run_commands.specs.ReplyVariants as replies
+use Rattle.lalrpop_run_replies.specs.Outputs.{Output, reply_output}
+use Rattle.lalrpop_run_replies.specs.ReplyTexts.{memory_text, fault_line}
+use Rattle.lalrpop_run_replies.specs.declared.reply.Reply.{Reply}
+use Rattle.lalrpop_run.specs.ReplyVariants as replies
 
 abbrev pub out_of_memory : Output
 out_of_memory = record { text = memory_text; status = 5 }

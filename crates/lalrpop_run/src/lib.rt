@@ -1,8 +1,17 @@
 //! The answers of the program: from the words, a grammar's JSON and a text to what is written.
+//!
+//! In `specs/`, `Judge`, `Tokens`, `Check` and `Parse` have the replies of each command, `Parsers` which grammars have a parser, and
+//! `Runs` the whole run.
 #![tactic(auto)]
 
 mod answering;
+mod checking;
+mod conflicts;
+mod judging;
+mod parsing;
+mod preparing;
 mod running;
+mod tokens;
 mod words;
 
 pub use answering::answer;
@@ -10,11 +19,12 @@ pub use lalrpop_json_grammar::{
     Fault, FaultKind, Key, ReadError, Step, TreeText, print_tree, read_grammar, read_tree,
 };
 pub use lalrpop_json_writer::{WriteError, write_grammar};
-pub use lalrpop_run_commands::{
-    Answer, Certificate, FoldError, Move, ParseError, Parser, Prepared, Reply, ScanError,
-    check_conflict, fold, foldings_are_inverse, generate, prepare, unfold, witness,
-};
 pub use lalrpop_run_options::{Method, Options, OptionsError, Task, options};
+pub use lalrpop_run_parser::{
+    Certificate, Move, ParseError, Parser, Prepared, ScanError, check_conflict, generate, prepare,
+    witness,
+};
 pub use lalrpop_run_refusals::GenerateError;
+pub use lalrpop_run_replies::{Answer, FoldError, Reply, fold, foldings_are_inverse, unfold};
 pub use running::run;
 pub use words::run_words;

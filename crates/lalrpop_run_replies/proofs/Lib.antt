@@ -1,2 +1,1 @@
-pub mod PassedOnLemmas
 pub mod TokenLineLemmas

@@ -6,7 +6,7 @@ use Rattle.lalrpop_run_questions.specs.Questions.{question_of, reads_grammar}
 use Rattle.lalrpop_run.specs.Replies.{IsRunReply}
 use Rattle.lalrpop_run.specs.Runs.{IsRightAnswer}
 use Rattle.lalrpop_run_questions.specs.declared.input.Input.{Input}
-use Rattle.lalrpop_run_commands.specs.ReplyVariants as replies
+use Rattle.lalrpop_run.specs.ReplyVariants as replies
 use Rattle.lalrpop_run.proofs.running.right_answer.Goals as goal
 
 pub returns-in_ok-answer-in-Value-clause-answer : goal.returns-in_ok-answer-in-Value-clause-answer

@@ -1,9 +1,0 @@
-use Rattle.std.proofs.Common.{◌∙◌}
-use Rattle.lalrpop_run_parser.proofs.GenerateLemmas.{conflicts_stand}
-use Rattle.lalrpop_conflict_cases.proofs.witnessed.witness_count.Goals as goal
-
-pub see_witnesses-requires : goal.see_witnesses-requires
-see_witnesses-requires c =
-    conflicts_stand c.args.prepared.now c.expansion.result.now c.in_ok-start.start c.expansion.ensures
-    (c.in_ok-start.ensures ∙ c.start_name.ensures.name) c.in-Err-Conflicts.field-0 c.in-Err-Conflicts.error
-    c.in-Err-Conflicts.field-0-is c.in-Err-Conflicts.ensures.fault

@@ -1,0 +1,22 @@
+use Rattle.std.proofs.Common.{List, refl, subst, sym}
+use Rattle.lalrpop_grammar.specs.declared.grammar.Grammar.{Grammar}
+use Rattle.lalrpop_grammar.specs.Views.{grammar_view}
+use Rattle.lalrpop_judge_certificates.specs.declared.certificate.Certificate.{Certificate}
+use Rattle.lalrpop_norm_expansion.specs.Premises.{IsReadGrammar}
+use Rattle.lalrpop_run_replies.specs.PassedOn.{AreWrittenConflicts, HaveTreesOf}
+use Rattle.lalrpop_run_parser.specs.Parsers.{IsGenerateRefusal}
+use Rattle.lalrpop_run.specs.Parsers.{IsNoParserReply}
+use Rattle.lalrpop_run.proofs.WitnessedTreeLemmas.{witnessed_trees}
+use Rattle.lalrpop_run.proofs.conflicts.conflicts_reply.Goals as goal
+
+pub returns-in_ok-conflicts-in-Conflicts : goal.returns-in_ok-conflicts-in-Conflicts
+returns-in_ok-conflicts-in-Conflicts c = λ q g prepared read.
+    let v = c.args.prepared.now in
+    let certificates = c.in-Conflicts.certificates.items in
+    let own = subst (λ (w : Grammar). IsReadGrammar (grammar_view w)) (sym prepared.written_is) read in
+    let has = subst (IsGenerateRefusal v) c.in-Conflicts.is c.requires in
+    let trees = witnessed_trees v has.error certificates own has.shown in
+    IsNoParserReply.conflicting v certificates c.in_ok-conflicts-in-Conflicts.conflicts prepared has
+    (subst (λ (l : List Certificate). AreWrittenConflicts v l c.in_ok-conflicts-in-Conflicts.conflicts.items) c.as_slice.ensures.value
+    (c.in_ok-conflicts-in-Conflicts.ensures own
+    (subst (λ (l : List Certificate). HaveTreesOf v l) (sym c.as_slice.ensures.value) trees))) refl
