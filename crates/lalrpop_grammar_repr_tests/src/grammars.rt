@@ -35,13 +35,24 @@ fn nonterminal(alloc: Global, production: Production) -> Result<NonterminalData,
     })
 }
 
+/// A nonterminal whose only production has this symbol and this action.
+fn nonterminal_of(
+    alloc: Global,
+    name: &str,
+    side: &str,
+    action: ActionFn,
+    span: Span,
+) -> Result<NonterminalData, AllocError> {
+    nonterminal(alloc, production_of(alloc, name, side, action, span)?)
+}
+
 /// `__S = S; S = A`
 fn nonterminals(alloc: Global) -> Result<Map<NonterminalString, NonterminalData>, AllocError> {
-    let start = production_of(alloc, "__S", "S", ActionFn::new(0), Span(0, 9))?;
-    let rule = production_of(alloc, "S", "A", ActionFn::new(1), Span(1, 2))?;
+    let rule = nonterminal_of(alloc, "S", "A", ActionFn::new(1), Span(1, 2))?;
     let mut map = Map::new(alloc);
-    map.insert(name_of(alloc, "S")?, nonterminal(alloc, rule)?)?;
-    map.insert(name_of(alloc, "__S")?, nonterminal(alloc, start)?)?;
+    map.insert(name_of(alloc, "S")?, rule)?;
+    let start = nonterminal_of(alloc, "__S", "S", ActionFn::new(0), Span(0, 9))?;
+    map.insert(name_of(alloc, "__S")?, start)?;
     Ok(map)
 }
 
@@ -63,23 +74,37 @@ fn terminals(alloc: Global) -> Result<TerminalSet, AllocError> {
     Ok(TerminalSet { all, bits })
 }
 
-/// A copy of the grammar, of whose two actions the last may fail.
-fn grammar(alloc: Global) -> Result<Grammar, AllocError> {
-    let mut action_fn_defns = List::new(alloc);
-    action_fn_defns.push(action(alloc, false))?;
-    action_fn_defns.push(action(alloc, true))?;
-    let mut start_nonterminals = Map::new(alloc);
-    start_nonterminals.insert(name_of(alloc, "S")?, name_of(alloc, "__S")?)?;
-    let grammar = Grammar {
+/// Two actions, of which the last may fail.
+fn actions(alloc: Global) -> Result<List<ActionFnDefn>, AllocError> {
+    let mut actions = List::new(alloc);
+    actions.push(action(alloc, false))?;
+    actions.push(action(alloc, true))?;
+    Ok(actions)
+}
+
+/// The start `__S` of the rule `S`.
+fn starts(alloc: Global) -> Result<Map<NonterminalString, NonterminalString>, AllocError> {
+    let mut starts = Map::new(alloc);
+    starts.insert(name_of(alloc, "S")?, name_of(alloc, "__S")?)?;
+    Ok(starts)
+}
+
+/// The grammar, of whose two actions the last may fail.
+fn first_grammar(alloc: Global) -> Result<Grammar, AllocError> {
+    Ok(Grammar {
         prefix: Atom::new(alloc, "__")?,
+        start_nonterminals: starts(alloc)?,
         terminals: terminals(alloc)?,
-        nonterminals: nonterminals(alloc)?,
-        start_nonterminals,
-        action_fn_defns,
+        action_fn_defns: actions(alloc)?,
         types: Types::new(alloc),
         algorithm: Algorithm { lalr: true },
-    };
-    grammar.try_clone(alloc)
+        nonterminals: nonterminals(alloc)?,
+    })
+}
+
+/// A copy of the grammar.
+fn grammar(alloc: Global) -> Result<Grammar, AllocError> {
+    first_grammar(alloc)?.try_clone(alloc)
 }
 
 /// How many productions the nonterminal has, and whether it stands on no right side.

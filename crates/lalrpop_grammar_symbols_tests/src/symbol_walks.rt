@@ -9,6 +9,7 @@ use lalrpop_grammar_symbols::{
     Atom, ExprSymbol, List, MacroSymbol, NonterminalString, Span, Subsymbols, Symbol, SymbolKind,
     SymbolMap, subsymbols_of,
 };
+use lalrpop_json_document::lend_value;
 use lalrpop_json_symbols::symbol_of;
 use serde_json::Value;
 use std::alloc::{AllocError, Global};
@@ -47,10 +48,14 @@ const KINDS: [(&str, &str); 10] = [
     (NESTED, "M<(a b)*, <mut x:c>>"),
 ];
 
+/// The symbol that the value spells.
+fn symbol_at(alloc: Global, value: &Value) -> Result<Symbol, Fail> {
+    Ok(symbol_of(alloc, &lend_value(alloc, value)?)?)
+}
+
 fn symbol(alloc: Global, json: &str) -> Result<Symbol, Fail> {
     let value = Value::from_str(alloc, json)?;
-    let symbol = symbol_of(alloc, &value)?;
-    Ok(symbol)
+    symbol_at(alloc, &value)
 }
 
 fn symbols_of_names(alloc: Global, names: &[&str]) -> Result<List<Symbol>, AllocError> {
@@ -69,8 +74,7 @@ fn has_text(alloc: Global, symbol: &Symbol, text: &str) -> Result<bool, AllocErr
 
 /// Whether a copy of the symbol equals it.
 fn is_copied(alloc: Global, symbol: &Symbol) -> Result<bool, AllocError> {
-    let copy = symbol.try_clone(alloc)?;
-    Ok(copy == *symbol)
+    Ok(symbol.try_clone(alloc)? == *symbol)
 }
 
 #[test]
@@ -102,12 +106,18 @@ fn a_copy_of_a_nonterminal_equals_it(rt: HostRuntime) -> Result<(), Fail> {
     Ok(())
 }
 
-/// The texts of the symbols, each behind a bar.
-fn texts_of(alloc: Global, symbols: Subsymbols<'_>) -> Result<String, AllocError> {
-    let mut texts = String::new(alloc);
+/// Writes the texts of the symbols, each behind a bar.
+fn write_texts(symbols: Subsymbols<'_>, texts: &mut String) -> Result<(), AllocError> {
     for symbol in symbols {
         write!(texts, "|{symbol}")?;
     }
+    Ok(())
+}
+
+/// The texts of the symbols, each behind a bar.
+fn texts_of(alloc: Global, symbols: Subsymbols<'_>) -> Result<String, AllocError> {
+    let mut texts = String::new(alloc);
+    write_texts(symbols, &mut texts)?;
     Ok(texts)
 }
 
@@ -190,13 +200,22 @@ fn has_no_ambiguous_id(alloc: Global, symbol: &Symbol) -> Result<bool, AllocErro
     Ok(true)
 }
 
+/// The nested symbol with its names resolved.
+fn resolve_nested(alloc: Global, map: &mut Resolving) -> Result<Symbol, Fail> {
+    Ok(symbol(alloc, NESTED)?.map(alloc, map)?)
+}
+
+/// Whether the symbol is the nested one with its names resolved.
+fn is_resolved(alloc: Global, symbol: &Symbol) -> Result<bool, AllocError> {
+    Ok(has_no_ambiguous_id(alloc, symbol)? && has_text(alloc, symbol, "M<(a b)*, <mut x:c>>")?)
+}
+
 #[test]
 fn names_inside_a_symbol_replaced(rt: HostRuntime) -> Result<(), Fail> {
     let alloc = rt.alloc();
     let mut map = Resolving { calls: 0 };
-    let mapped = symbol(alloc, NESTED)?.map(alloc, &mut map)?;
-    assert!(rt; has_no_ambiguous_id(alloc, &mapped)?);
-    assert!(rt; has_text(alloc, &mapped, "M<(a b)*, <mut x:c>>")?);
+    let mapped = resolve_nested(alloc, &mut map)?;
+    assert!(rt; is_resolved(alloc, &mapped)?);
     assert_eq!(rt; map.calls, 1);
     Ok(())
 }

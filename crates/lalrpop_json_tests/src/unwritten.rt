@@ -67,14 +67,19 @@ fn grammar(alloc: Global, item: GrammarItem) -> Result<Grammar, Fail> {
     Ok(grammar)
 }
 
+/// Whether the grammar is written.
+fn is_spelled(alloc: Global, grammar: &Grammar) -> Result<bool, AllocError> {
+    match write_grammar(alloc, grammar) {
+        Ok(_) => Ok(true),
+        Err(WriteError::NotWritten) => Ok(false),
+        Err(WriteError::Memory) => Err(AllocError),
+    }
+}
+
 /// Whether a grammar of this item is written.
 fn is_written(alloc: Global, item: GrammarItem) -> Result<bool, Fail> {
     let grammar = grammar(alloc, item)?;
-    match write_grammar(alloc, &grammar) {
-        Ok(_) => Ok(true),
-        Err(WriteError::NotWritten) => Ok(false),
-        Err(WriteError::Memory) => Err(AllocError.into()),
-    }
+    Ok(is_spelled(alloc, &grammar)?)
 }
 
 /// Whether a grammar with this symbol is written.
@@ -189,18 +194,31 @@ fn an_entry_mapped_to_error_recovery(rt: HostRuntime) -> Result<(), Fail> {
     Ok(())
 }
 
+/// Whether the grammar is written with this prefix.
+fn is_spelled_with(alloc: Global, grammar: &mut Grammar, prefix: &str) -> Result<bool, AllocError> {
+    grammar.prefix = Atom::new(alloc, prefix)?;
+    is_spelled(alloc, grammar)
+}
+
+/// That it is written with the shortest prefix alone, which is longer where two underscores occur in a text.
+fn wants_the_shortest(rt: &impl Abort, alloc: Global, grammar: &mut Grammar) -> Result<(), Fail> {
+    assert!(rt; is_spelled(alloc, grammar)?);
+    assert!(rt; !is_spelled_with(alloc, grammar, "___")?);
+    grammar.where_clauses = Atom::new(alloc, "T: a__B")?;
+    assert!(rt; is_spelled(alloc, grammar)?);
+    assert!(rt; !is_spelled_with(alloc, grammar, "__")?);
+    Ok(())
+}
+
+/// A grammar whose rule `S` has one symbol.
+fn grammar_of_one(alloc: Global) -> Result<Grammar, Fail> {
+    let item = rule(alloc, "S", alternative(alloc, SymbolKind::Error)?)?;
+    grammar(alloc, item)
+}
+
 /// The prefix is the shortest run of underscores that occurs in no text.
 #[test]
 fn another_prefix(rt: HostRuntime) -> Result<(), Fail> {
-    let alloc = rt.alloc();
-    let item = rule(alloc, "S", alternative(alloc, SymbolKind::Error)?)?;
-    let mut grammar = grammar(alloc, item)?;
-    assert!(rt; write_grammar(alloc, &grammar).is_ok());
-    grammar.prefix = Atom::new(alloc, "___")?;
-    assert!(rt; write_grammar(alloc, &grammar) == Err(WriteError::NotWritten));
-    grammar.where_clauses = Atom::new(alloc, "T: a__B")?;
-    assert!(rt; write_grammar(alloc, &grammar).is_ok());
-    grammar.prefix = Atom::new(alloc, "__")?;
-    assert!(rt; write_grammar(alloc, &grammar) == Err(WriteError::NotWritten));
-    Ok(())
+    let mut grammar = grammar_of_one(rt.alloc())?;
+    wants_the_shortest(&rt, rt.alloc(), &mut grammar)
 }

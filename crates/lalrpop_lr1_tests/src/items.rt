@@ -74,16 +74,44 @@ fn is_text(
     Ok(format!(in alloc; "{item:?}")?.as_str() == text)
 }
 
+/// The item of the empty production before "n".
+fn item_before_n<'g>(
+    alloc: Global,
+    grammar: &'g Grammar,
+    empty: &'g Production,
+) -> Result<Item<'g, TokenSet>, AllocError> {
+    let n = TokenSet::from_token(alloc, &token_of(alloc, "n")?, &grammar.terminals)?;
+    Ok(Item::lr0(empty, 0).with_lookahead(n))
+}
+
+/// Whether the item is printed so.
+fn is_printed(alloc: Global, item: &Item<'_, TokenSet>, text: &str) -> Result<bool, AllocError> {
+    Ok(format!(in alloc; "{item:?}")?.as_str() == text)
+}
+
+/// Whether a copy of the item equals it.
+fn is_copied(item: &Item<'_, TokenSet>) -> Result<bool, AllocError> {
+    Ok(item.try_clone()? == *item)
+}
+
+fn prints_before_n(
+    rt: &impl Abort,
+    alloc: Global,
+    grammar: &Grammar,
+    empty: &Production,
+) -> Result<(), Fail> {
+    let ahead = item_before_n(alloc, grammar, empty)?;
+    assert!(rt; is_printed(alloc, &ahead, "T = (*) {1}")?);
+    assert!(rt; ahead.to_lr0() == Item::lr0(empty, 0) && is_copied(&ahead)?);
+    Ok(())
+}
+
 fn prints(rt: &impl Abort, alloc: Global, grammar: &Grammar) -> Result<(), Fail> {
     let sum = production_at(alloc, grammar, "E", 0)?;
     assert!(rt; is_text(alloc, sum, 1, "E = E (*) \"+\" T")?);
     let empty = production_at(alloc, grammar, "T", 1)?;
     assert!(rt; is_text(alloc, empty, 0, "T = (*)")?);
-    let n = TokenSet::from_token(alloc, &token_of(alloc, "n")?, &grammar.terminals)?;
-    let ahead = Item::lr0(empty, 0).with_lookahead(n);
-    assert!(rt; format!(in alloc; "{ahead:?}")?.as_str() == "T = (*) {1}");
-    assert!(rt; ahead.to_lr0() == Item::lr0(empty, 0) && ahead.try_clone()? == ahead);
-    Ok(())
+    prints_before_n(rt, alloc, grammar, empty)
 }
 
 #[test]

@@ -301,22 +301,41 @@ fn questions_of_a_state(rt: HostRuntime) -> Result<(), Fail> {
     answers(&rt, rt.alloc(), &middle_state(rt.alloc(), &grammar)?)
 }
 
+/// Has the terminal lead to the state of the number.
+fn add_shift(
+    alloc: Global,
+    state: &mut Lr0State<'_>,
+    text: &str,
+    to: usize,
+) -> Result<(), AllocError> {
+    state
+        .shifts
+        .insert(terminal_of(alloc, text)?, StateIndex(to))?;
+    Ok(())
+}
+
 /// A state whose terminal c leads to itself and d to 1, and whose goto by C leads to 2.
+fn first_state(alloc: Global) -> Result<Lr0State<'static>, AllocError> {
+    let mut state = state_with(alloc, List::new(alloc));
+    add_shift(alloc, &mut state, "c", 0)?;
+    add_shift(alloc, &mut state, "d", 1)?;
+    state.gotos.insert(name_of(alloc, "C")?, StateIndex(2))?;
+    Ok(state)
+}
+
+/// A state whose terminal d leads to 1.
+fn last_state(alloc: Global) -> Result<Lr0State<'static>, AllocError> {
+    let mut state = state_with(alloc, List::new(alloc));
+    add_shift(alloc, &mut state, "d", 1)?;
+    Ok(state)
+}
+
+/// The graph of the first state, one that leads nowhere, and the last.
 fn graph_of(alloc: Global) -> Result<StateGraph, AllocError> {
     let mut states: Vec<Lr0State<'_>> = Vec::new(alloc);
-    let mut first = state_with(alloc, List::new(alloc));
-    first
-        .shifts
-        .insert(terminal_of(alloc, "c")?, StateIndex(0))?;
-    first
-        .shifts
-        .insert(terminal_of(alloc, "d")?, StateIndex(1))?;
-    first.gotos.insert(name_of(alloc, "C")?, StateIndex(2))?;
-    states.push(first)?;
+    states.push(first_state(alloc)?)?;
     states.push(state_with(alloc, List::new(alloc)))?;
-    let mut last = state_with(alloc, List::new(alloc));
-    last.shifts.insert(terminal_of(alloc, "d")?, StateIndex(1))?;
-    states.push(last)?;
+    states.push(last_state(alloc)?)?;
     StateGraph::new(alloc, states.as_slice())
 }
 

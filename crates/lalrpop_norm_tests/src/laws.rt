@@ -7,8 +7,8 @@ use lalrpop_norm_back_laws::{
 };
 use lalrpop_norm_entries::{entries_are_unique, literals_have_entries};
 use lalrpop_norm_expansion::{
-    enabled_rules_are_left, passes_compose, productions_are_numbered, rounds_find_calls,
-    tables_have_types,
+    enabled_rules_are_left, levels_keep_symbols, macros_keep_expansion, passes_compose,
+    productions_are_numbered, rounds_find_calls, tables_have_types,
 };
 use lalrpop_norm_labels::{
     InlinedNonterminals, Inlining, expanded_trees_correspond, inlined_labels_have_one_side,
@@ -20,7 +20,6 @@ use lalrpop_norm_level_laws::{
 use lalrpop_norm_name_laws::{
     dropping_keeps_expansion, resolving_keeps_expansion, resolving_resolves_names,
 };
-use lalrpop_norm_pass_laws::{levels_keep_symbols, macros_keep_expansion};
 
 /// Nothing is produced, and nothing is inlined.
 struct InlinesNothing;

@@ -1,6 +1,6 @@
 //! The certificate of one conflict alone.
 
-ghost use Rattle.lalrpop_run_witness.specs.Witnesses.{AreItsConflicts};
+ghost use Rattle.lalrpop_run_parser.specs.PassedOn.{AreItsConflicts};
 
 use crate::given::{Question, ask, certificates_of};
 use crate::grammars::OPERATORS;

@@ -1,4 +1,4 @@
-use Rattle.lalrpop_run_prepare.proofs.TableLemmas.{has_its_actions}
+use Rattle.lalrpop_run_fold.proofs.PassedOnLemmas.{has_its_actions}
 use Rattle.lalrpop_run_parse_tests.proofs.inlining.inlining_of.Goals as goal
 
 pub inline-requires : goal.inline-requires

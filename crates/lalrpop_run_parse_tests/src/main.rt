@@ -17,3 +17,6 @@ mod parsing;
 mod scanning;
 #[cfg(test)]
 mod trees;
+
+/// The tests are all there is. As a program the crate is read once by what proves it, and not for a library that nothing names.
+fn main() {}

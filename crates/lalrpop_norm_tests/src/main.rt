@@ -24,3 +24,6 @@ mod types;
 mod whole;
 #[cfg(test)]
 mod written;
+
+/// The tests are all there is. As a program the crate is read once by what proves it, and not for a library that nothing names.
+fn main() {}
