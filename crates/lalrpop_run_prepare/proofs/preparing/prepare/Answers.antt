@@ -1,58 +1,10 @@
-use Rattle.std.proofs.Common.{refl, subst}
 use Rattle.std.proofs.lemmas.Result.{err_from_is_err_and}
-use Rattle.lalrpop_grammar.specs.Views.{grammar_view}
-use Rattle.lalrpop_grammar.specs.declared.grammar.Grammar.{Grammar}
-use Rattle.lalrpop_judge_search.specs.Search.{finds, is_too_deep}
-use Rattle.lalrpop_norm_expansion.specs.Premises.{IsReadGrammar}
-use Rattle.lalrpop_run_prepare.specs.PrepareRefusals.{IsPrepareRefusal}
-use Rattle.lalrpop_run_prepare.proofs.PrepareLemmas.{prepared_where_read, start_refused}
 use Rattle.lalrpop_run_prepare.proofs.preparing.prepare.Goals as goal
-use Rattle.lalrpop_run_tokens.specs.Refused.{IsGrammarRefusal}
-use Rattle.lalrpop_run_tokens.specs.Tokenizers.{IsNormalizedFor}
 
-pub returns-in_err-made-clause-refused : goal.returns-in_err-made-clause-refused
-returns-in_err-made-clause-refused c =
-    let p = err_from_is_err_and c.from_residual-in_err-made.result c.from_residual-in_err-made.ensures.1 in
-    let refused =
-    subst (λ (g : Grammar). IsReadGrammar (grammar_view g)
-    → IsGrammarRefusal finds is_too_deep c.args.session.features.items c.args.session.macro_recursion_limit c.args.start.now
-    (grammar_view g) c.in_err-made.field-0.0) c.in_ok-copy.ensures c.in_err-made.ensures.refused in
-    rw (p.1, p.2) (λ read. IsPrepareRefusal.before (refused read))
-
-pub returns-in_err-expansion-clause-refused : goal.returns-in_err-expansion-clause-refused
-returns-in_err-expansion-clause-refused c =
-    let p = err_from_is_err_and c.from_residual-in_err-expansion.result c.from_residual-in_err-expansion.ensures.1 in
-    let normal =
-    subst (λ (g : Grammar). IsReadGrammar (grammar_view g)
-    → IsNormalizedFor finds is_too_deep c.args.session.features.items c.args.session.macro_recursion_limit c.args.start.now
-    (grammar_view g) c.in_ok-made.made c.in_ok-made.dfa) c.in_ok-copy.ensures c.in_ok-made.ensures.made in
-    rw (p.1, p.2) (λ read. start_refused finds is_too_deep c.args.session.features.items c.args.session.macro_recursion_limit
-    c.args.start.now (grammar_view c.args.grammar) c.in_ok-made.made c.in_ok-made.dfa read (normal read) c.in_ok-made.ensures.ready
-    c.see_order.ensures c.args.grammar.span c.in_err-expansion.field-0.0 refl c.in_err-expansion.ensures.refused)
-
-pub returns-in_err-labels-clause-refused : goal.returns-in_err-labels-clause-refused
-returns-in_err-labels-clause-refused c =
-    let p = err_from_is_err_and c.from_residual-in_err-labels.result c.from_residual-in_err-labels.ensures.1 in
-    rw p.1 (λ read. IsPrepareRefusal.before (IsGrammarRefusal.memory p.2))
-
-pub returns-in_err-scanner-clause-refused : goal.returns-in_err-scanner-clause-refused
-returns-in_err-scanner-clause-refused c =
-    let p = err_from_is_err_and c.from_residual-in_err-scanner.result c.from_residual-in_err-scanner.ensures.1 in
-    rw p.1 (λ read. IsPrepareRefusal.before (IsGrammarRefusal.memory p.2))
-
-pub returns-in_err-start-clause-refused : goal.returns-in_err-start-clause-refused
-returns-in_err-start-clause-refused c =
-    let p = err_from_is_err_and c.from_residual-in_err-start.result c.from_residual-in_err-start.ensures.1 in
-    rw p.1 (λ read. IsPrepareRefusal.before (IsGrammarRefusal.memory p.2))
+pub returns-in_err-parts-clause-refused : goal.returns-in_err-parts-clause-refused
+returns-in_err-parts-clause-refused c =
+    let p = err_from_is_err_and c.from_residual.result c.from_residual.ensures.1 in
+    rw (p.1, p.2) c.in_err-parts.ensures.refused
 
 pub invariant_of-result : goal.invariant_of-result
-invariant_of-result c =
-    let normal =
-    subst (λ (g : Grammar). IsReadGrammar (grammar_view g)
-    → IsNormalizedFor finds is_too_deep c.args.session.features.items c.args.session.macro_recursion_limit c.args.start.now
-    (grammar_view g) c.in_ok-made.made c.in_ok-made.dfa) c.in_ok-copy.ensures c.in_ok-made.ensures.made in (
-      prepared_where_read finds is_too_deep _ c.in_ok-made.made c.in_ok-made.dfa c.args.start.now refl refl c.in_ok-start.ensures
-          c.in_ok-expansion.ensures.name c.in_ok-expansion.ensures.terminals c.in_ok-expansion.ensures.parsed
-          c.in_ok-expansion.ensures.inlined c.in_ok-made.ensures.ready c.see_order.ensures normal c.in_ok-scanner.ensures,
-      c.in_ok-labels.ensures,
-    )
+invariant_of-result c = (c.in_ok-parts.ensures.prepared, c.in_ok-parts.ensures.labels)
