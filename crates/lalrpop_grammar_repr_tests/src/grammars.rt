@@ -6,7 +6,7 @@ use lalrpop_grammar_repr::{
     ActionFn, ActionFnDefn, ActionFnDefnKind, Algorithm, Grammar, Map, NonterminalData, Production,
     TerminalSet, TypeRepr, Types, UserActionFnDefn, read_algorithm,
 };
-use lalrpop_grammar_symbols::{Atom, List, NonterminalString, Span};
+use lalrpop_grammar_symbols::{Atom, List, NonterminalString, Span, TerminalString};
 use std::alloc::{AllocError, Global};
 use std::process::Abort;
 use std::test::Fail;
@@ -46,13 +46,25 @@ fn nonterminal_of(
     nonterminal(alloc, production_of(alloc, name, side, action, span)?)
 }
 
+/// Puts a nonterminal into the map, whose only production has this symbol and this action.
+fn add_nonterminal(
+    alloc: Global,
+    map: &mut Map<NonterminalString, NonterminalData>,
+    names: (&str, &str),
+    action: ActionFn,
+    span: Span,
+) -> Result<(), AllocError> {
+    let (name, side) = names;
+    let key = name_of(alloc, name)?;
+    map.insert(key, nonterminal_of(alloc, name, side, action, span)?)?;
+    Ok(())
+}
+
 /// `__S = S; S = A`
 fn nonterminals(alloc: Global) -> Result<Map<NonterminalString, NonterminalData>, AllocError> {
-    let rule = nonterminal_of(alloc, "S", "A", ActionFn::new(1), Span(1, 2))?;
     let mut map = Map::new(alloc);
-    map.insert(name_of(alloc, "S")?, rule)?;
-    let start = nonterminal_of(alloc, "__S", "S", ActionFn::new(0), Span(0, 9))?;
-    map.insert(name_of(alloc, "__S")?, start)?;
+    add_nonterminal(alloc, &mut map, ("S", "A"), ActionFn::new(1), Span(1, 2))?;
+    add_nonterminal(alloc, &mut map, ("__S", "S"), ActionFn::new(0), Span(0, 9))?;
     Ok(map)
 }
 
@@ -65,12 +77,18 @@ fn action(alloc: Global, fallible: bool) -> ActionFnDefn {
     }
 }
 
-/// The terminal a, at place 0.
-fn terminals(alloc: Global) -> Result<TerminalSet, AllocError> {
+/// The terminal a alone.
+fn all_terminals(alloc: Global) -> Result<List<TerminalString>, AllocError> {
     let mut all = List::new(alloc);
     all.push(terminal_of(alloc, "a")?)?;
+    Ok(all)
+}
+
+/// The terminal a, at place 0.
+fn terminals(alloc: Global) -> Result<TerminalSet, AllocError> {
     let mut bits = Map::new(alloc);
     bits.insert(terminal_of(alloc, "a")?, 0)?;
+    let all = all_terminals(alloc)?;
     Ok(TerminalSet { all, bits })
 }
 
@@ -89,16 +107,41 @@ fn starts(alloc: Global) -> Result<Map<NonterminalString, NonterminalString>, Al
     Ok(starts)
 }
 
+/// The terminals and the nonterminals.
+fn symbols(
+    alloc: Global,
+) -> Result<(TerminalSet, Map<NonterminalString, NonterminalData>), AllocError> {
+    let terminals = terminals(alloc)?;
+    Ok((terminals, nonterminals(alloc)?))
+}
+
+/// The starts, and two actions, of which the last may fail.
+fn starts_and_actions(
+    alloc: Global,
+) -> Result<
+    (
+        Map<NonterminalString, NonterminalString>,
+        List<ActionFnDefn>,
+    ),
+    AllocError,
+> {
+    let starts = starts(alloc)?;
+    Ok((starts, actions(alloc)?))
+}
+
 /// The grammar, of whose two actions the last may fail.
 fn first_grammar(alloc: Global) -> Result<Grammar, AllocError> {
+    let prefix = Atom::new(alloc, "__")?;
+    let (start_nonterminals, action_fn_defns) = starts_and_actions(alloc)?;
+    let (terminals, nonterminals) = symbols(alloc)?;
     Ok(Grammar {
-        prefix: Atom::new(alloc, "__")?,
-        start_nonterminals: starts(alloc)?,
-        terminals: terminals(alloc)?,
-        action_fn_defns: actions(alloc)?,
+        prefix,
+        start_nonterminals,
+        terminals,
+        action_fn_defns,
         types: Types::new(alloc),
         algorithm: Algorithm { lalr: true },
-        nonterminals: nonterminals(alloc)?,
+        nonterminals,
     })
 }
 
@@ -127,13 +170,17 @@ fn questions_of_a_grammar(rt: HostRuntime) -> Result<(), Fail> {
     answers(&rt, rt.alloc(), &grammar)
 }
 
-#[test]
-fn actions_that_may_fail(rt: HostRuntime) -> Result<(), Fail> {
-    let grammar = grammar(rt.alloc())?;
+fn the_last_may_fail(rt: &impl Abort, grammar: &Grammar) -> Result<(), Fail> {
     assert_eq!(rt; grammar.action_fn_defns.len(), 2);
     assert!(rt; grammar.action_is_fallible(ActionFn::new(1)));
     assert!(rt; !grammar.action_is_fallible(ActionFn::new(0)));
     Ok(())
+}
+
+#[test]
+fn actions_that_may_fail(rt: HostRuntime) -> Result<(), Fail> {
+    let grammar = grammar(rt.alloc())?;
+    the_last_may_fail(&rt, &grammar)
 }
 
 /// Whether an attribute of this name makes the algorithm's states one where their LR(0) items are the same.

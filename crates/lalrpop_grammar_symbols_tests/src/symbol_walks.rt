@@ -4,7 +4,7 @@ ghost use Rattle.std.specs.Prelude.{◌≡◌};
 ghost use Rattle.lalrpop_grammar_symbols.specs.Symbols.{Sym};
 ghost use Rattle.lalrpop_grammar_symbols.specs.Views.{span_view, symbol_view};
 
-use crate::symbols::symbol_of_name;
+use crate::symbols::{is_copied, symbol_of_name};
 use lalrpop_grammar_symbols::{
     Atom, ExprSymbol, List, MacroSymbol, NonterminalString, Span, Subsymbols, Symbol, SymbolKind,
     SymbolMap, subsymbols_of,
@@ -72,9 +72,15 @@ fn has_text(alloc: Global, symbol: &Symbol, text: &str) -> Result<bool, AllocErr
     Ok(written.as_str() == text)
 }
 
-/// Whether a copy of the symbol equals it.
-fn is_copied(alloc: Global, symbol: &Symbol) -> Result<bool, AllocError> {
-    Ok(symbol.try_clone(alloc)? == *symbol)
+/// Whether a copy of the symbol equals it, and it has this text.
+fn is_copied_with_text(alloc: Global, symbol: &Symbol, text: &str) -> Result<bool, AllocError> {
+    Ok(is_copied(alloc, symbol)? && has_text(alloc, symbol, text)?)
+}
+
+/// Whether a copy of the symbol that the JSON spells equals it, and it has this text.
+fn is_spelled_with_text(alloc: Global, json: &str, text: &str) -> Result<bool, Fail> {
+    let symbol = symbol(alloc, json)?;
+    Ok(is_copied_with_text(alloc, &symbol, text)?)
 }
 
 #[test]
@@ -91,9 +97,7 @@ fn a_copy_of_four_symbols_equals_them(rt: HostRuntime) -> Result<(), Fail> {
 #[test]
 fn copies_and_texts_of_each_kind(rt: HostRuntime) -> Result<(), Fail> {
     for (json, text) in KINDS {
-        let symbol = symbol(rt.alloc(), json)?;
-        assert!(rt; is_copied(rt.alloc(), &symbol)?, "{text}");
-        assert!(rt; has_text(rt.alloc(), &symbol, text)?, "{text}");
+        assert!(rt; is_spelled_with_text(rt.alloc(), json, text)?, "{text}");
     }
     Ok(())
 }
@@ -101,8 +105,7 @@ fn copies_and_texts_of_each_kind(rt: HostRuntime) -> Result<(), Fail> {
 #[test]
 fn a_copy_of_a_nonterminal_equals_it(rt: HostRuntime) -> Result<(), Fail> {
     let nonterminal = nonterminal_at(Span(3, 7), Atom::new(rt.alloc(), "B")?);
-    assert!(rt; is_copied(rt.alloc(), &nonterminal)?);
-    assert!(rt; has_text(rt.alloc(), &nonterminal, "B")?);
+    assert!(rt; is_copied_with_text(rt.alloc(), &nonterminal, "B")?);
     Ok(())
 }
 
@@ -121,15 +124,18 @@ fn texts_of(alloc: Global, symbols: Subsymbols<'_>) -> Result<String, AllocError
     Ok(texts)
 }
 
+/// Whether these are the texts of the symbols in the symbol, itself among them.
+fn has_subsymbols(alloc: Global, symbol: &Symbol, texts: &str) -> Result<bool, AllocError> {
+    let found = texts_of(alloc, symbol.subsymbols(alloc)?)?;
+    Ok(found.as_str() == texts)
+}
+
 #[test]
 fn subsymbols_in_reading_order(rt: HostRuntime) -> Result<(), Fail> {
     let alloc = rt.alloc();
     let symbol = symbol(alloc, NESTED)?;
-    let texts = texts_of(alloc, symbol.subsymbols(alloc)?)?;
-    assert_eq!(rt;
-        texts.as_str(),
-        "|M<(a b)*, <mut x:c>>|(a b)*|(a b)|a|b|<mut x:c>|c"
-    );
+    let texts = "|M<(a b)*, <mut x:c>>|(a b)*|(a b)|a|b|<mut x:c>|c";
+    assert!(rt; has_subsymbols(alloc, &symbol, texts)?);
     Ok(())
 }
 
@@ -210,12 +216,16 @@ fn is_resolved(alloc: Global, symbol: &Symbol) -> Result<bool, AllocError> {
     Ok(has_no_ambiguous_id(alloc, symbol)? && has_text(alloc, symbol, "M<(a b)*, <mut x:c>>")?)
 }
 
+/// Whether the nested symbol comes out with its names resolved.
+fn resolves_nested(alloc: Global, map: &mut Resolving) -> Result<bool, Fail> {
+    let mapped = resolve_nested(alloc, map)?;
+    Ok(is_resolved(alloc, &mapped)?)
+}
+
 #[test]
 fn names_inside_a_symbol_replaced(rt: HostRuntime) -> Result<(), Fail> {
-    let alloc = rt.alloc();
     let mut map = Resolving { calls: 0 };
-    let mapped = resolve_nested(alloc, &mut map)?;
-    assert!(rt; is_resolved(alloc, &mapped)?);
+    assert!(rt; resolves_nested(rt.alloc(), &mut map)?);
     assert_eq!(rt; map.calls, 1);
     Ok(())
 }

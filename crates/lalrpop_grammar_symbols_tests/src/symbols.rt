@@ -12,8 +12,18 @@ pub(crate) fn symbol_of_name(alloc: Global, name: &str) -> Result<Symbol, AllocE
     Ok(Symbol::new(Span(0, 0), kind))
 }
 
+/// Whether the symbol is this name.
+fn is_name(symbol: &Symbol, name: &str) -> bool {
+    matches!(&symbol.kind, SymbolKind::AmbiguousId(told) if told.as_str() == name)
+}
+
+/// Whether a copy of the symbol equals it.
+pub(crate) fn is_copied(alloc: Global, symbol: &Symbol) -> Result<bool, AllocError> {
+    Ok(symbol.try_clone(alloc)? == *symbol)
+}
+
 /// Whether this is written for the terminal behind what was written before.
-fn is_written(alloc: Global, terminal: &TerminalString, text: &str) -> Result<bool, AllocError> {
+fn is_written(alloc: Global, terminal: TerminalString, text: &str) -> Result<bool, AllocError> {
     let mut out = String::from_str(alloc, "<")?;
     terminal.write_text(alloc, &mut out)?;
     Ok(out.strip_prefix('<') == Some(text))
@@ -21,13 +31,23 @@ fn is_written(alloc: Global, terminal: &TerminalString, text: &str) -> Result<bo
 
 #[test]
 fn texts_of_terminals(rt: HostRuntime) -> Result<(), Fail> {
-    let quoted = TerminalString::quoted(Atom::new(rt.alloc(), "a")?);
-    assert!(rt; is_written(rt.alloc(), &quoted, "\"a\"")?);
-    let regex = TerminalString::regex(Atom::new(rt.alloc(), "b+")?);
-    assert!(rt; is_written(rt.alloc(), &regex, "r#\"b+\"#")?);
-    let bare = TerminalString::Bare(Atom::new(rt.alloc(), "NUM")?);
-    assert!(rt; is_written(rt.alloc(), &bare, "NUM")?);
-    assert!(rt; is_written(rt.alloc(), &TerminalString::Error, "!")?);
+    let alloc = rt.alloc();
+    assert!(rt;
+        is_written(
+            alloc,
+            TerminalString::quoted(Atom::new(alloc, "a")?),
+            "\"a\""
+        )?
+    );
+    assert!(rt;
+        is_written(
+            alloc,
+            TerminalString::regex(Atom::new(alloc, "b+")?),
+            "r#\"b+\"#"
+        )?
+    );
+    assert!(rt; is_written(alloc, TerminalString::Bare(Atom::new(alloc, "NUM")?), "NUM")?);
+    assert!(rt; is_written(alloc, TerminalString::Error, "!")?);
     Ok(())
 }
 
@@ -94,8 +114,7 @@ fn the_text_of_a_name_behind_another(rt: HostRuntime) -> Result<(), Fail> {
 #[test]
 fn a_copy_of_a_symbol_equals_it(rt: HostRuntime) -> Result<(), Fail> {
     let symbol = symbol_of_name(rt.alloc(), "a")?;
-    let copy = symbol.try_clone(rt.alloc())?;
-    assert!(rt; copy == symbol);
+    assert!(rt; is_copied(rt.alloc(), &symbol)?);
     Ok(())
 }
 
@@ -137,8 +156,7 @@ fn symbols_go_by_their_names(rt: HostRuntime) -> Result<(), Fail> {
 #[test]
 fn a_box_gives_back_what_it_holds(rt: HostRuntime) -> Result<(), Fail> {
     let boxed = Boxed::new(rt.alloc(), symbol_of_name(rt.alloc(), "a")?)?;
-    let wanted = symbol_of_name(rt.alloc(), "a")?;
-    assert!(rt; boxed.into_inner() == wanted);
+    assert!(rt; is_name(&boxed.into_inner(), "a"));
     Ok(())
 }
 
