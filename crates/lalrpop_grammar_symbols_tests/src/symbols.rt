@@ -12,9 +12,9 @@ pub(crate) fn symbol_of_name(alloc: Global, name: &str) -> Result<Symbol, AllocE
     Ok(Symbol::new(Span(0, 0), kind))
 }
 
-/// Whether the symbol is this name.
-fn is_name(symbol: &Symbol, name: &str) -> bool {
-    matches!(&symbol.kind, SymbolKind::AmbiguousId(told) if told.as_str() == name)
+/// Whether the symbol equals that of this name.
+fn equals_name(alloc: Global, symbol: &Symbol, name: &str) -> Result<bool, AllocError> {
+    Ok(*symbol == symbol_of_name(alloc, name)?)
 }
 
 /// Whether a copy of the symbol equals it.
@@ -156,7 +156,7 @@ fn symbols_go_by_their_names(rt: HostRuntime) -> Result<(), Fail> {
 #[test]
 fn a_box_gives_back_what_it_holds(rt: HostRuntime) -> Result<(), Fail> {
     let boxed = Boxed::new(rt.alloc(), symbol_of_name(rt.alloc(), "a")?)?;
-    assert!(rt; is_name(&boxed.into_inner(), "a"));
+    assert!(rt; equals_name(rt.alloc(), &boxed.into_inner(), "a")?);
     Ok(())
 }
 
