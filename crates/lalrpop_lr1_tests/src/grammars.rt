@@ -10,12 +10,12 @@ use lalrpop_sets::Token;
 use std::alloc::{AllocError, Global};
 use std::test::Fail;
 
-/// The grammar of the lines.
-pub(crate) fn grammar_of(alloc: Global, lines: &str) -> Result<Grammar, Fail>
-    ensures { IfOk result HasItsTerminals }
+/// The grammar of the lines. It is boxed, since of a box each path that drops it says so by one call.
+pub(crate) fn grammar_of(alloc: Global, lines: &str) -> Result<Box<Grammar>, Fail>
+    ensures { IfOk result (λ grammar. HasItsTerminals grammar.value) }
 {
     match read_productions(alloc, lines) {
-        Ok(grammar) => Ok(grammar),
+        Ok(grammar) => Ok(Box::new(alloc, grammar)?),
         Err(AnswerFault::Memory) => Err(AllocError.into()),
         Err(fault) => Err(Fail::new(fault)),
     }

@@ -70,18 +70,18 @@ fn has_entries_alone(alloc: Global) -> Result<bool, Fail> {
 }
 
 /// The comma grammar with its entries, and their automaton.
-fn checked_with_dfa(alloc: Global) -> Result<(Grammar, Dfa), Fail> {
+fn checked_with_dfa(alloc: Global) -> Result<Box<(Grammar, Dfa)>, Fail> {
     let places = places_of(alloc, COMMAS)?;
     let expanded = expanded_grammar(alloc, COMMAS)?;
-    let checked = token_check::validate_with_dfa(alloc, expanded, &places)?;
-    Ok(checked)
+    let checked = token_check::validate_with_dfa(alloc, Box::into_inner(expanded), &places)?;
+    Ok(Box::new(alloc, checked)?)
 }
 
 #[test]
 fn literals_become_entries_of_the_tokenizer(rt: HostRuntime) -> Result<(), Fail> {
     assert!(rt; has_entries_alone(rt.alloc())?);
-    let (checked, dfa) = checked_with_dfa(rt.alloc())?;
-    assert!(rt; ends_with_entries(&checked));
-    tells_entries(&rt, &dfa);
+    let checked = checked_with_dfa(rt.alloc())?;
+    assert!(rt; ends_with_entries(&checked.0));
+    tells_entries(&rt, &checked.1);
     Ok(())
 }

@@ -44,23 +44,29 @@ fn each_call_repeat_and_group_becomes_a_rule(rt: HostRuntime) -> Result<(), Fail
     Ok(())
 }
 
+/// What the finder makes of the grammar of conditions: it is expanded, or a fault is told.
+type Expanded = Result<Grammar, NormFault>;
+
 /// The grammar of conditions, expanded by the finder; or the fault.
-fn expand_by<F: Finder>(alloc: Global, finder: &F) -> Result<Result<Grammar, NormFault>, Fail> {
+fn expand_by<F: Finder>(alloc: Global, finder: &F) -> Result<Box<Expanded>, Fail> {
     let leveled = leveled_grammar(alloc, CONDITIONS)?;
-    Ok(expand_macros_by(alloc, finder, leveled, MACRO_LIMIT))
+    let expanded = expand_macros_by(alloc, finder, Box::into_inner(leveled), MACRO_LIMIT);
+    Ok(Box::new(alloc, expanded)?)
 }
 
 /// That the finder leaves the macro these alternatives.
 fn leaves<F: Finder>(rt: &impl Abort, alloc: Global, finder: &F, sides: &str) -> Result<(), Fail> {
-    let grammar = expand_by(alloc, finder)??;
-    has_sides(rt, alloc, &grammar, r#"M<"ax">"#, sides)
+    match &*expand_by(alloc, finder)? {
+        Ok(grammar) => has_sides(rt, alloc, grammar, r#"M<"ax">"#, sides),
+        Err(_) => Err(Fail::new("a fault")),
+    }
 }
 
 /// Whether the finder has the grammar refused for this.
 fn refuses<F: Finder>(alloc: Global, finder: &F, wanted: &NormFault) -> Result<bool, Fail> {
-    match expand_by(alloc, finder)? {
+    match &*expand_by(alloc, finder)? {
         Ok(_) => Ok(false),
-        Err(fault) => Ok(fault == *wanted),
+        Err(fault) => Ok(*fault == *wanted),
     }
 }
 

@@ -44,11 +44,11 @@ pub(crate) const TYPED: &str =
 /// How deep macros may stand in macros.
 pub(crate) const MACRO_LIMIT: u16 = 200;
 
-/// The grammar that the JSON spells.
-pub(crate) fn grammar_of(alloc: Global, text: &str) -> Result<Grammar, Fail> {
+/// The grammar that the JSON spells. It is boxed, as all that these functions give: each path that drops a box says so by one call.
+pub(crate) fn grammar_of(alloc: Global, text: &str) -> Result<Box<Grammar>, Fail> {
     let value = Value::from_str(alloc, text)?;
     let grammar = read_grammar(alloc, &value)?;
-    Ok(grammar)
+    Ok(Box::new(alloc, grammar)?)
 }
 
 /// A session in which no feature is on.
@@ -73,31 +73,31 @@ pub(crate) fn enabled_grammar(
     alloc: Global,
     session: &Session,
     text: &str,
-) -> Result<Grammar, Fail> {
+) -> Result<Box<Grammar>, Fail> {
     let grammar = grammar_of(alloc, text)?;
-    let enabled = remove_disabled_decls(alloc, session, grammar)?;
-    Ok(enabled)
+    let enabled = remove_disabled_decls(alloc, session, Box::into_inner(grammar))?;
+    Ok(Box::new(alloc, enabled)?)
 }
 
 /// The grammar, in which nothing is disabled, with its names resolved.
-pub(crate) fn resolved_grammar(alloc: Global, text: &str) -> Result<Grammar, Fail> {
+pub(crate) fn resolved_grammar(alloc: Global, text: &str) -> Result<Box<Grammar>, Fail> {
     let grammar = grammar_of(alloc, text)?;
-    let resolved = resolve(alloc, grammar)?;
-    Ok(resolved)
+    let resolved = resolve(alloc, Box::into_inner(grammar))?;
+    Ok(Box::new(alloc, resolved)?)
 }
 
 /// The same with a rule for each level.
-pub(crate) fn leveled_grammar(alloc: Global, text: &str) -> Result<Grammar, Fail> {
+pub(crate) fn leveled_grammar(alloc: Global, text: &str) -> Result<Box<Grammar>, Fail> {
     let resolved = resolved_grammar(alloc, text)?;
-    let leveled = expand_precedence(alloc, resolved)?;
-    Ok(leveled)
+    let leveled = expand_precedence(alloc, Box::into_inner(resolved))?;
+    Ok(Box::new(alloc, leveled)?)
 }
 
 /// The same with its macros expanded.
-pub(crate) fn expanded_grammar(alloc: Global, text: &str) -> Result<Grammar, Fail> {
+pub(crate) fn expanded_grammar(alloc: Global, text: &str) -> Result<Box<Grammar>, Fail> {
     let leveled = leveled_grammar(alloc, text)?;
-    let expanded = expand_macros(alloc, leveled, MACRO_LIMIT)?;
-    Ok(expanded)
+    let expanded = expand_macros(alloc, Box::into_inner(leveled), MACRO_LIMIT)?;
+    Ok(Box::new(alloc, expanded)?)
 }
 
 /// Where the literals of the grammar, in which nothing is disabled, stand first.
@@ -108,9 +108,9 @@ pub(crate) fn places_of(alloc: Global, text: &str) -> Result<LiteralPlaces, Fail
 }
 
 /// The expanded grammar with the tokenizer's entries behind its items.
-pub(crate) fn checked_grammar(alloc: Global, text: &str) -> Result<Grammar, Fail> {
+pub(crate) fn checked_grammar(alloc: Global, text: &str) -> Result<Box<Grammar>, Fail> {
     let places = places_of(alloc, text)?;
     let expanded = expanded_grammar(alloc, text)?;
-    let checked = token_check::validate(alloc, expanded, &places)?;
-    Ok(checked)
+    let checked = token_check::validate(alloc, Box::into_inner(expanded), &places)?;
+    Ok(Box::new(alloc, checked)?)
 }

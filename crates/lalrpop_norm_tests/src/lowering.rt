@@ -14,11 +14,23 @@ use std::process::Abort;
 use std::test::Fail;
 
 /// The comma grammar, lowered.
-pub(crate) fn lowered_commas(alloc: Global) -> Result<Normalized, Fail> {
+pub(crate) fn lowered_commas(alloc: Global) -> Result<Box<Normalized>, Fail> {
     let types = comma_types(alloc)?;
     let checked = checked_grammar(alloc, COMMAS)?;
-    let made = lower(alloc, &plain_session(alloc), checked, types)?;
-    Ok(made)
+    let made = lower(
+        alloc,
+        &plain_session(alloc),
+        Box::into_inner(checked),
+        types,
+    )?;
+    Ok(Box::new(alloc, made)?)
+}
+
+/// The grammar that the JSON spells, normalized.
+pub(crate) fn normalized_grammar(alloc: Global, text: &str) -> Result<Box<Normalized>, Fail> {
+    let grammar = grammar_of(alloc, text)?;
+    let made = normalize(alloc, &plain_session(alloc), Box::into_inner(grammar))?;
+    Ok(Box::new(alloc, made)?)
 }
 
 /// Whether they are the comma and n, each with its place.
@@ -194,8 +206,6 @@ fn do_as_written(rt: &impl Abort, alloc: Global, grammar: &Grammar) -> Result<()
 
 #[test]
 fn actions_do_what_alternatives_say(rt: HostRuntime) -> Result<(), Fail> {
-    let alloc = rt.alloc();
-    let grammar = grammar_of(alloc, ACTIONS)?;
-    let made = normalize(alloc, &plain_session(alloc), grammar)?;
-    do_as_written(&rt, alloc, &made.grammar)
+    let made = normalized_grammar(rt.alloc(), ACTIONS)?;
+    do_as_written(&rt, rt.alloc(), &made.grammar)
 }

@@ -2,9 +2,9 @@
 
 use crate::entries::tells_entries;
 use crate::grammars::{COMMAS, grammar_of, plain_session};
-use crate::lowering::lowered_commas;
+use crate::lowering::{lowered_commas, normalized_grammar};
 use lalrpop_lexer::dfa::Dfa;
-use lalrpop_norm::{Normalized, normalize, normalize_with_dfa};
+use lalrpop_norm::{Normalized, normalize_with_dfa};
 use std::alloc::{AllocError, Global};
 use std::process::Abort;
 use std::test::Fail;
@@ -18,17 +18,16 @@ fn pass_by_pass(alloc: Global) -> Result<String, Fail> {
 
 /// The same of what all passes at once make of it.
 fn at_once(alloc: Global) -> Result<String, Fail> {
-    let grammar = grammar_of(alloc, COMMAS)?;
-    let made = normalize(alloc, &plain_session(alloc), grammar)?;
+    let made = normalized_grammar(alloc, COMMAS)?;
     let text = format!(in alloc; "{made:?}")?;
     Ok(text)
 }
 
 /// The comma grammar, normalized, with its automaton.
-fn normal_with_dfa(alloc: Global) -> Result<(Normalized, Dfa), Fail> {
+fn normal_with_dfa(alloc: Global) -> Result<Box<(Normalized, Dfa)>, Fail> {
     let grammar = grammar_of(alloc, COMMAS)?;
-    let made = normalize_with_dfa(alloc, &plain_session(alloc), grammar)?;
-    Ok(made)
+    let made = normalize_with_dfa(alloc, &plain_session(alloc), Box::into_inner(grammar))?;
+    Ok(Box::new(alloc, made)?)
 }
 
 /// Whether this is all that there is to see of it.
@@ -39,9 +38,9 @@ fn is_seen_as(alloc: Global, made: &Normalized, wanted: &str) -> Result<bool, Al
 
 /// That an automaton comes with the same.
 fn comes_with_dfa(rt: &impl Abort, alloc: Global, wanted: &str) -> Result<(), Fail> {
-    let (made, dfa) = normal_with_dfa(alloc)?;
-    tells_entries(rt, &dfa);
-    assert!(rt; is_seen_as(alloc, &made, wanted)?);
+    let made = normal_with_dfa(alloc)?;
+    tells_entries(rt, &made.1);
+    assert!(rt; is_seen_as(alloc, &made.0, wanted)?);
     Ok(())
 }
 

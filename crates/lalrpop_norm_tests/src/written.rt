@@ -34,7 +34,7 @@ fn asks_for(rt: &impl Abort, grammar: &Grammar, session: &Session, wanted: &str,
 fn leaves_the_rest(alloc: Global) -> Result<bool, Fail> {
     let left = grammar_of(alloc, LEFT)?;
     let found = enabled_grammar(alloc, &plain_session(alloc), FEATURED)?;
-    Ok(found == left)
+    Ok(*found == *left)
 }
 
 #[test]

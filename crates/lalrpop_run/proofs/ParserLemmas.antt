@@ -25,6 +25,10 @@ use Rattle.lalrpop_run_questions.specs.Questions.{Question}
 use Rattle.lalrpop_run.specs.Tokens.{IsScanReply, IsTokensReply}
 use Rattle.lalrpop_run_replies.specs.declared.reply.Reply.{Reply}
 
+-- what is lent out of a box is what was prepared for the question
+pub lent : (q : Question) (g : Grammar) {v w : PreparedGrammar} → v ≡ w → IsPreparedFor q g w → IsPreparedFor q g v
+lent q g same h = subst (IsPreparedFor q g) (sym same) h
+
 module _ (q : Question) (g : Grammar) (v : PreparedGrammar) (h : IsPreparedFor q g v) where
   -- what is known under what was prepared is known under the question
   asked : (P : List Text → ℕ → Text → Grammar → Type 0)

@@ -12,14 +12,14 @@ use lalrpop_run_questions::Question;
 use lalrpop_run_refusals::GenerateError;
 use std::alloc::Global;
 
-/// The grammar, prepared for the question, or why it is refused before its states are built.
+/// The grammar, prepared for the question, or why it is refused before its states are built. What is prepared is large, so it is boxed.
 pub(crate) fn prepare_for(
     alloc: Global,
     question: Question<'_>,
     grammar: Grammar,
-) -> Result<Prepared, GenerateError<'static>>
+) -> Result<Box<Prepared>, GenerateError<'static>>
     ensures prepared { IfOk result (λ prepared. IsReadGrammar (grammar_view grammar)
-        → IsPreparedFor (question_view question.entry) grammar prepared) }
+        → IsPreparedFor (question_view question.entry) grammar prepared.value) }
     ensures refused { IfErr result (λ error. IsReadGrammar (grammar_view grammar)
         → IsRefusedFor (question_view question.entry) (grammar_view grammar) error) }
 {
@@ -27,5 +27,6 @@ pub(crate) fn prepare_for(
     let prepared = prepare(alloc, grammar, &start, session)?;
     // what is known of it
     prepared.grammar();
-    Ok(prepared)
+    let boxed = Box::new(alloc, prepared)?;
+    Ok(boxed)
 }

@@ -9,11 +9,11 @@ use std::alloc::Global;
 use std::process::Abort;
 use std::test::Fail;
 
-/// The grammar that the JSON spells.
-pub(crate) fn grammar_of(alloc: Global, json: &str) -> Result<Grammar, Fail> {
+/// The grammar that the JSON spells. It is boxed, as what is prepared: each path that drops a box says so by one call.
+pub(crate) fn grammar_of(alloc: Global, json: &str) -> Result<Box<Grammar>, Fail> {
     let value = Value::from_str(alloc, json)?;
     let grammar = read_grammar(alloc, &value)?;
-    Ok(grammar)
+    Ok(Box::new(alloc, grammar)?)
 }
 
 /// No features, and macros in macros as deep as they usually may stand.
@@ -25,11 +25,12 @@ pub(crate) fn usual_session(alloc: Global) -> Session {
 }
 
 /// The grammar that the JSON spells, prepared for the start.
-fn prepared_grammar(alloc: Global, json: &str, start: &str) -> Result<Prepared, Fail> {
+fn prepared_grammar(alloc: Global, json: &str, start: &str) -> Result<Box<Prepared>, Fail> {
     let grammar = grammar_of(alloc, json)?;
     let start = Atom::new(alloc, start)?;
-    let prepared = prepare(alloc, grammar, &start, usual_session(alloc))?;
-    Ok(prepared)
+    let session = usual_session(alloc);
+    let prepared = prepare(alloc, Box::into_inner(grammar), &start, session)?;
+    Ok(Box::new(alloc, prepared)?)
 }
 
 /// What a test asks of a prepared grammar.
@@ -37,8 +38,7 @@ pub(crate) trait Question {
     fn ask<A: Abort>(rt: &A, alloc: Global, prepared: &Prepared) -> Result<(), Fail>;
 }
 
-/// Asks this of the grammar that the JSON spells, prepared for the start. No other function owns what is prepared, since it takes long to
-/// prove that it is dropped.
+/// Asks this of the grammar that the JSON spells, prepared for the start.
 pub(crate) fn ask<Q: Question, A: Abort>(
     rt: &A,
     alloc: Global,

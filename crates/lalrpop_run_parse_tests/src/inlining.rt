@@ -14,25 +14,32 @@ use std::test::Fail;
 /// Inlined nonterminals in their order, or why they have none.
 type Order = Result<Vec<NonterminalString>, InlineFault>;
 
+/// The grammar that the JSON spells, normalized.
+fn normalized_grammar(alloc: Global, json: &str) -> Result<Box<Normalized>, Fail> {
+    let written = grammar_of(alloc, json)?;
+    let made = normalize(alloc, &usual_session(alloc), Box::into_inner(written))?;
+    Ok(Box::new(alloc, made)?)
+}
+
 /// The order in which the rules of the grammar that the JSON spells are inlined.
 fn order_of(alloc: Global, json: &str) -> Result<Order, Fail> {
-    let written = grammar_of(alloc, json)?;
-    let session = usual_session(alloc);
-    let made = normalize(alloc, &session, written)?;
+    let made = normalized_grammar(alloc, json)?;
     Ok(inline_order(alloc, &made.grammar))
 }
 
+/// A grammar in which nothing is inlined any more, or why there is none.
+type Inlined = Result<Grammar, InlineFault>;
+
 /// What inlining makes of the plain productions of the grammar that the JSON spells.
-fn inlining_of(alloc: Global, json: &str) -> Result<Result<Grammar, InlineFault>, Fail> {
+fn inlining_of(alloc: Global, json: &str) -> Result<Box<Inlined>, Fail> {
     let written = grammar_of(alloc, json)?;
-    let session = usual_session(alloc);
-    let made = normalize(alloc, &session, written)?;
+    let made = normalize(alloc, &usual_session(alloc), Box::into_inner(written))?;
     let Normalized {
         grammar,
         origins: _origins,
         entries: _entries,
     } = made;
-    Ok(inline(alloc, grammar))
+    Ok(Box::new(alloc, inline(alloc, grammar))?)
 }
 
 #[test]
@@ -83,13 +90,20 @@ fn has_right_sides(
     Ok(())
 }
 
+/// That `S` has its four choices, and `Op` is left as it is.
+fn walks(rt: &impl Abort, alloc: Global, inlined: &Grammar) -> Result<(), Fail> {
+    has_right_sides(rt, alloc, inlined, "S", WALK)?;
+    has_right_sides(rt, alloc, inlined, "Op", r#"| "a"| "b""#)
+}
+
 #[test]
 fn each_choice_has_a_production_and_the_last_place_changes_first(
     rt: HostRuntime,
 ) -> Result<(), Fail> {
-    let inlined = inlining_of(rt.alloc(), TWICE)??;
-    has_right_sides(&rt, rt.alloc(), &inlined, "S", WALK)?;
-    has_right_sides(&rt, rt.alloc(), &inlined, "Op", r#"| "a"| "b""#)
+    match &*inlining_of(rt.alloc(), TWICE)? {
+        Ok(inlined) => walks(&rt, rt.alloc(), inlined),
+        Err(_) => Err(Fail::new("not inlined")),
+    }
 }
 
 struct HasChoices;
@@ -136,10 +150,10 @@ fn is_round(rt: &impl Abort, alloc: Global, fault: &InlineFault) -> Result<(), F
         Ok(_) => return Err(Fail::new("an order")),
         Err(found) => assert!(rt; found == *fault),
     }
-    match inlining_of(alloc, ROUND)? {
+    match &*inlining_of(alloc, ROUND)? {
         Ok(_) => Err(Fail::new("inlined")),
         Err(found) => {
-            assert!(rt; found == *fault);
+            assert!(rt; *found == *fault);
             Ok(())
         }
     }

@@ -11,22 +11,27 @@ use std::alloc::{AllocError, Global};
 use std::process::Abort;
 use std::test::Fail;
 
-fn grammar_of(alloc: Global, json: &str) -> Result<Grammar, Fail> {
+/// The grammar that the JSON spells. It is boxed, as what is prepared: each path that drops a box says so by one call.
+fn grammar_of(alloc: Global, json: &str) -> Result<Box<Grammar>, Fail> {
     let value = Value::from_str(alloc, json)?;
     let grammar = read_grammar(alloc, &value)?;
-    Ok(grammar)
+    Ok(Box::new(alloc, grammar)?)
 }
 
 /// The grammar that the JSON spells, prepared for the start.
-pub(crate) fn prepared_grammar(alloc: Global, json: &str, start: &str) -> Result<Prepared, Fail> {
+pub(crate) fn prepared_grammar(
+    alloc: Global,
+    json: &str,
+    start: &str,
+) -> Result<Box<Prepared>, Fail> {
     let grammar = grammar_of(alloc, json)?;
     let start = Atom::new(alloc, start)?;
     let session = Session {
         features: Vec::new(alloc),
         macro_recursion_limit: 200,
     };
-    let prepared = prepare(alloc, grammar, &start, session)?;
-    Ok(prepared)
+    let prepared = prepare(alloc, Box::into_inner(grammar), &start, session)?;
+    Ok(Box::new(alloc, prepared)?)
 }
 
 /// What a test asks of a prepared grammar.
@@ -34,8 +39,7 @@ pub(crate) trait Question {
     fn ask<A: Abort>(rt: &A, alloc: Global, prepared: &Prepared) -> Result<(), Fail>;
 }
 
-/// Asks this of the grammar that the JSON spells, prepared for the start. Few other functions own what is prepared, since it takes long to
-/// prove that it is dropped.
+/// Asks this of the grammar that the JSON spells, prepared for the start.
 pub(crate) fn ask<Q: Question, A: Abort>(
     rt: &A,
     alloc: Global,
@@ -58,11 +62,14 @@ pub(crate) fn certificates_of(
     }
 }
 
-/// The last of them.
-pub(crate) fn certificate_of(alloc: Global, prepared: &Prepared) -> Result<Certificate<'_>, Fail> {
+/// The last of them, boxed.
+pub(crate) fn certificate_of(
+    alloc: Global,
+    prepared: &Prepared,
+) -> Result<Box<Certificate<'_>>, Fail> {
     let mut certificates = certificates_of(alloc, prepared)?;
     match certificates.pop() {
-        Some(certificate) => Ok(certificate),
+        Some(certificate) => Ok(Box::new(alloc, certificate)?),
         None => Err(Fail::new("no certificate")),
     }
 }

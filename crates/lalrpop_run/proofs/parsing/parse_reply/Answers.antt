@@ -3,12 +3,14 @@ use Rattle.std.proofs.lemmas.Result.{IfOk-weaker}
 use Rattle.lalrpop_run.specs.Parse.{IsParseReply}
 use Rattle.lalrpop_run.specs.Parsers.{IsNoParserReply}
 use Rattle.lalrpop_run_questions.specs.Questions.{question_view}
+use Rattle.lalrpop_run.proofs.ParserLemmas.{lent}
 use Rattle.lalrpop_run.proofs.parsing.parse_reply.Goals as goal
 
 pub returns-in-Ok : goal.returns-in-Ok
 returns-in-Ok c =
     IfOk-weaker c.text_reply.result _ _
-    (λ reply told read. told (question_view c.args.question) c.args.grammar refl (c.in-Ok.ensures.prepared read) read)
+    (λ reply told read. told (question_view c.args.question) c.args.grammar refl
+    (lent (question_view c.args.question) c.args.grammar c.deref.ensures (c.in-Ok.ensures.prepared read)) read)
     c.text_reply.ensures
 
 pub returns-in-Err : goal.returns-in-Err
