@@ -1,5 +1,6 @@
 pub mod Entries
 pub mod Faults
+pub mod Given
 pub mod Literals
 pub mod Noting
 pub mod Patterns

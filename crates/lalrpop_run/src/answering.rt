@@ -34,12 +34,12 @@ pub fn answer(
 }
 
 /// The reply to a grammar and a text, by the task.
-fn reply_to<'t>(
+fn reply_to(
     alloc: Global,
     question: Question<'_>,
     grammar: Grammar,
-    text: &'t str,
-) -> Result<Reply<'t>, AllocError>
+    text: &str,
+) -> Result<Reply, AllocError>
     ensures { IfOk result (λ reply. IsGrammarFor question.entry.task grammar
         → IsReplyTo (question_view question.entry) grammar text.now reply) }
 {

@@ -26,7 +26,7 @@ pub(crate) fn check_reply(
     alloc: Global,
     question: Question<'_>,
     grammar: Grammar,
-) -> Result<Reply<'static>, AllocError>
+) -> Result<Reply, AllocError>
     ensures { IfOk result (λ reply. IsReadGrammar (grammar_view grammar)
         → IsCheckReply (question_view question.entry) grammar reply) }
 {
@@ -38,11 +38,7 @@ pub(crate) fn check_reply(
 }
 
 /// The reply once the grammar is prepared: how many states its parser has, or its conflicts.
-fn states_reply(
-    alloc: Global,
-    prepared: &Prepared,
-    method: Method,
-) -> Result<Reply<'static>, AllocError>
+fn states_reply(alloc: Global, prepared: &Prepared, method: Method) -> Result<Reply, AllocError>
     ensures { IfOk result (λ reply. (q : AskedQuestion) (g : WrittenGrammar) → q.method ≡ method
         → IsPreparedFor q g prepared.now → IsReadGrammar (grammar_view g) → IsCheckReply q g reply) }
 {

@@ -14,11 +14,11 @@ use lalrpop_run_replies::{Reply, written_conflicts};
 use std::alloc::{AllocError, Global};
 
 /// The reply that tells why a prepared grammar has no parser: its conflicts, with written trees. Want of memory is none.
-pub(crate) fn conflicts_reply<'t>(
+pub(crate) fn conflicts_reply(
     alloc: Global,
     prepared: &Prepared,
     error: GenerateError<'_>,
-) -> Result<Reply<'t>, AllocError>
+) -> Result<Reply, AllocError>
     requires { IsGenerateRefusal prepared.now error }
     ensures { IfOk result (λ reply. (q : AskedQuestion) (g : WrittenGrammar) → IsPreparedFor q g prepared.now
         → IsReadGrammar (grammar_view g) → IsNoParserReply q g reply) }

@@ -19,7 +19,7 @@ pub(crate) fn judge_reply(
     alloc: Global,
     question: &Question<'_>,
     grammar: &Grammar,
-) -> Result<Reply<'static>, AllocError>
+) -> Result<Reply, AllocError>
     ensures { IfOk result (IsJudgeReply (question_view question.now) grammar.now) }
 {
     match question.tree {
@@ -34,7 +34,7 @@ fn reply_to_text(
     question: &Question<'_>,
     grammar: &Grammar,
     text: &str,
-) -> Result<Reply<'static>, AllocError>
+) -> Result<Reply, AllocError>
     ensures { IfOk result (λ reply. (question_view question.now).tree ≡ Some text.now
         → IsJudgeReply (question_view question.now) grammar.now reply) }
 {
@@ -51,7 +51,7 @@ fn verdict(
     question: &Question<'_>,
     grammar: &Grammar,
     tree: &WrittenTree,
-) -> Result<Reply<'static>, AllocError>
+) -> Result<Reply, AllocError>
     ensures { IfOk result (λ reply. GivesTree (question_view question.now) (Ok tree.now)
         → IsJudgeReply (question_view question.now) grammar.now reply) }
 {

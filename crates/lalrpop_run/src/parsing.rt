@@ -30,7 +30,7 @@ pub(crate) fn parse_reply(
     question: Question<'_>,
     grammar: Grammar,
     text: &str,
-) -> Result<Reply<'static>, AllocError>
+) -> Result<Reply, AllocError>
     ensures { IfOk result (λ reply. IsReadGrammar (grammar_view grammar)
         → IsParseReply (question_view question.entry) grammar text.now reply) }
 {
@@ -49,7 +49,7 @@ fn text_reply(
     method: Method,
     text: &str,
     limit: u64,
-) -> Result<Reply<'static>, AllocError>
+) -> Result<Reply, AllocError>
     ensures { IfOk result (λ reply. (q : AskedQuestion) (g : WrittenGrammar) → q.limit ≡ limit
         → IsPreparedFor q g prepared.now → IsReadGrammar (grammar_view g) → IsParseReply q g text.now reply) }
 {
@@ -65,7 +65,7 @@ fn tree_reply(
     parser: &Parser<'_>,
     text: &str,
     limit: u64,
-) -> Result<Reply<'static>, AllocError>
+) -> Result<Reply, AllocError>
     ensures { IfOk result (λ reply. IsReadGrammar (grammar_view parser.now.prepared.written) → (entries : List ScanEntry)
         → IsScannerOf parser.now.prepared.scanner entries
         → IsAnswerTold parser.now.prepared entries (chars text.now) limit reply) }

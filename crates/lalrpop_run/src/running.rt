@@ -124,8 +124,8 @@ fn right_answer<R1: Source, R2: Source>(
 }
 
 /// The answer that says it.
-fn reply_answer(alloc: Global, reply: Reply<'_>) -> Result<Answer, SourceError>
-    ensures answer { IfOk result (λ a. answer_view a ≡ reply_output reply.entry) }
+fn reply_answer(alloc: Global, reply: Reply) -> Result<Answer, SourceError>
+    ensures answer { IfOk result (λ a. answer_view a ≡ reply_output reply) }
     ensures fault { IfErr result (λ e. e ≡ SourceError.Memory) }
 {
     let answer = put(alloc, reply)?;

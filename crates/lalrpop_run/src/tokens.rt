@@ -17,7 +17,7 @@ use lalrpop_lexer_scan::ScanError;
 use lalrpop_run_options::Method;
 use lalrpop_run_parser::{Parser, Prepared, generate};
 use lalrpop_run_questions::Question;
-use lalrpop_run_replies::{Reply, refusal_reply};
+use lalrpop_run_replies::{Reply, TokenLines, refusal_reply};
 use std::alloc::{AllocError, Global};
 
 /// What `tokens` replies to a grammar and a text: the tokens, where they end, or why the grammar has no parser.
@@ -25,12 +25,12 @@ use std::alloc::{AllocError, Global};
 /// # Errors
 ///
 /// Memory is refused.
-pub(crate) fn tokens_reply<'t>(
+pub(crate) fn tokens_reply(
     alloc: Global,
     question: Question<'_>,
     grammar: Grammar,
-    text: &'t str,
-) -> Result<Reply<'t>, AllocError>
+    text: &str,
+) -> Result<Reply, AllocError>
     ensures { IfOk result (λ reply. IsReadGrammar (grammar_view grammar)
         → IsTokensReply (question_view question.entry) grammar text.now reply) }
 {
@@ -42,12 +42,12 @@ pub(crate) fn tokens_reply<'t>(
 }
 
 /// The reply once the grammar is prepared: what the scan of the text tells, or the conflicts of the grammar.
-fn text_reply<'t>(
+fn text_reply(
     alloc: Global,
     prepared: &Prepared,
     method: Method,
-    text: &'t str,
-) -> Result<Reply<'t>, AllocError>
+    text: &str,
+) -> Result<Reply, AllocError>
     ensures { IfOk result (λ reply. (q : AskedQuestion) (g : WrittenGrammar) → IsPreparedFor q g prepared.now
         → IsReadGrammar (grammar_view g) → IsTokensReply q g text.now reply) }
 {
@@ -57,17 +57,14 @@ fn text_reply<'t>(
     }
 }
 
-/// The tokens of the text, or the first byte without one.
-fn scan_reply<'t>(
-    alloc: Global,
-    parser: &Parser<'_>,
-    text: &'t str,
-) -> Result<Reply<'t>, AllocError>
+/// The tokens of the text, a line for each, or the first byte without one.
+fn scan_reply(alloc: Global, parser: &Parser<'_>, text: &str) -> Result<Reply, AllocError>
     ensures { IfOk result (λ reply. (entries : List ScanEntry) → IsScannerOf parser.now.prepared.scanner entries
         → IsScanReply entries text.now reply) }
 {
-    match parser.scan(alloc, text) {
-        Ok(tokens) => Ok(Reply::Tokens(tokens)),
+    let mut lines = TokenLines::new(alloc);
+    match parser.scan_into(text, &mut lines) {
+        Ok(()) => Ok(Reply::Tokens(lines.into_text())),
         Err(ScanError::NoToken(at)) => Ok(Reply::NoToken(at)),
         Err(ScanError::Memory) => Err(AllocError),
     }

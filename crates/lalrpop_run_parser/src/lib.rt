@@ -10,7 +10,7 @@ mod written_stack;
 
 pub use generating::generate;
 pub use lalrpop_judge_certificates::{Certificate, Move, check_conflict};
-pub use lalrpop_lexer_scan::ScanError;
+pub use lalrpop_lexer_scan::{ScanError, TokenReceiver};
 pub use lalrpop_run_witness::{Prepared, prepare, witness};
 pub use parse_error::ParseError;
 pub use parser::Parser;

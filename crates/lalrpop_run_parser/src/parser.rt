@@ -1,15 +1,16 @@
 //! Parsers.
 
-ghost use Rattle.std.specs.Prelude.{◌≡◌, IfErr, IfOk, List, map};
+ghost use Rattle.std.specs.Prelude.{◌≡◌, IfErr, IfOk, List, [], map};
 ghost use Rattle.std.specs.Str.{chars};
 ghost use Rattle.lalrpop_grammar.specs.Views.{token_view};
 ghost use Rattle.lalrpop_lexer_scan.specs.Entries.{ScanEntry};
 ghost use Rattle.lalrpop_lexer_scan.specs.Faults.{TellsNoToken};
+ghost use Rattle.lalrpop_lexer_scan.specs.Given.{HasItsTokens};
 ghost use Rattle.lalrpop_lexer_scan.specs.Scanning.{AreEntriesOf, IsScannerOf};
 ghost use Rattle.lalrpop_lexer_scan.specs.Tokens.{AreTokensOf, FillTheText};
 
 use lalrpop_grammar::ScanToken;
-use lalrpop_lexer_scan::{EntryTokens, ScanError};
+use lalrpop_lexer_scan::{EntryTokens, ScanError, TokenReceiver};
 use lalrpop_lr1_parse::{ActionTable, Columns};
 use lalrpop_run_witness::Prepared;
 use std::alloc::Global;
@@ -63,6 +64,20 @@ impl<'p> Parser<'p> {
             → TellsNoToken entries (chars text.now) error) }
     {
         self.prepared.scanner().scan(alloc, text)
+    }
+
+    /// Gives the tokens of the text to the receiver, one after the other, as `scan` finds them.
+    ///
+    /// # Errors
+    ///
+    /// Those of `scan`, or what the receiver wants memory for. What comes in front was given to it.
+    pub fn scan_into<R: TokenReceiver>(&self, text: &str, receiver: &mut R) -> Result<(), ScanError>
+        ensures received { R.has_received receiver.old []
+            → IfOk result (λ _. HasItsTokens self.now.prepared.scanner text.now (R.has_received receiver.new)) }
+        ensures no_token { IfErr result (λ error. (entries : List ScanEntry) → IsScannerOf self.now.prepared.scanner entries
+            → TellsNoToken entries (chars text.now) error) }
+    {
+        self.prepared.scanner().scan_into(text, receiver)
     }
 
     /// The tokens of the text, as `scan` finds them, with the numbers of the entries that match them.

@@ -1,11 +1,10 @@
 -- What the program writes for what it has to say, and the status that it ends with. Each line ends with a line feed.
-use Rattle.std.specs.Prelude.{ℕ, true, false, List, [], ◌∷◌, ◌++◌, codes, decimal}
+use Rattle.std.specs.Prelude.{ℕ, true, false, List, [], ◌∷◌, ◌++◌, codes, decimal, string_bytes}
 use Rattle.lalrpop_grammar_symbols.specs.Texts.{terminal_text}
 use Rattle.lalrpop_json_values.specs.FaultText.{fault_text}
 use Rattle.lalrpop_json_values.specs.JsonText.{json_text}
-use Rattle.lalrpop_grammar.specs.declared.token.ScanToken.{ScanToken}
 use Rattle.lalrpop_grammar.specs.Trees.{Token}
-use Rattle.lalrpop_grammar.specs.Views.{token_view, tree_view}
+use Rattle.lalrpop_grammar.specs.Views.{tree_view}
 use Rattle.lalrpop_json_grammar.specs.Printing.{tree_text}
 use Rattle.lalrpop_run_conflicts.specs.ConflictTexts.{conflicts_text}
 use Rattle.lalrpop_run_refusals.specs.Refusals.{refusal_text}
@@ -22,9 +21,9 @@ abbrev pub token_text : Token → List ℕ
 token_text t = decimal t.span.0 ++ codes ".." ++ decimal t.span.1 ++ codes " " ++ terminal_text t.terminal ++ codes " " ++ json_text t.text
 
 -- a line each
-abbrev pub tokens_text : List ScanToken → List ℕ
+abbrev pub tokens_text : List Token → List ℕ
 tokens_text [] = []
-tokens_text (t ∷ ts) = line (token_text (token_view t)) ++ tokens_text ts
+tokens_text (t ∷ ts) = line (token_text t) ++ tokens_text ts
 
 abbrev pub reply_text : Reply → List ℕ
 reply_text (replies.Judged true) = line (codes "yes")
@@ -38,7 +37,7 @@ reply_text replies.NotUtf8 = line (codes "text isn't UTF-8")
 reply_text (replies.Refused error) = line (refusal_text error)
 reply_text (replies.Conflicts conflicts) = conflicts_text conflicts.items
 reply_text (replies.Parser states) = line (codes "parser with " ++ decimal states ++ codes " states")
-reply_text (replies.Tokens tokens) = tokens_text tokens.items
+reply_text (replies.Tokens lines) = string_bytes lines
 reply_text (replies.NoToken at) = line (codes "no token at byte " ++ decimal at)
 reply_text (replies.Tree tree) = line (tree_text (tree_view tree))
 reply_text (replies.WrongToken at text) = line (codes "token " ++ json_text text ++ codes " at byte " ++ decimal at)

@@ -7,8 +7,10 @@ mod putting;
 mod refusals;
 mod reply;
 mod texts;
+mod token_lines;
 
 pub use lalrpop_run_conflicts::{FoldError, fold, foldings_are_inverse, unfold, written_conflicts};
 pub use putting::put;
 pub use refusals::refusal_reply;
 pub use reply::{Answer, Reply};
+pub use token_lines::TokenLines;

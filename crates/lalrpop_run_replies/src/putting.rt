@@ -13,14 +13,17 @@ use std::alloc::{AllocError, Global};
 /// # Errors
 ///
 /// Memory is refused.
-pub fn put(alloc: Global, reply: Reply<'_>) -> Result<Answer, AllocError>
-    ensures { IfOk result (λ answer. answer_view answer ≡ reply_output reply.entry) }
+pub fn put(alloc: Global, reply: Reply) -> Result<Answer, AllocError>
+    ensures { IfOk result (λ answer. answer_view answer ≡ reply_output reply) }
 {
-    let answer = answer_to(alloc, &reply)?;
-    Ok(answer)
+    match reply {
+        // these lines may be long, so they aren't written once more
+        Reply::Tokens(text) => Ok(Answer { text, status: 0 }),
+        reply => answer_to(alloc, &reply),
+    }
 }
 
-fn answer_to(alloc: Global, reply: &Reply<'_>) -> Result<Answer, AllocError>
+fn answer_to(alloc: Global, reply: &Reply) -> Result<Answer, AllocError>
     ensures { IfOk result (λ answer. answer_view answer ≡ reply_output reply.now) }
 {
     let text = reply.to_string(alloc)?;
@@ -31,7 +34,7 @@ fn answer_to(alloc: Global, reply: &Reply<'_>) -> Result<Answer, AllocError>
 }
 
 /// The exit status of a reply.
-fn status(reply: &Reply<'_>) -> u8
+fn status(reply: &Reply) -> u8
     ensures { result ≡ reply_status reply.now }
 {
     match reply {

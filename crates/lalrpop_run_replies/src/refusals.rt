@@ -11,7 +11,7 @@ use std::alloc::AllocError;
 /// # Errors
 ///
 /// The refusal is want of memory.
-pub fn refusal_reply<'t>(error: GenerateError<'static>) -> Result<Reply<'t>, AllocError>
+pub fn refusal_reply(error: GenerateError<'static>) -> Result<Reply, AllocError>
     ensures { IfOk result (λ reply. (error.entry ≢ GenerateError.Memory) × (reply ≡ Reply.Refused error.entry)) }
 {
     if is_memory(&error) {

@@ -1,13 +1,13 @@
 //! What the program has to say.
 
-use lalrpop_grammar::{Atom, ScanToken, WrittenTree};
+use lalrpop_grammar::{Atom, WrittenTree};
 use lalrpop_json_grammar::Fault;
 use lalrpop_run_conflicts::WrittenConflict;
 use lalrpop_run_refusals::GenerateError;
 
 /// What the program has to say, before it is put into words.
 #[derive(Debug, Drop)]
-pub enum Reply<'t> {
+pub enum Reply {
     /// Whether the grammar admits the tree.
     Judged(bool),
     /// `judge` was given no tree.
@@ -28,8 +28,8 @@ pub enum Reply<'t> {
     Conflicts(Vec<WrittenConflict>),
     /// The grammar has a parser, of so many states.
     Parser(usize),
-    /// The tokens of the text.
-    Tokens(Vec<ScanToken<'t>>),
+    /// The tokens of the text, a line for each.
+    Tokens(String),
     /// From this byte of the text on nothing is matched.
     NoToken(usize),
     /// The tree of the text.

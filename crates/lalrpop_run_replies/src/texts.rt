@@ -1,18 +1,15 @@
 //! Replies in words.
 
 ghost use Rattle.std.specs.Prelude.{Some};
-ghost use Rattle.std.specs.Fmt.{WritesOnOk};
-ghost use Rattle.lalrpop_grammar.specs.Views.{token_view};
-ghost use Rattle.lalrpop_run_replies.specs.ReplyTexts.{reply_text, line, token_text, tokens_text};
+ghost use Rattle.lalrpop_run_replies.specs.ReplyTexts.{reply_text};
 
 use crate::reply::Reply;
-use lalrpop_grammar::ScanToken;
 use lalrpop_json_grammar::{JsonText, TreeText};
 use lalrpop_run_conflicts::write_conflicts;
 use std::fmt::{self, Display, Formatter, Write};
 
 /// Prints what the program writes for the reply: each line ends with a line feed.
-impl Display for Reply<'_> {
+impl Display for Reply {
     ghost output = { λ reply. Some (reply_text reply) };
 
     fn fmt<W: Write>(&self, f: &mut Formatter<W>) -> fmt::Result {
@@ -28,7 +25,7 @@ impl Display for Reply<'_> {
             Reply::Refused(error) => writeln!(f, "{error}"),
             Reply::Conflicts(conflicts) => write_conflicts(conflicts.as_slice(), f),
             Reply::Parser(states) => writeln!(f, "parser with {states} states"),
-            Reply::Tokens(tokens) => write_tokens(tokens.as_slice(), f),
+            Reply::Tokens(lines) => f.write_str(lines.as_str()),
             Reply::NoToken(at) => writeln!(f, "no token at byte {at}"),
             Reply::Tree(tree) => writeln!(f, "{}", TreeText(tree)),
             Reply::WrongToken(at, text) => {
@@ -38,29 +35,4 @@ impl Display for Reply<'_> {
             Reply::OverLimit(limit) => writeln!(f, "limit of {limit} moves used up"),
         }
     }
-}
-
-/// Writes a line for each token.
-fn write_tokens<W: Write>(tokens: &[ScanToken<'_>], f: &mut Formatter<W>) -> fmt::Result
-    ensures { WritesOnOk W.write_str_gives f.old result (tokens_text tokens.now) f.new }
-{
-    for token in tokens {
-        write_token(token, f)?;
-    }
-    Ok(())
-}
-
-/// Writes from which byte to which byte a token stands, its terminal, and its text as a JSON string.
-fn write_token<W: Write>(token: &ScanToken<'_>, f: &mut Formatter<W>) -> fmt::Result
-    ensures { WritesOnOk W.write_str_gives f.old result
-        (line (token_text (token_view token.now))) f.new }
-{
-    writeln!(
-        f,
-        "{}..{} {} {}",
-        token.span.0,
-        token.span.1,
-        token.terminal,
-        JsonText(token.text)
-    )
 }

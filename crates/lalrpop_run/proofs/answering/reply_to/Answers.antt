@@ -4,22 +4,22 @@ use Rattle.lalrpop_run_questions.specs.Questions.{question_view}
 use Rattle.lalrpop_run.specs.Replies.{IsGrammarFor, IsTaskReply}
 use Rattle.lalrpop_run.proofs.answering.reply_to.Goals as goal
 
-pub returns-in-Tokens : goal.returns-in-Tokens
-returns-in-Tokens c =
+pub returns-in_ok-reply-in-Tokens : goal.returns-in_ok-reply-in-Tokens
+returns-in_ok-reply-in-Tokens c =
     let g = c.args.grammar in
     λ fit.
     subst (λ (t : Task). IsTaskReply t (question_view c.args.question) g c.args.text.now c.in_ok-reply-in-Tokens.reply)
     (sym c.in-Tokens.is) (c.in_ok-reply-in-Tokens.ensures (subst (λ (t : Task). IsGrammarFor t g) c.in-Tokens.is fit))
 
-pub returns-in-Check : goal.returns-in-Check
-returns-in-Check c =
+pub returns-in_ok-reply-in-Check : goal.returns-in_ok-reply-in-Check
+returns-in_ok-reply-in-Check c =
     let g = c.args.grammar in
     λ fit.
     subst (λ (t : Task). IsTaskReply t (question_view c.args.question) g c.args.text.now c.in_ok-reply-in-Check.reply)
     (sym c.in-Check.is) (c.in_ok-reply-in-Check.ensures (subst (λ (t : Task). IsGrammarFor t g) c.in-Check.is fit))
 
-pub returns : goal.returns
-returns c =
+pub returns-in_ok-reply-in-Parse : goal.returns-in_ok-reply-in-Parse
+returns-in_ok-reply-in-Parse c =
     let g = c.args.grammar in
     λ fit.
     subst (λ (t : Task). IsTaskReply t (question_view c.args.question) g c.args.text.now c.in_ok-reply-in-Parse.reply)
