@@ -11,7 +11,7 @@ mod witnessed;
 use crate::conflicts::case::Case;
 use crate::conflicts::count::conflict_count;
 use anyhow::Result;
-use lalrpop_case_files::{TableCase, Tally, read_text, run_cases};
+use lalrpop_case_kinds::files::{TableCase, Tally, read_text, run_cases};
 use std::alloc::Global;
 use std::rt::Files;
 

@@ -2,7 +2,7 @@
 
 use crate::{conflicts, runs};
 use anyhow::Result;
-use lalrpop_case_files::Tally;
+use lalrpop_case_kinds::files::Tally;
 use std::alloc::Global;
 use std::rt::Files;
 
@@ -42,8 +42,8 @@ impl Kind {
     ) -> Result<Tally> {
         match self {
             Kind::Runs => runs::run_tally(rt, file),
-            Kind::Calls => lalrpop_call_cases::run_tally(rt, file),
-            Kind::Normalizing => lalrpop_norm_cases::run_tally(rt, file),
+            Kind::Calls => lalrpop_case_kinds::calls::run_tally(rt, file),
+            Kind::Normalizing => lalrpop_case_kinds::normalizing::run_tally(rt, file),
             Kind::Tables => lalrpop_table_cases::run_tally(rt, file),
             Kind::Conflicts => conflicts::run_tally(rt, file),
         }

@@ -16,7 +16,7 @@ mod timing;
 use crate::kind::Kind;
 use crate::timing::{answer_parse, answer_tokens};
 use anyhow::{Result, bail};
-use lalrpop_case_files::Tally;
+use lalrpop_case_kinds::files::Tally;
 use std::alloc::Global;
 use std::env;
 use std::process::ExitCode;

@@ -3,7 +3,7 @@
 use crate::case::Case;
 use crate::outcome::{Outcome, outcome_of};
 use anyhow::{Context, Result};
-use lalrpop_case_files::{TableCase, Tally, read_text, run_cases};
+use lalrpop_case_kinds::files::{TableCase, Tally, read_text, run_cases};
 use std::alloc::Global;
 use std::rt::Files;
 

@@ -1,3 +1,4 @@
+mod GroundingLemmas
 pub mod DropLemmas
 pub mod TakingApartLemmas
 pub mod TreeLemmas

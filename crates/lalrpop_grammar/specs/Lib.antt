@@ -1,6 +1,8 @@
+pub mod Attributes
+pub mod Grounding
+pub mod TypeReprs
 pub mod Items
 pub mod Leaves
-pub mod PassedOn
 pub mod RulesLeft
 pub mod Trees
 pub mod Views

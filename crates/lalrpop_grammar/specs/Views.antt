@@ -27,11 +27,11 @@ use Rattle.lalrpop_grammar.specs.declared.intern_token.MatchEntry.{MatchEntry}
 use Rattle.lalrpop_grammar.specs.declared.grammar.GrammarItem.{GrammarItem}
 use Rattle.lalrpop_grammar.specs.declared.grammar.GrammarItem.TheVariants as items
 use Rattle.lalrpop_grammar.specs.declared.grammar.Grammar.{Grammar}
-use Rattle.lalrpop_grammar_types.specs.declared.attribute.Attribute as attributes
-use Rattle.lalrpop_grammar_types.specs.declared.attribute.AttributeArg.TheOpen as attr_layer
-use Rattle.lalrpop_grammar_types.specs.declared.attribute.AttributeArg.TheFolds as attr_folds
-use Rattle.lalrpop_grammar_types.specs.declared.type_ref.TypeRef as types
-use Rattle.lalrpop_grammar_types.specs.declared.type_ref.TypeRef.TheOpen as type_layer
+use Rattle.lalrpop_grammar.specs.declared.types.attribute.Attribute as attributes
+use Rattle.lalrpop_grammar.specs.declared.types.attribute.AttributeArg.TheOpen as attr_layer
+use Rattle.lalrpop_grammar.specs.declared.types.attribute.AttributeArg.TheFolds as attr_folds
+use Rattle.lalrpop_grammar.specs.declared.types.type_ref.TypeRef as types
+use Rattle.lalrpop_grammar.specs.declared.types.type_ref.TypeRef.TheOpen as type_layer
 use Rattle.lalrpop_grammar.specs.declared.token.ScanToken.{ScanToken}
 use Rattle.lalrpop_grammar.specs.declared.tree.WrittenTree as written_trees
 use Rattle.lalrpop_grammar.specs.declared.tree.WrittenTree.TheOpen as tree_layer

@@ -4,8 +4,8 @@ ghost use Rattle.std.specs.Prelude.{◌≡◌, IfOk};
 
 use crate::condition::Condition;
 use crate::origin::Origin;
+use crate::types::{Attribute, clone_attributes};
 use lalrpop_grammar_symbols::{Atom, List, Span, Symbol, clone_symbols};
-use lalrpop_grammar_types::{Attribute, clone_attributes};
 use std::alloc::{AllocError, Global};
 
 /// What an alternative does when it is reduced.

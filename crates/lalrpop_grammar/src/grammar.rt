@@ -6,8 +6,8 @@ use crate::extern_token::{EnumToken, ExternToken};
 use crate::intern_token::InternToken;
 use crate::match_token::MatchToken;
 use crate::nonterminal::NonterminalData;
+use crate::types::{Attribute, clone_attributes};
 use lalrpop_grammar_symbols::{Atom, List, Span};
-use lalrpop_grammar_types::{Attribute, clone_attributes};
 use std::alloc::{AllocError, Global};
 
 /// One item of a grammar.

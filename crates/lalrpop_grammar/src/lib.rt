@@ -16,8 +16,10 @@ mod origin;
 mod rules;
 mod token;
 mod tree;
+pub mod types;
 mod walk;
 
+pub use crate::types::{Attribute, AttributeArg, NominalTypeRepr, TypeRef, TypeRepr};
 pub use alternative::{ActionKind, Alternative};
 pub use condition::{Condition, ConditionOp};
 pub use extern_token::{AssociatedType, Conversion, EnumToken, ExternToken};
@@ -31,7 +33,6 @@ pub use lalrpop_grammar_symbols::{
     RepeatSymbol, Span, Subsymbols, Symbol, SymbolKind, SymbolMap, TerminalLiteral, TerminalString,
     subsymbols_of,
 };
-pub use lalrpop_grammar_types::{Attribute, AttributeArg, NominalTypeRepr, TypeRef, TypeRepr};
 pub use leaves::{Leaf, Leaves};
 pub use match_token::{MatchContents, MatchItem, MatchMapping, MatchToken};
 pub use nonterminal::{NonterminalData, Visibility};

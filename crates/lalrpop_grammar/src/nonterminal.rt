@@ -3,8 +3,8 @@
 ghost use Rattle.std.specs.Prelude.{◌≡◌, ◌≢◌, ◌↔◌, [], IfOk, IsTrue};
 
 use crate::alternative::Alternative;
+use crate::types::{Attribute, TypeRef, clone_attributes};
 use lalrpop_grammar_symbols::{Atom, List, NonterminalString, Span};
-use lalrpop_grammar_types::{Attribute, TypeRef, clone_attributes};
 use std::alloc::{AllocError, Global};
 
 /// Who may use a rule as a start.

@@ -2,7 +2,7 @@
 use Prim.Native.String.{String}
 use Rattle.std.proofs.Common.{◌≡◌, ◌≢◌, ℕ, List, [], ◌∷◌, refl, ap, inl, inr, arith}
 use Rattle.std.specs.Prelude.{Some, None, codes, map}
-use Rattle.lalrpop_grammar.specs.PassedOn.{Closed, Terminal, Op, Closeds, Sym}
+use Rattle.lalrpop_grammar_symbols.specs.Symbols.{Closed, Terminal, Op, Closeds, Sym}
 use Rattle.lalrpop_grammar.specs.WrittenGrammar.{Origin, ConditionTest}
 use Rattle.lalrpop_grammar_language.specs.Enabled.{EnabledGrammar, EnabledRule, enabled_grammar, rules_named}
 use Rattle.lalrpop_grammar_language.specs.Levels.{ranked_choices}

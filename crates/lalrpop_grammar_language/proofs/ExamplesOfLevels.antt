@@ -1,7 +1,7 @@
 -- Computed examples of levels and sides: trees that are admitted, and near misses that aren't.
 use Rattle.std.proofs.Common.{List, [], ◌∷◌, refl}
 use Rattle.std.specs.Prelude.{codes}
-use Rattle.lalrpop_grammar.specs.PassedOn.{Argument, syms, Terminal, Sym}
+use Rattle.lalrpop_grammar_symbols.specs.Symbols.{Argument, syms, Terminal, Sym}
 use Rattle.lalrpop_grammar.specs.WrittenGrammar.{Grammar}
 use Rattle.lalrpop_grammar.specs.Trees.{Tree}
 use Rattle.lalrpop_grammar_language.proofs.WrittenTreeLemmas.{lit, id, of_macro, level, side, feature, cfg, with, alt, rule_of, macro_of}

@@ -1,7 +1,7 @@
 -- Computed examples of macros and conditions: trees that are admitted, and near misses that aren't.
 use Rattle.std.proofs.Common.{List, [], ◌∷◌, refl}
 use Rattle.std.specs.Prelude.{Some, codes}
-use Rattle.lalrpop_grammar.specs.PassedOn.{Argument, syms, WrittenSymbol, Sym, Terminal}
+use Rattle.lalrpop_grammar_symbols.specs.Symbols.{Argument, syms, WrittenSymbol, Sym, Terminal}
 use Rattle.lalrpop_grammar.specs.WrittenGrammar.{Grammar, ConditionTest}
 use Rattle.lalrpop_grammar.specs.Trees.{Tree, trees}
 use Rattle.lalrpop_grammar_language.proofs.WrittenTreeLemmas.{here, lit, id, of_macro, in_group, many_of, maybe, level, side, with, alt}

@@ -1,7 +1,7 @@
 -- Computed examples of repeats, groups, names and features: trees that are admitted, and near misses that aren't.
 use Rattle.std.proofs.Common.{◌≡◌, List, [], ◌∷◌, ◌++◌, refl, false}
 use Rattle.std.specs.Prelude.{codes}
-use Rattle.lalrpop_grammar.specs.PassedOn.{WrittenSymbol, Closed, Closeds, Terminal, Sym}
+use Rattle.lalrpop_grammar_symbols.specs.Symbols.{WrittenSymbol, Closed, Closeds, Terminal, Sym}
 use Rattle.lalrpop_grammar.specs.WrittenGrammar.{Grammar, Attr}
 use Rattle.lalrpop_grammar.specs.Trees.{Token, Tree, leaves, trees}
 use Rattle.lalrpop_grammar_language.specs.Enabled.{enabled_grammar}

@@ -1,7 +1,7 @@
 -- A label has one right side; for trees_correspond.
 use Rattle.std.proofs.Common.{◌≡◌, ℕ, [], ◌∷◌, ap, sym, ◌∙◌, inl, inr}
 use Rattle.std.specs.Prelude.{Option, Some, map}
-use Rattle.lalrpop_grammar.specs.PassedOn.{Text, Closed, Closeds, Op}
+use Rattle.lalrpop_grammar_symbols.specs.Symbols.{Text, Closed, Closeds, Op}
 use Rattle.lalrpop_grammar.specs.WrittenGrammar.{Origin}
 use Rattle.lalrpop_grammar_language.specs.Enabled.{EnabledGrammar}
 use Rattle.lalrpop_grammar_language.specs.Levels.{tighter, loosest}

@@ -1,6 +1,6 @@
 -- An admitted tree fixes its tokens: they are its leaves; for tokens_are_leaves and the judge.
 use Rattle.std.proofs.Common.{◌≡◌, List, [], ◌∷◌, ◌++◌, ap, ◌∙◌}
-use Rattle.lalrpop_grammar.specs.PassedOn.{Closed, closed_list}
+use Rattle.lalrpop_grammar_symbols.specs.Symbols.{Closed, closed_list}
 use Rattle.lalrpop_grammar.specs.Trees.{Token, Tree, Trees, leaves, leaves_of}
 use Rattle.lalrpop_grammar_language.specs.Enabled.{EnabledGrammar}
 use Rattle.lalrpop_grammar_language.specs.Closing.{right_side}

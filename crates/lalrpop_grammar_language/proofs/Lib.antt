@@ -13,3 +13,16 @@ pub mod LeafLemmas
 pub mod ExamplesOfExpansion
 pub mod LabelLemmas
 pub mod ShownLemmas
+pub mod TreeLemmas
+pub mod TakeLemmas
+pub mod TokenLemmas
+pub mod StepLemmas
+pub mod StepOriginLemmas
+pub mod StepOnceLemmas
+pub mod SideLemmas
+pub mod StepLawLemmas
+pub mod OrderLemmas
+pub mod WrittenLemmas
+pub mod ExpandedWrittenLemmas
+pub mod ExamplesOfSteps
+pub mod ExamplesOfLabels

@@ -9,4 +9,10 @@ pub mod Starts
 pub mod Expansion
 pub mod Derivations
 pub mod OneToOne
-pub mod PassedOn
+pub mod Labels
+pub mod Inlining
+pub mod BaseTrees
+pub mod ExpandedTrees
+pub mod Steps
+pub mod WrittenTrees
+pub mod Laws

@@ -1,6 +1,6 @@
 -- The law that written trees and derivations are one to one, in parts, for a symbol and for a start.
 use Rattle.std.specs.Prelude.{◌≡◌, List}
-use Rattle.lalrpop_grammar.specs.PassedOn.{Text, Closed}
+use Rattle.lalrpop_grammar_symbols.specs.Symbols.{Text, Closed}
 use Rattle.lalrpop_grammar.specs.Trees.{Token, Tree, leaves}
 use Rattle.lalrpop_grammar_language.specs.Enabled.{EnabledGrammar}
 use Rattle.lalrpop_grammar_language.specs.Admitting.{Admits, AdmitsStart}

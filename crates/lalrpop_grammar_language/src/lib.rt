@@ -7,8 +7,10 @@
 //! near misses that aren't.
 #![tactic(auto)]
 
+pub mod labels;
+
 ghost use Rattle.lalrpop_grammar.specs.WrittenGrammar.{Grammar};
-ghost use Rattle.lalrpop_grammar.specs.PassedOn.{Text};
+ghost use Rattle.lalrpop_grammar_symbols.specs.Symbols.{Text};
 ghost use Rattle.lalrpop_grammar_language.specs.OneToOne.{DerivationsAreAdmitted, DerivationsFromStartsAreAdmitted, AdmittedHaveDerivations, AdmittedFromStartsHaveDerivations, DerivationsAreUnique, DerivationsFromStartsAreUnique, LabelsHaveOneSide, LeavesFixTrees, TokensAreLeaves};
 ghost use Rattle.lalrpop_grammar_language.specs.Enabled.{enabled_grammar};
 ghost use Rattle.std.specs.Prelude.{Bool, List, Option};

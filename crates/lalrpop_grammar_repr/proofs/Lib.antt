@@ -1,2 +1,3 @@
 mod AloneLemmas
 mod MapLemmas
+pub mod EqualLemmas

@@ -4,7 +4,7 @@ use Rattle.std.specs.List.{list_any}
 use Rattle.std.specs.Str.{bytes_eq}
 use Rattle.lalrpop_grammar.specs.WrittenGrammar.{attr_id}
 use Rattle.lalrpop_grammar.specs.Views.{attribute_view}
-use Rattle.lalrpop_grammar.specs.PassedOn.{Attribute}
+use Rattle.lalrpop_grammar.specs.declared.types.attribute.Attribute.{Attribute}
 
 -- its name is LALR
 abbrev pub is_lalr : Attribute → Bool

@@ -8,6 +8,7 @@ mod action;
 mod algorithm;
 mod grammar;
 mod map;
+pub mod methods;
 mod norm_error;
 mod production;
 mod session;

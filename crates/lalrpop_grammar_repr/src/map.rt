@@ -64,6 +64,13 @@ impl<K: Ord, V> Map<K, V> {
         self.map.iter()
     }
 
+    /// What is known of a map, its keys ascend: a law for proofs.
+    pub fn known(&self)
+        ensures { IsStrictlySortedBy K.cmp (keys_of self.now) }
+    {
+        self.map.iter();
+    }
+
     /// What stands at the key.
     pub fn get(&self, key: &K) -> Option<&V>
         ensures { option_copied result ≡ lookup (is_at (K.cmp key.now)) self.now }

@@ -5,3 +5,9 @@ pub mod BareNameLemmas
 pub mod StartLemmas
 pub mod GreatestLemmas
 pub mod SideLemmas
+pub mod SizeLemmas
+pub mod SoundLemmas
+pub mod ArgumentLemmas
+pub mod ClosedListLemmas
+pub mod CallLemmas
+pub mod ReadingLemmas

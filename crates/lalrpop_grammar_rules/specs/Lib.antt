@@ -2,3 +2,8 @@ pub mod Ranks
 pub mod Details
 pub mod RuleTable
 pub mod StartViews
+pub mod Views
+pub mod Scopes
+pub mod Finding
+pub mod formers
+pub mod Search

@@ -3,18 +3,16 @@
 ghost use Rattle.std.specs.Prelude.{◌≡◌, ◌||◌, [], ◌∷◌, IfOk, OnOk, if◌then◌else◌, option_map};
 ghost use Rattle.std.specs.Str.{bytes_eq};
 ghost use Rattle.lalrpop_grammar_symbols.specs.Symbols.{Text};
-ghost use Rattle.lalrpop_grammar.specs.Views.{nonterminal_view, match_item_view, grammar_view, item_view};
+ghost use Rattle.lalrpop_grammar.specs.Views.{nonterminal_view, grammar_view};
 ghost use Rattle.lalrpop_grammar.specs.WrittenGrammar.{rules_of};
-ghost use Rattle.lalrpop_grammar_language.specs.Enabled.{bare_of, bares_of, enabled_rule, has_text};
+ghost use Rattle.lalrpop_grammar_language.specs.Enabled.{bares_of, enabled_rule, has_text};
 ghost use Rattle.lalrpop_grammar_rules.specs.Details.{kept_rule_view};
-ghost use Rattle.lalrpop_grammar_rules.specs.RuleTable.{HasBares, IsMeaning, IsOnlyRule, IsTable, bares_of_entries, bares_of_groups, bares_of_item, bares_of_items, rule_entry_at, rule_entry, entry_with_rules, IsOfGrammar, knows, rules_named_in, names_of, one_more, only_of};
+ghost use Rattle.lalrpop_grammar_rules.specs.RuleTable.{IsMeaning, IsOnlyRule, IsTable, rule_entry_at, rule_entry, entry_with_rules, IsOfGrammar, rules_named_in, one_more, only_of};
 
+use crate::bares::bare_names;
 use crate::enabling::cfg_active;
 use crate::rule::EnabledRule;
-use lalrpop_grammar::{
-    Atom, Grammar, GrammarItem, MatchContents, MatchItem, MatchMapping, NonterminalData,
-    TerminalString,
-};
+use lalrpop_grammar::{Atom, Grammar, NonterminalData};
 use std::alloc::{AllocError, Global};
 use std::collections::HashMap;
 
@@ -168,97 +166,4 @@ fn new_entry<'g>(
     }
     let rule = EnabledRule::new(alloc, features, written)?;
     Ok(Some(rule))
-}
-
-/// The bare names that the match blocks map to.
-fn bare_names<'g>(
-    alloc: Global,
-    items: &'g [GrammarItem],
-) -> Result<HashMap<&'g str, ()>, AllocError>
-    ensures { IfOk result (λ bares. HasBares bares (bares_of_items items.now)) }
-{
-    let mut bares = HashMap::new(alloc);
-    for item in items {
-        add_bares(item, &mut bares)?;
-    }
-    Ok(bares)
-}
-
-/// Adds the bare names that the item maps to, where it is a match block.
-fn add_bares<'g>(item: &'g GrammarItem, bares: &mut HashMap<&'g str, ()>) -> Result<(), AllocError>
-    ensures { OnOk result ((n : Text) → knows bares.new n
-        ≡ (knows bares.old n || has_text n (bares_of_item (item_view item.now)))) }
-{
-    match item {
-        GrammarItem::MatchToken(block) => add_groups(block.contents.as_slice(), bares),
-        GrammarItem::Nonterminal(_) => Ok(()),
-        GrammarItem::ExternToken(_) => Ok(()),
-        GrammarItem::InternToken(_) => Ok(()),
-        GrammarItem::Use(_) => Ok(()),
-    }
-}
-
-/// Adds the bare names that the groups of a match block map to.
-fn add_groups<'g>(
-    groups: &'g [MatchContents],
-    bares: &mut HashMap<&'g str, ()>,
-) -> Result<(), AllocError>
-    ensures { OnOk result ((n : Text) → knows bares.new n
-        ≡ (knows bares.old n || has_text n (bares_of_groups groups.now))) }
-{
-    for group in groups {
-        add_entries(group.items.as_slice(), bares)?;
-    }
-    Ok(())
-}
-
-/// Adds the bare names that the entries map to.
-fn add_entries<'g>(
-    entries: &'g [MatchItem],
-    bares: &mut HashMap<&'g str, ()>,
-) -> Result<(), AllocError>
-    ensures { OnOk result ((n : Text) → knows bares.new n
-        ≡ (knows bares.old n || has_text n (bares_of_entries entries.now))) }
-{
-    for entry in entries {
-        add_entry(entry, bares)?;
-    }
-    Ok(())
-}
-
-/// Adds the bare name that the entry maps to.
-fn add_entry<'g>(entry: &'g MatchItem, bares: &mut HashMap<&'g str, ()>) -> Result<(), AllocError>
-    ensures { OnOk result ((n : Text) → knows bares.new n
-        ≡ (knows bares.old n || has_text n (bare_of (match_item_view entry.now)))) }
-{
-    match bare_name(entry) {
-        Some(name) => add_bare(name, bares),
-        None => Ok(()),
-    }
-}
-
-fn add_bare<'g>(name: &'g Atom, bares: &mut HashMap<&'g str, ()>) -> Result<(), AllocError>
-    ensures { OnOk result ((n : Text) → knows bares.new n
-        ≡ (knows bares.old n || bytes_eq n name.now)) }
-{
-    bares.insert(name.as_str(), ())?;
-    Ok(())
-}
-
-/// The bare name that the entry maps to.
-fn bare_name(entry: &MatchItem) -> Option<&Atom>
-    ensures { names_of result ≡ bare_of (match_item_view entry.now) }
-{
-    match entry {
-        MatchItem::Mapped(_, mapping, _) => match mapping {
-            MatchMapping::Terminal(terminal) => match terminal {
-                TerminalString::Bare(name) => Some(name),
-                TerminalString::Literal(_) => None,
-                TerminalString::Error => None,
-            },
-            MatchMapping::Skip => None,
-        },
-        MatchItem::CatchAll(_) => None,
-        MatchItem::Unmapped(_, _) => None,
-    }
 }

@@ -12,7 +12,7 @@ use std::alloc::{AllocError, Global};
 
 /// A symbol and where it is written.
 #[cycle(symbol)]
-#[derive(Debug, PartialEq, Eq, PartialOrd, Ord, Hash, Drop)]
+#[derive(Debug, PartialEq, Eq, Drop)]
 pub struct Symbol {
     /// Where it is written.
     pub span: Span,
@@ -22,7 +22,7 @@ pub struct Symbol {
 
 /// What a symbol is.
 #[cycle(symbol)]
-#[derive(Debug, PartialEq, Eq, PartialOrd, Ord, Hash, Drop)]
+#[derive(Debug, PartialEq, Eq, Drop)]
 pub enum SymbolKind {
     /// `(A B)`: a group of symbols.
     Expr(ExprSymbol),
@@ -50,7 +50,7 @@ pub enum SymbolKind {
 
 /// The symbols of a group.
 #[cycle(symbol)]
-#[derive(Debug, PartialEq, Eq, PartialOrd, Ord, Hash, Drop)]
+#[derive(Debug, PartialEq, Eq, Drop)]
 pub struct ExprSymbol {
     /// The symbols, in order.
     pub symbols: List<Symbol>,
@@ -58,7 +58,7 @@ pub struct ExprSymbol {
 
 /// A call of a macro.
 #[cycle(symbol)]
-#[derive(Debug, PartialEq, Eq, PartialOrd, Ord, Hash, Drop)]
+#[derive(Debug, PartialEq, Eq, Drop)]
 pub struct MacroSymbol {
     /// The macro that is called.
     pub name: NonterminalString,
@@ -79,7 +79,7 @@ pub enum RepeatOp {
 
 /// A repeated symbol.
 #[cycle(symbol)]
-#[derive(Debug, PartialEq, Eq, PartialOrd, Ord, Hash, Drop)]
+#[derive(Debug, PartialEq, Eq, Drop)]
 pub struct RepeatSymbol {
     /// How often.
     pub op: RepeatOp,

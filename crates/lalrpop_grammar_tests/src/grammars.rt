@@ -10,50 +10,56 @@ use lalrpop_grammar_language::{
 };
 use lalrpop_json_grammar::read_grammar;
 use serde_json::Value;
-use std::alloc::{AllocError, Global};
-use std::test::Fail;
+use std::alloc::Global;
+use std::process::Abort;
 
 /// A macro, an import, a match block and two extern blocks, with each kind of symbol, type, condition and attribute.
 const FULL: &str =
     r#"{"attributes":[{"arg":null,"id":"LALR","span":[0,1]}],"items":[{"alternatives":[{"action":{"fallible":"f()"},"attributes":[{"arg":{"paren":[{"arg":{"equal":"1"},"id":"level","span":[1,2]}]},"id":"precedence","span":[1,3]}],"condition":{"lhs":"K","op":"!~","rhs":"a|b","span":[2,3]},"expr":[{"kind":"named","mutable":true,"name":"x","span":[4,5],"symbol":{"kind":"repeat","op":"+","span":[4,5],"symbol":{"kind":"id","name":"K","span":[4,5]}}},{"kind":"choose","span":[5,6],"symbol":{"expr":[{"kind":"terminal","span":[5,6],"terminal":{"quoted":"a"}},{"args":[{"kind":"terminal","span":[5,6],"terminal":{"regex":"b"}}],"kind":"macro","name":"M","span":[5,6]}],"kind":"group","span":[5,6]}},{"kind":"lookahead","span":[7,7]},{"kind":"lookbehind","span":[7,7]},{"kind":"error","span":[7,8]}],"span":[2,9]},{"action":{"user":"()"},"attributes":[],"condition":{"lhs":"K","op":"==","rhs":"a","span":[0,0]},"expr":[],"span":[0,0]}],"args":["K"],"attributes":[{"arg":{"equal":"t"},"id":"doc","span":[0,1]}],"kind":"rule","name":"N","span":[0,9],"type":{"args":[{"lifetime":"'a","mutable":true,"ref":{"id":"T"}},{"lifetime":null,"mutable":false,"ref":{"text":"dyn X"}},{"symbol":{"kind":"id","name":"K","span":[0,0]}},{"tuple":[]}],"path":"a::B"},"visibility":{"pub_in":"crate::a"}},{"kind":"use","text":"a::b"},{"contents":[[{"literal":{"regex":"[0-9]+"},"map":{"bare":"NUM"},"span":[1,2]},{"literal":{"quoted":" "},"map":"skip","span":[0,0]}],[{"literal":{"quoted":"x"},"map":null,"span":[0,0]},{"catch_all":[3,4]}]],"kind":"match","span":[0,0]},{"associated":[{"name":"Location","type":"L"},{"name":"Error","type":"E"}],"enum":{"conversions":[{"from":{"bare":"N"},"to":"Tok::N"},{"from":{"regex":"r"},"to":"_"}],"type":"Tok"},"kind":"extern","span":[0,0]},{"associated":[],"enum":null,"kind":"extern","span":[0,0]}],"parameters":"x: u8","span":[0,9],"type_parameters":"'a","where_clauses":"T: U"}"#;
 
 /// The entries of a tokenizer.
-fn entries(alloc: Global) -> Result<InternToken, AllocError> {
+fn entries(rt: &impl Abort, alloc: Global) -> InternToken {
     let entry = MatchEntry {
         precedence: 3,
-        match_literal: TerminalLiteral::Regex(Atom::new(alloc, "r")?),
+        match_literal: TerminalLiteral::Regex(Atom::new(alloc, "r").expect(rt, "memory")),
         user_name: MatchMapping::Terminal(TerminalString::Error),
     };
-    let match_entries = List::from_vec(vec![in alloc; entry]?);
-    Ok(InternToken { match_entries })
+    let entries = vec![in alloc; entry].expect(rt, "memory");
+    InternToken {
+        match_entries: List::from_vec(entries),
+    }
 }
 
 /// The grammar, with a tokenizer's entries behind its items.
-fn full(alloc: Global) -> Result<Grammar, Fail> {
-    let value = Value::from_str(alloc, FULL)?;
-    let mut grammar = read_grammar(alloc, &value)?;
-    grammar
-        .items
-        .push(GrammarItem::InternToken(entries(alloc)?))?;
-    Ok(grammar)
+fn full(rt: &impl Abort, alloc: Global) -> Box<Grammar> {
+    let value = Value::from_str(alloc, FULL).expect(rt, "JSON");
+    let mut grammar = read_grammar(alloc, &value).expect(rt, "a grammar");
+    let entries = GrammarItem::InternToken(entries(rt, alloc));
+    grammar.items.push(entries).expect(rt, "memory");
+    Box::new(alloc, grammar).expect(rt, "memory")
+}
+
+/// Whether a copy of the grammar equals it.
+fn equals_its_copy(rt: &impl Abort, alloc: Global, grammar: &Grammar) -> bool {
+    let copy = grammar.try_clone(alloc).expect(rt, "memory");
+    copy == *grammar
 }
 
 #[test]
-fn a_copy_of_a_grammar_equals_it(rt: HostRuntime) -> Result<(), Fail> {
-    let grammar = full(rt.alloc())?;
-    assert!(rt; grammar.try_clone(rt.alloc())? == grammar);
-    Ok(())
+fn a_copy_of_a_grammar_equals_it(rt: HostRuntime) {
+    let grammar = full(&rt, rt.alloc());
+    assert!(rt; equals_its_copy(&rt, rt.alloc(), &grammar));
 }
 
 /// Whether a copy of the origin equals it.
-fn is_copied(alloc: Global, origin: &Origin) -> Result<bool, AllocError> {
-    let copy = origin.try_clone(alloc)?;
-    Ok(copy == *origin)
+fn is_copied(rt: &impl Abort, alloc: Global, origin: &Origin) -> bool {
+    let copy = origin.try_clone(alloc).expect(rt, "memory");
+    copy == *origin
 }
 
 // No grammar that is read holds origins.
 #[test]
-fn copies_of_origins(rt: HostRuntime) -> Result<(), Fail> {
+fn copies_of_origins(rt: HostRuntime) {
     let origins = [
         Origin::Start,
         Origin::PassDown,
@@ -67,26 +73,23 @@ fn copies_of_origins(rt: HostRuntime) -> Result<(), Fail> {
         Origin::Look,
     ];
     for origin in &origins {
-        assert!(rt; is_copied(rt.alloc(), origin)?, "{origin:?}");
+        assert!(rt; is_copied(&rt, rt.alloc(), origin), "{origin:?}");
     }
-    Ok(())
 }
 
 #[test]
-fn a_copy_of_the_origin_of_an_alternative(rt: HostRuntime) -> Result<(), Fail> {
-    let rule = NonterminalString(Atom::new(rt.alloc(), "S")?);
+fn a_copy_of_the_origin_of_an_alternative(rt: HostRuntime) {
+    let rule = NonterminalString(Atom::new(rt.alloc(), "S").expect(&rt, "memory"));
     let args = List::new(rt.alloc());
     let place = 7;
     let origin = Origin::Alternative { rule, args, place };
-    assert!(rt; is_copied(rt.alloc(), &origin)?);
-    Ok(())
+    assert!(rt; is_copied(&rt, rt.alloc(), &origin));
 }
 
 #[test]
-fn copies_of_the_actions_of_places(rt: HostRuntime) -> Result<(), Fail> {
-    assert!(rt; ActionKind::Lookahead.try_clone()? == ActionKind::Lookahead);
-    assert!(rt; ActionKind::Lookbehind.try_clone()? == ActionKind::Lookbehind);
-    Ok(())
+fn copies_of_the_actions_of_places(rt: HostRuntime) {
+    assert!(rt; ActionKind::Lookahead.try_clone().expect(&rt, "memory") == ActionKind::Lookahead);
+    assert!(rt; ActionKind::Lookbehind.try_clone().expect(&rt, "memory") == ActionKind::Lookbehind);
 }
 
 fn has_two_groups(grammar: &Grammar) -> bool {
@@ -122,22 +125,20 @@ fn has_type(grammar: &Grammar, name: &Atom, text: &str) -> bool {
 }
 
 #[test]
-fn questions_of_a_grammar(rt: HostRuntime) -> Result<(), Fail> {
-    let grammar = full(rt.alloc())?;
+fn questions_of_a_grammar(rt: HostRuntime) {
+    let grammar = full(&rt, rt.alloc());
     assert!(rt; has_two_groups(&grammar));
     assert!(rt; has_one_entry(&grammar));
     assert!(rt; has_tokens_of_the_user(&grammar));
-    Ok(())
 }
 
 #[test]
-fn types_of_an_extern_block(rt: HostRuntime) -> Result<(), Fail> {
-    let error = Atom::new(rt.alloc(), "Error")?;
-    let token = Atom::new(rt.alloc(), "Token")?;
-    let grammar = full(rt.alloc())?;
+fn types_of_an_extern_block(rt: HostRuntime) {
+    let error = Atom::new(rt.alloc(), "Error").expect(&rt, "memory");
+    let token = Atom::new(rt.alloc(), "Token").expect(&rt, "memory");
+    let grammar = full(&rt, rt.alloc());
     assert!(rt; has_type(&grammar, &error, "E"));
     assert!(rt; !has_type(&grammar, &token, "E"));
-    Ok(())
 }
 
 fn begins_with_a_public_macro(grammar: &Grammar) -> bool {
@@ -171,46 +172,48 @@ fn begins_with_a_documented_rule(grammar: &Grammar) -> bool {
 }
 
 #[test]
-fn rules_of_a_grammar(rt: HostRuntime) -> Result<(), Fail> {
-    let grammar = full(rt.alloc())?;
+fn rules_of_a_grammar(rt: HostRuntime) {
+    let grammar = full(&rt, rt.alloc());
     let mut rules = grammar.rules();
     assert!(rt; matches!(rules.next(), Some(rule) if rule.name.0.as_str() == "N"));
     assert!(rt; rules.next().is_none());
     assert!(rt; rules.next().is_none());
-    Ok(())
 }
 
 #[test]
-fn questions_of_a_rule(rt: HostRuntime) -> Result<(), Fail> {
-    let grammar = full(rt.alloc())?;
+fn questions_of_a_rule(rt: HostRuntime) {
+    let grammar = full(&rt, rt.alloc());
     assert!(rt; begins_with_a_public_macro(&grammar));
     assert!(rt; begins_with_a_documented_rule(&grammar));
     assert!(rt; !begins_with_text(grammar.attributes.as_slice(), "LALR", ""));
     assert!(rt; Visibility::Pub.is_pub() && !Visibility::Priv.is_pub());
-    Ok(())
 }
 
 /// Copies the groups of the grammar's match block behind those of another.
-fn add_groups(alloc: Global, grammar: &Grammar, block: &mut MatchToken) -> Result<(), AllocError> {
+fn add_groups(rt: &impl Abort, alloc: Global, grammar: &Grammar, block: &mut MatchToken) {
     if let Some(written) = grammar.match_token() {
         for group in written.contents.as_slice() {
-            let copy = group.try_clone(alloc)?;
-            block.add(copy)?;
+            let copy = group.try_clone(alloc).expect(rt, "memory");
+            block.add(copy).expect(rt, "memory");
         }
     }
-    Ok(())
+}
+
+/// Copies the groups of the full grammar's match block behind those of another.
+fn add_full_groups(rt: &impl Abort, alloc: Global, block: &mut MatchToken) {
+    let grammar = full(rt, alloc);
+    add_groups(rt, alloc, &grammar, block);
 }
 
 #[test]
-fn groups_of_a_match_block(rt: HostRuntime) -> Result<(), Fail> {
+fn groups_of_a_match_block(rt: HostRuntime) {
     let alloc = rt.alloc();
     let items = List::new(alloc);
-    let mut block = MatchToken::new(alloc, MatchContents { items }, Span(3, 4))?;
+    let contents = MatchContents { items };
+    let mut block = MatchToken::new(alloc, contents, Span(3, 4)).expect(&rt, "memory");
     assert_eq!(rt; (block.contents.len(), block.span), (1, Span(3, 4)));
-    let grammar = full(alloc)?;
-    add_groups(alloc, &grammar, &mut block)?;
+    add_full_groups(&rt, alloc, &mut block);
     assert_eq!(rt; block.contents.len(), 3);
-    Ok(())
 }
 
 fn begins_at(entries: &[MatchItem], span: Span) -> bool {

@@ -4,16 +4,16 @@ use lalrpop_grammar::{Atom, Leaf, ScanToken, Span, TerminalString, WrittenTree};
 use lalrpop_json_grammar::read_tree;
 use serde_json::Value;
 use std::alloc::Global;
-use std::test::Fail;
+use std::process::Abort;
 
 /// `S#0([("1", @), ?("2")], S#0(?(), "3"))`
 const NESTED: &str =
     r#"{"args":[],"children":[{"list":[{"group":[{"span":[0,1],"terminal":{"bare":"A"},"text":"1"},{"look":null}]},{"opt":{"span":[2,3],"terminal":{"bare":"B"},"text":"2"}}]},{"args":[],"children":[{"opt":null},{"span":[5,6],"terminal":{"bare":"A"},"text":"3"}],"place":0,"rule":"S"}],"place":0,"rule":"S"}"#;
 
-fn nested_tree(alloc: Global) -> Result<WrittenTree, Fail> {
-    let value = Value::from_str(alloc, NESTED)?;
-    let tree = read_tree(alloc, &value)?;
-    Ok(tree)
+fn nested_tree(rt: &impl Abort, alloc: Global) -> Box<WrittenTree> {
+    let value = Value::from_str(alloc, NESTED).expect(rt, "JSON");
+    let tree = read_tree(alloc, &value).expect(rt, "a tree");
+    Box::new(alloc, tree).expect(rt, "memory")
 }
 
 fn is_bare(terminal: &TerminalString, name: &str) -> bool {
@@ -31,52 +31,62 @@ fn is_leaf(leaf: Option<Leaf<'_>>, name: &str, text: &str, span: Span) -> bool {
     }
 }
 
-#[test]
-fn leaves_from_left_to_right(rt: HostRuntime) -> Result<(), Fail> {
-    let tree = nested_tree(rt.alloc())?;
-    let mut leaves = tree.leaves(rt.alloc())?;
+fn come_in_order(rt: &impl Abort, alloc: Global, tree: &WrittenTree) {
+    let mut leaves = tree.leaves(alloc).expect(rt, "memory");
     assert!(rt; is_leaf(leaves.next(), "A", "1", Span(0, 1)));
     assert!(rt; is_leaf(leaves.next(), "B", "2", Span(2, 3)));
     assert!(rt; is_leaf(leaves.next(), "A", "3", Span(5, 6)));
     assert!(rt; leaves.next().is_none());
     assert!(rt; leaves.next().is_none());
-    Ok(())
 }
 
 #[test]
-fn tokens_of_the_leaves(rt: HostRuntime) -> Result<(), Fail> {
-    let alloc = rt.alloc();
-    let tree = nested_tree(alloc)?;
-    let tokens = tree.tokens(alloc)?;
+fn leaves_from_left_to_right(rt: HostRuntime) {
+    let tree = nested_tree(&rt, rt.alloc());
+    come_in_order(&rt, rt.alloc(), &tree);
+}
+
+/// The token of the bare name B at the second leaf.
+fn second_token(rt: &impl Abort, alloc: Global) -> ScanToken<'static> {
+    ScanToken {
+        terminal: TerminalString::Bare(Atom::new(alloc, "B").expect(rt, "memory")),
+        text: "2",
+        span: Span(2, 3),
+    }
+}
+
+fn has_tokens(rt: &impl Abort, alloc: Global, tree: &WrittenTree) {
+    let tokens = tree.tokens(alloc).expect(rt, "memory");
     assert_eq!(rt; tokens.len(), 3);
-    let wanted = ScanToken {
-        terminal: TerminalString::Bare(Atom::new(alloc, "B")?),
-        text: "2",
-        span: Span(2, 3),
-    };
-    assert!(rt; tokens[1] == wanted);
+    assert!(rt; tokens[1] == second_token(rt, alloc));
     assert_eq!(rt; tokens[2].text, "3");
-    Ok(())
 }
 
 #[test]
-fn copies_of_trees_and_tokens(rt: HostRuntime) -> Result<(), Fail> {
+fn tokens_of_the_leaves(rt: HostRuntime) {
+    let tree = nested_tree(&rt, rt.alloc());
+    has_tokens(&rt, rt.alloc(), &tree);
+}
+
+/// Whether a copy of the tree equals it.
+fn equals_its_copy(rt: &impl Abort, alloc: Global, tree: &WrittenTree) -> bool {
+    let copy = tree.try_clone(alloc).expect(rt, "memory");
+    copy == *tree
+}
+
+#[test]
+fn copies_of_trees_and_tokens(rt: HostRuntime) {
     let alloc = rt.alloc();
-    let tree = nested_tree(alloc)?;
-    assert!(rt; tree.try_clone(alloc)? == tree);
-    let token = ScanToken {
-        terminal: TerminalString::Bare(Atom::new(alloc, "B")?),
-        text: "2",
-        span: Span(2, 3),
-    };
-    assert!(rt; token.try_clone()? == token);
-    Ok(())
+    let tree = nested_tree(&rt, alloc);
+    assert!(rt; equals_its_copy(&rt, alloc, &tree));
+    let token = second_token(&rt, alloc);
+    assert!(rt; token.try_clone().expect(&rt, "memory") == token);
 }
 
 #[test]
-fn leaves_compare_by_content(rt: HostRuntime) -> Result<(), Fail> {
-    let a = TerminalString::Bare(Atom::new(rt.alloc(), "A")?);
-    let b = TerminalString::Bare(Atom::new(rt.alloc(), "A")?);
+fn leaves_compare_by_content(rt: HostRuntime) {
+    let a = TerminalString::Bare(Atom::new(rt.alloc(), "A").expect(&rt, "memory"));
+    let b = TerminalString::Bare(Atom::new(rt.alloc(), "A").expect(&rt, "memory"));
     let leaf = Leaf {
         terminal: &a,
         text: "1",
@@ -97,5 +107,4 @@ fn leaves_compare_by_content(rt: HostRuntime) -> Result<(), Fail> {
             span: Span(0, 2)
         }
     );
-    Ok(())
 }

@@ -5,3 +5,5 @@
 mod grammars;
 #[cfg(test)]
 mod leaves;
+pub mod lowered;
+pub mod symbols;

@@ -1,3 +1,10 @@
 mod DocumentLemmas
 mod ExamplesOfDocuments
 mod LendingLemmas
+mod ConvertedLemmas
+mod ExamplesOfTokens
+mod MemberOrderLemmas
+mod NumberLemmas
+mod ReadingLemmas
+mod TurnLemmas
+mod ValueLemmas

@@ -1,1 +1,3 @@
 pub mod DocumentViews
+pub mod MemberOrder
+pub mod TokenData

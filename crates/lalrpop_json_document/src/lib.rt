@@ -4,6 +4,7 @@
 #![tactic(auto)]
 
 mod lending;
+pub mod reader;
 mod value;
 
 pub use lending::lend_value;

@@ -2,7 +2,7 @@
 use Rattle.std.proofs.Common.{◌≡◌, ℕ, List, [], ◌∷◌, Result, Ok, Err, refl, ap, ◌∙◌, subst, IfOk}
 use Rattle.serde_json.specs.Data.{Data, string, object}
 use Rattle.lalrpop_grammar_symbols.specs.declared.span.Span.{Span}
-use Rattle.lalrpop_grammar_types.specs.declared.attribute.Attribute.{Attribute}
+use Rattle.lalrpop_grammar.specs.declared.types.attribute.Attribute.{Attribute}
 use Rattle.lalrpop_grammar.specs.declared.grammar.Grammar.{Grammar}
 use Rattle.lalrpop_grammar.specs.declared.grammar.GrammarItem.{GrammarItem}
 use Rattle.lalrpop_json_values.specs.declared.key.Key.{Key}

@@ -7,3 +7,11 @@ pub mod Readable
 pub mod ReadableTrees
 pub mod SpelledTrees
 pub mod Spelling
+pub mod Written
+pub mod Printed
+pub mod Wanted
+pub mod Format
+pub mod Telling
+pub mod Faults
+pub mod Order
+pub mod FaultLaws

@@ -4,10 +4,13 @@
 //! grammar and each tree.
 #![tactic(auto)]
 
+pub mod fault_law;
 mod grammar;
 mod laws;
+pub mod print_law;
 mod printing;
 mod tree;
+pub mod writer;
 
 pub use grammar::{grammar_of_document, read_grammar};
 pub use lalrpop_json_values::{Fault, FaultKind, JsonText, Key, PathText, ReadError, Step};

@@ -3,3 +3,6 @@ pub mod ExternLemmas
 pub mod ItemLemmas
 pub mod MatchLemmas
 pub mod RuleLemmas
+pub mod AlternativeSpellingLemmas
+pub mod ItemSpellingLemmas
+pub mod MatchSpellingLemmas

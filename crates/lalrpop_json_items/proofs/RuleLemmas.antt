@@ -25,8 +25,8 @@ use Rattle.lalrpop_grammar.specs.declared.nonterminal.NonterminalData.{Nontermin
 use Rattle.lalrpop_grammar.specs.declared.nonterminal.Visibility.{Visibility}
 use Rattle.lalrpop_grammar.specs.declared.nonterminal.Visibility.TheVariants as visible
 use Rattle.lalrpop_grammar.specs.declared.alternative.Alternative.{Alternative}
-use Rattle.lalrpop_grammar_types.specs.declared.attribute.Attribute.{Attribute}
-use Rattle.lalrpop_grammar_types.specs.declared.type_ref.TypeRef.{TypeRef}
+use Rattle.lalrpop_grammar.specs.declared.types.attribute.Attribute.{Attribute}
+use Rattle.lalrpop_grammar.specs.declared.types.type_ref.TypeRef.{TypeRef}
 use Rattle.lalrpop_json_symbols.specs.Readable.{AreReadableAttributes, IsReadableType}
 use Rattle.lalrpop_json_symbols.specs.Attributes.{attribute_at}
 use Rattle.lalrpop_json_symbols.specs.Spelling.{attribute_json, type_json}

@@ -5,3 +5,4 @@ pub mod Matches
 pub mod Readable
 pub mod Rules
 pub mod Spelling
+pub mod Origins

@@ -9,5 +9,6 @@ mod extern_block;
 mod item;
 mod match_block;
 mod rule;
+pub mod writer;
 
 pub use item::{item_of, items_field};

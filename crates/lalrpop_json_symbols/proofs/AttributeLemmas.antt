@@ -3,10 +3,10 @@ use Rattle.std.proofs.Common.{◌≡◌, ℕ, ◌+◌, List, [], ◌∷◌, map,
 use Rattle.serde_json.specs.Data.{Data, null, boolean, number, string, array, object}
 use Rattle.serde_json.specs.View.{items_of}
 use Rattle.lalrpop_grammar_symbols.specs.declared.span.Span.{Span}
-use Rattle.lalrpop_grammar_types.specs.declared.attribute.Attribute.{Attribute, fold-roll-Attribute}
-use Rattle.lalrpop_grammar_types.specs.declared.attribute.AttributeArg.{AttributeArg, fold-roll-AttributeArg}
-use Rattle.lalrpop_grammar_types.specs.declared.attribute.AttributeArg.TheOpen as layer
-use Rattle.lalrpop_grammar_types.specs.declared.attribute.AttributeArg.TheVariants as args
+use Rattle.lalrpop_grammar.specs.declared.types.attribute.Attribute.{Attribute, fold-roll-Attribute}
+use Rattle.lalrpop_grammar.specs.declared.types.attribute.AttributeArg.{AttributeArg, fold-roll-AttributeArg}
+use Rattle.lalrpop_grammar.specs.declared.types.attribute.AttributeArg.TheOpen as layer
+use Rattle.lalrpop_grammar.specs.declared.types.attribute.AttributeArg.TheVariants as args
 use Rattle.lalrpop_json_values.specs.declared.fault.Step.TheVariants as step
 use Rattle.lalrpop_json_values.specs.declared.form.Form.{Form}
 use Rattle.lalrpop_json_values.specs.declared.form.Form.TheVariants as form

@@ -1,7 +1,7 @@
 -- Attributes inside attributes: that a reader reads by its form, for the functions that call each other and for the laws.
 use Rattle.std.proofs.Common.{◌≡◌, Option, Some, refl}
 use Rattle.serde_json.specs.Data.{Data, null, boolean, number, string, array, object}
-use Rattle.lalrpop_grammar_types.specs.declared.attribute.Attribute.{Attribute}
+use Rattle.lalrpop_grammar.specs.declared.types.attribute.Attribute.{Attribute}
 use Rattle.lalrpop_json_values.specs.declared.form.Form.{Form}
 use Rattle.lalrpop_json_values.specs.declared.form.Form.TheVariants as form
 use Rattle.lalrpop_json_values.specs.declared.key.Key.TheVariants as key

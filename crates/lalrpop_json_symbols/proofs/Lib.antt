@@ -5,3 +5,9 @@ pub mod SymbolLemmas
 pub mod SymbolNestingLemmas
 pub mod TypeLemmas
 pub mod TypeNestingLemmas
+pub mod AttributeSpellingLemmas
+pub mod EachLemmas
+pub mod ListLemmas
+pub mod SymbolSpellingLemmas
+pub mod TerminalLemmas
+pub mod TypeSpellingLemmas

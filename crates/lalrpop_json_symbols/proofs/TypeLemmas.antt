@@ -5,9 +5,9 @@ use Rattle.serde_json.specs.Data.{Data, string}
 use Rattle.serde_json.specs.Find.{as_null}
 use Rattle.serde_json.specs.View.{items_of}
 use Rattle.lalrpop_grammar_symbols.specs.declared.symbol.Symbol.{Symbol}
-use Rattle.lalrpop_grammar_types.specs.declared.type_ref.TypeRef.{TypeRef, fold-roll-TypeRef}
-use Rattle.lalrpop_grammar_types.specs.declared.type_ref.TypeRef.TheOpen as layer
-use Rattle.lalrpop_grammar_types.specs.declared.type_ref.TypeRef.TheVariants as types
+use Rattle.lalrpop_grammar.specs.declared.types.type_ref.TypeRef.{TypeRef, fold-roll-TypeRef}
+use Rattle.lalrpop_grammar.specs.declared.types.type_ref.TypeRef.TheOpen as layer
+use Rattle.lalrpop_grammar.specs.declared.types.type_ref.TypeRef.TheVariants as types
 use Rattle.lalrpop_json_values.specs.declared.fault.Step.TheVariants as step
 use Rattle.lalrpop_json_values.specs.declared.form.Form.{Form}
 use Rattle.lalrpop_json_values.specs.declared.form.Form.TheVariants as form

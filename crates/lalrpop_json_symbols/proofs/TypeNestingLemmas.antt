@@ -1,7 +1,7 @@
 -- Types inside types: that a reader reads by its form, for the functions that call each other and for the laws.
 use Rattle.std.proofs.Common.{◌≡◌, Option, Some, refl}
 use Rattle.serde_json.specs.Data.{Data}
-use Rattle.lalrpop_grammar_types.specs.declared.type_ref.TypeRef.{TypeRef}
+use Rattle.lalrpop_grammar.specs.declared.types.type_ref.TypeRef.{TypeRef}
 use Rattle.lalrpop_json_values.specs.declared.form.Form.{Form}
 use Rattle.lalrpop_json_values.specs.declared.form.Form.TheVariants as form
 use Rattle.lalrpop_json_values.specs.declared.key.Key.TheVariants as key

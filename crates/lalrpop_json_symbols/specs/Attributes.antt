@@ -1,9 +1,9 @@
 -- How attributes are read.
 use Rattle.std.specs.Prelude.{ℕ, List, [], ◌∷◌, Result, Ok, Err, Option, Some, is_some, if◌then◌else◌}
 use Rattle.serde_json.specs.Find.{as_null}
-use Rattle.lalrpop_grammar_types.specs.declared.attribute.Attribute.{Attribute, roll-Attribute}
-use Rattle.lalrpop_grammar_types.specs.declared.attribute.AttributeArg.{AttributeArg}
-use Rattle.lalrpop_grammar_types.specs.declared.attribute.AttributeArg.TheVariants as args
+use Rattle.lalrpop_grammar.specs.declared.types.attribute.Attribute.{Attribute, roll-Attribute}
+use Rattle.lalrpop_grammar.specs.declared.types.attribute.AttributeArg.{AttributeArg}
+use Rattle.lalrpop_grammar.specs.declared.types.attribute.AttributeArg.TheVariants as args
 use Rattle.lalrpop_grammar_symbols.specs.declared.span.Span.{Span}
 use Rattle.serde_json.specs.Data.{Data}
 use Rattle.lalrpop_json_values.specs.declared.fault.Fault.{Fault}

@@ -4,3 +4,4 @@ pub mod Readable
 pub mod Spelling
 pub mod Symbols
 pub mod Types
+pub mod Kinds

@@ -7,11 +7,11 @@ use Rattle.lalrpop_grammar_symbols.specs.declared.symbol.SymbolKind.TheVariants 
 use Rattle.lalrpop_grammar_symbols.specs.declared.terminal.TerminalLiteral.{TerminalLiteral}
 use Rattle.lalrpop_grammar_symbols.specs.declared.terminal.TerminalString.{TerminalString}
 use Rattle.lalrpop_grammar_symbols.specs.declared.terminal.TerminalString.TheVariants as terminals
-use Rattle.lalrpop_grammar_types.specs.declared.type_ref.TypeRef.{TypeRef}
-use Rattle.lalrpop_grammar_types.specs.declared.type_ref.TypeRef.TheVariants as types
-use Rattle.lalrpop_grammar_types.specs.declared.attribute.Attribute.{Attribute}
-use Rattle.lalrpop_grammar_types.specs.declared.attribute.AttributeArg.{AttributeArg}
-use Rattle.lalrpop_grammar_types.specs.declared.attribute.AttributeArg.TheVariants as args
+use Rattle.lalrpop_grammar.specs.declared.types.type_ref.TypeRef.{TypeRef}
+use Rattle.lalrpop_grammar.specs.declared.types.type_ref.TypeRef.TheVariants as types
+use Rattle.lalrpop_grammar.specs.declared.types.attribute.Attribute.{Attribute}
+use Rattle.lalrpop_grammar.specs.declared.types.attribute.AttributeArg.{AttributeArg}
+use Rattle.lalrpop_grammar.specs.declared.types.attribute.AttributeArg.TheVariants as args
 use Rattle.lalrpop_json_values.specs.Scalars.{is_name}
 use Rattle.lalrpop_json_values.specs.Spelled.{IsSpan}
 use Rattle.lalrpop_json_symbols.specs.Attributes.{attribute_of}

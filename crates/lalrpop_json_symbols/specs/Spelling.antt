@@ -13,12 +13,12 @@ use Rattle.lalrpop_grammar_symbols.specs.declared.terminal.TerminalLiteral.{Term
 use Rattle.lalrpop_grammar_symbols.specs.declared.terminal.TerminalLiteral.TheVariants as literals
 use Rattle.lalrpop_grammar_symbols.specs.declared.terminal.TerminalString.{TerminalString}
 use Rattle.lalrpop_grammar_symbols.specs.declared.terminal.TerminalString.TheVariants as terminals
-use Rattle.lalrpop_grammar_types.specs.declared.type_ref.TypeRef.{TypeRef, fold-TypeRef}
-use Rattle.lalrpop_grammar_types.specs.declared.type_ref.TypeRef.TheOpen as type_layer
-use Rattle.lalrpop_grammar_types.specs.declared.attribute.Attribute.{Attribute}
-use Rattle.lalrpop_grammar_types.specs.declared.attribute.AttributeArg.{AttributeArg}
-use Rattle.lalrpop_grammar_types.specs.declared.attribute.AttributeArg.TheFolds as attribute_folds
-use Rattle.lalrpop_grammar_types.specs.declared.attribute.AttributeArg.TheOpen as attribute_layer
+use Rattle.lalrpop_grammar.specs.declared.types.type_ref.TypeRef.{TypeRef, fold-TypeRef}
+use Rattle.lalrpop_grammar.specs.declared.types.type_ref.TypeRef.TheOpen as type_layer
+use Rattle.lalrpop_grammar.specs.declared.types.attribute.Attribute.{Attribute}
+use Rattle.lalrpop_grammar.specs.declared.types.attribute.AttributeArg.{AttributeArg}
+use Rattle.lalrpop_grammar.specs.declared.types.attribute.AttributeArg.TheFolds as attribute_folds
+use Rattle.lalrpop_grammar.specs.declared.types.attribute.AttributeArg.TheOpen as attribute_layer
 use Rattle.lalrpop_json_values.specs.declared.key.Key.TheVariants as key
 use Rattle.lalrpop_json_values.specs.declared.word.Word.{Word}
 use Rattle.lalrpop_json_values.specs.declared.word.Word.TheVariants as word

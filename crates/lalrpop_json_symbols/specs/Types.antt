@@ -1,7 +1,7 @@
 -- How declared types are read.
 use Rattle.std.specs.Prelude.{List, [], ◌∷◌, Result, Ok, Err, Option, Some}
-use Rattle.lalrpop_grammar_types.specs.declared.type_ref.TypeRef.{TypeRef}
-use Rattle.lalrpop_grammar_types.specs.declared.type_ref.TypeRef.TheVariants as types
+use Rattle.lalrpop_grammar.specs.declared.types.type_ref.TypeRef.{TypeRef}
+use Rattle.lalrpop_grammar.specs.declared.types.type_ref.TypeRef.TheVariants as types
 use Rattle.serde_json.specs.Data.{Data}
 use Rattle.lalrpop_json_values.specs.declared.fault.Fault.{Fault}
 use Rattle.lalrpop_json_values.specs.declared.fault.FaultKind.TheVariants as fault

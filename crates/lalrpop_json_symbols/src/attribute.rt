@@ -8,8 +8,8 @@ ghost use Rattle.lalrpop_json_values.specs.Objects.{field_at};
 ghost use Rattle.lalrpop_json_symbols.specs.Attributes.{arg_at, attribute_at, equal_at, paren_at};
 ghost use Rattle.lalrpop_json_values.specs.declared.fault.Step.TheVariants as step;
 
+use lalrpop_grammar::types::{Attribute, AttributeArg};
 use lalrpop_grammar_symbols::List;
-use lalrpop_grammar_types::{Attribute, AttributeArg};
 use lalrpop_json_document::JsonValue;
 use lalrpop_json_values::{
     FaultKind, Form, Key, ReadError, Step, at_key, form_by_key, here, keys, member, name_field,

@@ -7,6 +7,7 @@ mod attribute;
 mod literal;
 mod symbol;
 mod type_ref;
+pub mod writer;
 
 pub use attribute::{attribute_of, attributes_field};
 pub use literal::{literal_field, literal_of, terminal_field, terminal_of};

@@ -10,8 +10,8 @@ ghost use Rattle.lalrpop_json_symbols.specs.Types.{nominal_at, of_symbol_at, opa
 ghost use Rattle.lalrpop_json_values.specs.declared.fault.Step.TheVariants as step;
 
 use crate::symbol::symbol_field;
+use lalrpop_grammar::types::TypeRef;
 use lalrpop_grammar_symbols::{Boxed, List};
-use lalrpop_grammar_types::TypeRef;
 use lalrpop_json_document::JsonValue;
 use lalrpop_json_values::{
     FaultKind, Form, Key, ReadError, Step, at_key, flag_field, form_by_key, here, keys, member,

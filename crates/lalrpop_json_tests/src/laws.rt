@@ -1,7 +1,7 @@
 //! Laws of the format.
 
+use lalrpop_json_grammar::print_law::prints_tell_trees_apart;
 use lalrpop_json_grammar::{grammar_laws, tree_laws};
-use lalrpop_json_print_law::prints_tell_trees_apart;
 
 #[test]
 fn laws_are_called() {

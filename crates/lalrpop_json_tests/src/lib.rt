@@ -1,6 +1,7 @@
 //! Tests of the layer of the format that no table can hold: grammars that no value spells, and laws.
 #![tactic(auto)]
 
+pub mod judging;
 #[cfg(test)]
 mod laws;
 #[cfg(test)]

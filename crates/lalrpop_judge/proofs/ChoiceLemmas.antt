@@ -15,18 +15,18 @@ use Rattle.lalrpop_grammar_language.specs.Levels as pure
 use Rattle.lalrpop_grammar_language.specs.Closing.{parameter_value, right_side}
 use Rattle.lalrpop_grammar_language.specs.Conditions.{Holds}
 use Rattle.lalrpop_grammar_language.specs.Admitting.{AtMost, Fits, bind, rank_level}
-use Rattle.lalrpop_grammar_closed.proofs.ArgumentLemmas.{closed_list-closeds}
+use Rattle.lalrpop_grammar_rules.proofs.ArgumentLemmas.{closed_list-closeds}
 use Rattle.lalrpop_grammar_rules.specs.Details.{Kept}
 use Rattle.lalrpop_grammar_rules.specs.Ranks.{rank_view}
 use Rattle.lalrpop_grammar_rules.specs.RuleTable.{rules_with}
-use Rattle.lalrpop_grammar_closed.specs.Views.{binding_of, closed_view, closeds}
-use Rattle.lalrpop_grammar_closed.specs.declared.closed_symbol.ClosedSymbol.{ClosedSymbol}
+use Rattle.lalrpop_grammar_rules.specs.Views.{binding_of, closed_view, closeds}
+use Rattle.lalrpop_grammar_rules.specs.declared.closed.closed_symbol.ClosedSymbol.{ClosedSymbol}
 use Rattle.lalrpop_grammar_rules.specs.declared.levels.Rank.{Rank}
 use Rattle.lalrpop_grammar_rules.specs.declared.table.Rules as table
 use Rattle.lalrpop_judge.specs.Admitted.{IsRightSideAt}
-use Rattle.lalrpop_grammar_closed.specs.Finding.{IsFault, IsRefusal, IsSearch, IsUndecided}
-use Rattle.lalrpop_grammar_closed.specs.declared.condition.ConditionFault.{ConditionFault}
-use Rattle.lalrpop_grammar_closed.specs.declared.condition.ConditionFault.TheVariants as faults
+use Rattle.lalrpop_grammar_rules.specs.Finding.{IsFault, IsRefusal, IsSearch, IsUndecided}
+use Rattle.lalrpop_grammar_rules.specs.declared.closed.condition.ConditionFault.{ConditionFault}
+use Rattle.lalrpop_grammar_rules.specs.declared.closed.condition.ConditionFault.TheVariants as faults
 use Rattle.lalrpop_judge.specs.Faults.{NamesSearch, OnlyWhere, fault_of}
 use Rattle.lalrpop_judge.specs.declared.error.JudgeError.TheVariants as errors
 use Rattle.lalrpop_judge.specs.Placed.{IsPlaced, placed_view, rule_in}

@@ -8,8 +8,8 @@ use Rattle.std.specs.Option.{ForSome}
 use Rattle.std.specs.Prelude.{◌&&◌, Result, Ok, Err, OnErr, OnOk, is_some, not, option_map}
 use Rattle.std.specs.Str.{bytes_eq}
 use Rattle.lalrpop_grammar_symbols.specs.Symbols.{Text}
-use Rattle.lalrpop_grammar_closed.specs.Finding.{IsReadPattern, IsUnread}
-use Rattle.lalrpop_judge_search.specs.Search.{finds, is_too_deep, search_pattern}
+use Rattle.lalrpop_grammar_rules.specs.Finding.{IsReadPattern, IsUnread}
+use Rattle.lalrpop_grammar_rules.specs.Search.{finds, is_too_deep, search_pattern}
 use Rattle.lalrpop_judge.specs.Compiled.{CompiledTable, IsCompiledFrom, IsCompiledTable, compiled_at, is_readable}
 use Rattle.lalrpop_judge.specs.declared.compiled.CompiledPattern.{CompiledPattern}
 

@@ -12,7 +12,7 @@ use Rattle.lalrpop_grammar_language.proofs.LeafLemmas.{tokens_are, all_tokens_ar
 use Rattle.lalrpop_grammar_language.proofs.PlaceLemmas.{places_apart}
 use Rattle.lalrpop_grammar_rules.specs.RuleTable.{rules_with}
 use Rattle.lalrpop_grammar_rules.specs.declared.table.Rules as table
-use Rattle.lalrpop_grammar_closed.specs.Views.{closeds}
+use Rattle.lalrpop_grammar_rules.specs.Views.{closeds}
 use Rattle.lalrpop_judge.specs.Admitted.{Admitted, AdmittedAll, AdmittedEach, IsRightSideAt, MayBe}
 
 -- `false` is not true, so anything follows

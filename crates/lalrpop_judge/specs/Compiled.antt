@@ -10,7 +10,7 @@ use Rattle.std.specs.Coded.{×_prop, Π_prop, →_prop, Coded-set, coded_bool, c
 use Rattle.regex.specs.Patterns.{find_str}
 use Rattle.regex.specs.Strings.{regex_pattern}
 use Rattle.lalrpop_grammar_symbols.specs.Symbols.{Text}
-use Rattle.lalrpop_judge_search.specs.Search.{finds, is_too_deep, search_pattern}
+use Rattle.lalrpop_grammar_rules.specs.Search.{finds, is_too_deep, search_pattern}
 use Rattle.lalrpop_judge.specs.declared.compiled.CompiledPattern.{CompiledPattern}
 use Rattle.lalrpop_judge.specs.declared.compiled.CompiledPattern.TheVariants as compiled
 

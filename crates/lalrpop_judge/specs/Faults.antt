@@ -7,9 +7,9 @@ use Rattle.lalrpop_grammar_language.specs.Among.{Among}
 use Rattle.lalrpop_grammar_language.specs.Admitting.{IsAtPlace}
 use Rattle.lalrpop_grammar_language.specs.Enabled.{Choice, EnabledRule, IsRule, EnabledGrammar}
 use Rattle.lalrpop_grammar_language.specs.Levels.{Rank, ranked_choices}
-use Rattle.lalrpop_grammar_closed.specs.Finding.{IsSearch}
-use Rattle.lalrpop_grammar_closed.specs.declared.condition.ConditionFault.{ConditionFault}
-use Rattle.lalrpop_grammar_closed.specs.declared.condition.ConditionFault.TheVariants as faults
+use Rattle.lalrpop_grammar_rules.specs.Finding.{IsSearch}
+use Rattle.lalrpop_grammar_rules.specs.declared.closed.condition.ConditionFault.{ConditionFault}
+use Rattle.lalrpop_grammar_rules.specs.declared.closed.condition.ConditionFault.TheVariants as faults
 use Rattle.lalrpop_judge.specs.declared.error.JudgeError.{JudgeError}
 use Rattle.lalrpop_judge.specs.declared.error.JudgeError.TheVariants as errors
 

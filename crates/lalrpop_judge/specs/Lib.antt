@@ -3,3 +3,10 @@ pub mod Compiled
 pub mod Ends
 pub mod Faults
 pub mod Placed
+pub mod Certificates
+pub mod CertificateViews
+pub mod Laws
+pub mod LentTrees
+pub mod MoveLists
+pub mod MoveViews
+pub mod Steps

@@ -5,11 +5,11 @@ ghost use Rattle.lalrpop_grammar_symbols.specs.Symbols.{Closed, Closeds, Op, Tex
 ghost use Rattle.lalrpop_grammar_symbols.specs.Views.{terminal_view};
 ghost use Rattle.lalrpop_grammar_language.specs.Admitting.{IsTokenTerminal};
 ghost use Rattle.lalrpop_grammar_language.specs.Closing.{inner};
-ghost use Rattle.lalrpop_grammar_closed.specs.Views.{closed_view, closeds};
+ghost use Rattle.lalrpop_grammar_rules.specs.Views.{closed_view, closeds};
 ghost use Rattle.lalrpop_judge.specs.Admitted.{MayBe};
 
 use lalrpop_grammar::{Atom, RepeatOp, TerminalString};
-use lalrpop_grammar_closed::{ClosedSymbol, same_terminal};
+use lalrpop_grammar_rules::closed::{ClosedSymbol, same_terminal};
 
 /// What an optional symbol repeats.
 pub(crate) fn optional(symbol: &ClosedSymbol) -> Option<&ClosedSymbol>

@@ -6,14 +6,14 @@ ghost use Rattle.lalrpop_grammar_language.specs.Admitting.{AtMost, Fits, bind, r
 ghost use Rattle.lalrpop_grammar_language.specs.Closing.{right_side as right_side_of};
 ghost use Rattle.lalrpop_grammar_rules.specs.RuleTable.{IsTable, rules_with};
 ghost use Rattle.lalrpop_grammar_rules.specs.Ranks.{rank_view};
-ghost use Rattle.lalrpop_grammar_closed.specs.Views.{closed_view, closeds};
+ghost use Rattle.lalrpop_grammar_rules.specs.Views.{closed_view, closeds};
 ghost use Rattle.lalrpop_judge.specs.Admitted.{IsRightSideAt};
 ghost use Rattle.lalrpop_judge.specs.Faults.{NamesSearch, OnlyWhere};
 ghost use Rattle.lalrpop_judge.specs.Placed.{IsChoiceAt, IsPlacedAt, IsPlaced, placed_view, rule_in};
 
 use crate::error::JudgeError;
 use lalrpop_grammar::{Atom, List};
-use lalrpop_grammar_closed::{Binding, ClosedSymbol, Finder, holds, right_side};
+use lalrpop_grammar_rules::closed::{Binding, ClosedSymbol, Finder, holds, right_side};
 use lalrpop_grammar_rules::{Choice, EnabledRule, Rank, Rules};
 use std::alloc::Global;
 

@@ -4,11 +4,11 @@ ghost use Rattle.std.specs.Prelude.{◌≡◌, IfOk, is_some};
 ghost use Rattle.regex.specs.Patterns.{find_str};
 ghost use Rattle.regex.specs.Strings.{regex_pattern};
 ghost use Rattle.lalrpop_grammar_symbols.specs.Symbols.{Text};
-ghost use Rattle.lalrpop_grammar_closed.specs.Finding.{IsFinding};
-ghost use Rattle.lalrpop_judge_search.specs.Search.{finding_of, finds, is_too_deep};
+ghost use Rattle.lalrpop_grammar_rules.specs.Finding.{IsFinding};
+ghost use Rattle.lalrpop_grammar_rules.specs.Search.{finding_of, finds, is_too_deep};
 ghost use Rattle.lalrpop_judge.specs.Compiled.{IsCompiledFrom};
 
-use lalrpop_grammar_closed::Finding;
+use lalrpop_grammar_rules::closed::Finding;
 use regex::{Error, Regex};
 use std::alloc::{AllocError, Global};
 

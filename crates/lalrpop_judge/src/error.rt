@@ -3,7 +3,7 @@
 ghost use Rattle.std.specs.Prelude.{◌≡◌};
 ghost use Rattle.lalrpop_judge.specs.declared.error.JudgeError.TheVariants.{Memory};
 
-use lalrpop_grammar_closed::ConditionFault;
+use lalrpop_grammar_rules::closed::ConditionFault;
 use std::alloc::{AllocError, AllocFailed};
 use std::error::Error;
 use std::fmt;

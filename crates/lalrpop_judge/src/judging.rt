@@ -6,7 +6,7 @@ ghost use Rattle.lalrpop_grammar.specs.Views.{grammar_view, token_view, tree_vie
 ghost use Rattle.lalrpop_grammar_language.specs.Admitting.{AdmitsFrom, AdmitsStart};
 ghost use Rattle.lalrpop_grammar_language.specs.Enabled.{enabled_grammar};
 ghost use Rattle.lalrpop_grammar_rules.specs.RuleTable.{IsTable, rules_with};
-ghost use Rattle.lalrpop_judge_search.specs.Search.{finds};
+ghost use Rattle.lalrpop_grammar_rules.specs.Search.{finds};
 ghost use Rattle.lalrpop_judge.specs.Faults.{HasSearch, OnlyWhere};
 
 use crate::error::JudgeError;
@@ -14,8 +14,8 @@ use crate::leaves::are_leaves;
 use crate::patterns::CompiledPatterns;
 use crate::walk::admits;
 use lalrpop_grammar::{Atom, Grammar, List, ScanToken, WrittenTree};
-use lalrpop_grammar_closed::{ClosedSymbol, Shared};
 use lalrpop_grammar_rules::Rules;
+use lalrpop_grammar_rules::closed::{ClosedSymbol, Shared};
 use std::alloc::Global;
 
 /// Whether the grammar that the features enable admits the tree from the start, with exactly these tokens.

@@ -7,7 +7,7 @@ ghost use Rattle.lalrpop_grammar.specs.Views.{token_view, tree_view};
 ghost use Rattle.lalrpop_judge.specs.Ends.{EndsAt};
 
 use lalrpop_grammar::{Atom, ScanToken, Span, TerminalString, WrittenTree};
-use lalrpop_grammar_closed::same_terminal;
+use lalrpop_grammar_rules::closed::same_terminal;
 
 /// Whether the tokens are those at the leaves of the tree, from left to right.
 pub(crate) fn are_leaves(tree: &WrittenTree, tokens: &[ScanToken<'_>]) -> bool

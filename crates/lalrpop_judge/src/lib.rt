@@ -1,7 +1,8 @@
-//! Whether a written grammar admits a written tree with given tokens; and, handed on, whether a certificate shows a conflict.
+//! Whether a written grammar admits a written tree with given tokens; and whether a certificate shows a conflict.
 #![tactic(auto)]
 
 mod asking;
+pub mod certificates;
 mod choosing;
 mod compiled;
 mod error;
@@ -10,6 +11,6 @@ mod leaves;
 mod patterns;
 mod walk;
 
+pub use crate::certificates::{Certificate, Move, certificates_refute, check_conflict};
 pub use error::JudgeError;
 pub use judging::{judge, judge_tree};
-pub use lalrpop_judge_certificates::{Certificate, Move, certificates_refute, check_conflict};

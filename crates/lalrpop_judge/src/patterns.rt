@@ -4,9 +4,9 @@ ghost use Rattle.lalrpop_judge.specs.Compiled.{IsCompiledTable, IsCompiledTable-
 
 use crate::compiled::CompiledPattern;
 use lalrpop_grammar::{Alternative, Atom, Condition, ConditionOp, Grammar, NonterminalData};
-use lalrpop_grammar_closed::{Finder, Finding};
 use lalrpop_grammar_rules::cfg_active;
-use lalrpop_judge_search::PatternFinder;
+use lalrpop_grammar_rules::closed::{Finder, Finding};
+use lalrpop_grammar_rules::search::PatternFinder;
 use std::alloc::{AllocError, Global};
 use std::collections::HashMap;
 
@@ -87,7 +87,7 @@ impl<'g> CompiledPatterns<'g> {
 }
 
 impl<'g> Finder for CompiledPatterns<'g> {
-    ghost use Rattle.lalrpop_judge_search.specs.Search.{finds as finds_in, is_too_deep};
+    ghost use Rattle.lalrpop_grammar_rules.specs.Search.{finds as finds_in, is_too_deep};
 
     ghost finds = { λ patterns. finds_in };
 

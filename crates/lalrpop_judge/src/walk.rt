@@ -5,7 +5,7 @@ ghost use Rattle.lalrpop_grammar_symbols.specs.Views.{symbol_view, without_marks
 ghost use Rattle.lalrpop_grammar.specs.Trees.{trees as tree_list, Tree};
 ghost use Rattle.lalrpop_grammar.specs.Views.{tree_view};
 ghost use Rattle.lalrpop_grammar_rules.specs.RuleTable.{IsTable, rules_with};
-ghost use Rattle.lalrpop_grammar_closed.specs.Views.{closed_view};
+ghost use Rattle.lalrpop_grammar_rules.specs.Views.{closed_view};
 ghost use Rattle.lalrpop_judge.specs.Admitted.{Admitted, AdmittedAll, AdmittedEach};
 ghost use Rattle.lalrpop_judge.specs.Faults.{HasSearch, HaveSearch, OnlyWhere};
 
@@ -13,8 +13,8 @@ use crate::asking::{call_of, is_literal, is_look, optional, repeated_symbol, sym
 use crate::choosing::chosen_side;
 use crate::error::JudgeError;
 use lalrpop_grammar::{Atom, Symbol, WrittenTree};
-use lalrpop_grammar_closed::{ClosedSymbol, Finder, same_name, show_as};
 use lalrpop_grammar_rules::Rules;
+use lalrpop_grammar_rules::closed::{ClosedSymbol, Finder, same_name, show_as};
 use std::alloc::Global;
 
 /// Whether the symbol admits the tree over its own leaves.

@@ -2,10 +2,10 @@
 use Rattle.std.proofs.Common.{◌≡◌, ℕ, List, [], ◌∷◌, refl, inl, inr, arith}
 use Rattle.lalrpop_grammar_symbols.specs.declared.names.NonterminalString.{NonterminalString}
 use Rattle.lalrpop_grammar_repr.specs.declared.terminal_set.TerminalSet.{TerminalSet}
-use Rattle.lalrpop_lr1_items.specs.declared.state.State.{State}
-use Rattle.lalrpop_lr1_items.specs.declared.state_index.StateIndex.{StateIndex}
-use Rattle.lalrpop_lr1_collapse.specs.CollapseAnswers.{states_over}
-use Rattle.lalrpop_lane_laws.specs.GotoOrders.{AreInGotoOrder, IsInFront}
+use Rattle.lalrpop_lr1_core.specs.declared.state.State.{State}
+use Rattle.lalrpop_lr1_core.specs.declared.state_index.StateIndex.{StateIndex}
+use Rattle.lalrpop_lr1_build.specs.CollapseAnswers.{states_over}
+use Rattle.lalrpop_lr1_theory.specs.GotoOrders.{AreInGotoOrder, IsInFront}
 use Rattle.lalrpop_lane.specs.GotoNumbers.{in_goto_order}
 use Rattle.lalrpop_lane.proofs.OrderLemmas.{ordered_fronts}
 

@@ -4,7 +4,7 @@ use Rattle.std.proofs.Common.{List, [], ◌∷◌, ◌++◌}
 use Rattle.std.proofs.Common.{append_assoc, drop, drop-cons, get_or, length, length-append, Some, refl, sym, ap, inl, inr, ⊎_elim, arith}
 use Rattle.std.specs.Prelude.{slice_get}
 use Rattle.lalrpop_lr1_theory.proofs.StepLemmas.{some_same}
-use Rattle.lalrpop_lr1_items.specs.declared.state.State.{State}
+use Rattle.lalrpop_lr1_core.specs.declared.state.State.{State}
 use Rattle.lalrpop_lane.specs.GotoNumbers.{count_marked, fronts_of, goto_numbers, has_some, numbers_from, with_mark}
 use Rattle.lalrpop_lane.specs.GotoNumbers.{state_by_numbers, states_by_numbers}
 

@@ -11,17 +11,17 @@ use Rattle.lalrpop_grammar_repr.specs.declared.terminal_set.TerminalSet.{Termina
 use Rattle.lalrpop_lr1_theory.specs.States as states
 use Rattle.lalrpop_lr1_theory.proofs.ListLemmas.{get_front}
 use Rattle.lalrpop_lr1_theory.proofs.StepLemmas.{some_same}
-use Rattle.lalrpop_lr1_items.specs.Views.{goto_view, lr_state_view, token_lookahead}
-use Rattle.lalrpop_lr1_items.specs.declared.state.State.{State}
-use Rattle.lalrpop_lr1_collapse_laws.proofs.CollapseLemmas.{get_some}
-use Rattle.lalrpop_lr1_collapse_laws.proofs.OrderLemmas.{get_image, image_get}
-use Rattle.lalrpop_lr1_collapse.specs.CollapseAnswers.{states_over}
-use Rattle.lalrpop_lr1_collapse.specs.Renumbering.{HaveTargetsWithin, renumber}
-use Rattle.lalrpop_lr1_collapse.proofs.EdgeLemmas.{targets_at}
-use Rattle.lalrpop_lr1_collapse.proofs.ListLemmas.{long_map}
-use Rattle.lalrpop_lr1_collapse.proofs.ViewLemmas.{renumbered_seen}
-use Rattle.lalrpop_lane_laws.specs.GotoOrders.{AreInGotoOrder, IsInFront}
-use Rattle.lalrpop_lane_laws.specs.RenumberedStates.{AreRenumberedStates, IsRenumberedState}
+use Rattle.lalrpop_lr1_core.specs.Views.{goto_view, lr_state_view, token_lookahead}
+use Rattle.lalrpop_lr1_core.specs.declared.state.State.{State}
+use Rattle.lalrpop_lr1_theory.proofs.CollapseLemmas.{get_some}
+use Rattle.lalrpop_lr1_theory.proofs.OrderLemmas.{get_image, image_get}
+use Rattle.lalrpop_lr1_build.specs.CollapseAnswers.{states_over}
+use Rattle.lalrpop_lr1_build.specs.Renumbering.{HaveTargetsWithin, renumber}
+use Rattle.lalrpop_lr1_build.proofs.RenumberedEdgeLemmas.{targets_at}
+use Rattle.lalrpop_lr1_build.proofs.ListLemmas.{long_map}
+use Rattle.lalrpop_lr1_build.proofs.ViewLemmas.{renumbered_seen}
+use Rattle.lalrpop_lr1_theory.specs.GotoOrders.{AreInGotoOrder, IsInFront}
+use Rattle.lalrpop_lr1_theory.specs.RenumberedStates.{AreRenumberedStates, IsRenumberedState}
 use Rattle.lalrpop_lane.specs.GotoNumbers.{count_marked, fronts_of, goto_numbers, has_some, in_goto_order, with_mark}
 use Rattle.lalrpop_lane.specs.GotoNumbers.{state_by_numbers, states_by_numbers}
 use Rattle.lalrpop_lane.proofs.NumberLemmas.{front_first, front_given, front_mark, fronts_length, numbers_length}

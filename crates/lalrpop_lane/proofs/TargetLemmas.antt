@@ -11,18 +11,19 @@ use Rattle.lalrpop_lr1_theory.specs.Productions as theory
 use Rattle.lalrpop_lr1_theory.specs.Automata.{IsCover}
 use Rattle.lalrpop_lr1_theory.specs.States.{HasEdge, HasItem}
 use Rattle.lalrpop_lr1_theory.proofs.ListLemmas.{contains_get}
-use Rattle.lalrpop_lr1_items.specs.Views.{goto_view, lr_state_view, shift_view, token_lookahead}
-use Rattle.lalrpop_lr1_items.specs.declared.state.State.{State}
-use Rattle.lalrpop_lr1_items.specs.declared.state_index.StateIndex.{StateIndex}
+use Rattle.lalrpop_lr1_core.specs.Views.{goto_view, lr_state_view, shift_view, token_lookahead}
+use Rattle.lalrpop_lr1_core.specs.declared.state.State.{State}
+use Rattle.lalrpop_lr1_core.specs.declared.state_index.StateIndex.{StateIndex}
 use Rattle.lalrpop_lr1_first.specs.NumberedGrammars.{HasItsTerminals}
-use Rattle.lalrpop_lr1_build.specs.BuiltStates.{AreCanonicalWithout, theory_grammar}
+use Rattle.lalrpop_lr1_build.specs.BuiltStates.{AreCanonicalWithout}
+use Rattle.lalrpop_lr1_core.specs.TheoryGrammars.{theory_grammar}
 use Rattle.lalrpop_lr1_build.proofs.BuiltLemmas.{all_each}
-use Rattle.lalrpop_lr1_collapse_laws.proofs.CollapseLemmas.{collapsed_cover}
-use Rattle.lalrpop_lr1_collapse_laws.proofs.CoverLemmas.{target_item}
-use Rattle.lalrpop_lr1_collapse_laws.proofs.OrderLemmas.{image_get, image_there}
-use Rattle.lalrpop_lr1_collapse.specs.CollapseAnswers.{AreCanonicalOf, states_over}
-use Rattle.lalrpop_lr1_collapse.specs.Renumbering.{HaveTargetsWithin}
-use Rattle.lalrpop_lr1_collapse.proofs.ListLemmas.{long_map}
+use Rattle.lalrpop_lr1_theory.proofs.CollapseLemmas.{collapsed_cover}
+use Rattle.lalrpop_lr1_theory.proofs.CollapsedCoverLemmas.{target_item}
+use Rattle.lalrpop_lr1_theory.proofs.OrderLemmas.{image_get, image_there}
+use Rattle.lalrpop_lr1_build.specs.CollapseAnswers.{AreCanonicalOf, states_over}
+use Rattle.lalrpop_lr1_build.specs.Renumbering.{HaveTargetsWithin}
+use Rattle.lalrpop_lr1_build.proofs.ListLemmas.{long_map}
 use Rattle.lalrpop_lane.specs.BuilderAnswers.{AreLalrWithout}
 
 -- states that cover the items have edges to states that are there

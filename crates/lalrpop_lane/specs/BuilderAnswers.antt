@@ -2,14 +2,14 @@
 use Rattle.std.specs.Prelude.{ℕ, ◌⊎◌, Bool, true, false, List}
 use Rattle.lalrpop_grammar_symbols.specs.declared.names.NonterminalString.{NonterminalString}
 use Rattle.lalrpop_grammar_repr.specs.declared.grammar.Grammar.{Grammar}
-use Rattle.lalrpop_lr1_items.specs.declared.state.State.{State}
-use Rattle.lalrpop_lr1_items.specs.declared.table_fault.TableFault.{TableFault}
+use Rattle.lalrpop_lr1_core.specs.declared.state.State.{State}
+use Rattle.lalrpop_lr1_core.specs.declared.table_fault.TableFault.{TableFault}
 use Rattle.lalrpop_lr1_build.specs.BuiltStates.{AreCanonicalWithout, IsCanonicalFault}
-use Rattle.lalrpop_lr1_collapse.specs.CollapseAnswers.{IsCollapseFault, IsCollapseWithout, states_over}
-use Rattle.lalrpop_lane_method.specs.declared.Method.{Method}
-use Rattle.lalrpop_lane_method.specs.declared.Method.TheVariants as methods
-use Rattle.lalrpop_lane_laws.specs.GotoOrders.{AreInGotoOrder}
-use Rattle.lalrpop_lane_laws.specs.RenumberedStates.{AreRenumberedStates}
+use Rattle.lalrpop_lr1_build.specs.CollapseAnswers.{IsCollapseFault, IsCollapseWithout, states_over}
+use Rattle.lalrpop_grammar_repr.specs.declared.methods.Method.{Method}
+use Rattle.lalrpop_grammar_repr.specs.declared.methods.Method.TheVariants as methods
+use Rattle.lalrpop_lr1_theory.specs.GotoOrders.{AreInGotoOrder}
+use Rattle.lalrpop_lr1_theory.specs.RenumberedStates.{AreRenumberedStates}
 
 -- the canonical states have no conflict, and put together by their cores they are these, without conflicts
 pub record AreLalrWithout (g : Grammar) (start : NonterminalString) (states : List (State (List ℕ))) : Type 0 where

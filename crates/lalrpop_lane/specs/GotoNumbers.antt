@@ -1,7 +1,7 @@
 -- The numbers by which state 0 comes first, then the other states with gotos, then the rest: for putting states in that order.
 use Rattle.std.specs.Prelude.{ℕ, suc, Bool, true, false, ◌||◌, List, [], ◌∷◌, ◌++◌, map}
-use Rattle.lalrpop_lr1_items.specs.declared.state.State.{State}
-use Rattle.lalrpop_lr1_collapse.specs.Renumbering.{renumber}
+use Rattle.lalrpop_lr1_core.specs.declared.state.State.{State}
+use Rattle.lalrpop_lr1_build.specs.Renumbering.{renumber}
 
 -- whether there is something in the list
 abbrev pub has_some : {X : Type 0} → List X → Bool

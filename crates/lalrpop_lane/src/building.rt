@@ -5,14 +5,10 @@ ghost use Rattle.lalrpop_lr1_theory.specs.Answers.{IsLr1};
 ghost use Rattle.lalrpop_lr1_theory.specs.CheckedStates.{AreCheckedStates, IsStartAlone};
 ghost use Rattle.lalrpop_lr1_theory.specs.ValidItems.{NoneBarren};
 ghost use Rattle.lalrpop_lr1_first.specs.NumberedGrammars.{HasItsTerminals};
-ghost use Rattle.lalrpop_lr1_build.specs.BuiltStates.{
-  AreCanonicalWithout,
-  IsCanonicalFault,
-  TellsNoLr1,
-  theory_grammar,
-};
-ghost use Rattle.lalrpop_lr1_collapse.specs.CollapseAnswers.{states_over};
-ghost use Rattle.lalrpop_lr1_collapse.specs.Renumbering.{HaveTargetsWithin};
+ghost use Rattle.lalrpop_lr1_build.specs.BuiltStates.{AreCanonicalWithout, IsCanonicalFault, TellsNoLr1};
+ghost use Rattle.lalrpop_lr1_core.specs.TheoryGrammars.{theory_grammar};
+ghost use Rattle.lalrpop_lr1_build.specs.CollapseAnswers.{states_over};
+ghost use Rattle.lalrpop_lr1_build.specs.Renumbering.{HaveTargetsWithin};
 ghost use Rattle.lalrpop_lane.specs.BuilderAnswers.{
   AreAskedInOrder,
   AreAskedStates,
@@ -26,11 +22,11 @@ ghost use Rattle.lalrpop_lane.specs.BuilderAnswers.{
 
 use crate::ordering::goto_order;
 use lalrpop_grammar_repr::Grammar;
+use lalrpop_grammar_repr::methods::Method;
 use lalrpop_grammar_symbols::NonterminalString;
-use lalrpop_lane_method::Method;
 use lalrpop_lr1_build::build_lr1_states_canonical;
-use lalrpop_lr1_collapse::collapse_to_lalr_states;
-use lalrpop_lr1_items::{Lr1Result, Lr1State};
+use lalrpop_lr1_build::collapse::collapse_to_lalr_states;
+use lalrpop_lr1_core::{Lr1Result, Lr1State};
 use std::alloc::Global;
 
 /// LR(1) states of the grammar for a start, which the end follows, to parse with; or all conflicts of its canonical states. By the

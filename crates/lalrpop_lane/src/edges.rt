@@ -3,8 +3,8 @@
 ghost use Rattle.std.specs.Prelude.{◌≡◌, ◌<◌, All, IfOk, length};
 ghost use Rattle.lalrpop_lane.specs.GotoNumbers.{state_by_numbers};
 
-use lalrpop_lr1_collapse::renumber_edges;
-use lalrpop_lr1_items::{Lr1State, State, StateIndex};
+use lalrpop_lr1_build::collapse::renumber_edges;
+use lalrpop_lr1_core::{Lr1State, State, StateIndex};
 use std::alloc::{AllocError, Global};
 
 /// The state with this number, its edges by the numbers.

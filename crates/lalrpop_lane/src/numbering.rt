@@ -3,7 +3,7 @@
 ghost use Rattle.std.specs.Prelude.{◌≡◌, ◌≤◌, ◌||◌, true, length, IfOk};
 ghost use Rattle.lalrpop_lane.specs.GotoNumbers.{count_marked, fronts_of, goto_numbers, has_some};
 
-use lalrpop_lr1_items::Lr1State;
+use lalrpop_lr1_core::Lr1State;
 use std::alloc::{AllocError, Global};
 
 /// Whether the state is the first, or has gotos.

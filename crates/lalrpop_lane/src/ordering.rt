@@ -1,12 +1,12 @@
 //! States in the order in which state 0 comes first, then the other states with gotos, then the rest.
 
 ghost use Rattle.std.specs.Prelude.{◌≡◌, ◌++◌, true, false, IfOk, length};
-ghost use Rattle.lalrpop_lr1_collapse.specs.Renumbering.{HaveTargetsWithin};
+ghost use Rattle.lalrpop_lr1_build.specs.Renumbering.{HaveTargetsWithin};
 ghost use Rattle.lalrpop_lane.specs.GotoNumbers.{in_goto_order, with_mark, states_by_numbers};
 
 use crate::edges::renumber_state;
 use crate::numbering::{fronts, numbers_of};
-use lalrpop_lr1_items::Lr1State;
+use lalrpop_lr1_core::Lr1State;
 use std::alloc::{AllocError, Global};
 
 /// The states by the numbers, in their old order.

@@ -6,8 +6,8 @@ use Rattle.std.proofs.lemmas.Bool.Decides.{nat_tests}
 use Rattle.std.specs.Char.{is_ascii_punctuation}
 use Rattle.lalrpop_lexer_pattern.specs.Matches.{Pattern, concat_all, Matches}
 use Rattle.lalrpop_lexer_regex.specs.declared.flags.Flags.{Flags}
-use Rattle.lalrpop_lexer_classes.specs.Escapes.{escaped_character_at}
-use Rattle.lalrpop_lexer_classes.specs.SetEscapes.{is_set_letter}
+use Rattle.lalrpop_lexer_regex.specs.Escapes.{escaped_character_at}
+use Rattle.lalrpop_lexer_regex.specs.SetEscapes.{is_set_letter}
 use Rattle.lalrpop_lexer_regex.specs.Repeats.{begins_repeat}
 use Rattle.lalrpop_lexer_regex.specs.Atoms.{is_special, look_of, one_character, escaped_atom_at, plain_atom_at}
 use Rattle.lalrpop_lexer_regex.specs.Patterns.{concat_of, repeats_from, branches_from, atom_with, factor_with, atom_at, factor_at}

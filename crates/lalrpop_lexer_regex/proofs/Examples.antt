@@ -2,8 +2,8 @@
 use Rattle.std.proofs.Common.{◌≡◌, true, false, Result, [], ◌∷◌, None, Ok, Err, refl}
 use Rattle.std.specs.Prelude.{ℕ, codes}
 use Rattle.lalrpop_lexer_pattern.specs.Matches.{Pattern, concat_all, alternation_all}
-use Rattle.lalrpop_lexer_classes.specs.declared.fault.PatternFaultKind.TheVariants.{Syntax, BadRange}
-use Rattle.lalrpop_lexer_classes.specs.Outcome.{Fault}
+use Rattle.lalrpop_lexer_regex.specs.declared.classes.fault.PatternFaultKind.TheVariants.{Syntax, BadRange}
+use Rattle.lalrpop_lexer_regex.specs.Outcome.{Fault}
 use Rattle.lalrpop_lexer_regex.specs.Atoms.{one_character, plain_atom_at}
 use Rattle.lalrpop_lexer_regex.specs.Repeats.{upper_at, bounds_at, repeat_sign_at, repeats_read}
 use Rattle.lalrpop_lexer_regex.specs.Patterns.{repeats_from, branches_from, factor_with, pattern_with, pattern_group_with, atom_with}

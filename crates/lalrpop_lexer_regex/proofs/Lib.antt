@@ -1,4 +1,16 @@
+pub mod ClassLemmas
 pub mod PatternLemmas
 pub mod PlaceLemmas
 pub mod EscapingLemmas
 pub mod Examples
+pub mod NumeralLemmas
+pub mod CharacterLemmas
+pub mod ClassTextLemmas
+pub mod ReadingLemmas
+pub mod GroupLemmas
+pub mod AlikeLemmas
+pub mod NestingLemmas
+pub mod PrintLemmas
+pub mod ComplementLemmas
+pub mod ExamplesOfPrints
+pub mod ExamplesOfComplements

@@ -2,11 +2,11 @@
 use Rattle.std.proofs.Common.{◌≡◌, ℕ, zero, suc, ◌+◌, ◌-◌, ◌<◌, ◌≤◌, Bool, true, false, ◌==◌, List, []}
 use Rattle.std.proofs.Common.{◌∷◌, ◌++◌, length, Option, Result, Ok, Err, ap, ◌∙◌, refl, arith}
 use Rattle.lalrpop_lexer_pattern.specs.Matches.{Pattern}
-use Rattle.lalrpop_lexer_classes.specs.declared.fault.PatternError.{PatternError}
-use Rattle.lalrpop_lexer_classes.specs.declared.fault.PatternError.TheVariants as error
+use Rattle.lalrpop_lexer_regex.specs.declared.classes.fault.PatternError.{PatternError}
+use Rattle.lalrpop_lexer_regex.specs.declared.classes.fault.PatternError.TheVariants as error
 use Rattle.lalrpop_lexer_regex.specs.declared.flags.Flags.{Flags}
-use Rattle.lalrpop_lexer_classes.specs.declared.fault.PatternFaultKind.TheVariants.{Unsupported}
-use Rattle.lalrpop_lexer_classes.specs.Outcome.{Fault, Reading, FailsReading, ◌>>=◌, closing_at}
+use Rattle.lalrpop_lexer_regex.specs.declared.classes.fault.PatternFaultKind.TheVariants.{Unsupported}
+use Rattle.lalrpop_lexer_regex.specs.Outcome.{Fault, Reading, FailsReading, ◌>>=◌, closing_at}
 use Rattle.lalrpop_lexer_regex.specs.Repeats.{begins_repeat, repeats_read}
 use Rattle.lalrpop_lexer_regex.specs.Patterns.{concat_of, one_of, repeats_from, branches_from, inner_at, pattern_at, pattern_with}
 use Rattle.lalrpop_lexer_regex.specs.Patterns.{factor_with}

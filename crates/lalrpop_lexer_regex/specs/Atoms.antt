@@ -9,11 +9,11 @@ use Rattle.lalrpop_lexer_pattern.specs.declared.tree.Hir.{Hir}
 use Rattle.lalrpop_lexer_pattern.specs.declared.tree.Look.{Look}
 use Rattle.lalrpop_lexer_pattern.specs.declared.tree.Look.TheVariants.{Start, End, WordBoundary, NotWordBoundary}
 use Rattle.lalrpop_lexer_regex.specs.declared.flags.Flags.{Flags}
-use Rattle.lalrpop_lexer_classes.specs.Outcome.{Reading, syntax_fault, ◌>>=◌}
-use Rattle.lalrpop_lexer_classes.specs.Escapes.{escaped_character_at}
-use Rattle.lalrpop_lexer_classes.specs.SetEscapes.{is_set_letter, escaped_set_at}
-use Rattle.lalrpop_lexer_classes.specs.ClassItems.{range_set}
-use Rattle.lalrpop_lexer_classes.specs.Classes.{class_at}
+use Rattle.lalrpop_lexer_regex.specs.Outcome.{Reading, syntax_fault, ◌>>=◌}
+use Rattle.lalrpop_lexer_regex.specs.Escapes.{escaped_character_at}
+use Rattle.lalrpop_lexer_regex.specs.SetEscapes.{is_set_letter, escaped_set_at}
+use Rattle.lalrpop_lexer_regex.specs.ClassItems.{range_set}
+use Rattle.lalrpop_lexer_regex.specs.Classes.{class_at}
 
 -- the pattern of a tree, and the text after it
 abbrev pub tree_read : Hir × Bor (List ℕ) → Pattern × List ℕ

@@ -1,8 +1,8 @@
 -- Counts of a repetition. One above the greatest stands for all that are greater.
 use Rattle.std.specs.Prelude.{ℕ, ◌+◌, ◌-◌, ◌*◌, min, nat_lt, List, [], ◌∷◌, length, Ok, Err, if◌then◌else◌}
 use Rattle.std.specs.Char.{is_ascii_digit}
-use Rattle.lalrpop_lexer_classes.specs.Outcome.{Reading, syntax_fault}
-use Rattle.lalrpop_lexer_classes.specs.declared.fault.PatternFaultKind.TheVariants.{Unsupported}
+use Rattle.lalrpop_lexer_regex.specs.Outcome.{Reading, syntax_fault}
+use Rattle.lalrpop_lexer_regex.specs.declared.classes.fault.PatternFaultKind.TheVariants.{Unsupported}
 
 -- decimal digits at the front go on with a number, up to 1,001
 abbrev pub decimal_from : ℕ → List ℕ → ℕ × List ℕ

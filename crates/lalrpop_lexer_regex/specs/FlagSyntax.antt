@@ -2,9 +2,9 @@
 use Rattle.std.specs.Prelude.{ℕ, Bool, true, false, ◌&&◌, ◌||◌, ◌==◌, List, [], ◌∷◌, length, Ok, Err}
 use Rattle.std.specs.Prelude.{if◌then◌else◌}
 use Rattle.std.specs.Char.{is_ascii_alphabetic}
-use Rattle.lalrpop_lexer_classes.specs.Outcome.{Reading, syntax_fault}
+use Rattle.lalrpop_lexer_regex.specs.Outcome.{Reading, syntax_fault}
 use Rattle.lalrpop_lexer_regex.specs.declared.flags.Flags.{Flags}
-use Rattle.lalrpop_lexer_classes.specs.declared.fault.PatternFaultKind.TheVariants.{Unsupported}
+use Rattle.lalrpop_lexer_regex.specs.declared.classes.fault.PatternFaultKind.TheVariants.{Unsupported}
 
 -- letters switch a flag on or off; there is at least one; a colon or a closing bracket ends them
 abbrev pub flags_from : Bool → Bool → Flags → List ℕ → Reading (Flags × Bool)

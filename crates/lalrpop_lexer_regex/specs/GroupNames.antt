@@ -3,7 +3,7 @@ use Rattle.std.specs.Prelude.{ℕ, Bool, ◌==◌, ◌||◌, List, [], ◌∷◌
 use Rattle.std.specs.Prelude.{if◌then◌else◌}
 use Rattle.std.specs.Option.{option_map_or}
 use Rattle.std.specs.Char.{is_ascii_alphabetic, is_ascii_alphanumeric}
-use Rattle.lalrpop_lexer_classes.specs.Outcome.{Reading, syntax_fault, after_at}
+use Rattle.lalrpop_lexer_regex.specs.Outcome.{Reading, syntax_fault, after_at}
 
 abbrev pub is_name_start : ℕ → Bool
 is_name_start c = is_ascii_alphabetic c || (c == 95)

@@ -1,3 +1,11 @@
+pub mod Outcome
+pub mod Numbers
+pub mod Escapes
+pub mod Properties
+pub mod SetEscapes
+pub mod Posix
+pub mod ClassItems
+pub mod Classes
 pub mod Counts
 pub mod FlagSyntax
 pub mod Repeats
@@ -6,3 +14,7 @@ pub mod Atoms
 pub mod Patterns
 pub mod Regex
 pub mod Escaping
+pub mod Printing
+pub mod Printable
+pub mod ReadBack
+pub mod Complements

@@ -7,8 +7,8 @@ use Rattle.lalrpop_lexer_pattern.specs.Matches.{Pattern, concat_all, alternation
 use Rattle.lalrpop_lexer_pattern.specs.Meaning.{meaning}
 use Rattle.lalrpop_lexer_pattern.specs.declared.tree.Hir.{Hir}
 use Rattle.lalrpop_lexer_regex.specs.declared.flags.Flags.{Flags}
-use Rattle.lalrpop_lexer_classes.specs.declared.fault.PatternFaultKind.TheVariants.{Unsupported}
-use Rattle.lalrpop_lexer_classes.specs.Outcome.{Reading, syntax_fault, ◌>>=◌, after_at, closing_at}
+use Rattle.lalrpop_lexer_regex.specs.declared.classes.fault.PatternFaultKind.TheVariants.{Unsupported}
+use Rattle.lalrpop_lexer_regex.specs.Outcome.{Reading, syntax_fault, ◌>>=◌, after_at, closing_at}
 use Rattle.lalrpop_lexer_regex.specs.FlagSyntax.{flags_from}
 use Rattle.lalrpop_lexer_regex.specs.Repeats.{begins_repeat, repeats_read}
 use Rattle.lalrpop_lexer_regex.specs.GroupNames.{group_name_at, name_mark_at}

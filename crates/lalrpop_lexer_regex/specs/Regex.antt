@@ -6,9 +6,9 @@ use Rattle.lalrpop_lexer_pattern.specs.Meaning.{meaning}
 use Rattle.lalrpop_lexer_pattern.specs.declared.tree.Hir.{Hir}
 use Rattle.lalrpop_lexer_regex.specs.declared.error.RegexError.{RegexError}
 use Rattle.lalrpop_lexer_regex.specs.declared.error.RegexError.TheVariants as error
-use Rattle.lalrpop_lexer_classes.specs.declared.fault.PatternFaultKind.{PatternFaultKind}
-use Rattle.lalrpop_lexer_classes.specs.declared.fault.PatternFaultKind.TheVariants as kind
-use Rattle.lalrpop_lexer_classes.specs.Outcome.{Fault, syntax_fault, ◌>>=◌}
+use Rattle.lalrpop_lexer_regex.specs.declared.classes.fault.PatternFaultKind.{PatternFaultKind}
+use Rattle.lalrpop_lexer_regex.specs.declared.classes.fault.PatternFaultKind.TheVariants as kind
+use Rattle.lalrpop_lexer_regex.specs.Outcome.{Fault, syntax_fault, ◌>>=◌}
 use Rattle.lalrpop_lexer_regex.specs.Patterns.{pattern_at}
 
 -- nothing is left

@@ -2,9 +2,9 @@
 use Rattle.std.specs.Prelude.{ℕ, Bool, true, false, ◌==◌, ◌||◌, nat_lt, List, [], ◌∷◌, length, Option, Some, None, Ok, Err}
 use Rattle.std.specs.Prelude.{if◌then◌else◌}
 use Rattle.std.specs.Option.{option_map_or}
-use Rattle.lalrpop_lexer_classes.specs.Outcome.{Reading, syntax_fault, ◌>>=◌, after_at, closing_at}
+use Rattle.lalrpop_lexer_regex.specs.Outcome.{Reading, syntax_fault, ◌>>=◌, after_at, closing_at}
 use Rattle.lalrpop_lexer_regex.specs.Counts.{count_at}
-use Rattle.lalrpop_lexer_classes.specs.declared.fault.PatternFaultKind.TheVariants.{BadRange}
+use Rattle.lalrpop_lexer_regex.specs.declared.classes.fault.PatternFaultKind.TheVariants.{BadRange}
 
 -- one of * + ? {
 abbrev pub begins_repeat : ℕ → Bool

@@ -3,13 +3,13 @@
 ghost use Rattle.std.specs.Prelude.{◌≡◌, ◌∷◌, ◌<◌, ◌≤◌, [], Ok, length, IfOk, IfSome};
 ghost use Rattle.lalrpop_lexer_pattern.specs.Matches.{Pattern};
 ghost use Rattle.lalrpop_lexer_pattern.specs.Meaning.{meaning};
-ghost use Rattle.lalrpop_lexer_classes.specs.Outcome.{GivesReading};
+ghost use Rattle.lalrpop_lexer_regex.specs.Outcome.{GivesReading};
 ghost use Rattle.lalrpop_lexer_regex.specs.Atoms.{is_special, look_of, one_character, any_character, tree_read, escaped_atom_at, plain_atom_at};
 
-use crate::flags::Flags;
-use lalrpop_lexer_classes::{
+use crate::classes::{
     PatternError, class, escaped_character, escaped_set, first, is_set_letter, range_set, syntax,
 };
+use crate::flags::Flags;
 use lalrpop_lexer_pattern::{CharacterSet, Hir, Look};
 use std::alloc::Global;
 

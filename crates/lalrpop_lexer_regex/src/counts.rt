@@ -1,10 +1,10 @@
 //! The counts of a repetition.
 
 ghost use Rattle.std.specs.Prelude.{◌≡◌, ◌∷◌, ◌+◌, ◌-◌, ◌<◌, ◌≤◌, [], length, MatchOption, IfOk, IfSome};
-ghost use Rattle.lalrpop_lexer_classes.specs.Outcome.{GivesReading, value_read};
+ghost use Rattle.lalrpop_lexer_regex.specs.Outcome.{GivesReading, value_read};
 ghost use Rattle.lalrpop_lexer_regex.specs.Counts.{decimal_from, count_at};
 
-use lalrpop_lexer_classes::{PatternError, PatternFaultKind, first, syntax};
+use crate::classes::{PatternError, PatternFaultKind, first, syntax};
 
 /// The greatest count of a repetition.
 const MAX_COUNT: u32 = 1000;

@@ -1,10 +1,10 @@
 //! The flags of a pattern, and how a group switches them.
 
 ghost use Rattle.std.specs.Prelude.{◌≡◌, ◌<◌, ◌≤◌, length, IfOk, true, false};
-ghost use Rattle.lalrpop_lexer_classes.specs.Outcome.{GivesReading, value_read};
+ghost use Rattle.lalrpop_lexer_regex.specs.Outcome.{GivesReading, value_read};
 ghost use Rattle.lalrpop_lexer_regex.specs.FlagSyntax.{flags_from};
 
-use lalrpop_lexer_classes::{PatternError, PatternFaultKind, first, syntax};
+use crate::classes::{PatternError, PatternFaultKind, first, syntax};
 
 /// How characters and dots are read.
 #[derive(Clone, Copy, Debug, PartialEq, Eq)]

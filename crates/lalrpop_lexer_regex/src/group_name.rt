@@ -2,10 +2,10 @@
 
 ghost use Rattle.std.specs.Prelude.{◌≡◌, ◌<◌, ◌≤◌, length, IfOk, IfSome, IsTrue, option_map};
 ghost use Rattle.std.specs.String.{string_bytes};
-ghost use Rattle.lalrpop_lexer_classes.specs.Outcome.{GivesReading};
+ghost use Rattle.lalrpop_lexer_regex.specs.Outcome.{GivesReading};
 ghost use Rattle.lalrpop_lexer_regex.specs.GroupNames.{is_name_start, is_name_more, group_name_at, name_mark_at};
 
-use lalrpop_lexer_classes::{PatternError, after, first, syntax};
+use crate::classes::{PatternError, after, first, syntax};
 use std::alloc::Global;
 
 /// Whether the name of a group can begin with the character.

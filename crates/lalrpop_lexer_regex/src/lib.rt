@@ -31,12 +31,14 @@
 #![tactic(auto)]
 
 mod atom;
+pub mod classes;
 mod counts;
 mod error;
 mod flags;
 mod group_name;
 mod laws;
 mod pattern;
+pub mod print_law;
 mod regex;
 mod repeat;
 

@@ -2,15 +2,15 @@
 
 ghost use Rattle.std.specs.Prelude.{◌≡◌, ◌+◌, ◌<◌, ◌≤◌, ◌++◌, ◌∷◌, [], length, IfOk, map};
 ghost use Rattle.lalrpop_lexer_pattern.specs.Meaning.{meaning};
-ghost use Rattle.lalrpop_lexer_classes.specs.Outcome.{GivesReading};
+ghost use Rattle.lalrpop_lexer_regex.specs.Outcome.{GivesReading};
 ghost use Rattle.lalrpop_lexer_regex.specs.Atoms.{tree_read};
 ghost use Rattle.lalrpop_lexer_regex.specs.Patterns.{concat_of, one_of, atom_read, repeats_from, inner_at, pattern_at, factor_at, atom_at, pattern_group_at, special_group_at};
 
 use crate::atom::plain_atom;
+use crate::classes::{PatternError, PatternFaultKind, after, closing, first};
 use crate::flags::{Flags, read_flags};
 use crate::group_name::{group_name, name_mark};
 use crate::repeat::{begins_repeat, repeat};
-use lalrpop_lexer_classes::{PatternError, PatternFaultKind, after, closing, first};
 use lalrpop_lexer_pattern::Hir;
 use std::alloc::Global;
 

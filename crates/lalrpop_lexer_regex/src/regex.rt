@@ -2,13 +2,13 @@
 
 ghost use Rattle.std.specs.Prelude.{◌≡◌, ◌<◌, ◌≤◌, ◌^◌, length, take, IfOk, encode_utf8_all};
 ghost use Rattle.lalrpop_lexer_pattern.specs.Meaning.{meaning};
-ghost use Rattle.lalrpop_lexer_classes.specs.Outcome.{GivesReading};
+ghost use Rattle.lalrpop_lexer_regex.specs.Outcome.{GivesReading};
 ghost use Rattle.lalrpop_lexer_regex.specs.Regex.{whole_pattern, fault_byte, Answers};
 
+use crate::classes::{PatternError, PatternFaultKind, first, syntax};
 use crate::error::RegexError;
 use crate::flags::Flags;
 use crate::pattern::pattern;
-use lalrpop_lexer_classes::{PatternError, PatternFaultKind, first, syntax};
 use lalrpop_lexer_pattern::{Hir, Regex, characters_of};
 use std::alloc::Global;
 

@@ -1,11 +1,11 @@
 //! How often an atom of a pattern is repeated.
 
 ghost use Rattle.std.specs.Prelude.{◌≡◌, ◌<◌, ◌≤◌, length, IfOk, IfSome};
-ghost use Rattle.lalrpop_lexer_classes.specs.Outcome.{GivesReading, value_read};
+ghost use Rattle.lalrpop_lexer_regex.specs.Outcome.{GivesReading, value_read};
 ghost use Rattle.lalrpop_lexer_regex.specs.Repeats.{begins_repeat, greedy_at, upper_at, bounds_at, repeat_sign_at, repeats_read};
 
+use crate::classes::{PatternError, PatternFaultKind, after, closing, first, syntax};
 use crate::counts::count;
-use lalrpop_lexer_classes::{PatternError, PatternFaultKind, after, closing, first, syntax};
 use lalrpop_lexer_pattern::Repeats;
 
 /// Whether a repetition begins with the character.

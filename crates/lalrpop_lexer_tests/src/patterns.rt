@@ -1,38 +1,55 @@
 //! Patterns and sets of characters: copies, printed faults and laws.
 
-use lalrpop_lexer::re::{CharacterSet, Range};
+use lalrpop_lexer::re::{CharacterSet, Range, Regex};
 use lalrpop_lexer_pattern::sets_are_their_members;
 use lalrpop_lexer_regex::{RegexError, escapes_are_read_back, parse_regex};
 use lalrpop_lexer_scan::{cuts_are_unique, tokens_fill_their_text};
-use std::test::Fail;
+use std::alloc::Global;
+use std::process::Abort;
+
+/// The text of a copy of the tree.
+fn copied_text(rt: &impl Abort, alloc: Global, tree: &Regex) -> String {
+    let copy = tree.try_clone(alloc).expect(rt, "memory");
+    format!(in alloc; "{copy:?}").expect(rt, "memory")
+}
 
 #[test]
-fn a_copy_of_a_tree_is_the_same(rt: HostRuntime) -> Result<(), Fail> {
+fn a_copy_of_a_tree_is_the_same(rt: HostRuntime) {
     let alloc = rt.alloc();
-    let tree = parse_regex(alloc, "(?<n>a){1,2}?^[b-c]|(b)*c\\.|(?i)")?;
-    let shown = format!(in alloc; "{tree:?}")?;
-    let copied = format!(in alloc; "{:?}", tree.try_clone(alloc)?)?;
-    assert_eq!(rt; copied.as_str(), shown.as_str());
-    Ok(())
+    let tree = parse_regex(alloc, "(?<n>a){1,2}?^[b-c]|(b)*c\\.|(?i)").expect(&rt, "a pattern");
+    let shown = format!(in alloc; "{tree:?}").expect(&rt, "memory");
+    assert_eq!(rt; copied_text(&rt, alloc, &tree).as_str(), shown.as_str());
+}
+
+/// That copies of the set and of its class have these ranges.
+fn copies_have(rt: &impl Abort, alloc: Global, set: &CharacterSet, wanted: &[Range]) {
+    let copy = set.try_clone(alloc).expect(rt, "memory").into_class();
+    assert_eq!(rt; copy.ranges.as_slice(), wanted);
+    let again = copy.try_clone(alloc).expect(rt, "memory");
+    assert_eq!(rt; again.ranges.as_slice(), wanted);
+}
+
+/// That all characters have these ranges.
+fn all_have(rt: &impl Abort, alloc: Global, wanted: &[Range]) {
+    let all = CharacterSet::empty(alloc).complement().expect(rt, "memory");
+    assert_eq!(rt; all.ranges.as_slice(), wanted);
 }
 
 /// Ranges in no order, of which some touch and one is empty.
 #[test]
-fn copies_of_sets_have_their_ranges(rt: HostRuntime) -> Result<(), Fail> {
+fn copies_of_sets_have_their_ranges(rt: HostRuntime) {
     let alloc = rt.alloc();
     let ranges = vec![in alloc;
         Range { start: 8, end: 9 },
         Range { start: 1, end: 3 },
         Range { start: 4, end: 6 },
         Range { start: 5, end: 2 },
-    ]?;
+    ]
+    .expect(&rt, "memory");
     let wanted = [Range { start: 1, end: 6 }, Range { start: 8, end: 9 }];
-    let set = CharacterSet::from_ranges(ranges)?;
+    let set = CharacterSet::from_ranges(ranges).expect(&rt, "memory");
     assert!(rt; set.contains(6) && !set.contains(7));
-    let copy = set.try_clone(alloc)?.into_class();
-    assert_eq!(rt; copy.ranges.as_slice(), wanted.as_slice());
-    assert_eq!(rt; copy.try_clone(alloc)?.ranges.as_slice(), wanted.as_slice());
-    let rest = CharacterSet::empty(alloc).complement()?;
+    copies_have(&rt, alloc, &set, &wanted);
     let wanted = [
         Range {
             start: 0,
@@ -43,12 +60,11 @@ fn copies_of_sets_have_their_ranges(rt: HostRuntime) -> Result<(), Fail> {
             end: 0x10_FFFF,
         },
     ];
-    assert_eq!(rt; rest.ranges.as_slice(), wanted.as_slice());
-    Ok(())
+    all_have(&rt, alloc, &wanted);
 }
 
 #[test]
-fn faults_are_printed(rt: HostRuntime) -> Result<(), Fail> {
+fn faults_are_printed(rt: HostRuntime) {
     for (error, wanted) in [
         (
             RegexError::Syntax(0),
@@ -68,10 +84,9 @@ fn faults_are_printed(rt: HostRuntime) -> Result<(), Fail> {
         ),
         (RegexError::Memory, "out of memory"),
     ] {
-        let shown = format!(in rt.alloc(); "{error}")?;
+        let shown = format!(in rt.alloc(); "{error}").expect(&rt, "memory");
         assert_eq!(rt; shown.as_str(), wanted);
     }
-    Ok(())
 }
 
 #[test]

@@ -10,19 +10,19 @@ use Rattle.lalrpop_lr1_theory.specs.Productions as theory
 use Rattle.lalrpop_lr1_theory.specs.ValidItems.{IsBarren, Reaches, itself, onward}
 use Rattle.lalrpop_lr1_theory.specs.Trees.{AreOver, Forest, leaf, node, none}
 use Rattle.lalrpop_lr1_theory.proofs.ListLemmas.{get_contains}
-use Rattle.lalrpop_lr1_check_laws.proofs.NameLemmas.{name_reached, none_barren_productive, productive_tree, reached_name, tree_productive}
-use Rattle.lalrpop_lr1_items.specs.Views.{production_view}
+use Rattle.lalrpop_lr1_theory.proofs.NameLemmas.{name_reached, none_barren_productive, productive_tree, reached_name, tree_productive}
+use Rattle.lalrpop_lr1_core.specs.Views.{production_view}
 use Rattle.lalrpop_lr1_first.specs.FirstNumbers.{name_count}
-use Rattle.lalrpop_lr1_first.specs.Listings.{productions_of_grammar}
+use Rattle.lalrpop_lr1_core.specs.TheoryGrammars.{productions_of_grammar}
 use Rattle.lalrpop_lr1_first.specs.NumberedGrammars.{IsNumberTable, IsNumberTableOf, IsSeenIn, table_names, table_productions}
 use Rattle.lalrpop_lr1_first.specs.declared.numbered.Numbered.{Numbered}
 use Rattle.lalrpop_lr1_first.proofs.TableFirstLemmas.{seen_same}
 use Rattle.lalrpop_lr1_first.proofs.TableLemmas.{name_at}
-use Rattle.lalrpop_lr1_build.specs.BuiltStates.{NameBefore, theory_grammar}
-use Rattle.lalrpop_lr1_build.proofs.OrderLemmas.{sorted_at}
-use Rattle.lalrpop_lr1_check_names.specs.Clauses.{IsMarked}
-use Rattle.lalrpop_lr1_check_names.specs.NameMarks.{AreProductive, AreReached, IsNumberOf}
-use Rattle.lalrpop_lr1_check_names.proofs.NameLemmas.{productive_there, reached_number, rule_there}
+use Rattle.lalrpop_lr1_core.specs.TheoryGrammars.{NameBefore, theory_grammar}
+use Rattle.lalrpop_lr1_core.proofs.SortedLemmas.{sorted_at}
+use Rattle.lalrpop_lr1_barren.specs.Clauses.{IsMarked}
+use Rattle.lalrpop_lr1_barren.specs.NameMarks.{AreProductive, AreReached, IsNumberOf}
+use Rattle.lalrpop_lr1_barren.proofs.NameLemmas.{productive_there, reached_number, rule_there}
 use Rattle.lalrpop_lr1_barren.specs.LeastBarren.{IsFirstMissing, IsFirstMissingAt, IsLeastBarren}
 
 -- the same productions have the same barren names

@@ -4,8 +4,8 @@ use Rattle.lalrpop_grammar_symbols.specs.Symbols.{Text}
 use Rattle.lalrpop_grammar_symbols.specs.declared.names.NonterminalString.{NonterminalString}
 use Rattle.lalrpop_lr1_theory.specs.Productions.{Production}
 use Rattle.lalrpop_lr1_theory.specs.ValidItems.{IsBarren, NoneBarren}
-use Rattle.lalrpop_lr1_build.specs.BuiltStates.{NameBefore}
-use Rattle.lalrpop_lr1_check_names.specs.Clauses.{IsMarked}
+use Rattle.lalrpop_lr1_core.specs.TheoryGrammars.{NameBefore}
+use Rattle.lalrpop_lr1_barren.specs.Clauses.{IsMarked}
 
 -- It is barren, and no other that is has a name before its own.
 pub record IsLeastAmongBarren (G : Production → Type 0) (s A : Text) : Type 0 where

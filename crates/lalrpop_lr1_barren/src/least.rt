@@ -1,14 +1,14 @@
 //! The least barren nonterminal by name.
 
 ghost use Rattle.std.specs.Prelude.{◌≡◌, Contains, IfOk, IsFalse, IsTrue};
-ghost use Rattle.lalrpop_lr1_build.specs.BuiltStates.{theory_grammar};
-ghost use Rattle.lalrpop_lr1_check_names.specs.Clauses.{IsMarked};
+ghost use Rattle.lalrpop_lr1_core.specs.TheoryGrammars.{theory_grammar};
+ghost use Rattle.lalrpop_lr1_barren.specs.Clauses.{IsMarked};
 ghost use Rattle.lalrpop_lr1_first.specs.NumberedGrammars.{HasItsTerminals, IsNumberTable, IsSeenIn, table_productions};
 ghost use Rattle.lalrpop_lr1_barren.specs.LeastBarren.{IsFirstMissing, IsLeastBarren};
 
+use crate::reachable::{is_marked, place_of, productive_names, reached_names};
 use lalrpop_grammar_repr::Grammar;
 use lalrpop_grammar_symbols::NonterminalString;
-use lalrpop_lr1_check_names::{is_marked, place_of, productive_names, reached_names};
 use lalrpop_lr1_first::Numbered;
 use std::alloc::{AllocError, Global};
 

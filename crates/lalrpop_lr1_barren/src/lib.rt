@@ -1,9 +1,10 @@
-//! The nonterminal that is told where a grammar has no finite sentence to offer: reached by the start, without a finite tree.
+//! Barren nonterminals: whether a start reaches one that has no finite tree, and the least of these by name.
 //!
 //! `LeastBarren` in `specs/` says which one it is. The names with trees, and those that are reached, are least sets, which
-//! `lalrpop_lr1_check_names` finds.
+//! `reachable` finds.
 #![tactic(auto)]
 
 mod least;
+pub mod reachable;
 
 pub use least::barren_nonterminal;

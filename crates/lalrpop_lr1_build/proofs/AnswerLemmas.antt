@@ -8,12 +8,12 @@ use Rattle.lalrpop_lr1_theory.specs.Automata.{EndAlone}
 use Rattle.lalrpop_lr1_theory.specs.Productions as theory
 use Rattle.lalrpop_lr1_theory.specs.States as states
 use Rattle.lalrpop_lr1_theory.specs.ValidItems.{NoneBarren}
-use Rattle.lalrpop_lr1_items.specs.Conflicts.{nil_conflicts, token_conflicts}
-use Rattle.lalrpop_lr1_items.specs.Views.{next_of_number, nil_lookahead, token_lookahead}
-use Rattle.lalrpop_lr1_items.specs.declared.conflict.Conflict.{Conflict}
-use Rattle.lalrpop_lr1_items.specs.declared.state.State.{State}
-use Rattle.lalrpop_lr1_items.specs.declared.table_fault.TableFault.{TableFault}
-use Rattle.lalrpop_lr1_items.specs.declared.table_fault.TableFault.TheVariants as faults
+use Rattle.lalrpop_lr1_core.specs.Conflicts.{nil_conflicts, token_conflicts}
+use Rattle.lalrpop_lr1_core.specs.Views.{next_of_number, nil_lookahead, token_lookahead}
+use Rattle.lalrpop_lr1_core.specs.declared.conflict.Conflict.{Conflict}
+use Rattle.lalrpop_lr1_core.specs.declared.state.State.{State}
+use Rattle.lalrpop_lr1_core.specs.declared.table_fault.TableFault.{TableFault}
+use Rattle.lalrpop_lr1_core.specs.declared.table_fault.TableFault.TheVariants as faults
 use Rattle.lalrpop_sets.specs.Bits.{has}
 use Rattle.lalrpop_sets.specs.Tokens.{eof_number}
 use Rattle.lalrpop_sets.specs.declared.nil.Nil.{Nil}
@@ -21,9 +21,10 @@ use Rattle.lalrpop_lr1_first.specs.NumberedGrammars.{HasItsTerminals}
 use Rattle.lalrpop_lr1_first.specs.Tables.{IsTerminalSet}
 use Rattle.lalrpop_lr1_first.proofs.ListLemmas.{eqb_self, eqb_true, or_cases}
 use Rattle.lalrpop_lr1_first.proofs.TableLemmas.{end_is_none}
-use Rattle.lalrpop_lr1_turn.specs.Nexts.{IsNextIn}
+use Rattle.lalrpop_lr1_build.specs.Nexts.{IsNextIn}
 use Rattle.lalrpop_lr1_build.specs.BuiltStates.{AreCanonicalWithout, AreLr0Without, HaveNoConflictBuilt, IsCanonicalFault, IsFaultBuilt}
-use Rattle.lalrpop_lr1_build.specs.BuiltStates.{IsLr0Fault, TellsNoLr1, theory_grammar}
+use Rattle.lalrpop_lr1_build.specs.BuiltStates.{IsLr0Fault, TellsNoLr1}
+use Rattle.lalrpop_lr1_core.specs.TheoryGrammars.{theory_grammar}
 use Rattle.lalrpop_lr1_build.proofs.BuiltLemmas.{built_alike}
 use Rattle.lalrpop_lr1_build.proofs.Lr1Lemmas.{conflicts_tell}
 

@@ -15,30 +15,32 @@ use Rattle.lalrpop_lr1_theory.specs.CanonicalStates.{AreConstructedStates, AreNu
 use Rattle.lalrpop_lr1_theory.specs.Productions as theory
 use Rattle.lalrpop_lr1_theory.specs.States as states
 use Rattle.lalrpop_lr1_theory.proofs.ListLemmas.{contains_here, contains_later, contains_split}
-use Rattle.lalrpop_lr1_items.specs.Views.{lr_item_view, lr_state_view, production_view}
-use Rattle.lalrpop_lr1_items.specs.declared.item.Item.{Item}
-use Rattle.lalrpop_lr1_items.specs.declared.state.State.{State}
-use Rattle.lalrpop_lr1_items.proofs.MemberLemmas.{in_map, map_has}
-use Rattle.lalrpop_lr1_items.proofs.NoConflictLemmas.{at_mapped}
+use Rattle.lalrpop_lr1_core.specs.Views.{lr_item_view, lr_state_view, production_view}
+use Rattle.lalrpop_lr1_core.specs.declared.item.Item.{Item}
+use Rattle.lalrpop_lr1_core.specs.declared.state.State.{State}
+use Rattle.lalrpop_lr1_core.proofs.MemberLemmas.{in_map, map_has}
+use Rattle.lalrpop_lr1_core.proofs.NoConflictLemmas.{at_mapped}
 use Rattle.lalrpop_sets.specs.Bits.{has}
 use Rattle.lalrpop_sets.specs.Tokens.{eof_number}
 use Rattle.lalrpop_lr1_first.specs.ClosureTables.{IsClosureTableOf}
 use Rattle.lalrpop_lr1_first.specs.FirstNumbers.{table_end}
-use Rattle.lalrpop_lr1_first.specs.Listings.{HoldSame, productions_of_grammar}
+use Rattle.lalrpop_lr1_first.specs.Listings.{HoldSame}
+use Rattle.lalrpop_lr1_core.specs.TheoryGrammars.{productions_of_grammar}
 use Rattle.lalrpop_lr1_first.specs.NumberedGrammars.{IsNumberTable, IsSeenIn, table_productions}
 use Rattle.lalrpop_lr1_first.specs.declared.closure.Closures.{Closures}
 use Rattle.lalrpop_lr1_first.specs.declared.numbered.Numbered.{Numbered}
 use Rattle.lalrpop_lr1_first.specs.declared.place.Place.{Place}
 use Rattle.lalrpop_lr1_first.specs.declared.place.Place.TheVariants as places
 use Rattle.lalrpop_lr1_first.proofs.TableLemmas.{symbols_below}
-use Rattle.lalrpop_lr1_turn.specs.Kernels.{AreKernelItems}
-use Rattle.lalrpop_lr1_turn.specs.Nexts.{IsNextIn}
-use Rattle.lalrpop_lr1_turn.specs.Shifts.{shifted_items, symbol_in}
-use Rattle.lalrpop_lr1_turn.specs.Turns.{AreNumberedStates}
-use Rattle.lalrpop_lr1_turn.specs.declared.kernel.StateKernel.{StateKernel}
-use Rattle.lalrpop_lr1_turn.specs.declared.numbered_states.NumberedState.{NumberedState}
-use Rattle.lalrpop_lr1_turn.proofs.ShiftLemmas.{shifted_from}
-use Rattle.lalrpop_lr1_build.specs.BuiltStates.{AreBuiltStates, ItemBefore, NameBefore, TerminalBefore, theory_grammar}
+use Rattle.lalrpop_lr1_build.specs.Kernels.{AreKernelItems}
+use Rattle.lalrpop_lr1_build.specs.Nexts.{IsNextIn}
+use Rattle.lalrpop_lr1_build.specs.Shifts.{shifted_items, symbol_in}
+use Rattle.lalrpop_lr1_build.specs.Turns.{AreNumberedStates}
+use Rattle.lalrpop_lr1_build.specs.declared.states.kernel.StateKernel.{StateKernel}
+use Rattle.lalrpop_lr1_build.specs.declared.states.numbered_states.NumberedState.{NumberedState}
+use Rattle.lalrpop_lr1_build.proofs.ShiftLemmas.{shifted_from}
+use Rattle.lalrpop_lr1_build.specs.BuiltStates.{AreBuiltStates, ItemBefore, TerminalBefore}
+use Rattle.lalrpop_lr1_core.specs.TheoryGrammars.{NameBefore, theory_grammar}
 use Rattle.lalrpop_lr1_build.specs.NumberedAutomata.{AreStartItems}
 use Rattle.lalrpop_lr1_build.specs.PublicStates.{ArePublicStates, IsPublicItem, IsWellNumbered, finished_entries, start_items}
 use Rattle.lalrpop_lr1_build.proofs.AutomatonLemmas.{marked_more}

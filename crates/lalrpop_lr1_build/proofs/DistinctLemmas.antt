@@ -10,20 +10,20 @@ use Rattle.lalrpop_lr1_theory.specs.Automata.{Closure, Marked, brings, closed, h
 use Rattle.lalrpop_lr1_theory.proofs.ListLemmas.{contains_here, contains_later, contains_split}
 use Rattle.lalrpop_lr1_theory.proofs.MarkLemmas.{item_of}
 use Rattle.lalrpop_lr1_theory.proofs.StepLemmas.{some_same}
-use Rattle.lalrpop_lr1_items.specs.Views.{next_of_number}
+use Rattle.lalrpop_lr1_core.specs.Views.{next_of_number}
 use Rattle.lalrpop_sets.specs.Bits.{AscendsFrom, has}
 use Rattle.lalrpop_lr1_first.specs.FirstNumbers.{table_end}
 use Rattle.lalrpop_lr1_first.specs.ItemTables.{HasPlace, ListsItem, ListsNext}
 use Rattle.lalrpop_lr1_first.specs.NumberedGrammars.{HasItemAt, IsNumberTable, IsSeenIn, table_productions}
 use Rattle.lalrpop_lr1_first.specs.declared.numbered.Numbered.{Numbered}
 use Rattle.lalrpop_lr1_first.proofs.TableLemmas.{table_numbering}
-use Rattle.lalrpop_lr1_turn.specs.Kernels.{AreKernelItems, IsClosureOf, places_of}
-use Rattle.lalrpop_lr1_turn.specs.Shifts.{shifted_items}
-use Rattle.lalrpop_lr1_turn.specs.Turns.{AreNumberedStates, shifted_kernel}
-use Rattle.lalrpop_lr1_turn.specs.declared.kernel.StateKernel.{StateKernel}
-use Rattle.lalrpop_lr1_turn.specs.declared.numbered_states.NumberedState.{NumberedState}
-use Rattle.lalrpop_lr1_turn.proofs.ShiftLemmas.{item_moved, shifted_from}
-use Rattle.lalrpop_lr1_turn.proofs.TurnLemmas.{kernel_of}
+use Rattle.lalrpop_lr1_build.specs.Kernels.{AreKernelItems, IsClosureOf, places_of}
+use Rattle.lalrpop_lr1_build.specs.Shifts.{shifted_items}
+use Rattle.lalrpop_lr1_build.specs.Turns.{AreNumberedStates, shifted_kernel}
+use Rattle.lalrpop_lr1_build.specs.declared.states.kernel.StateKernel.{StateKernel}
+use Rattle.lalrpop_lr1_build.specs.declared.states.numbered_states.NumberedState.{NumberedState}
+use Rattle.lalrpop_lr1_build.proofs.ShiftLemmas.{item_moved, shifted_from}
+use Rattle.lalrpop_lr1_build.proofs.TurnLemmas.{kernel_of}
 use Rattle.lalrpop_lr1_build.specs.NumberedAutomata.{AreStartItems, HasNumberedItem, HasNumberedNext}
 use Rattle.lalrpop_lr1_build.proofs.NumberedAutomatonLemmas.{kernel_at, no_element, once_at, some_element}
 use Rattle.lalrpop_lr1_build.proofs.ProductionLemmas.{place_once}

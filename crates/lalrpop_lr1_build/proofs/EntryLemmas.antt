@@ -10,16 +10,16 @@ use Rattle.std.proofs.lemmas.List.Concat.{flat_map-append}
 use Rattle.std.proofs.lemmas.Option.{get_or_from_slice_get, slice_get_within}
 use Rattle.lalrpop_grammar_symbols.specs.declared.names.NonterminalString.{NonterminalString}
 use Rattle.lalrpop_grammar_repr.specs.declared.production.Production.{Production}
-use Rattle.lalrpop_lr1_items.specs.declared.item.Item.{Item}
-use Rattle.lalrpop_lr1_items.specs.declared.state.State.{State}
+use Rattle.lalrpop_lr1_core.specs.declared.item.Item.{Item}
+use Rattle.lalrpop_lr1_core.specs.declared.state.State.{State}
 use Rattle.lalrpop_sets.specs.Bits.{Ascends}
 use Rattle.lalrpop_lr1_first.specs.declared.numbered.Numbered.{Numbered}
 use Rattle.lalrpop_lr1_first.specs.declared.place.NumberedRule.{NumberedRule}
 use Rattle.lalrpop_lr1_first.proofs.AddLemmas.{taken_more}
 use Rattle.lalrpop_lr1_first.proofs.ListLemmas.{eqb_not}
-use Rattle.lalrpop_lr1_turn.specs.Kernels.{places_of}
-use Rattle.lalrpop_lr1_turn.specs.declared.numbered_states.NumberedState.{NumberedState}
-use Rattle.lalrpop_lr1_turn.proofs.EdgeLemmas.{get_parts}
+use Rattle.lalrpop_lr1_build.specs.Kernels.{places_of}
+use Rattle.lalrpop_lr1_build.specs.declared.states.numbered_states.NumberedState.{NumberedState}
+use Rattle.lalrpop_lr1_build.proofs.StateEdgeLemmas.{get_parts}
 use Rattle.lalrpop_lr1_build.specs.PublicStates.{ArePublicStates, IsPublicState, finished_entries, start_items}
 use Rattle.lalrpop_lr1_build.proofs.MapEdgeLemmas.{front_ascends}
 

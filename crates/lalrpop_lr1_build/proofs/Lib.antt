@@ -1,3 +1,10 @@
+pub mod ClosedLemmas
+pub mod StateEdgeLemmas
+pub mod GroupLemmas
+pub mod MergeLemmas
+pub mod QueueLemmas
+pub mod ShiftLemmas
+pub mod TurnLemmas
 pub mod AnswerLemmas
 pub mod AutomatonLemmas
 pub mod BuiltLemmas
@@ -11,3 +18,10 @@ pub mod ProductionLemmas
 pub mod PublicLemmas
 pub mod RuleNumberLemmas
 pub mod StartLemmas
+pub mod ListLemmas
+pub mod CoreLemmas
+pub mod RenumberedEdgeLemmas
+pub mod ItemLemmas
+pub mod StateLemmas
+pub mod ViewLemmas
+pub mod CollapseAnswerLemmas

@@ -20,17 +20,18 @@ use Rattle.lalrpop_lr1_theory.proofs.CanonicalLemmas.{lr1_iff_no_conflict}
 use Rattle.lalrpop_lr1_theory.proofs.CheckedLemmas.{never_two}
 use Rattle.lalrpop_lr1_theory.proofs.ListLemmas.{contains_get, get_contains}
 use Rattle.lalrpop_lr1_theory.proofs.ReductionLemmas.{canonical_apart, canonical_checked, reduces_finished}
-use Rattle.lalrpop_lr1_items.specs.Conflicts.{token_conflicts}
-use Rattle.lalrpop_lr1_items.specs.Numbering.{IsOverTokens, ReducesOverTokens}
-use Rattle.lalrpop_lr1_items.specs.Views.{lr_state_view, token_lookahead}
-use Rattle.lalrpop_lr1_items.specs.declared.conflict.Conflict.{Conflict}
-use Rattle.lalrpop_lr1_items.specs.declared.state.State.{State}
-use Rattle.lalrpop_lr1_items.proofs.MemberLemmas.{each_empty, flat_empty}
-use Rattle.lalrpop_lr1_items.proofs.NoConflictLemmas.{at_mapped, mapped_at, none_is_none, none_is_there}
+use Rattle.lalrpop_lr1_core.specs.Conflicts.{token_conflicts}
+use Rattle.lalrpop_lr1_core.specs.Numbering.{IsOverTokens, ReducesOverTokens}
+use Rattle.lalrpop_lr1_core.specs.Views.{lr_state_view, token_lookahead}
+use Rattle.lalrpop_lr1_core.specs.declared.conflict.Conflict.{Conflict}
+use Rattle.lalrpop_lr1_core.specs.declared.state.State.{State}
+use Rattle.lalrpop_lr1_core.proofs.MemberLemmas.{each_empty, flat_empty}
+use Rattle.lalrpop_lr1_core.proofs.NoConflictLemmas.{at_mapped, mapped_at, none_is_none, none_is_there}
 use Rattle.lalrpop_sets.specs.Bits.{has}
 use Rattle.lalrpop_sets.specs.Tokens.{eof_number}
 use Rattle.lalrpop_lr1_first.specs.NumberedGrammars.{HasItsTerminals}
-use Rattle.lalrpop_lr1_build.specs.BuiltStates.{AreBuiltStates, theory_grammar}
+use Rattle.lalrpop_lr1_build.specs.BuiltStates.{AreBuiltStates}
+use Rattle.lalrpop_lr1_core.specs.TheoryGrammars.{theory_grammar}
 use Rattle.lalrpop_lr1_build.proofs.BuiltLemmas.{all_each}
 
 module _ (g : Grammar) (own : HasItsTerminals g) (start : NonterminalString) (built : List (State (List ℕ)))

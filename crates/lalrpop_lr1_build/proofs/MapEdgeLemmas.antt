@@ -16,14 +16,14 @@ use Rattle.lalrpop_grammar_symbols.specs.declared.terminal.TerminalString.{Termi
 use Rattle.lalrpop_grammar_repr.specs.declared.terminal_set.TerminalSet.{TerminalSet}
 use Rattle.lalrpop_lr1_theory.proofs.ListLemmas.{contains_here, contains_later, contains_split}
 use Rattle.lalrpop_lr1_theory.proofs.StepLemmas.{some_same}
-use Rattle.lalrpop_lr1_items.specs.declared.state_index.StateIndex.{StateIndex}
+use Rattle.lalrpop_lr1_core.specs.declared.state_index.StateIndex.{StateIndex}
 use Rattle.lalrpop_sets.specs.Bits.{Ascends, AscendsFrom}
 use Rattle.lalrpop_lr1_first.specs.Tables.{IsTerminalSet}
 use Rattle.lalrpop_lr1_first.proofs.NameLemmas.{name_antisymm}
 use Rattle.lalrpop_lr1_first.proofs.OrderLemmas.{exact_name, exact_terminal}
 use Rattle.lalrpop_lr1_first.proofs.TableLemmas.{once}
-use Rattle.lalrpop_lr1_turn.specs.Kernels.{places_of}
-use Rattle.lalrpop_lr1_turn.proofs.EdgeLemmas.{edge_last, edge_parts}
+use Rattle.lalrpop_lr1_build.specs.Kernels.{places_of}
+use Rattle.lalrpop_lr1_build.proofs.StateEdgeLemmas.{edge_last, edge_parts}
 use Rattle.lalrpop_lr1_build.specs.PublicStates.{AreGotos, AreShifts}
 use Rattle.lalrpop_lr1_build.proofs.NumberedAutomatonLemmas.{no_element}
 

@@ -10,7 +10,7 @@ use Rattle.lalrpop_lr1_theory.specs.Automata.{IsShiftedBefore, Marked, Walk, goe
 use Rattle.lalrpop_lr1_theory.proofs.ListLemmas.{contains_here, contains_split}
 use Rattle.lalrpop_lr1_theory.proofs.MarkLemmas.{item_of, mark_of}
 use Rattle.lalrpop_lr1_theory.proofs.StepLemmas.{some_same}
-use Rattle.lalrpop_lr1_items.specs.Views.{next_of_number}
+use Rattle.lalrpop_lr1_core.specs.Views.{next_of_number}
 use Rattle.lalrpop_sets.specs.Bits.{AscendsFrom}
 use Rattle.lalrpop_lr1_first.specs.FirstNumbers.{table_end}
 use Rattle.lalrpop_lr1_first.specs.ItemTables.{ListsItem, ListsNext}
@@ -18,12 +18,12 @@ use Rattle.lalrpop_lr1_first.specs.NumberedGrammars.{HasItemAt, IsNumberTable, I
 use Rattle.lalrpop_lr1_first.specs.Tables.{symbol_of_number}
 use Rattle.lalrpop_lr1_first.specs.declared.numbered.Numbered.{Numbered}
 use Rattle.lalrpop_lr1_first.proofs.TableLemmas.{is_item_table, table_numbering}
-use Rattle.lalrpop_lr1_turn.specs.Kernels.{IsClosureOf, places_of}
-use Rattle.lalrpop_lr1_turn.specs.Shifts.{shifted_items, symbol_behind}
-use Rattle.lalrpop_lr1_turn.specs.Turns.{AreNumberedStates, HasEdgeByNumber, shifted_kernel}
-use Rattle.lalrpop_lr1_turn.specs.declared.kernel.StateKernel.{StateKernel}
-use Rattle.lalrpop_lr1_turn.specs.declared.numbered_states.NumberedState.{NumberedState}
-use Rattle.lalrpop_lr1_turn.proofs.ShiftLemmas.{item_moved, shifted_from, shifted_to, symbol_is, symbol_there}
+use Rattle.lalrpop_lr1_build.specs.Kernels.{IsClosureOf, places_of}
+use Rattle.lalrpop_lr1_build.specs.Shifts.{shifted_items, symbol_behind}
+use Rattle.lalrpop_lr1_build.specs.Turns.{AreNumberedStates, HasEdgeByNumber, shifted_kernel}
+use Rattle.lalrpop_lr1_build.specs.declared.states.kernel.StateKernel.{StateKernel}
+use Rattle.lalrpop_lr1_build.specs.declared.states.numbered_states.NumberedState.{NumberedState}
+use Rattle.lalrpop_lr1_build.proofs.ShiftLemmas.{item_moved, shifted_from, shifted_to, symbol_is, symbol_there}
 use Rattle.lalrpop_lr1_build.specs.NumberedAutomata.{AreStartItems, HasNumberedEdge, HasNumberedItem, HasNumberedNext}
 use Rattle.lalrpop_lr1_build.proofs.AutomatonLemmas.{closure_more, marked_more}
 

@@ -2,7 +2,6 @@
 use Rattle.std.proofs.Common.{◌≡◌, ◌∙◌, ◌-◌, ◌<◌, ◌≤◌, ℕ, zero, suc, List, []}
 use Rattle.std.proofs.Common.{◌∷◌, Some, Option}
 use Rattle.std.proofs.Common.{slice_get, sym, ap, subst, arith, inl, inr, ⊎_elim}
-use Rattle.std.specs.List.{AllByRecursion}
 use Rattle.std.specs.List.Sorted.{IsStrictlySortedBy}
 use Rattle.std.specs.declared.cmp.Ordering.{Ordering}
 use Rattle.std.specs.declared.cmp.Ordering.TheVariants.{Less}
@@ -14,28 +13,15 @@ use Rattle.lalrpop_lr1_theory.specs.Productions as theory
 use Rattle.lalrpop_lr1_theory.specs.States as states
 use Rattle.lalrpop_lr1_theory.proofs.StepLemmas.{some_same}
 use Rattle.lalrpop_sets.specs.Bits.{AscendsFrom}
+use Rattle.lalrpop_lr1_core.proofs.SortedLemmas.{sorted_at}
 use Rattle.lalrpop_lr1_first.specs.NumberedGrammars.{HasItemAt, IsNumberTable, table_names, table_productions}
 use Rattle.lalrpop_lr1_first.specs.Tables.{symbol_of_number}
 use Rattle.lalrpop_lr1_first.specs.declared.numbered.Numbered.{Numbered}
 use Rattle.lalrpop_lr1_first.specs.declared.place.NumberedRule.{NumberedRule}
 use Rattle.lalrpop_lr1_first.proofs.TableLemmas.{is_item_table, name_at, table_numbering}
-use Rattle.lalrpop_lr1_turn.specs.Kernels.{places_of}
-use Rattle.lalrpop_lr1_build.specs.BuiltStates.{ItemBefore, NameBefore, TerminalBefore}
-
-all_at : {X : Type 0} (P : X → Type 0) (xs : List X) (i : ℕ) (x : X) → AllByRecursion P xs → slice_get xs i ≡ Some x → P x
-all_at P [] i x h e = let w : ⊥ = cc in absurd w
-all_at P (y ∷ xs) zero x h e = subst P (some_same y x e) h.0
-all_at P (y ∷ xs) (suc i) x h e = all_at P xs i x h.1 e
-
--- what stands at two places of a list in order is in order
-pub sorted_at : {X : Type 0} (R : X → X → Ordering) (xs : List X) → IsStrictlySortedBy R xs → (i j : ℕ) (x y : X) → i < j →
-    slice_get xs i ≡ Some x → slice_get xs j ≡ Some y → R x y ≡ Less
-unfolding IsStrictlySortedBy
-sorted_at R [] s i j x y l e f = let w : ⊥ = cc in absurd w
-sorted_at R (z ∷ xs) s i zero x y l e f = absurd (omega arith)
-sorted_at R (z ∷ xs) s zero (suc j) x y l e f =
-    subst (λ v. R v y ≡ Less) (some_same z x e) (all_at (λ v. R z v ≡ Less) xs j y s.0 f)
-sorted_at R (z ∷ xs) s (suc i) (suc j) x y l e f = sorted_at R xs s.1 i j x y (omega arith) e f
+use Rattle.lalrpop_lr1_build.specs.Kernels.{places_of}
+use Rattle.lalrpop_lr1_build.specs.BuiltStates.{ItemBefore, TerminalBefore}
+use Rattle.lalrpop_lr1_core.specs.TheoryGrammars.{NameBefore}
 
 place_above : {L : Type 0} (xs : List (ℕ × L)) (a k : ℕ) (x : ℕ × L) → AscendsFrom a (places_of xs) → slice_get xs k
     ≡ Some x →

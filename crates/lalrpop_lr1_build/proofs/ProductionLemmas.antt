@@ -22,8 +22,8 @@ use Rattle.lalrpop_grammar_repr.specs.declared.production.Symbol.{Symbol}
 use Rattle.lalrpop_grammar_repr.specs.declared.production.Symbol.TheVariants as symbol
 use Rattle.lalrpop_lr1_theory.specs.Productions as theory
 use Rattle.lalrpop_lr1_theory.proofs.StepLemmas.{some_same}
-use Rattle.lalrpop_lr1_items.specs.Views.{production_symbol_view, production_view}
-use Rattle.lalrpop_lr1_items.proofs.NoConflictLemmas.{same_terminal}
+use Rattle.lalrpop_lr1_core.specs.Views.{production_symbol_view, production_view}
+use Rattle.lalrpop_lr1_core.proofs.NoConflictLemmas.{same_terminal}
 use Rattle.lalrpop_lr1_first.specs.NumberedGrammars.{HasItemAt, IsNumberTable, table_productions}
 use Rattle.lalrpop_lr1_first.specs.declared.numbered.Numbered.{Numbered}
 use Rattle.lalrpop_lr1_first.specs.declared.place.NumberedRule.{NumberedRule}

@@ -14,23 +14,23 @@ use Rattle.lalrpop_lr1_theory.specs.CanonicalStates.{AreConstructedStates}
 use Rattle.lalrpop_lr1_theory.specs.States as states
 use Rattle.lalrpop_lr1_theory.proofs.ListLemmas.{contains_here, contains_later, contains_split}
 use Rattle.lalrpop_lr1_theory.proofs.StepLemmas.{some_same}
-use Rattle.lalrpop_lr1_items.specs.Views.{goto_view, lr_item_view, lr_state_view, production_symbol_view, production_view}
-use Rattle.lalrpop_lr1_items.specs.Views.{reduction_view, shift_view}
-use Rattle.lalrpop_lr1_items.specs.declared.item.Item.{Item}
-use Rattle.lalrpop_lr1_items.specs.declared.state.State.{State}
-use Rattle.lalrpop_lr1_items.proofs.MemberLemmas.{in_map, map_has}
-use Rattle.lalrpop_lr1_items.proofs.NoConflictLemmas.{at_mapped}
+use Rattle.lalrpop_lr1_core.specs.Views.{goto_view, lr_item_view, lr_state_view, production_symbol_view, production_view}
+use Rattle.lalrpop_lr1_core.specs.Views.{reduction_view, shift_view}
+use Rattle.lalrpop_lr1_core.specs.declared.item.Item.{Item}
+use Rattle.lalrpop_lr1_core.specs.declared.state.State.{State}
+use Rattle.lalrpop_lr1_core.proofs.MemberLemmas.{in_map, map_has}
+use Rattle.lalrpop_lr1_core.proofs.NoConflictLemmas.{at_mapped}
 use Rattle.lalrpop_sets.specs.Bits.{AscendsFrom, has}
 use Rattle.lalrpop_lr1_first.specs.FirstNumbers.{name_count, table_end}
 use Rattle.lalrpop_lr1_first.specs.NumberedGrammars.{HasItemAt, IsNumberTable, IsSeenIn, table_names, table_productions}
 use Rattle.lalrpop_lr1_first.specs.Tables.{symbol_of_number, symbol_or}
 use Rattle.lalrpop_lr1_first.specs.declared.numbered.Numbered.{Numbered}
 use Rattle.lalrpop_lr1_first.proofs.TableLemmas.{get_mapped, is_item_table, long_map, name_at, table_numbering}
-use Rattle.lalrpop_lr1_turn.specs.Kernels.{places_of}
-use Rattle.lalrpop_lr1_turn.specs.Nexts.{IsNextIn}
-use Rattle.lalrpop_lr1_turn.specs.Turns.{AreNumberedStates}
-use Rattle.lalrpop_lr1_turn.specs.declared.kernel.StateKernel.{StateKernel}
-use Rattle.lalrpop_lr1_turn.specs.declared.numbered_states.NumberedState.{NumberedState}
+use Rattle.lalrpop_lr1_build.specs.Kernels.{places_of}
+use Rattle.lalrpop_lr1_build.specs.Nexts.{IsNextIn}
+use Rattle.lalrpop_lr1_build.specs.Turns.{AreNumberedStates}
+use Rattle.lalrpop_lr1_build.specs.declared.states.kernel.StateKernel.{StateKernel}
+use Rattle.lalrpop_lr1_build.specs.declared.states.numbered_states.NumberedState.{NumberedState}
 use Rattle.lalrpop_lr1_build.specs.NumberedAutomata.{AreStartItems, HasNumberedEdge, HasNumberedItem, HasNumberedNext}
 use Rattle.lalrpop_lr1_build.specs.PublicStates.{ArePublicStates, IsPublicItem, IsPublicState, finished_entries}
 use Rattle.lalrpop_lr1_build.proofs.AutomatonLemmas.{automaton_same, walk_more}

@@ -7,7 +7,7 @@ use Rattle.std.proofs.lemmas.Option.{slice_get_within}
 use Rattle.lalrpop_lr1_theory.specs.Productions as theory
 use Rattle.lalrpop_lr1_theory.proofs.StepLemmas.{some_same}
 use Rattle.lalrpop_grammar_repr.specs.declared.production.Production.{Production}
-use Rattle.lalrpop_lr1_items.specs.Views.{production_symbol_view, production_view}
+use Rattle.lalrpop_lr1_core.specs.Views.{production_symbol_view, production_view}
 use Rattle.lalrpop_lr1_first.specs.NumberedGrammars.{HasItemAt, IsNumberTable, table_names}
 use Rattle.lalrpop_lr1_first.specs.Numbers.{SpellsSymbols}
 use Rattle.lalrpop_lr1_first.specs.Tables.{end_until, laid_side, symbol_of_number}

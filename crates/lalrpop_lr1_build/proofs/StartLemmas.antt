@@ -8,16 +8,16 @@ use Rattle.lalrpop_grammar_repr.specs.declared.production.Production.{Production
 use Rattle.lalrpop_lr1_theory.specs.Productions as theory
 use Rattle.lalrpop_lr1_theory.specs.Automata.{IsBegun}
 use Rattle.lalrpop_lr1_theory.proofs.ListLemmas.{contains_get, contains_here, contains_later, contains_split}
-use Rattle.lalrpop_lr1_items.specs.Views.{production_view}
-use Rattle.lalrpop_lr1_items.proofs.MemberLemmas.{in_map}
+use Rattle.lalrpop_lr1_core.specs.Views.{production_view}
+use Rattle.lalrpop_lr1_core.proofs.MemberLemmas.{in_map}
 use Rattle.lalrpop_sets.specs.Bits.{AscendsFrom, has}
 use Rattle.lalrpop_lr1_first.specs.FirstNumbers.{table_end}
 use Rattle.lalrpop_lr1_first.specs.NumberedGrammars.{HasItemAt, IsNumberTable, IsSeenIn, table_productions}
 use Rattle.lalrpop_lr1_first.specs.declared.numbered.Numbered.{Numbered}
 use Rattle.lalrpop_lr1_first.specs.declared.place.NumberedRule.{NumberedRule}
 use Rattle.lalrpop_lr1_first.proofs.TableLemmas.{is_item_table}
-use Rattle.lalrpop_lr1_turn.specs.Kernels.{AreKernelItems, places_of}
-use Rattle.lalrpop_lr1_turn.specs.Nexts.{IsNextIn}
+use Rattle.lalrpop_lr1_build.specs.Kernels.{AreKernelItems, places_of}
+use Rattle.lalrpop_lr1_build.specs.Nexts.{IsNextIn}
 use Rattle.lalrpop_lr1_build.specs.NumberedAutomata.{AreStartItems}
 use Rattle.lalrpop_lr1_build.specs.PublicStates.{start_items}
 use Rattle.lalrpop_lr1_build.proofs.NumberedAutomatonLemmas.{no_element}

@@ -2,9 +2,7 @@
 use Rattle.std.specs.Prelude.{◌≡◌, ◌⊎◌, ◌<◌, ◌≤◌, ℕ, Bool, true, false, List, [], All, Contains, map}
 use Rattle.std.specs.Prelude.{flat_map, Some, slice_get}
 use Rattle.std.specs.declared.cmp.Ordering.TheVariants.{Less}
-use Rattle.std.specs.Cmp.Lexicographic.{slice_cmp}
-use Rattle.std.specs.Ordering.{nat_cmp}
-use Rattle.lalrpop_grammar_symbols.specs.Symbols.{Text, Terminal}
+use Rattle.lalrpop_grammar_symbols.specs.Symbols.{Terminal}
 use Rattle.lalrpop_grammar_symbols.specs.declared.names.NonterminalString.{NonterminalString}
 use Rattle.lalrpop_grammar_repr.specs.contracts.production.ProductionOrd.TheImpl as production_order
 use Rattle.lalrpop_grammar_repr.specs.declared.grammar.Grammar.{Grammar}
@@ -15,24 +13,16 @@ use Rattle.lalrpop_lr1_theory.specs.Automata.{EndAlone}
 use Rattle.lalrpop_lr1_theory.specs.CanonicalStates.{AreConstructedStates, AreNumberedAsSeen, HaveItemsAscending, SymbolBefore}
 use Rattle.lalrpop_lr1_theory.specs.Productions as theory
 use Rattle.lalrpop_lr1_theory.specs.States as states
-use Rattle.lalrpop_lr1_items.specs.Conflicts.{nil_conflicts, token_conflicts}
-use Rattle.lalrpop_lr1_items.specs.Views.{lr_state_view, next_of_number, nil_lookahead, production_view, token_lookahead}
-use Rattle.lalrpop_lr1_items.specs.declared.conflict.Conflict.{Conflict}
-use Rattle.lalrpop_lr1_items.specs.declared.state.State.{State}
-use Rattle.lalrpop_lr1_items.specs.declared.table_fault.TableFault.{TableFault}
-use Rattle.lalrpop_lr1_items.specs.declared.table_fault.TableFault.TheVariants as faults
+use Rattle.lalrpop_lr1_core.specs.Conflicts.{nil_conflicts, token_conflicts}
+use Rattle.lalrpop_lr1_core.specs.Views.{lr_state_view, next_of_number, nil_lookahead, production_view, token_lookahead}
+use Rattle.lalrpop_lr1_core.specs.declared.conflict.Conflict.{Conflict}
+use Rattle.lalrpop_lr1_core.specs.declared.state.State.{State}
+use Rattle.lalrpop_lr1_core.specs.declared.table_fault.TableFault.{TableFault}
+use Rattle.lalrpop_lr1_core.specs.declared.table_fault.TableFault.TheVariants as faults
 use Rattle.lalrpop_sets.specs.Bits.{has}
 use Rattle.lalrpop_sets.specs.Tokens.{eof_number}
 use Rattle.lalrpop_sets.specs.declared.nil.Nil.{Nil}
-use Rattle.lalrpop_lr1_first.specs.Listings.{productions_of_grammar}
-
--- what the theory sees of the grammar's productions, as a list
-abbrev pub theory_grammar : Grammar → List theory.Production
-theory_grammar g = map production_view (productions_of_grammar g)
-
--- names in order
-abbrev pub NameBefore : Text → Text → Type 0
-NameBefore a b = slice_cmp nat_cmp a b ≡ Less
+use Rattle.lalrpop_lr1_core.specs.TheoryGrammars.{NameBefore, theory_grammar}
 
 -- terminals in the order in which the grammar has them
 pub record TerminalBefore (ts : TerminalSet) (t u : Terminal) : Type 0 where

@@ -1,3 +1,16 @@
+pub mod Edges
+pub mod Kernels
+pub mod Merges
+pub mod NextLaws
+pub mod Nexts
+pub mod Shifts
+pub mod Turns
 pub mod BuiltStates
 pub mod NumberedAutomata
 pub mod PublicStates
+pub mod StateCores
+pub mod JoinedItems
+pub mod Renumbering
+pub mod JoinedStates
+pub mod CollapseAnswers
+pub mod FrontItems

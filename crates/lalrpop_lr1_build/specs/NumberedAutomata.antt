@@ -3,14 +3,14 @@ use Rattle.std.specs.Prelude.{◌≡◌, ◌↔◌, ℕ, List, Some, slice_get}
 use Rattle.lalrpop_grammar_symbols.specs.Symbols.{Text}
 use Rattle.lalrpop_lr1_theory.specs.Productions as theory
 use Rattle.lalrpop_lr1_theory.specs.Automata.{IsBegun, IsBegunBefore}
-use Rattle.lalrpop_lr1_items.specs.Views.{next_of_number}
+use Rattle.lalrpop_lr1_core.specs.Views.{next_of_number}
 use Rattle.lalrpop_lr1_first.specs.FirstNumbers.{table_end}
 use Rattle.lalrpop_lr1_first.specs.ItemTables.{ListsItem, ListsNext}
 use Rattle.lalrpop_lr1_first.specs.NumberedGrammars.{HasItemAt, IsSeenIn, table_names, table_productions}
 use Rattle.lalrpop_lr1_first.specs.Tables.{symbol_of_number}
 use Rattle.lalrpop_lr1_first.specs.declared.numbered.Numbered.{Numbered}
-use Rattle.lalrpop_lr1_turn.specs.Turns.{HasEdgeByNumber}
-use Rattle.lalrpop_lr1_turn.specs.declared.numbered_states.NumberedState.{NumberedState}
+use Rattle.lalrpop_lr1_build.specs.Turns.{HasEdgeByNumber}
+use Rattle.lalrpop_lr1_build.specs.declared.states.numbered_states.NumberedState.{NumberedState}
 
 -- the state with this number has the item
 pub record HasNumberedItem {L : Type 0} (table : Numbered) (states : List (NumberedState L)) (n : ℕ) (p : theory.Production)

@@ -7,10 +7,10 @@ use Rattle.std.specs.Str.{bytes_eq}
 use Rattle.lalrpop_grammar_symbols.specs.declared.names.NonterminalString.{NonterminalString}
 use Rattle.lalrpop_grammar_symbols.specs.declared.terminal.TerminalString.{TerminalString}
 use Rattle.lalrpop_grammar_repr.specs.declared.production.Production.{Production}
-use Rattle.lalrpop_lr1_items.specs.Views.{production_view}
-use Rattle.lalrpop_lr1_items.specs.declared.item.Item.{Item}
-use Rattle.lalrpop_lr1_items.specs.declared.state.State.{State}
-use Rattle.lalrpop_lr1_items.specs.declared.state_index.StateIndex.{StateIndex}
+use Rattle.lalrpop_lr1_core.specs.Views.{production_view}
+use Rattle.lalrpop_lr1_core.specs.declared.item.Item.{Item}
+use Rattle.lalrpop_lr1_core.specs.declared.state.State.{State}
+use Rattle.lalrpop_lr1_core.specs.declared.state_index.StateIndex.{StateIndex}
 use Rattle.lalrpop_sets.specs.Bits.{Ascends}
 use Rattle.lalrpop_lr1_first.specs.ClosureTables.{AreItems}
 use Rattle.lalrpop_lr1_first.specs.FirstNumbers.{name_count, symbol_count}
@@ -20,8 +20,8 @@ use Rattle.lalrpop_lr1_first.specs.declared.numbered.Numbered.{Numbered}
 use Rattle.lalrpop_lr1_first.specs.declared.place.NumberedRule.{NumberedRule}
 use Rattle.lalrpop_lr1_first.specs.declared.place.Place.{Place}
 use Rattle.lalrpop_lr1_first.specs.declared.place.Place.TheVariants as places
-use Rattle.lalrpop_lr1_turn.specs.Kernels.{places_of}
-use Rattle.lalrpop_lr1_turn.specs.declared.numbered_states.NumberedState.{NumberedState}
+use Rattle.lalrpop_lr1_build.specs.Kernels.{places_of}
+use Rattle.lalrpop_lr1_build.specs.declared.states.numbered_states.NumberedState.{NumberedState}
 
 -- the number of the production that ends at a place, or else another
 abbrev pub ending_number : Place → ℕ → ℕ

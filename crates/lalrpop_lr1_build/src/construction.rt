@@ -4,31 +4,23 @@ ghost use Rattle.std.specs.Prelude.{◌≡◌, ◌++◌, ◌≤◌, ℕ, true, I
 ghost use Rattle.lalrpop_lr1_theory.specs.Answers.{IsLr1};
 ghost use Rattle.lalrpop_lr1_theory.specs.CheckedStates.{AreCheckedStates, IsStartAlone};
 ghost use Rattle.lalrpop_lr1_theory.specs.ValidItems.{NoneBarren};
-ghost use Rattle.lalrpop_lr1_items.specs.Views.{lr_state_view, token_lookahead};
+ghost use Rattle.lalrpop_lr1_core.specs.Views.{lr_state_view, token_lookahead};
 ghost use Rattle.lalrpop_sets.specs.Bits.{has};
 ghost use Rattle.lalrpop_sets.specs.Tokens.{eof_number};
 ghost use Rattle.lalrpop_lr1_first.specs.NumberedGrammars.{HasItsTerminals};
-ghost use Rattle.lalrpop_lr1_turn.specs.Nexts.{IsNextIn};
-ghost use Rattle.lalrpop_lr1_build.specs.BuiltStates.{
-  AreCanonicalWithout,
-  AreLr0Without,
-  HaveNoConflictBuilt,
-  IsCanonicalFault,
-  IsFaultBuilt,
-  IsLr0Fault,
-  TellsNoLr1,
-  theory_grammar,
-};
+ghost use Rattle.lalrpop_lr1_build.specs.Nexts.{IsNextIn};
+ghost use Rattle.lalrpop_lr1_build.specs.BuiltStates.{AreCanonicalWithout, AreLr0Without, HaveNoConflictBuilt, IsCanonicalFault, IsFaultBuilt, IsLr0Fault, TellsNoLr1};
+ghost use Rattle.lalrpop_lr1_core.specs.TheoryGrammars.{theory_grammar};
 
 use crate::public_states::states_at;
 use crate::start::start_kernel;
+use crate::states::{KernelLookahead, states_by_numbers};
 use lalrpop_grammar_repr::{Grammar, TerminalSet};
 use lalrpop_grammar_symbols::NonterminalString;
-use lalrpop_lr1_first::Closures;
-use lalrpop_lr1_items::{
+use lalrpop_lr1_core::{
     Conflict, Lookahead, Lr1Result, LrResult, State, TableConstructionError, TableFault,
 };
-use lalrpop_lr1_turn::{KernelLookahead, states_by_numbers};
+use lalrpop_lr1_first::Closures;
 use lalrpop_sets::{Nil, TokenSet};
 use std::alloc::{AllocError, Global};
 

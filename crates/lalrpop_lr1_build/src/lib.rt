@@ -1,10 +1,13 @@
 //! The construction of LR(1) states: canonical ones, and those without lookaheads, or their conflicts.
 #![tactic(auto)]
 
+pub mod builder;
+pub mod collapse;
 mod construction;
 mod map_edges;
 mod public_states;
 mod rule_numbers;
 mod start;
+pub mod states;
 
 pub use construction::{build_lr0_states, build_lr1_states_canonical, build_states};

@@ -3,14 +3,14 @@
 ghost use Rattle.std.specs.Prelude.{◌≡◌, ◌<◌, ℕ, IfOk, Contains};
 ghost use Rattle.lalrpop_lr1_first.specs.FirstNumbers.{name_count, symbol_count};
 ghost use Rattle.lalrpop_lr1_first.specs.NumberedGrammars.{IsNumberTable, table_names};
-ghost use Rattle.lalrpop_lr1_turn.specs.Kernels.{places_of};
+ghost use Rattle.lalrpop_lr1_build.specs.Kernels.{places_of};
 ghost use Rattle.lalrpop_lr1_build.specs.PublicStates.{AreGotos, AreShifts};
 ghost use Rattle.lalrpop_sets.specs.Bits.{Ascends};
 
 use lalrpop_grammar_repr::Map;
 use lalrpop_grammar_symbols::{NonterminalString, TerminalString};
+use lalrpop_lr1_core::StateIndex;
 use lalrpop_lr1_first::Numbered;
-use lalrpop_lr1_items::StateIndex;
 use std::alloc::{AllocError, Global};
 
 /// Where the nonterminals lead.

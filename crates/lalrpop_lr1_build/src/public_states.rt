@@ -6,7 +6,7 @@ ghost use Rattle.lalrpop_lr1_theory.specs.Productions as theory;
 ghost use Rattle.lalrpop_lr1_first.specs.ClosureTables.{AreItems};
 ghost use Rattle.lalrpop_lr1_first.specs.FirstNumbers.{symbol_count};
 ghost use Rattle.lalrpop_lr1_first.specs.NumberedGrammars.{HasItemAt, IsNumberTable};
-ghost use Rattle.lalrpop_lr1_turn.specs.Kernels.{places_of};
+ghost use Rattle.lalrpop_lr1_build.specs.Kernels.{places_of};
 ghost use Rattle.lalrpop_lr1_build.specs.PublicStates.{
   ArePublicStates,
   IsPublicItem,
@@ -18,11 +18,11 @@ ghost use Rattle.lalrpop_lr1_build.specs.PublicStates.{
 
 use crate::map_edges::{gotos_of, shifts_of};
 use crate::rule_numbers::rule_numbers;
+use crate::states::NumberedState;
 use lalrpop_grammar_repr::Production;
 use lalrpop_grammar_symbols::List;
+use lalrpop_lr1_core::{Item, Items, Lookahead, State, StateIndex};
 use lalrpop_lr1_first::Numbered;
-use lalrpop_lr1_items::{Item, Items, Lookahead, State, StateIndex};
-use lalrpop_lr1_turn::NumberedState;
 use std::alloc::{AllocError, Global};
 
 /// The item at a place.

@@ -4,9 +4,9 @@ ghost use Rattle.std.specs.Prelude.{◌≡◌, IfOk};
 ghost use Rattle.lalrpop_lr1_first.specs.NumberedGrammars.{IsNumberTable, table_productions};
 ghost use Rattle.lalrpop_lr1_build.specs.PublicStates.{start_items};
 
+use crate::states::{KernelLookahead, StateKernel};
 use lalrpop_grammar_symbols::{List, NonterminalString};
 use lalrpop_lr1_first::Numbered;
-use lalrpop_lr1_turn::{KernelLookahead, StateKernel};
 use std::alloc::{AllocError, Global};
 
 /// The items of the start with the dot in front, each with the lookahead.

@@ -3,14 +3,14 @@ use Rattle.std.proofs.Common.{◌≡◌, ◌↔◌, ℕ, List, Contains, map, su
 use Rattle.lalrpop_grammar_symbols.specs.Symbols.{Text}
 use Rattle.lalrpop_grammar_repr.specs.declared.production.Production as repr
 use Rattle.lalrpop_lr1_theory.specs.Productions.{Symbol, Production}
-use Rattle.lalrpop_lr1_items.proofs.MemberLemmas.{in_map, map_has}
-use Rattle.lalrpop_lr1_items.specs.Views.{production_view}
+use Rattle.lalrpop_lr1_core.proofs.MemberLemmas.{in_map, map_has}
+use Rattle.lalrpop_lr1_core.specs.Views.{production_view}
 use Rattle.lalrpop_lr1_first.specs.Listings.{HoldSame}
 use Rattle.lalrpop_lr1_first.specs.NumberedGrammars.{IsSeenIn}
-use Rattle.lalrpop_lr1_check_laws.specs.CoverTests.{HasItemsOfNames}
-use Rattle.lalrpop_lr1_check_laws.specs.NameClosures.{BeginsWithName, IsNameFrom}
-use Rattle.lalrpop_lr1_check_laws.specs.NameClosures.{IsProductive, MentionsName}
-use Rattle.lalrpop_lr1_check_parts.specs.CheckedTests.{BringsItems, ReachesProductive}
+use Rattle.lalrpop_lr1_theory.specs.CoverTests.{HasItemsOfNames}
+use Rattle.lalrpop_lr1_theory.specs.NameClosures.{BeginsWithName, IsNameFrom}
+use Rattle.lalrpop_lr1_theory.specs.NameClosures.{IsProductive, MentionsName}
+use Rattle.lalrpop_lr1_check_lookaheads.specs.CheckedTests.{BringsItems, ReachesProductive}
 
 -- the same productions are seen as the same
 pub seen_same : (ps qs : List repr.Production) → HoldSame ps qs → (p : Production) → IsSeenIn ps p ↔ IsSeenIn qs p

@@ -1,2 +1,9 @@
+pub mod MarkLemmas
+pub mod BeginLemmas
+pub mod CloseLemmas
+pub mod ListedBeginLemmas
+pub mod NamesBehindLemmas
+pub mod UnmovedLemmas
+pub mod BringLemmas
 pub mod GrammarLemmas
 pub mod PassLemmas

@@ -6,13 +6,14 @@ use Rattle.lalrpop_grammar_repr.specs.declared.production.Production.{Production
 use Rattle.lalrpop_grammar_repr.specs.declared.terminal_set.TerminalSet.{TerminalSet}
 use Rattle.lalrpop_lr1_theory.specs.CheckedStates.{AreCheckedStates}
 use Rattle.lalrpop_lr1_theory.specs.States.{HasEdge, HasItem, Reduces}
-use Rattle.lalrpop_lr1_items.specs.declared.state.State.{State}
-use Rattle.lalrpop_lr1_first.specs.Listings.{HoldSame, productions_of_grammar}
+use Rattle.lalrpop_lr1_core.specs.declared.state.State.{State}
+use Rattle.lalrpop_lr1_first.specs.Listings.{HoldSame}
+use Rattle.lalrpop_lr1_core.specs.TheoryGrammars.{productions_of_grammar}
 use Rattle.lalrpop_lr1_first.specs.NumberedGrammars.{IsSeenIn}
-use Rattle.lalrpop_lr1_check_laws.specs.HandedNexts.{ReducesBeforeHanded}
-use Rattle.lalrpop_lr1_check_laws.proofs.NameLemmas.{none_barren_productive}
-use Rattle.lalrpop_lr1_check_parts.proofs.PassLemmas.{checked_pass, pass_checked}
-use Rattle.lalrpop_lr1_build.specs.BuiltStates.{theory_grammar}
+use Rattle.lalrpop_lr1_theory.specs.HandedNexts.{ReducesBeforeHanded}
+use Rattle.lalrpop_lr1_theory.proofs.NameLemmas.{none_barren_productive}
+use Rattle.lalrpop_lr1_check_lookaheads.proofs.PassLemmas.{checked_pass, pass_checked}
+use Rattle.lalrpop_lr1_core.specs.TheoryGrammars.{theory_grammar}
 use Rattle.lalrpop_lr1_check.specs.StatesOver.{PassAlongEdges, PassByTable, PassReductions, seen_states}
 use Rattle.lalrpop_lr1_check.proofs.GrammarLemmas.{brings_same, reaches_same, seen_same}
 

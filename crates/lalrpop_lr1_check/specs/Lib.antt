@@ -1,1 +1,8 @@
+pub mod MarkGains
+pub mod BeginClauses
+pub mod BeginLists
+pub mod EdgeTargets
+pub mod NamesBehind
+pub mod UnmovedItems
+pub mod BringTests
 pub mod StatesOver

@@ -6,12 +6,12 @@ use Rattle.lalrpop_lr1_theory.specs.Laws.{HaveNoConflict}
 use Rattle.lalrpop_lr1_theory.specs.Productions as theory
 use Rattle.lalrpop_lr1_theory.specs.States as states
 use Rattle.lalrpop_lr1_theory.specs.ValidItems.{NoneBarren}
-use Rattle.lalrpop_lr1_items.specs.Views.{lr_state_view, token_lookahead}
-use Rattle.lalrpop_lr1_items.specs.declared.state.State.{State}
-use Rattle.lalrpop_lr1_check_handed.specs.HandFlows.{HaveKnownItems}
-use Rattle.lalrpop_lr1_check_parts.specs.CheckedTests.{BringsItems}
-use Rattle.lalrpop_lr1_check_parts.specs.Moves.{FollowsEdges}
-use Rattle.lalrpop_lr1_check_parts.specs.Reductions.{EndsAsSeen, FinishedAsSeen, OverTokens}
+use Rattle.lalrpop_lr1_core.specs.Views.{lr_state_view, token_lookahead}
+use Rattle.lalrpop_lr1_core.specs.declared.state.State.{State}
+use Rattle.lalrpop_lr1_check_lookaheads.specs.HandFlows.{HaveKnownItems}
+use Rattle.lalrpop_lr1_check_lookaheads.specs.CheckedTests.{BringsItems}
+use Rattle.lalrpop_lr1_check_lookaheads.specs.Moves.{FollowsEdges}
+use Rattle.lalrpop_lr1_check_lookaheads.specs.Reductions.{EndsAsSeen, FinishedAsSeen, OverTokens}
 
 -- in the items of the states stand the grammar's terminals alone, and in the sets of their reductions its tokens
 pub record AreStatesOver (ts : TerminalSet) (all : List (State (List ℕ))) : Type 0 where

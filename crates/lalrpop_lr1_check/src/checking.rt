@@ -2,10 +2,10 @@
 
 ghost use Rattle.std.specs.Prelude.{◌↔◌, IfOk, IsTrue, map};
 ghost use Rattle.lalrpop_lr1_theory.specs.CheckedStates.{AreCheckedStates};
-ghost use Rattle.lalrpop_lr1_items.specs.Views.{lr_state_view, token_lookahead};
+ghost use Rattle.lalrpop_lr1_core.specs.Views.{lr_state_view, token_lookahead};
 ghost use Rattle.lalrpop_lr1_first.specs.NumberedGrammars.{HasItsTerminals, IsNumberTable, IsSeenIn, table_productions};
 ghost use Rattle.lalrpop_lr1_first.specs.Tables.{IsTerminalSet};
-ghost use Rattle.lalrpop_lr1_build.specs.BuiltStates.{theory_grammar};
+ghost use Rattle.lalrpop_lr1_core.specs.TheoryGrammars.{theory_grammar};
 ghost use Rattle.lalrpop_lr1_check.specs.StatesOver.{
   AreStatesOver,
   PassAlongEdges,
@@ -13,14 +13,14 @@ ghost use Rattle.lalrpop_lr1_check.specs.StatesOver.{
   PassReductions,
 };
 
+use crate::closure::brings_items;
 use lalrpop_grammar_repr::{Grammar, TerminalSet};
 use lalrpop_grammar_symbols::NonterminalString;
-use lalrpop_lr1_check_brings::brings_items;
-use lalrpop_lr1_check_handed::reduces_before_handed;
-use lalrpop_lr1_check_names::none_is_barren;
-use lalrpop_lr1_check_parts::{StateListing, end_rightly, have_no_conflict};
+use lalrpop_lr1_barren::reachable::none_is_barren;
+use lalrpop_lr1_check_lookaheads::lookaheads::reduces_before_handed;
+use lalrpop_lr1_check_lookaheads::parts::{StateListing, end_rightly, have_no_conflict};
+use lalrpop_lr1_core::Lr1State;
 use lalrpop_lr1_first::Numbered;
-use lalrpop_lr1_items::Lr1State;
 use std::alloc::{AllocError, Global};
 
 /// Whether the states reduce by the start before the end alone, and none has a conflict.

@@ -5,5 +5,6 @@
 #![tactic(auto)]
 
 mod checking;
+pub mod closure;
 
 pub use checking::check_states;

@@ -7,8 +7,8 @@ use Rattle.std.specs.Prelude.{filter_map, flat_map, option_map}
 use Rattle.std.proofs.lemmas.List.Elements.{Contains-append_cases, Contains-append_left, Contains-append_right}
 use Rattle.lalrpop_lr1_theory.specs.Productions as theory
 use Rattle.lalrpop_lr1_theory.proofs.ListLemmas.{contains_get, contains_here, contains_later, contains_split, get_contains}
-use Rattle.lalrpop_lr1_items.specs.Views.{next_of_number}
-use Rattle.lalrpop_lr1_items.proofs.NoConflictLemmas.{at_mapped}
+use Rattle.lalrpop_lr1_core.specs.Views.{next_of_number}
+use Rattle.lalrpop_lr1_core.proofs.NoConflictLemmas.{at_mapped}
 use Rattle.lalrpop_sets.specs.Bits.{has}
 use Rattle.lalrpop_lr1_first.specs.ClosureTables.{AreItems, ClosesSeed, HoldTokens, IsClosureTable, SeedsAll, TableMarks}
 use Rattle.lalrpop_lr1_first.specs.ClosureTables.{edge_of_rule, name_behind}

@@ -20,8 +20,8 @@ use Rattle.lalrpop_grammar_repr.specs.declared.production.Symbol.TheVariants as 
 use Rattle.lalrpop_lr1_theory.specs.Productions as theory
 use Rattle.lalrpop_lr1_theory.specs.FirstSets.{Derives, First0, TableSays, ends, grows, keeps}
 use Rattle.lalrpop_lr1_theory.proofs.FirstTableLemmas.{first_left, first_said, said_first}
-use Rattle.lalrpop_lr1_items.specs.Views.{next_of_number, production_symbol_view}
-use Rattle.lalrpop_lr1_items.proofs.NoConflictLemmas.{same_terminal}
+use Rattle.lalrpop_lr1_core.specs.Views.{next_of_number, production_symbol_view}
+use Rattle.lalrpop_lr1_core.proofs.NoConflictLemmas.{same_terminal}
 use Rattle.lalrpop_sets.specs.Bits.{has}
 use Rattle.lalrpop_sets.specs.Tokens.{eof_number, number_alone}
 use Rattle.lalrpop_lr1_first.specs.FirstNumbers.{terminal_set}

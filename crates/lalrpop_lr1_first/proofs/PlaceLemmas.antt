@@ -1,7 +1,7 @@
 -- Places read one by one: what the symbols up to the end begin with. For the first set of a rest.
 use Rattle.std.proofs.Common.{◌≡◌, ◌∙◌, ℕ, zero, suc, ◌+◌, ◌<◌, ◌≤◌, List, [], ◌∷◌, length, drop}
 use Rattle.std.proofs.Common.{get_or, refl, ap, arith, slice_get, Some}
-use Rattle.lalrpop_lr1_items.proofs.ListLemmas.{left_is}
+use Rattle.lalrpop_lr1_core.proofs.ListLemmas.{left_is}
 use Rattle.lalrpop_lr1_first.specs.FirstNumbers.{AreSymbolsBelow}
 use Rattle.lalrpop_lr1_first.specs.Tables.{symbols_until}
 use Rattle.lalrpop_lr1_first.specs.declared.place.Place.{Place}

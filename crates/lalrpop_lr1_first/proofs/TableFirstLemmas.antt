@@ -10,13 +10,14 @@ use Rattle.lalrpop_grammar_repr.specs.declared.terminal_set.TerminalSet.{Termina
 use Rattle.lalrpop_lr1_theory.specs.Productions as theory
 use Rattle.lalrpop_lr1_theory.specs.FirstSets.{First0}
 use Rattle.lalrpop_lr1_theory.proofs.ListLemmas.{get_contains}
-use Rattle.lalrpop_lr1_items.specs.Views.{next_of_number, production_view}
-use Rattle.lalrpop_lr1_items.proofs.MemberLemmas.{in_map, map_has}
+use Rattle.lalrpop_lr1_core.specs.Views.{next_of_number, production_view}
+use Rattle.lalrpop_lr1_core.proofs.MemberLemmas.{in_map, map_has}
 use Rattle.lalrpop_sets.specs.Bits.{has}
 use Rattle.lalrpop_sets.specs.Tokens.{eof_number}
 use Rattle.lalrpop_lr1_first.specs.FirstNumbers.{AreSymbolFirsts, name_count, rule_of, table_end, table_rules}
 use Rattle.lalrpop_lr1_first.specs.FirstSetsOf.{AreFirstSetsOf, IsFirstSet, IsProductionOf, named_from, set_at_name, set_or_none}
-use Rattle.lalrpop_lr1_first.specs.Listings.{HoldSame, productions_of_grammar}
+use Rattle.lalrpop_lr1_first.specs.Listings.{HoldSame}
+use Rattle.lalrpop_lr1_core.specs.TheoryGrammars.{productions_of_grammar}
 use Rattle.lalrpop_lr1_first.specs.NumberedGrammars.{IsSeenIn, IsNumberTableOf, table_names, table_productions}
 use Rattle.lalrpop_lr1_first.specs.Numbers.{RuleByNumbers, SpellsSymbols, says, set_of_number}
 use Rattle.lalrpop_lr1_first.specs.Tables.{IsTerminalSet, pairs_from, symbol_of_number, symbol_or}

@@ -20,9 +20,9 @@ use Rattle.lalrpop_grammar_repr.specs.declared.terminal_set.TerminalSet.{Termina
 use Rattle.lalrpop_lr1_theory.specs.Productions as theory
 use Rattle.lalrpop_lr1_theory.proofs.ListLemmas.{contains_get, get_contains}
 use Rattle.lalrpop_sets.specs.Tokens.{eof_number}
-use Rattle.lalrpop_lr1_items.specs.Views.{next_of_number, production_symbol_view, production_view}
-use Rattle.lalrpop_lr1_items.proofs.MemberLemmas.{in_map, map_has}
-use Rattle.lalrpop_lr1_items.proofs.NoConflictLemmas.{at_mapped, same_terminal}
+use Rattle.lalrpop_lr1_core.specs.Views.{next_of_number, production_symbol_view, production_view}
+use Rattle.lalrpop_lr1_core.proofs.MemberLemmas.{in_map, map_has}
+use Rattle.lalrpop_lr1_core.proofs.NoConflictLemmas.{at_mapped, same_terminal}
 use Rattle.lalrpop_lr1_first.specs.FirstNumbers.{AreSymbolsBelow, name_count, rule_of, symbol_count, table_end, table_rules}
 use Rattle.lalrpop_lr1_first.specs.ItemTables.{IsItemTable, StartsItem}
 use Rattle.lalrpop_lr1_first.specs.NumberedGrammars.{HasItemAt, IsSeenIn, IsNumberTable, table_names, table_productions}

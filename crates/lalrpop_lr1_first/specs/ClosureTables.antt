@@ -5,12 +5,13 @@ use Rattle.std.specs.List.{All}
 use Rattle.lalrpop_grammar_repr.specs.declared.grammar.Grammar.{Grammar}
 use Rattle.lalrpop_lr1_theory.specs.Productions as theory
 use Rattle.lalrpop_lr1_theory.specs.Automata.{Marked}
-use Rattle.lalrpop_lr1_items.specs.Views.{next_of_number}
+use Rattle.lalrpop_lr1_core.specs.Views.{next_of_number}
 use Rattle.lalrpop_sets.specs.Bits.{has}
 use Rattle.lalrpop_lr1_first.specs.FirstNumbers.{AreSymbolFirsts, ArePlaceFirsts, name_count, table_end}
 use Rattle.lalrpop_lr1_first.specs.Flows.{MarksAreWithin, all_marks}
 use Rattle.lalrpop_lr1_first.specs.ItemTables.{AreSeeded, HasMark, HasPlace, ListsItem, ListsNext, SeedBrings}
-use Rattle.lalrpop_lr1_first.specs.Listings.{HoldSame, productions_of_grammar}
+use Rattle.lalrpop_lr1_first.specs.Listings.{HoldSame}
+use Rattle.lalrpop_lr1_core.specs.TheoryGrammars.{productions_of_grammar}
 use Rattle.lalrpop_lr1_first.specs.NumberedGrammars.{HasItemAt, IsSeenIn, IsNumberTable, table_productions}
 use Rattle.lalrpop_lr1_first.specs.Numbers.{set_of_number}
 use Rattle.lalrpop_lr1_first.specs.Tables.{rest_of}

@@ -3,14 +3,9 @@ use Rattle.std.specs.Prelude.{◌↔◌, ◌⊎◌, List, [], ◌∷◌, map, fl
 use Rattle.std.specs.Borrow.{Bor}
 use Rattle.std.specs.BTreeSet.{BTreeSet}
 use Rattle.lalrpop_grammar_symbols.specs.declared.names.NonterminalString.{NonterminalString}
-use Rattle.lalrpop_grammar_repr.specs.declared.grammar.Grammar.{Grammar}
 use Rattle.lalrpop_grammar_repr.specs.declared.production.Production.{Production}
 use Rattle.lalrpop_grammar_repr.specs.declared.production.Symbol.{Symbol}
 use Rattle.lalrpop_grammar_repr.specs.declared.production.Symbol.TheVariants as symbols
-
--- the productions of the grammar
-abbrev pub productions_of_grammar : Grammar → List Production
-productions_of_grammar g = flat_map (λ e. e.1.productions) g.nonterminals
 
 -- the name of a symbol that is a nonterminal
 abbrev pub symbol_names : Symbol → List NonterminalString

@@ -7,8 +7,9 @@ use Rattle.lalrpop_grammar_repr.specs.contracts.production.ProductionOrd.TheImpl
 use Rattle.lalrpop_grammar_repr.specs.declared.grammar.Grammar.{Grammar}
 use Rattle.lalrpop_grammar_repr.specs.declared.production.Production.{Production}
 use Rattle.lalrpop_lr1_theory.specs.Productions as theory
-use Rattle.lalrpop_lr1_items.specs.Views.{production_view}
-use Rattle.lalrpop_lr1_first.specs.Listings.{HoldSame, lent, productions_of_grammar}
+use Rattle.lalrpop_lr1_core.specs.Views.{production_view}
+use Rattle.lalrpop_lr1_first.specs.Listings.{HoldSame, lent}
+use Rattle.lalrpop_lr1_core.specs.TheoryGrammars.{productions_of_grammar}
 use Rattle.lalrpop_lr1_first.specs.Tables.{AreLaid, HaveNumberedTerminals, IsTerminalSet, pairs_from}
 use Rattle.lalrpop_lr1_first.specs.declared.names.Names.{Names}
 use Rattle.lalrpop_lr1_first.specs.declared.numbered.Numbered.{Numbered}

@@ -10,8 +10,8 @@ use Rattle.lalrpop_grammar_repr.specs.declared.production.Symbol.{Symbol}
 use Rattle.lalrpop_grammar_repr.specs.declared.production.Symbol.TheVariants as symbols
 use Rattle.lalrpop_grammar_repr.specs.declared.terminal_set.TerminalSet.{TerminalSet}
 use Rattle.lalrpop_lr1_theory.specs.Productions as theory
-use Rattle.lalrpop_lr1_items.specs.Numbering.{IsNumberedByPlaces, NumbersArePlaces}
-use Rattle.lalrpop_lr1_items.specs.Views.{production_symbol_view}
+use Rattle.lalrpop_lr1_core.specs.Numbering.{IsNumberedByPlaces, NumbersArePlaces}
+use Rattle.lalrpop_lr1_core.specs.Views.{production_symbol_view}
 use Rattle.lalrpop_lr1_first.specs.Numbers.{SpellsSymbols}
 use Rattle.lalrpop_lr1_first.specs.declared.place.NumberedRule.{NumberedRule}
 use Rattle.lalrpop_lr1_first.specs.declared.place.Place.{Place}

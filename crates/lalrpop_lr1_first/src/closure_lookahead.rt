@@ -7,7 +7,7 @@ ghost use Rattle.lalrpop_lr1_first.specs.Flows.{comes};
 
 use crate::first_of::first_before;
 use lalrpop_grammar_repr::TerminalSet;
-use lalrpop_lr1_items::Lookahead;
+use lalrpop_lr1_core::Lookahead;
 use lalrpop_sets::{Nil, TokenSet};
 use std::alloc::{AllocError, Global};
 

@@ -5,7 +5,7 @@ ghost use Rattle.std.specs.List.Sorted.{IsStrictlySortedBy};
 ghost use Rattle.lalrpop_grammar_symbols.specs.contracts.names.NonterminalStringOrd.TheImpl as names_order;
 ghost use Rattle.lalrpop_sets.specs.Bits.{has, Ascends};
 ghost use Rattle.lalrpop_sets.specs.Tokens.{eof_number};
-ghost use Rattle.lalrpop_lr1_items.specs.Views.{production_symbol_view};
+ghost use Rattle.lalrpop_lr1_core.specs.Views.{production_symbol_view};
 ghost use Rattle.lalrpop_lr1_first.specs.FirstSetsOf.{
   AreFirstSetsOf,
   IsFirstSet,

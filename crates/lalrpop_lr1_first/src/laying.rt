@@ -2,8 +2,8 @@
 
 ghost use Rattle.std.specs.Prelude.{◌≡◌, ◌<◌, ◌^◌, ℕ, Contains, IfOk, OnOk, Some, length, slice_get};
 ghost use Rattle.lalrpop_grammar_repr.specs.Maps.{at_terminal};
-ghost use Rattle.lalrpop_lr1_items.specs.Numbering.{NumbersArePlaces};
-ghost use Rattle.lalrpop_lr1_items.specs.Views.{production_symbol_view};
+ghost use Rattle.lalrpop_lr1_core.specs.Numbering.{NumbersArePlaces};
+ghost use Rattle.lalrpop_lr1_core.specs.Views.{production_symbol_view};
 ghost use Rattle.lalrpop_lr1_first.specs.Listings.{lent};
 ghost use Rattle.lalrpop_lr1_first.specs.NumberedGrammars.{NamesAreNumbered};
 ghost use Rattle.lalrpop_lr1_first.specs.Tables.{

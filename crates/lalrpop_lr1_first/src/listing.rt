@@ -3,15 +3,8 @@
 ghost use Rattle.std.specs.Prelude.{◌≡◌, ◌∷◌, [], IfOk, OnOk, flat_map};
 ghost use Rattle.std.specs.List.Sorted.{IsStrictlySortedBy};
 ghost use Rattle.lalrpop_grammar_repr.specs.contracts.production.ProductionOrd.TheImpl as production_order;
-ghost use Rattle.lalrpop_lr1_first.specs.Listings.{
-  AddsTo,
-  HoldSame,
-  lent,
-  lent_in,
-  names_in_production,
-  symbol_names,
-  productions_of_grammar,
-};
+ghost use Rattle.lalrpop_lr1_first.specs.Listings.{AddsTo, HoldSame, lent, lent_in, names_in_production, symbol_names};
+ghost use Rattle.lalrpop_lr1_core.specs.TheoryGrammars.{productions_of_grammar};
 
 use lalrpop_grammar_repr::{Grammar, Production, Symbol};
 use lalrpop_grammar_symbols::NonterminalString;

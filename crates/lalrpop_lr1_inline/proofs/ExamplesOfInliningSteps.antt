@@ -8,7 +8,7 @@ use Rattle.lalrpop_grammar_repr.specs.declared.action.InlinedSymbol.{InlinedSymb
 use Rattle.lalrpop_grammar_repr.specs.declared.action.InlinedSymbol.TheVariants as inlined
 use Rattle.lalrpop_grammar_repr.specs.declared.production.Production.{Production}
 use Rattle.lalrpop_grammar_repr.specs.declared.production.Symbol.{Symbol}
-use Rattle.lalrpop_grammar_types.specs.declared.type_repr.TypeRepr.TheVariants as types
+use Rattle.lalrpop_grammar.specs.declared.types.type_repr.TypeRepr.TheVariants as types
 use Rattle.lalrpop_lr1_inline.specs.InlinedNames.{NonterminalEntries}
 use Rattle.lalrpop_lr1_inline.specs.InliningSteps.{IsInlineDefinition, all_records_after, entries_after, numbers_after}
 use Rattle.lalrpop_lr1_inline.specs.InliningSteps.{productions_after, productions_named, records_of}

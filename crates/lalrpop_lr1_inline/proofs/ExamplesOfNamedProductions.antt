@@ -4,9 +4,9 @@ use Rattle.std.proofs.Common.{◌≡◌, ◌≢◌, ℕ, [], ◌∷◌, ◌∙�
 use Rattle.std.specs.Prelude.{codes}
 use Rattle.lalrpop_grammar_symbols.specs.Symbols.{Terminal, Text}
 use Rattle.lalrpop_grammar_language.specs.Expansion.{GrammarSymbol}
-use Rattle.lalrpop_norm_labels.specs.Labels.{GrammarSymbols, Inlinings, Label}
-use Rattle.lalrpop_norm_labels.specs.Inlining.{Inlines, InlinesAll}
-use Rattle.lalrpop_norm_labels.specs.Steps.{label_with, symbols_after, symbols_before}
+use Rattle.lalrpop_grammar_language.specs.Labels.{GrammarSymbols, Inlinings, Label}
+use Rattle.lalrpop_grammar_language.specs.Inlining.{Inlines, InlinesAll}
+use Rattle.lalrpop_grammar_language.specs.Steps.{label_with, symbols_after, symbols_before}
 use Rattle.lalrpop_lr1_inline.specs.InlinedNames.{NonterminalEntries}
 use Rattle.lalrpop_lr1_inline.specs.NamedProductions.{IsInlinedByName, ProducesByAction, label_given, record_by_labels, side_by_names}
 use Rattle.lalrpop_lr1_inline.proofs.ExamplesOfInliningOrders.{marked, n, nested, production, rule, t}

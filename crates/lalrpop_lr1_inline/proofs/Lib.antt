@@ -18,3 +18,12 @@ pub mod ExamplesOfInliningOrders
 pub mod ExamplesOfInliningSteps
 pub mod ExamplesOfNamedProductions
 pub mod ExamplesOfNumberCounts
+pub mod OnceLemmas
+pub mod KeptLemmas
+pub mod MadeLabelLemmas
+pub mod StepLabelLemmas
+pub mod GivenLabelLemmas
+pub mod OrderLabelLemmas
+pub mod SmallerLemmas
+pub mod LabelsExistLemmas
+pub mod ExamplesOfInlinedLabels

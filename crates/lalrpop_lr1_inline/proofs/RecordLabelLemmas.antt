@@ -15,9 +15,9 @@ use Rattle.lalrpop_grammar_repr.specs.declared.action.InlinedSymbol.TheVariants 
 use Rattle.lalrpop_grammar_repr.specs.declared.production.Production.{Production}
 use Rattle.lalrpop_grammar_repr.specs.declared.production.Symbol.{Symbol}
 use Rattle.lalrpop_grammar_repr.specs.declared.production.Symbol.TheVariants as symbols
-use Rattle.lalrpop_norm_labels.specs.Labels.{BaseProductions, GrammarSymbols, Label}
-use Rattle.lalrpop_norm_labels.specs.Inlining.{Inlines}
-use Rattle.lalrpop_norm_labels.specs.Steps.{IsRecord, RecordedSymbol, symbols_after, symbols_before}
+use Rattle.lalrpop_grammar_language.specs.Labels.{BaseProductions, GrammarSymbols, Label}
+use Rattle.lalrpop_grammar_language.specs.Inlining.{Inlines}
+use Rattle.lalrpop_grammar_language.specs.Steps.{IsRecord, RecordedSymbol, symbols_after, symbols_before}
 use Rattle.lalrpop_lr1_inline.specs.InliningSteps.{record_entries, records_of, side_of_entry, side_of_record}
 use Rattle.lalrpop_lr1_inline.specs.NamedProductions.{entry_by_labels, record_by_labels, side_by_names, symbol_by_name}
 use Rattle.lalrpop_lr1_inline.proofs.AmongLemmas.{among_flat_map, among_left, among_right}

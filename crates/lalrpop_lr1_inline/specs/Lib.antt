@@ -6,3 +6,4 @@ pub mod InliningSteps
 pub mod NamedProductions
 pub mod NumberCounts
 pub mod InlinedGrammars
+pub mod InlinedLabels

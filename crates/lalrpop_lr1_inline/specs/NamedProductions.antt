@@ -10,8 +10,8 @@ use Rattle.lalrpop_grammar_repr.specs.declared.action.InlinedSymbol.TheVariants 
 use Rattle.lalrpop_grammar_repr.specs.declared.production.Production.{Production}
 use Rattle.lalrpop_grammar_repr.specs.declared.production.Symbol.{Symbol}
 use Rattle.lalrpop_grammar_repr.specs.declared.production.Symbol.TheVariants as symbols
-use Rattle.lalrpop_norm_labels.specs.Labels.{BaseProductions, GrammarSymbols, Inlinings, Label}
-use Rattle.lalrpop_norm_labels.specs.Steps.{RecordedSymbol}
+use Rattle.lalrpop_grammar_language.specs.Labels.{BaseProductions, GrammarSymbols, Inlinings, Label}
+use Rattle.lalrpop_grammar_language.specs.Steps.{RecordedSymbol}
 use Rattle.lalrpop_lr1_inline.specs.InlinedNames.{NonterminalEntries, is_inlined_name}
 use Rattle.lalrpop_lr1_inline.specs.InliningSteps.{productions_named}
 

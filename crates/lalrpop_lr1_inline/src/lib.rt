@@ -7,6 +7,7 @@
 mod count;
 mod fault;
 mod grammar;
+pub mod laws;
 mod made;
 mod named;
 mod order;

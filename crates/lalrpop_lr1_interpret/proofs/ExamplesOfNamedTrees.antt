@@ -3,8 +3,8 @@ use Rattle.std.proofs.Common.{◌≡◌, [], ◌∷◌, refl}
 use Rattle.lalrpop_grammar_symbols.specs.Symbols.{Terminal}
 use Rattle.lalrpop_lr1_theory.specs.Productions.{Production, terminal}
 use Rattle.lalrpop_lr1_theory.specs.Spans.{SpannedForest, leaf_at, node_at, none_at, without_spans}
-use Rattle.lalrpop_lr1_parse.specs.Stacks.{◌beside◌}
-use Rattle.lalrpop_lr1_parse_trees.specs.NamedTrees.{name_forest, named_leaf, named_leaves, named_node, no_trees}
+use Rattle.lalrpop_lr1_interpret.specs.Stacks.{◌beside◌}
+use Rattle.lalrpop_lr1_interpret.specs.NamedTrees.{name_forest, named_leaf, named_leaves, named_node, no_trees}
 
 -- a terminal for the examples: the regular expression of the digit 1
 abbrev one : Terminal

@@ -17,23 +17,23 @@ use Rattle.lalrpop_lr1_theory.specs.Spans.{SpannedForest, without_spans}
 use Rattle.lalrpop_lr1_theory.specs.States.{State as TheoryState}
 use Rattle.lalrpop_lr1_theory.specs.Trees.{roots}
 use Rattle.lalrpop_lr1_theory.proofs.AnswerLemmas.{ends_right}
-use Rattle.lalrpop_lr1_items.specs.Views.{lr_state_view, token_lookahead}
-use Rattle.lalrpop_lr1_items.specs.declared.state.State.{State}
-use Rattle.lalrpop_lr1_parse.specs.Ends.{IsEndOfRun, MakesTree, MayRun, terminals_of}
+use Rattle.lalrpop_lr1_core.specs.Views.{lr_state_view, token_lookahead}
+use Rattle.lalrpop_lr1_core.specs.declared.state.State.{State}
+use Rattle.lalrpop_lr1_interpret.specs.Ends.{IsEndOfRun, MakesTree, MayRun, terminals_of}
 use Rattle.lalrpop_lr1_interpret.specs.Interpretations.{IsInterpretFaultOf, IsHaltWithin, IsRightFault, IsTreeOfTokens, MayInterpret}
 use Rattle.lalrpop_lr1_interpret.specs.Interpretations.{move_limit}
 use Rattle.lalrpop_lr1_interpret.specs.Interpretations.{wrong_place}
-use Rattle.lalrpop_lr1_parse_trees.specs.NamedTrees.{name_forest, parse_tree_views}
-use Rattle.lalrpop_lr1_parse.specs.Outcomes.{IsStuckAt, ShiftsAll}
-use Rattle.lalrpop_lr1_parse.specs.declared.action_table.ActionTable.{ActionTable}
+use Rattle.lalrpop_lr1_interpret.specs.NamedTrees.{name_forest, parse_tree_views}
+use Rattle.lalrpop_lr1_interpret.specs.Outcomes.{IsStuckAt, ShiftsAll}
+use Rattle.lalrpop_lr1_interpret.specs.declared.parse.action_table.ActionTable.{ActionTable}
 use Rattle.lalrpop_lr1_interpret.specs.declared.interpret_fault.InterpretFault.{InterpretFault}
 use Rattle.lalrpop_lr1_interpret.specs.declared.interpret_fault.InterpretFault.TheVariants as faults
-use Rattle.lalrpop_lr1_parse.specs.declared.machine.Halt.{Halt}
-use Rattle.lalrpop_lr1_parse.specs.declared.machine.Halt.TheVariants as halts
-use Rattle.lalrpop_lr1_parse_trees.specs.declared.parse_tree.ParseTree.{ParseTree}
-use Rattle.lalrpop_lr1_parse_trees.proofs.NamedLemmas.{named_count, named_long, named_views_long, only_named}
-use Rattle.lalrpop_lr1_parse.proofs.ParsingLemmas.{walk_in}
-use Rattle.lalrpop_lr1_parse.proofs.StopLemmas.{end_right, token_right}
+use Rattle.lalrpop_lr1_interpret.specs.declared.parse.machine.Halt.{Halt}
+use Rattle.lalrpop_lr1_interpret.specs.declared.parse.machine.Halt.TheVariants as halts
+use Rattle.lalrpop_lr1_interpret.specs.declared.parse_trees.parse_tree.ParseTree.{ParseTree}
+use Rattle.lalrpop_lr1_interpret.proofs.NamedLemmas.{named_count, named_long, named_views_long, only_named}
+use Rattle.lalrpop_lr1_interpret.proofs.ParsingLemmas.{walk_in}
+use Rattle.lalrpop_lr1_interpret.proofs.StopLemmas.{end_right, token_right}
 
 -- the terminals of tokens, seen at once or one after the other
 pub seen_terminals : (tokens : List ScanToken) → terminals_of tokens ≡ map terminal_view (map (λ t. t.terminal) tokens)

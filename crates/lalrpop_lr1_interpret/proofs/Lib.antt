@@ -1,3 +1,20 @@
+pub mod NamedLemmas
+pub mod ColumnLemmas
+pub mod DropLemmas
+pub mod NumberLemmas
+pub mod StackLemmas
+pub mod ExamplesOfLimits
+pub mod ExamplesOfParses
+pub mod ExamplesOfStacks
+pub mod ExpandedLemmas
+pub mod LimitLemmas
+pub mod MadeTableLemmas
+pub mod MoveCountLemmas
+pub mod ParsingLemmas
+pub mod RowLemmas
+pub mod RunLemmas
+pub mod StopLemmas
+pub mod TableLemmas
 mod ExamplesOfNamedTrees
 pub mod InterpretLemmas
 pub mod NamedStackLemmas

@@ -7,13 +7,13 @@ use Rattle.lalrpop_grammar_repr.specs.declared.production.Symbol.{Symbol}
 use Rattle.lalrpop_lr1_theory.specs.Spans.{SpannedForest, node_at, none_at, without_spans}
 use Rattle.lalrpop_lr1_theory.specs.Trees.{node, none, roots}
 use Rattle.lalrpop_lr1_theory.proofs.TreeLemmas.{roots-and}
-use Rattle.lalrpop_lr1_items.specs.Views.{production_symbol_view, production_view}
-use Rattle.lalrpop_lr1_parse.specs.Stacks.{◌beside◌}
-use Rattle.lalrpop_lr1_parse.proofs.StackLemmas.{without-beside}
-use Rattle.lalrpop_lr1_parse_trees.specs.NamedTrees.{name_forest, named_node, no_trees, parse_tree_view, parse_tree_views}
-use Rattle.lalrpop_lr1_parse_trees.specs.declared.parse_tree.ParseTree.{ParseTree}
-use Rattle.lalrpop_lr1_parse_trees.proofs.NamedLemmas.{name_forest-and, named_count, named_long, named_views_long, named_views_more}
-use Rattle.lalrpop_lr1_parse_trees.proofs.NamedLemmas.{same_named_ends, ◌along◌}
+use Rattle.lalrpop_lr1_core.specs.Views.{production_symbol_view, production_view}
+use Rattle.lalrpop_lr1_interpret.specs.Stacks.{◌beside◌}
+use Rattle.lalrpop_lr1_interpret.proofs.StackLemmas.{without-beside}
+use Rattle.lalrpop_lr1_interpret.specs.NamedTrees.{name_forest, named_node, no_trees, parse_tree_view, parse_tree_views}
+use Rattle.lalrpop_lr1_interpret.specs.declared.parse_trees.parse_tree.ParseTree.{ParseTree}
+use Rattle.lalrpop_lr1_interpret.proofs.NamedLemmas.{name_forest-and, named_count, named_long, named_views_long, named_views_more}
+use Rattle.lalrpop_lr1_interpret.proofs.NamedLemmas.{same_named_ends, ◌along◌}
 
 -- a stack of trees that end with the children of a node has as many
 pub enough_named : (ts : List ParseTree) (kept children : SpannedForest) (symbols : List Symbol) →

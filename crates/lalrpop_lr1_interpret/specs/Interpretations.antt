@@ -12,20 +12,20 @@ use Rattle.lalrpop_lr1_theory.specs.Answers.{IsRightParseAnswer, ParseAnswer, ov
 use Rattle.lalrpop_lr1_theory.specs.Productions.{Production}
 use Rattle.lalrpop_lr1_theory.specs.Trees.{Forest}
 use Rattle.lalrpop_sets.specs.TokensLeft.{token_or}
-use Rattle.lalrpop_lr1_items.specs.Views.{lr_state_view, token_lookahead}
-use Rattle.lalrpop_lr1_items.specs.declared.state.State.{State}
-use Rattle.lalrpop_lr1_items.specs.declared.state_index.StateIndex.{StateIndex}
-use Rattle.lalrpop_lr1_parse_trees.specs.NamedTrees.{name_forest, parse_tree_view}
-use Rattle.lalrpop_lr1_parse.specs.Outcomes.{IsStuckAt, ShiftsAll}
-use Rattle.lalrpop_lr1_parse.specs.Parses.{AreParsable}
-use Rattle.lalrpop_lr1_parse.specs.Tables.{IsTableOf}
-use Rattle.lalrpop_lr1_parse.specs.declared.action_table.ActionTable.{ActionTable}
+use Rattle.lalrpop_lr1_core.specs.Views.{lr_state_view, token_lookahead}
+use Rattle.lalrpop_lr1_core.specs.declared.state.State.{State}
+use Rattle.lalrpop_lr1_core.specs.declared.state_index.StateIndex.{StateIndex}
+use Rattle.lalrpop_lr1_interpret.specs.NamedTrees.{name_forest, parse_tree_view}
+use Rattle.lalrpop_lr1_interpret.specs.Outcomes.{IsStuckAt, ShiftsAll}
+use Rattle.lalrpop_lr1_interpret.specs.Parses.{AreParsable}
+use Rattle.lalrpop_lr1_interpret.specs.Tables.{IsTableOf}
+use Rattle.lalrpop_lr1_interpret.specs.declared.parse.action_table.ActionTable.{ActionTable}
 use Rattle.lalrpop_lr1_interpret.specs.declared.interpret_fault.InterpretError.{InterpretError}
 use Rattle.lalrpop_lr1_interpret.specs.declared.interpret_fault.InterpretFault.{InterpretFault}
 use Rattle.lalrpop_lr1_interpret.specs.declared.interpret_fault.InterpretFault.TheVariants as faults
-use Rattle.lalrpop_lr1_parse.specs.declared.machine.Halt.{Halt}
-use Rattle.lalrpop_lr1_parse.specs.declared.machine.Halt.TheVariants as halts
-use Rattle.lalrpop_lr1_parse_trees.specs.declared.parse_tree.ParseTree.{ParseTree}
+use Rattle.lalrpop_lr1_interpret.specs.declared.parse.machine.Halt.{Halt}
+use Rattle.lalrpop_lr1_interpret.specs.declared.parse.machine.Halt.TheVariants as halts
+use Rattle.lalrpop_lr1_interpret.specs.declared.parse_trees.parse_tree.ParseTree.{ParseTree}
 
 -- the greatest number of moves that an interpreter makes
 abbrev pub move_limit : ℕ

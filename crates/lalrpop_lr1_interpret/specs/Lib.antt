@@ -1,1 +1,13 @@
+pub mod NamedTrees
+pub mod ParseTreeTexts
+pub mod Columns
+pub mod Ends
+pub mod ExpandedViews
+pub mod MadeTables
+pub mod Numbers
+pub mod Outcomes
+pub mod Parses
+pub mod Rows
+pub mod Stacks
+pub mod Tables
 pub mod Interpretations

@@ -1,6 +1,6 @@
 //! Why an interpreter gives no tree.
 
-use lalrpop_lr1_items::Lr1State;
+use lalrpop_lr1_core::Lr1State;
 use lalrpop_sets::Token;
 use std::alloc::{AllocError, AllocFailed};
 

@@ -6,20 +6,20 @@ ghost use Rattle.lalrpop_grammar_symbols.specs.Symbols.{Text};
 ghost use Rattle.lalrpop_lr1_theory.specs.CheckedStates.{AreCheckedStates, IsStartAlone};
 ghost use Rattle.lalrpop_lr1_theory.specs.Productions.{Production};
 ghost use Rattle.lalrpop_sets.specs.TokensLeft.{token_or};
-ghost use Rattle.lalrpop_lr1_items.specs.Views.{lr_state_view, token_lookahead};
+ghost use Rattle.lalrpop_lr1_core.specs.Views.{lr_state_view, token_lookahead};
 ghost use Rattle.lalrpop_lr1_interpret.specs.Interpretations.{AreRightStates, IsInterpretFaultOf, IsHaltWithin, IsRightInterpretation};
 ghost use Rattle.lalrpop_lr1_interpret.specs.Interpretations.{MayInterpret};
-ghost use Rattle.lalrpop_lr1_parse.specs.Parses.{AreParsable};
-ghost use Rattle.lalrpop_lr1_parse.specs.Tables.{IsTableOf};
+ghost use Rattle.lalrpop_lr1_interpret.specs.Parses.{AreParsable};
+ghost use Rattle.lalrpop_lr1_interpret.specs.Tables.{IsTableOf};
 
 use crate::interpret_fault::{InterpretError, InterpretFault};
+use crate::parse::{ActionTable, Halt, NoTrees, TokenNumbers, run};
 use crate::parse_tree_stack::ParseTrees;
+use crate::parse_trees::ParseTree;
 use lalrpop_grammar::ScanToken;
 use lalrpop_grammar_repr::TerminalSet;
 use lalrpop_grammar_symbols::{Span, TerminalString};
-use lalrpop_lr1_items::{Lr1State, StateIndex};
-use lalrpop_lr1_parse::{ActionTable, Halt, NoTrees, TokenNumbers, run};
-use lalrpop_lr1_parse_trees::ParseTree;
+use lalrpop_lr1_core::{Lr1State, StateIndex};
 use lalrpop_sets::Token;
 use std::alloc::{AllocError, Global};
 

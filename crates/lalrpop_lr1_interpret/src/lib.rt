@@ -6,7 +6,9 @@
 
 mod interpret_fault;
 mod interpreting;
+pub mod parse;
 mod parse_tree_stack;
+pub mod parse_trees;
 
 pub use interpret_fault::{InterpretError, InterpretFault};
 pub use interpreting::{interpret, interpret_partial};

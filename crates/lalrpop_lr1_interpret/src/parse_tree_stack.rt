@@ -1,13 +1,13 @@
 //! A stack of parse trees without productions.
 
 ghost use Rattle.std.specs.Prelude.{◌≡◌, ◌++◌, ◌∷◌, [], List as Lists, MatchOption};
-ghost use Rattle.lalrpop_lr1_parse_trees.specs.declared.parse_tree.ParseTree.{ParseTree};
+ghost use Rattle.lalrpop_lr1_interpret.specs.declared.parse_trees.parse_tree.ParseTree.{ParseTree};
 
+use crate::parse::TreeStack;
+use crate::parse_trees::ParseTree;
 use lalrpop_grammar::ScanToken;
 use lalrpop_grammar_repr::Production;
 use lalrpop_grammar_symbols::List;
-use lalrpop_lr1_parse::TreeStack;
-use lalrpop_lr1_parse_trees::ParseTree;
 use std::alloc::{AllocError, Global};
 
 /// The parse trees that a parse has made so far.
@@ -39,7 +39,7 @@ impl ParseTrees {
 impl<'g> TreeStack<'g> for ParseTrees {
     ghost use Rattle.std.specs.Prelude.{◌≡◌};
     ghost use Rattle.lalrpop_lr1_theory.specs.Spans.{without_spans};
-    ghost use Rattle.lalrpop_lr1_parse_trees.specs.NamedTrees.{name_forest, parse_tree_views};
+    ghost use Rattle.lalrpop_lr1_interpret.specs.NamedTrees.{name_forest, parse_tree_views};
 
     ghost given = { λ _. tt };
 

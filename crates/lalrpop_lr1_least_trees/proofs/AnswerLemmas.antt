@@ -12,12 +12,12 @@ use Rattle.lalrpop_lr1_first.specs.FirstNumbers.{name_count}
 use Rattle.lalrpop_lr1_first.specs.FirstSetsOf.{IsProductionOf}
 use Rattle.lalrpop_lr1_first.specs.NumberedGrammars.{IsNumberTableOf, IsSeenIn, table_names, table_productions}
 use Rattle.lalrpop_lr1_first.specs.Tables.{pairs_from}
-use Rattle.lalrpop_lr1_least_counts.specs.LeastTrees.{AreLeast, AreLeastMoves, BuildLeast, IsLeast, IsLeastTree}
-use Rattle.lalrpop_lr1_least_counts.specs.NumberedTrees.{Builds, NamesAreBelow, rule_views}
-use Rattle.lalrpop_lr1_least_counts.specs.Openings.{entry_at}
-use Rattle.lalrpop_lr1_least_counts.specs.declared.counts.LeastTree.{LeastTree}
-use Rattle.lalrpop_lr1_least_counts.specs.declared.rule.NumberMove.{NumberMove}
-use Rattle.lalrpop_lr1_least_counts.specs.declared.rule.Rule.{Rule}
+use Rattle.lalrpop_lr1_least_trees.specs.LeastTrees.{AreLeast, AreLeastMoves, BuildLeast, IsLeast, IsLeastTree}
+use Rattle.lalrpop_lr1_least_trees.specs.NumberedTrees.{Builds, NamesAreBelow, rule_views}
+use Rattle.lalrpop_lr1_least_trees.specs.Openings.{entry_at}
+use Rattle.lalrpop_lr1_least_trees.specs.declared.least_counts.counts.LeastTree.{LeastTree}
+use Rattle.lalrpop_lr1_least_trees.specs.declared.least_counts.rule.NumberMove.{NumberMove}
+use Rattle.lalrpop_lr1_least_trees.specs.declared.least_counts.rule.Rule.{Rule}
 use Rattle.lalrpop_lr1_least_trees.specs.declared.least_trees.LeastTrees.{LeastTrees}
 use Rattle.lalrpop_lr1_least_trees.specs.GrammarTrees.{production_by, AreLeastTrees, HaveNames, entries_of, entry_of}
 use Rattle.lalrpop_lr1_least_trees.specs.GrammarTrees.{number_rules, productions_by}

@@ -3,8 +3,8 @@ use Rattle.std.proofs.Common.{◌≡◌, ◌∙◌, ℕ, List, [], ◌∷◌, �
 use Rattle.std.proofs.Common.{refl, sym, ap, subst, arith, Option, Some}
 use Rattle.lalrpop_lr1_theory.specs.Productions as theory
 use Rattle.lalrpop_lr1_theory.proofs.StepLemmas.{some_same}
-use Rattle.lalrpop_lr1_items.specs.Views.{production_view}
-use Rattle.lalrpop_lr1_items.proofs.NoConflictLemmas.{at_mapped}
+use Rattle.lalrpop_lr1_core.specs.Views.{production_view}
+use Rattle.lalrpop_lr1_core.proofs.NoConflictLemmas.{at_mapped}
 use Rattle.lalrpop_lr1_first.specs.FirstNumbers.{name_count}
 use Rattle.lalrpop_lr1_first.specs.NumberedGrammars.{IsNumberTable, table_productions}
 use Rattle.lalrpop_lr1_first.specs.Numbers.{SpellsSymbols}
@@ -13,7 +13,7 @@ use Rattle.lalrpop_lr1_first.specs.declared.numbered.Numbered.{Numbered}
 use Rattle.lalrpop_lr1_first.specs.declared.place.NumberedRule.{NumberedRule}
 use Rattle.lalrpop_lr1_first.specs.declared.place.Place.{Place}
 use Rattle.lalrpop_lr1_first.proofs.TableLemmas.{left_below, long_map, table_numbering}
-use Rattle.lalrpop_lr1_least_counts.specs.NumberedTrees.{NamesAreBelow, NumberRule}
+use Rattle.lalrpop_lr1_least_trees.specs.NumberedTrees.{NamesAreBelow, NumberRule}
 use Rattle.lalrpop_lr1_least_trees.specs.GrammarTrees.{number_rule, number_rules, productions_by, symbols_by}
 use Rattle.lalrpop_lr1_least_trees.proofs.SpellLemmas.{StandFor}
 

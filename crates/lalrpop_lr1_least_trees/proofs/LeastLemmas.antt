@@ -12,10 +12,10 @@ use Rattle.lalrpop_lr1_theory.specs.Productions as theory
 use Rattle.lalrpop_lr1_theory.specs.Trees.{AreOver, Forest, IsTreeOf, Move, leaf, moves, node, nodes, none, roots, yield}
 use Rattle.lalrpop_lr1_theory.proofs.ListLemmas.{contains_get, get_contains}
 use Rattle.lalrpop_lr1_theory.proofs.StepLemmas.{some_same}
-use Rattle.lalrpop_lr1_items.specs.Views.{production_view}
+use Rattle.lalrpop_lr1_core.specs.Views.{production_view}
 use Rattle.lalrpop_lr1_first.specs.FirstNumbers.{name_count}
 use Rattle.lalrpop_lr1_first.specs.FirstSetsOf.{IsProductionOf}
-use Rattle.lalrpop_lr1_first.specs.Listings.{productions_of_grammar}
+use Rattle.lalrpop_lr1_core.specs.TheoryGrammars.{productions_of_grammar}
 use Rattle.lalrpop_lr1_first.specs.NumberedGrammars.{IsNumberTable, IsNumberTableOf, IsSeenIn, table_names, table_productions}
 use Rattle.lalrpop_lr1_first.specs.Numbers.{SpellsSymbols}
 use Rattle.lalrpop_lr1_first.specs.Tables.{pairs_from, symbol_or}
@@ -23,11 +23,11 @@ use Rattle.lalrpop_lr1_first.specs.declared.numbered.Numbered.{Numbered}
 use Rattle.lalrpop_lr1_first.proofs.NameLemmas.{pairs_sound, pairs_total}
 use Rattle.lalrpop_lr1_first.proofs.TableFirstLemmas.{seen_same}
 use Rattle.lalrpop_lr1_first.proofs.TableLemmas.{name_at}
-use Rattle.lalrpop_lr1_least_counts.specs.LeastTrees.{BuildLeast, IsLeast, IsLeastTree}
-use Rattle.lalrpop_lr1_least_counts.specs.NumberedTrees.{Builds, nothing, reduces}
-use Rattle.lalrpop_lr1_least_counts.specs.declared.counts.LeastTree.{LeastTree}
-use Rattle.lalrpop_lr1_least_counts.specs.declared.rule.NumberMove.{NumberMove}
-use Rattle.lalrpop_lr1_least_counts.specs.declared.rule.NumberMove.TheVariants as numbered
+use Rattle.lalrpop_lr1_least_trees.specs.LeastTrees.{BuildLeast, IsLeast, IsLeastTree}
+use Rattle.lalrpop_lr1_least_trees.specs.NumberedTrees.{Builds, nothing, reduces}
+use Rattle.lalrpop_lr1_least_trees.specs.declared.least_counts.counts.LeastTree.{LeastTree}
+use Rattle.lalrpop_lr1_least_trees.specs.declared.least_counts.rule.NumberMove.{NumberMove}
+use Rattle.lalrpop_lr1_least_trees.specs.declared.least_counts.rule.NumberMove.TheVariants as numbered
 use Rattle.lalrpop_lr1_least_trees.specs.GrammarTrees.{production_by, number_rules, productions_by, symbols_by}
 use Rattle.lalrpop_lr1_least_trees.specs.LeastForests.{CountsLeast, HasLeastRoot, HaveLeastMoves}
 use Rattle.lalrpop_lr1_least_trees.specs.LeastForests.{IsTreeOfKind}

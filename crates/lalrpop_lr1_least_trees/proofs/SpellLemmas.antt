@@ -11,9 +11,9 @@ use Rattle.lalrpop_lr1_theory.proofs.ListLemmas.{contains_get, get_contains}
 use Rattle.lalrpop_lr1_theory.proofs.StepLemmas.{some_same}
 use Rattle.lalrpop_lr1_theory.proofs.TreeLemmas.{length-moves}
 use Rattle.lalrpop_lr1_first.specs.Numbers.{SpellsSymbols}
-use Rattle.lalrpop_lr1_least_counts.specs.declared.rule.NumberMove.{NumberMove}
-use Rattle.lalrpop_lr1_least_counts.specs.declared.rule.NumberMove.TheVariants as numbered
-use Rattle.lalrpop_lr1_least_counts.specs.NumberedTrees.{Builds, NumberRule, nothing, reduces, shifts}
+use Rattle.lalrpop_lr1_least_trees.specs.declared.least_counts.rule.NumberMove.{NumberMove}
+use Rattle.lalrpop_lr1_least_trees.specs.declared.least_counts.rule.NumberMove.TheVariants as numbered
+use Rattle.lalrpop_lr1_least_trees.specs.NumberedTrees.{Builds, NumberRule, nothing, reduces, shifts}
 use Rattle.lalrpop_lr1_least_trees.specs.MoveViews.{IsNumberedMove, SpellsMoves}
 
 get_some : {X : Type 0} (xs : List X) (r : ℕ) → r < length xs → (x : X) × (slice_get xs r ≡ Some x)

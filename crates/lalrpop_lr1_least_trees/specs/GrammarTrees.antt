@@ -5,18 +5,18 @@ use Rattle.lalrpop_grammar_symbols.specs.declared.names.NonterminalString.{Nonte
 use Rattle.lalrpop_grammar_repr.specs.Maps.{at_name}
 use Rattle.lalrpop_lr1_theory.specs.Productions as theory
 use Rattle.lalrpop_lr1_theory.specs.Trees.{Move}
-use Rattle.lalrpop_lr1_items.specs.Views.{production_view}
+use Rattle.lalrpop_lr1_core.specs.Views.{production_view}
 use Rattle.lalrpop_lr1_first.specs.FirstNumbers.{name_count}
 use Rattle.lalrpop_lr1_first.specs.NumberedGrammars.{IsNumberTable, table_names, table_productions}
 use Rattle.lalrpop_lr1_first.specs.Tables.{pairs_from, rest_of, symbol_of_number}
 use Rattle.lalrpop_lr1_first.specs.declared.numbered.Numbered.{Numbered}
 use Rattle.lalrpop_lr1_first.specs.declared.place.NumberedRule.{NumberedRule}
 use Rattle.lalrpop_lr1_first.specs.declared.place.Place.{Place}
-use Rattle.lalrpop_lr1_least_counts.specs.LeastTrees.{AreLeast}
-use Rattle.lalrpop_lr1_least_counts.specs.NumberedTrees.{NumberRule, rule_views}
-use Rattle.lalrpop_lr1_least_counts.specs.declared.counts.LeastTree.{LeastTree}
-use Rattle.lalrpop_lr1_least_counts.specs.declared.rule.NumberMove.{NumberMove}
-use Rattle.lalrpop_lr1_least_counts.specs.Openings.{entry_at}
+use Rattle.lalrpop_lr1_least_trees.specs.LeastTrees.{AreLeast}
+use Rattle.lalrpop_lr1_least_trees.specs.NumberedTrees.{NumberRule, rule_views}
+use Rattle.lalrpop_lr1_least_trees.specs.declared.least_counts.counts.LeastTree.{LeastTree}
+use Rattle.lalrpop_lr1_least_trees.specs.declared.least_counts.rule.NumberMove.{NumberMove}
+use Rattle.lalrpop_lr1_least_trees.specs.Openings.{entry_at}
 use Rattle.lalrpop_lr1_least_trees.specs.declared.least_trees.LeastTrees.{LeastTrees}
 use Rattle.lalrpop_lr1_least_trees.specs.MoveViews.{IsNumberedMove}
 

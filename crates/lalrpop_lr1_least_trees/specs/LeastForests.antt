@@ -3,7 +3,7 @@ use Rattle.std.specs.Prelude.{ℕ, ◌≤◌, Bool, true, false, List, [], ◌�
 use Rattle.lalrpop_grammar_symbols.specs.Symbols.{Text}
 use Rattle.lalrpop_lr1_theory.specs.Productions.{Production}
 use Rattle.lalrpop_lr1_theory.specs.Trees.{Forest, IsTreeOf, Move, moves, node, nodes, none, yield}
-use Rattle.lalrpop_lr1_least_counts.specs.LeastTrees.{capped_count}
+use Rattle.lalrpop_lr1_least_trees.specs.LeastTrees.{capped_count}
 
 -- a tree of the nonterminal, with leaves or without
 abbrev pub IsTreeOfKind : (Production → Type 0) → Text → Bool → Forest → Type 0

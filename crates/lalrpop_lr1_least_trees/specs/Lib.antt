@@ -1,3 +1,14 @@
+pub mod NumberedTrees
+pub mod LeastTrees
+pub mod Searches
+pub mod Openings
 pub mod LeastForests
 pub mod MoveViews
 pub mod GrammarTrees
+pub mod DerivedRules
+pub mod BeginForests
+pub mod BeginTables
+pub mod RestForests
+pub mod BeginPlaces
+pub mod SpanNumbers
+pub mod LeastExpanded

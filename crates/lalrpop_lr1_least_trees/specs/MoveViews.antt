@@ -3,9 +3,9 @@ use Rattle.std.specs.Prelude.{ℕ, List, [], ◌∷◌, ◌≡◌, ⊤, Option, 
 use Rattle.lalrpop_grammar_symbols.specs.Views.{terminal_view}
 use Rattle.lalrpop_lr1_theory.specs.Productions.{Production, Symbol, terminal}
 use Rattle.lalrpop_lr1_theory.specs.Trees.{Move, reduce, shift}
-use Rattle.lalrpop_lr1_items.specs.Views.{production_view}
-use Rattle.lalrpop_lr1_least_counts.specs.declared.rule.NumberMove.{NumberMove}
-use Rattle.lalrpop_lr1_least_counts.specs.declared.rule.NumberMove.TheVariants as numbered
+use Rattle.lalrpop_lr1_core.specs.Views.{production_view}
+use Rattle.lalrpop_lr1_least_trees.specs.declared.least_counts.rule.NumberMove.{NumberMove}
+use Rattle.lalrpop_lr1_least_trees.specs.declared.least_counts.rule.NumberMove.TheVariants as numbered
 use Rattle.lalrpop_lr1_least_trees.specs.declared.tree_move.TreeMove.{TreeMove}
 use Rattle.lalrpop_lr1_least_trees.specs.declared.tree_move.TreeMove.TheVariants as named
 

@@ -3,15 +3,16 @@
 ghost use Rattle.std.specs.Prelude.{◌≡◌, ◌∷◌, [], IfOk, false, map, option_map};
 ghost use Rattle.lalrpop_grammar_repr.specs.Maps.{at_name};
 ghost use Rattle.lalrpop_lr1_theory.specs.Trees.{IsTreeOf};
-ghost use Rattle.lalrpop_lr1_items.specs.Views.{production_view};
+ghost use Rattle.lalrpop_lr1_core.specs.Views.{production_view};
 ghost use Rattle.lalrpop_lr1_first.specs.FirstNumbers.{name_count};
 ghost use Rattle.lalrpop_lr1_first.specs.FirstSetsOf.{IsProductionOf};
 ghost use Rattle.lalrpop_lr1_first.specs.NumberedGrammars.{HasItsTerminals, IsNumberTableOf};
-ghost use Rattle.lalrpop_lr1_least_counts.specs.LeastTrees.{AreLeastMoves};
+ghost use Rattle.lalrpop_lr1_least_trees.specs.LeastTrees.{AreLeastMoves};
 ghost use Rattle.lalrpop_lr1_least_trees.specs.GrammarTrees.{AreLeastTrees, entries_of, entry_of, number_rules};
 ghost use Rattle.lalrpop_lr1_least_trees.specs.LeastForests.{CountsLeast, HasLeastRoot, HaveLeastMoves, IsTreeOfKind};
 ghost use Rattle.lalrpop_lr1_least_trees.specs.MoveViews.{tree_move_view};
 
+use crate::least_counts::{LeastTree, NumberMove, Rule, least_moves, least_trees};
 use crate::name_numbers::numbers_of;
 use crate::rules::rules_of;
 use crate::table::production_at;
@@ -19,7 +20,6 @@ use crate::tree_move::{TreeMove, name_moves};
 use lalrpop_grammar_repr::{Grammar, Map, Production};
 use lalrpop_grammar_symbols::NonterminalString;
 use lalrpop_lr1_first::Numbered;
-use lalrpop_lr1_least_counts::{LeastTree, NumberMove, Rule, least_moves, least_trees};
 use std::alloc::{AllocError, Global};
 
 /// The least trees of a grammar's nonterminals, and those that have no leaves.

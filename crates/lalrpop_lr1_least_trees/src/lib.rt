@@ -5,8 +5,12 @@
 //! told by their moves: a shift for a leaf, and a reduction for a node behind the moves of its children.
 #![tactic(auto)]
 
+pub mod begin_trees;
+pub mod least_counts;
 mod least_trees;
+pub mod made_trees;
 mod name_numbers;
+pub mod rest_trees;
 mod rules;
 mod table;
 mod tree_move;

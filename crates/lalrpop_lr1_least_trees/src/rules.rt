@@ -2,11 +2,11 @@
 
 ghost use Rattle.std.specs.Prelude.{◌≡◌, IfOk, drop, map};
 ghost use Rattle.lalrpop_lr1_first.specs.Tables.{symbols_until};
-ghost use Rattle.lalrpop_lr1_least_counts.specs.NumberedTrees.{rule_view, rule_views};
+ghost use Rattle.lalrpop_lr1_least_trees.specs.NumberedTrees.{rule_view, rule_views};
 ghost use Rattle.lalrpop_lr1_least_trees.specs.GrammarTrees.{number_rule, number_rules};
 
+use crate::least_counts::Rule;
 use lalrpop_lr1_first::{Numbered, NumberedRule, Place};
-use lalrpop_lr1_least_counts::Rule;
 use std::alloc::{AllocError, Global};
 
 /// What stands from a place on; nothing where the place is past the end.

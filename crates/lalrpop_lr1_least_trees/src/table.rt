@@ -3,7 +3,7 @@
 ghost use Rattle.std.specs.Prelude.{◌≡◌, ◌<◌, ◌≤◌, ◌-◌, Some, length, slice_get};
 ghost use Rattle.lalrpop_grammar_symbols.specs.Views.{terminal_view};
 ghost use Rattle.lalrpop_lr1_theory.specs.Productions.{terminal as terminal_symbol};
-ghost use Rattle.lalrpop_lr1_items.specs.Views.{production_view};
+ghost use Rattle.lalrpop_lr1_core.specs.Views.{production_view};
 ghost use Rattle.lalrpop_lr1_least_trees.specs.GrammarTrees.{productions_by, symbols_by};
 
 use lalrpop_grammar_repr::Production;

@@ -4,11 +4,11 @@ ghost use Rattle.std.specs.Prelude.{IfOk, map};
 ghost use Rattle.lalrpop_lr1_least_trees.specs.GrammarTrees.{HasName, HaveNames, production_by, symbols_by};
 ghost use Rattle.lalrpop_lr1_least_trees.specs.MoveViews.{IsNumberedMove, SpellsMoves, tree_move_view};
 
+use crate::least_counts::NumberMove;
 use crate::table::{production_at, terminal_at};
 use lalrpop_grammar_repr::Production;
 use lalrpop_grammar_symbols::TerminalString;
 use lalrpop_lr1_first::Numbered;
-use lalrpop_lr1_least_counts::NumberMove;
 use std::alloc::{AllocError, Global};
 
 /// A move by which trees over productions are built from the left.

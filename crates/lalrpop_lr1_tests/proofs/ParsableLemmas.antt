@@ -4,10 +4,10 @@ use Rattle.lalrpop_grammar_symbols.specs.declared.names.NonterminalString.{Nonte
 use Rattle.lalrpop_grammar_repr.specs.declared.grammar.Grammar.{Grammar}
 use Rattle.lalrpop_lr1_theory.specs.CheckedStates.{AreCheckedStates, IsStartAlone}
 use Rattle.lalrpop_lr1_theory.specs.ValidItems.{NoneBarren}
-use Rattle.lalrpop_lr1_items.specs.Views.{lr_state_view, token_lookahead}
-use Rattle.lalrpop_lr1_items.specs.declared.state.State.{State}
-use Rattle.lalrpop_lr1_build.specs.BuiltStates.{theory_grammar}
-use Rattle.lalrpop_lr1_parse.specs.Parses.{AreParsable}
+use Rattle.lalrpop_lr1_core.specs.Views.{lr_state_view, token_lookahead}
+use Rattle.lalrpop_lr1_core.specs.declared.state.State.{State}
+use Rattle.lalrpop_lr1_core.specs.TheoryGrammars.{theory_grammar}
+use Rattle.lalrpop_lr1_interpret.specs.Parses.{AreParsable}
 
 pub are_parsable : (g : Grammar) (s t : NonterminalString) (states : List (State (List ℕ))) → t ≡ s →
     IsStartAlone (theory_grammar g) s.0 → NoneBarren (Contains (theory_grammar g)) s.0 →

@@ -6,13 +6,12 @@ use crate::grammars::{grammar_of, name_of};
 use lalrpop_grammar_repr::{Grammar, Map};
 use lalrpop_grammar_symbols::{NonterminalString, TerminalString};
 use lalrpop_lane::{Method, build_lalr_states, build_lr1_states, build_states};
-use lalrpop_lr1_answers::has_its_terminals;
 use lalrpop_lr1_build::{build_lr0_states, build_lr1_states_canonical};
 use lalrpop_lr1_check::check_states;
-use lalrpop_lr1_items::{Lr1State, StateIndex};
-use std::alloc::{AllocError, Global};
+use lalrpop_lr1_core::{Lr1State, StateIndex};
+use lalrpop_plain_tables::answers::has_its_terminals;
+use std::alloc::Global;
 use std::process::Abort;
-use std::test::Fail;
 
 /// `__S = S; S = C C; C = "c" C or "d"`
 const PAIRS: &str = "__S: S\nS: C C\nC: \"c\" C\nC: \"d\"\n";
@@ -37,152 +36,126 @@ const COLLAPSED_IN_ORDER: &str =
 const LANES: Method = Method::Lane { copies: 9 };
 
 /// Adds where the nonterminals lead.
-fn add_gotos(
-    gotos: &Map<NonterminalString, StateIndex>,
-    text: &mut String,
-) -> Result<(), AllocError> {
+fn add_gotos(rt: &impl Abort, gotos: &Map<NonterminalString, StateIndex>, text: &mut String) {
     for (name, to) in gotos.iter() {
-        write!(text, " {name} {to}")?;
+        write!(text, " {name} {to}").expect(rt, "memory");
     }
-    Ok(())
 }
 
 /// Adds where the terminals lead.
-fn add_shifts(
-    shifts: &Map<TerminalString, StateIndex>,
-    text: &mut String,
-) -> Result<(), AllocError> {
+fn add_shifts(rt: &impl Abort, shifts: &Map<TerminalString, StateIndex>, text: &mut String) {
     for (terminal, to) in shifts.iter() {
-        write!(text, " {terminal} {to}")?;
+        write!(text, " {terminal} {to}").expect(rt, "memory");
     }
-    Ok(())
 }
 
 /// The number of each state, and where it leads.
-fn edges_text(alloc: Global, states: &[Lr1State<'_>]) -> Result<String, AllocError> {
+fn edges_text(rt: &impl Abort, alloc: Global, states: &[Lr1State<'_>]) -> String {
     let mut text = String::new(alloc);
     for state in states {
-        write!(text, "{}", state.index)?;
-        add_gotos(&state.gotos, &mut text)?;
-        add_shifts(&state.shifts, &mut text)?;
-        text.push_str("; ")?;
+        write!(text, "{}", state.index).expect(rt, "memory");
+        add_gotos(rt, &state.gotos, &mut text);
+        add_shifts(rt, &state.shifts, &mut text);
+        text.push_str("; ").expect(rt, "memory");
     }
-    Ok(text)
+    text
 }
 
-fn lr1_text(alloc: Global, grammar: &Grammar, method: Method) -> Result<String, Fail>
+fn lr1_text(rt: &impl Abort, alloc: Global, grammar: &Grammar, method: Method) -> String
     requires { HasItsTerminals grammar.now }
 {
-    let states = build_lr1_states(alloc, grammar, name_of(alloc, "__S")?, method)?;
-    Ok(edges_text(alloc, states.as_slice())?)
+    let start = name_of(rt, alloc, "__S");
+    let states = build_lr1_states(alloc, grammar, start, method).expect(rt, "states");
+    edges_text(rt, alloc, states.as_slice())
 }
 
-fn lalr_text(alloc: Global, grammar: &Grammar, method: Method) -> Result<String, Fail>
+fn lalr_text(rt: &impl Abort, alloc: Global, grammar: &Grammar, method: Method) -> String
     requires { HasItsTerminals grammar.now }
 {
-    let states = build_lalr_states(alloc, grammar, name_of(alloc, "__S")?, method)?;
-    Ok(edges_text(alloc, states.as_slice())?)
+    let start = name_of(rt, alloc, "__S");
+    let states = build_lalr_states(alloc, grammar, start, method).expect(rt, "states");
+    edges_text(rt, alloc, states.as_slice())
 }
 
-fn by_either_method(rt: &impl Abort, alloc: Global, grammar: &Grammar) -> Result<(), Fail>
+fn by_either_method(rt: &impl Abort, alloc: Global, grammar: &Grammar)
     requires { HasItsTerminals grammar.now }
 {
-    assert!(rt; lr1_text(alloc, grammar, Method::Canonical)?.as_str() == CANONICAL);
-    assert!(rt; lr1_text(alloc, grammar, LANES)?.as_str() == CANONICAL);
-    assert!(rt; lalr_text(alloc, grammar, Method::Canonical)?.as_str() == COLLAPSED);
-    assert!(rt; lalr_text(alloc, grammar, LANES)?.as_str() == CANONICAL);
-    Ok(())
+    assert!(rt; lr1_text(rt, alloc, grammar, Method::Canonical).as_str() == CANONICAL);
+    assert!(rt; lr1_text(rt, alloc, grammar, LANES).as_str() == CANONICAL);
+    assert!(rt; lalr_text(rt, alloc, grammar, Method::Canonical).as_str() == COLLAPSED);
+    assert!(rt; lalr_text(rt, alloc, grammar, LANES).as_str() == CANONICAL);
 }
 
 #[test]
-fn states_by_either_method(rt: HostRuntime) -> Result<(), Fail> {
-    let grammar = grammar_of(rt.alloc(), PAIRS)?;
-    by_either_method(&rt, rt.alloc(), &grammar)
+fn states_by_either_method(rt: HostRuntime) {
+    let grammar = grammar_of(&rt, rt.alloc(), PAIRS);
+    by_either_method(&rt, rt.alloc(), &grammar);
 }
 
-fn text_in_order(alloc: Global, grammar: &Grammar, method: Method) -> Result<String, Fail>
+fn text_in_order(rt: &impl Abort, alloc: Global, grammar: &Grammar, method: Method) -> String
     requires { HasItsTerminals grammar.now }
 {
-    let states = build_states(alloc, grammar, name_of(alloc, "__S")?, method)?;
-    Ok(edges_text(alloc, states.as_slice())?)
+    let start = name_of(rt, alloc, "__S");
+    let states = build_states(alloc, grammar, start, method).expect(rt, "states");
+    edges_text(rt, alloc, states.as_slice())
 }
 
 /// The states of the canonical way are these; those of lane tables are the canonical ones, whatever the grammar asks for.
-fn in_order(rt: &impl Abort, alloc: Global, grammar: &Grammar, canonical: &str) -> Result<(), Fail>
+fn in_order(rt: &impl Abort, alloc: Global, grammar: &Grammar, canonical: &str)
     requires { HasItsTerminals grammar.now }
 {
-    assert!(rt; text_in_order(alloc, grammar, Method::Canonical)?.as_str() == canonical);
-    assert!(rt; text_in_order(alloc, grammar, LANES)?.as_str() == CANONICAL_IN_ORDER);
-    Ok(())
+    assert!(rt; text_in_order(rt, alloc, grammar, Method::Canonical).as_str() == canonical);
+    assert!(rt; text_in_order(rt, alloc, grammar, LANES).as_str() == CANONICAL_IN_ORDER);
 }
 
 #[test]
-fn states_with_gotos_come_first(rt: HostRuntime) -> Result<(), Fail> {
-    let mut grammar = grammar_of(rt.alloc(), PAIRS)?;
-    in_order(&rt, rt.alloc(), &grammar, CANONICAL_IN_ORDER)?;
+fn states_with_gotos_come_first(rt: HostRuntime) {
+    let mut grammar = grammar_of(&rt, rt.alloc(), PAIRS);
+    in_order(&rt, rt.alloc(), &grammar, CANONICAL_IN_ORDER);
     grammar.algorithm.lalr = true;
     assert!(rt; has_its_terminals(&grammar));
-    in_order(&rt, rt.alloc(), &grammar, COLLAPSED_IN_ORDER)
+    in_order(&rt, rt.alloc(), &grammar, COLLAPSED_IN_ORDER);
 }
 
-fn counts_without(
-    rt: &impl Abort,
-    alloc: Global,
-    grammar: &Grammar,
-    start: &NonterminalString,
-) -> Result<(), Fail>
+fn counts_without(rt: &impl Abort, alloc: Global, grammar: &Grammar, start: &NonterminalString)
     requires { HasItsTerminals grammar.now }
 {
-    let states = build_lr0_states(alloc, grammar, start.try_clone()?)?;
+    let start = start.try_clone().expect(rt, "memory");
+    let states = build_lr0_states(alloc, grammar, start).expect(rt, "states");
     assert_eq!(rt; states.len(), 7);
-    Ok(())
 }
 
-fn checks_canonical(
-    rt: &impl Abort,
-    alloc: Global,
-    grammar: &Grammar,
-    start: &NonterminalString,
-) -> Result<(), Fail>
+fn checks_canonical(rt: &impl Abort, alloc: Global, grammar: &Grammar, start: &NonterminalString)
     requires { HasItsTerminals grammar.now }
 {
-    let states = build_lr1_states_canonical(alloc, grammar, start.try_clone()?)?;
+    let named = start.try_clone().expect(rt, "memory");
+    let states = build_lr1_states_canonical(alloc, grammar, named).expect(rt, "states");
     assert_eq!(rt; states.len(), 10);
-    assert!(rt; check_states(alloc, grammar, start, states.as_slice())?);
-    Ok(())
+    assert!(rt; check_states(alloc, grammar, start, states.as_slice()).expect(rt, "memory"));
 }
 
-fn checks_collapsed(
-    rt: &impl Abort,
-    alloc: Global,
-    grammar: &Grammar,
-    start: &NonterminalString,
-) -> Result<(), Fail>
+fn checks_collapsed(rt: &impl Abort, alloc: Global, grammar: &Grammar, start: &NonterminalString)
     requires { HasItsTerminals grammar.now }
 {
-    let states = build_lalr_states(alloc, grammar, start.try_clone()?, Method::Canonical)?;
+    let named = start.try_clone().expect(rt, "memory");
+    let method = Method::Canonical;
+    let states = build_lalr_states(alloc, grammar, named, method).expect(rt, "states");
     assert_eq!(rt; states.len(), 7);
-    assert!(rt; check_states(alloc, grammar, start, states.as_slice())?);
-    Ok(())
+    assert!(rt; check_states(alloc, grammar, start, states.as_slice()).expect(rt, "memory"));
 }
 
 /// That LR(0), canonical and collapsed states have no conflict, and the last two may be parsed with.
-fn have_no_conflict(
-    rt: &impl Abort,
-    alloc: Global,
-    grammar: &Grammar,
-    start: &NonterminalString,
-) -> Result<(), Fail>
+fn have_no_conflict(rt: &impl Abort, alloc: Global, grammar: &Grammar, start: &NonterminalString)
     requires { HasItsTerminals grammar.now }
 {
-    counts_without(rt, alloc, grammar, start)?;
-    checks_canonical(rt, alloc, grammar, start)?;
-    checks_collapsed(rt, alloc, grammar, start)
+    counts_without(rt, alloc, grammar, start);
+    checks_canonical(rt, alloc, grammar, start);
+    checks_collapsed(rt, alloc, grammar, start);
 }
 
 #[test]
-fn states_without_conflicts(rt: HostRuntime) -> Result<(), Fail> {
-    let start = name_of(rt.alloc(), "__S")?;
-    let grammar = grammar_of(rt.alloc(), PAIRS)?;
-    have_no_conflict(&rt, rt.alloc(), &grammar, &start)
+fn states_without_conflicts(rt: HostRuntime) {
+    let start = name_of(&rt, rt.alloc(), "__S");
+    let grammar = grammar_of(&rt, rt.alloc(), PAIRS);
+    have_no_conflict(&rt, rt.alloc(), &grammar, &start);
 }

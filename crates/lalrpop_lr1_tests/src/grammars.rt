@@ -1,56 +1,51 @@
 //! Grammars from lines, and their parts by name.
 
-ghost use Rattle.std.specs.Prelude.{IfOk};
 ghost use Rattle.lalrpop_lr1_first.specs.NumberedGrammars.{HasItsTerminals};
 
 use lalrpop_grammar_repr::{Grammar, Production, Symbol};
 use lalrpop_grammar_symbols::{Atom, NonterminalString, TerminalString};
-use lalrpop_lr1_answers::{AnswerFault, read_productions};
+use lalrpop_plain_tables::answers::read_productions;
 use lalrpop_sets::Token;
-use std::alloc::{AllocError, Global};
-use std::test::Fail;
+use std::alloc::Global;
+use std::process::Abort;
 
 /// The grammar of the lines. It is boxed, since of a box each path that drops it says so by one call.
-pub(crate) fn grammar_of(alloc: Global, lines: &str) -> Result<Box<Grammar>, Fail>
-    ensures { IfOk result (λ grammar. HasItsTerminals grammar.value) }
+pub(crate) fn grammar_of(rt: &impl Abort, alloc: Global, lines: &str) -> Box<Grammar>
+    ensures { HasItsTerminals result.value }
 {
-    match read_productions(alloc, lines) {
-        Ok(grammar) => Ok(Box::new(alloc, grammar)?),
-        Err(AnswerFault::Memory) => Err(AllocError.into()),
-        Err(fault) => Err(Fail::new(fault)),
-    }
+    let grammar = read_productions(alloc, lines).expect(rt, "a grammar");
+    Box::new(alloc, grammar).expect(rt, "memory")
 }
 
 /// The nonterminal of that name.
-pub(crate) fn name_of(alloc: Global, name: &str) -> Result<NonterminalString, AllocError> {
-    Ok(NonterminalString(Atom::new(alloc, name)?))
+pub(crate) fn name_of(rt: &impl Abort, alloc: Global, name: &str) -> NonterminalString {
+    NonterminalString(Atom::new(alloc, name).expect(rt, "memory"))
 }
 
 /// The token of a quoted terminal.
-pub(crate) fn token_of(alloc: Global, text: &str) -> Result<Token, AllocError> {
-    Ok(Token::Terminal(terminal_of(alloc, text)?))
+pub(crate) fn token_of(rt: &impl Abort, alloc: Global, text: &str) -> Token {
+    Token::Terminal(terminal_of(rt, alloc, text))
 }
 
 /// The quoted terminal.
-pub(crate) fn terminal_of(alloc: Global, text: &str) -> Result<TerminalString, AllocError> {
-    Ok(TerminalString::quoted(Atom::new(alloc, text)?))
+pub(crate) fn terminal_of(rt: &impl Abort, alloc: Global, text: &str) -> TerminalString {
+    TerminalString::quoted(Atom::new(alloc, text).expect(rt, "memory"))
 }
 
 /// The symbol of a quoted terminal.
-pub(crate) fn terminal_symbol(alloc: Global, text: &str) -> Result<Symbol, AllocError> {
-    Ok(Symbol::Terminal(terminal_of(alloc, text)?))
+pub(crate) fn terminal_symbol(rt: &impl Abort, alloc: Global, text: &str) -> Symbol {
+    Symbol::Terminal(terminal_of(rt, alloc, text))
 }
 
 /// The production of the nonterminal at that place.
 pub(crate) fn production_at<'g>(
+    rt: &impl Abort,
     alloc: Global,
     grammar: &'g Grammar,
     name: &str,
     place: usize,
-) -> Result<&'g Production, Fail> {
-    let name = name_of(alloc, name)?;
-    match grammar.productions_for(&name).get(place) {
-        Some(production) => Ok(production),
-        None => Err(Fail::new("no such production")),
-    }
+) -> &'g Production {
+    let name = name_of(rt, alloc, name);
+    let productions = grammar.productions_for(&name);
+    productions.get(place).expect(rt, "a production")
 }

@@ -4,20 +4,20 @@ ghost use Rattle.std.specs.Prelude.{Contains, IfOk, IsTrue};
 ghost use Rattle.lalrpop_lr1_theory.specs.CheckedStates.{IsStartAlone};
 ghost use Rattle.lalrpop_lr1_theory.specs.ValidItems.{NoneBarren};
 ghost use Rattle.lalrpop_lr1_first.specs.NumberedGrammars.{HasItsTerminals};
-ghost use Rattle.lalrpop_lr1_build.specs.BuiltStates.{theory_grammar};
-ghost use Rattle.lalrpop_lr1_parse.specs.Parses.{AreParsable};
+ghost use Rattle.lalrpop_lr1_core.specs.TheoryGrammars.{theory_grammar};
+ghost use Rattle.lalrpop_lr1_interpret.specs.Parses.{AreParsable};
 
 use crate::grammars::{grammar_of, name_of};
 use lalrpop_grammar_repr::{Grammar, TerminalSet};
 use lalrpop_grammar_symbols::NonterminalString;
 use lalrpop_lane::{Method, build_lalr_states};
 use lalrpop_lr1_barren::barren_nonterminal;
+use lalrpop_lr1_core::{Lr1State, TableFault};
 use lalrpop_lr1_interpret::{InterpretError, InterpretFault, interpret, interpret_partial};
-use lalrpop_lr1_items::{Lr1State, TableFault};
-use lalrpop_lr1_lines::read_tokens;
+use lalrpop_plain_tables::answers::AnswerFault;
+use lalrpop_plain_tables::lines::read_tokens;
 use std::alloc::{AllocError, Global};
 use std::process::Abort;
-use std::test::Fail;
 
 /// `S = E; E = E "-" T or T; T = "N" or "(" E ")"`
 const DIFFERENCES: &str = "S: E\nE: E \"-\" T\nE: T\nT: \"N\"\nT: \"(\" E \")\"\n";
@@ -49,20 +49,20 @@ fn collapsed_states<'g>(
     alloc: Global,
     grammar: &'g Grammar,
     start: &NonterminalString,
-) -> Result<Vec<Lr1State<'g>>, Fail>
+) -> Result<Vec<Lr1State<'g>>, AnswerFault>
     requires { HasItsTerminals grammar.now }
     ensures { IfOk result (λ states. AreParsable grammar.now.terminals states.items) }
 {
     if !is_alone(grammar, start) {
-        return Err(Fail::new("the start stands on a right side"));
+        return Err(AnswerFault::NotAlone);
     }
     if !reaches_trees(alloc, grammar, start)? {
-        return Err(Fail::new("the start reaches a nonterminal without a tree"));
+        return Err(AnswerFault::Barren);
     }
     match build_lalr_states(alloc, grammar, start.try_clone()?, Method::Canonical) {
         Ok(states) => Ok(states),
-        Err(TableFault::Conflicts(_)) => Err(Fail::new("the states have conflicts")),
-        Err(TableFault::Memory) => Err(AllocError.into()),
+        Err(TableFault::Conflicts(_)) => Err(AnswerFault::Conflicts),
+        Err(TableFault::Memory) => Err(AnswerFault::Memory),
     }
 }
 
@@ -114,45 +114,64 @@ fn stack_text(
 const TREE: &str =
     r#"[S: [E: [E: [T: "N"]], "-", [T: "(", [E: [E: [T: "N"]], "-", [T: "N"]], ")"]]]"#;
 
-fn trees(
-    rt: &impl Abort,
-    alloc: Global,
-    states: &[Lr1State<'_>],
-    terminals: &TerminalSet,
-) -> Result<(), Fail>
+fn trees(rt: &impl Abort, alloc: Global, states: &[Lr1State<'_>], terminals: &TerminalSet)
     requires { AreParsable terminals.now states.now }
 {
-    assert!(rt; tree_text(alloc, states, terminals, "N - ( N - N )")?.as_str() == TREE);
-    assert!(rt; tree_text(alloc, states, terminals, "N N")?.as_str() == "4 \"N\"");
-    assert!(rt; tree_text(alloc, states, terminals, "")?.as_str() == "0 Eof");
-    Ok(())
+    assert!(rt;
+        tree_text(alloc, states, terminals, "N - ( N - N )")
+            .expect(rt, "memory")
+            .as_str()
+            == TREE
+    );
+    assert!(rt;
+        tree_text(alloc, states, terminals, "N N")
+            .expect(rt, "memory")
+            .as_str()
+            == "4 \"N\""
+    );
+    assert!(rt;
+        tree_text(alloc, states, terminals, "")
+            .expect(rt, "memory")
+            .as_str()
+            == "0 Eof"
+    );
 }
 
-fn stacks(
-    rt: &impl Abort,
-    alloc: Global,
-    states: &[Lr1State<'_>],
-    terminals: &TerminalSet,
-) -> Result<(), Fail>
+fn stacks(rt: &impl Abort, alloc: Global, states: &[Lr1State<'_>], terminals: &TerminalSet)
     requires { AreParsable terminals.now states.now }
 {
-    assert!(rt; stack_text(alloc, states, terminals, "N")?.as_str() == "[S0, S4]");
-    assert!(rt; stack_text(alloc, states, terminals, "")?.as_str() == "[S0]");
-    assert!(rt; stack_text(alloc, states, terminals, "N N")?.as_str() == "4 \"N\"");
-    Ok(())
+    assert!(rt;
+        stack_text(alloc, states, terminals, "N")
+            .expect(rt, "memory")
+            .as_str()
+            == "[S0, S4]"
+    );
+    assert!(rt;
+        stack_text(alloc, states, terminals, "")
+            .expect(rt, "memory")
+            .as_str()
+            == "[S0]"
+    );
+    assert!(rt;
+        stack_text(alloc, states, terminals, "N N")
+            .expect(rt, "memory")
+            .as_str()
+            == "4 \"N\""
+    );
 }
 
 // State 0 leads by E to 1, by T to 2, by the parenthesis to 3, and by N to 4.
-fn trees_and_stacks(rt: &impl Abort, alloc: Global, grammar: &Grammar) -> Result<(), Fail>
+fn trees_and_stacks(rt: &impl Abort, alloc: Global, grammar: &Grammar)
     requires { HasItsTerminals grammar.now }
 {
-    let states = collapsed_states(alloc, grammar, &name_of(alloc, "S")?)?;
-    trees(rt, alloc, states.as_slice(), &grammar.terminals)?;
-    stacks(rt, alloc, states.as_slice(), &grammar.terminals)
+    let start = name_of(rt, alloc, "S");
+    let states = collapsed_states(alloc, grammar, &start).expect(rt, "states");
+    trees(rt, alloc, states.as_slice(), &grammar.terminals);
+    stacks(rt, alloc, states.as_slice(), &grammar.terminals);
 }
 
 #[test]
-fn trees_and_stacks_by_collapsed_states(rt: HostRuntime) -> Result<(), Fail> {
-    let grammar = grammar_of(rt.alloc(), DIFFERENCES)?;
-    trees_and_stacks(&rt, rt.alloc(), &grammar)
+fn trees_and_stacks_by_collapsed_states(rt: HostRuntime) {
+    let grammar = grammar_of(&rt, rt.alloc(), DIFFERENCES);
+    trees_and_stacks(&rt, rt.alloc(), &grammar);
 }

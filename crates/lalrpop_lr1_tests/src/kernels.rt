@@ -1,11 +1,11 @@
 //! Kernels in order of first sight.
 
 use lalrpop_grammar_symbols::List;
-use lalrpop_lr1_items::StateIndex;
-use lalrpop_lr1_turn::StateKernel;
+use lalrpop_lr1_build::states::StateKernel;
+use lalrpop_lr1_core::StateIndex;
 use lalrpop_sets::{Kernel, KernelSet, Nil};
 use std::alloc::{AllocError, Global};
-use std::test::Fail;
+use std::process::Abort;
 
 /// A kernel that is a letter.
 #[derive(Clone, Copy, PartialEq, Eq, Hash, Drop)]
@@ -26,34 +26,32 @@ impl Kernel for Letter {
 }
 
 #[test]
-fn equal_kernels_have_one_number(rt: HostRuntime) -> Result<(), Fail> {
+fn equal_kernels_have_one_number(rt: HostRuntime) {
     let mut kernels = KernelSet::new(rt.alloc());
-    assert!(rt; kernels.add_state(Letter('a'))? == StateIndex(0));
-    assert!(rt; kernels.add_state(Letter('b'))? == StateIndex(1));
-    assert!(rt; kernels.add_state(Letter('a'))? == StateIndex(0));
+    assert!(rt; kernels.add_state(Letter('a')).expect(&rt, "memory") == StateIndex(0));
+    assert!(rt; kernels.add_state(Letter('b')).expect(&rt, "memory") == StateIndex(1));
+    assert!(rt; kernels.add_state(Letter('a')).expect(&rt, "memory") == StateIndex(0));
     assert!(rt; kernels.next() == Some(Letter('a')));
-    assert!(rt; kernels.add_state(Letter('a'))? == StateIndex(0));
-    assert!(rt; kernels.add_state(Letter('c'))? == StateIndex(2));
+    assert!(rt; kernels.add_state(Letter('a')).expect(&rt, "memory") == StateIndex(0));
+    assert!(rt; kernels.add_state(Letter('c')).expect(&rt, "memory") == StateIndex(2));
     assert!(rt; kernels.next() == Some(Letter('b')));
     assert!(rt; kernels.next() == Some(Letter('c')));
     assert!(rt; kernels.next().is_none());
-    Ok(())
 }
 
 /// The kernel of the items at these places, without lookaheads.
-fn kernel_of(alloc: Global, places: &[usize]) -> Result<StateKernel<Nil>, AllocError> {
+fn kernel_of(rt: &impl Abort, alloc: Global, places: &[usize]) -> StateKernel<Nil> {
     let mut items = List::new(alloc);
     for place in places {
-        items.push((*place, Nil))?;
+        items.push((*place, Nil)).expect(rt, "memory");
     }
-    Ok(StateKernel { items })
+    StateKernel { items }
 }
 
 #[test]
-fn a_kernel_of_items_and_its_copy(rt: HostRuntime) -> Result<(), Fail> {
+fn a_kernel_of_items_and_its_copy(rt: HostRuntime) {
     let alloc = rt.alloc();
-    let kernel = kernel_of(alloc, &[2, 5])?;
-    let copy = kernel.try_clone(alloc)?;
-    assert!(rt; copy == kernel && copy != kernel_of(alloc, &[2])?);
-    Ok(())
+    let kernel = kernel_of(&rt, alloc, &[2, 5]);
+    let copy = kernel.try_clone(alloc).expect(&rt, "memory");
+    assert!(rt; copy == kernel && copy != kernel_of(&rt, alloc, &[2]));
 }

@@ -2,6 +2,7 @@
 //! copies, and single calls that build states or parse by them.
 #![tactic(auto)]
 
+pub mod builder;
 #[cfg(test)]
 mod builds;
 #[cfg(test)]

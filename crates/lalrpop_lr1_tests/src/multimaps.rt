@@ -2,60 +2,57 @@
 
 use lalrpop_sets::{Collection, Multimap, Nil};
 use std::collections::BTreeSet;
-use std::test::Fail;
 
 #[test]
-fn a_push_says_whether_a_set_grew(rt: HostRuntime) -> Result<(), Fail> {
+fn a_push_says_whether_a_set_grew(rt: HostRuntime) {
     let mut map: Multimap<u32, BTreeSet<char>> = Multimap::new(rt.alloc());
     assert!(rt; map.is_empty());
-    assert!(rt; map.push(0, 'a')?);
-    assert!(rt; map.push(0, 'b')?);
-    assert!(rt; !map.push(0, 'b')?);
-    assert!(rt; map.push(1, 'a')?);
+    assert!(rt; map.push(0, 'a').expect(&rt, "memory"));
+    assert!(rt; map.push(0, 'b').expect(&rt, "memory"));
+    assert!(rt; !map.push(0, 'b').expect(&rt, "memory"));
+    assert!(rt; map.push(1, 'a').expect(&rt, "memory"));
     assert!(rt; !map.is_empty());
     assert!(rt; map.get(&0).map(|set| set.len()) == Some(2));
     assert!(rt; map.get(&2).is_none());
-    Ok(())
 }
 
 #[test]
-fn a_push_says_whether_a_key_came(rt: HostRuntime) -> Result<(), Fail> {
+fn a_push_says_whether_a_key_came(rt: HostRuntime) {
     let mut map: Multimap<u32, ()> = Multimap::new(rt.alloc());
-    assert!(rt; map.push(0, ())?);
-    assert!(rt; !map.push(0, ())?);
-    assert!(rt; map.push(1, ())?);
-    assert!(rt; !map.push(0, ())?);
-    Ok(())
+    assert!(rt; map.push(0, ()).expect(&rt, "memory"));
+    assert!(rt; !map.push(0, ()).expect(&rt, "memory"));
+    assert!(rt; map.push(1, ()).expect(&rt, "memory"));
+    assert!(rt; !map.push(0, ()).expect(&rt, "memory"));
 }
 
 #[test]
-fn entries_stand_in_order_of_their_keys(rt: HostRuntime) -> Result<(), Fail> {
+fn entries_stand_in_order_of_their_keys(rt: HostRuntime) {
     let mut pairs = Vec::new(rt.alloc());
-    pairs.push((3u32, 'c'))?;
-    pairs.push((1, 'a'))?;
-    pairs.push((3, 'd'))?;
-    let map: Multimap<u32, Vec<char>> = Multimap::from_pairs(rt.alloc(), pairs)?;
+    pairs.push((3u32, 'c')).expect(&rt, "memory");
+    pairs.push((1, 'a')).expect(&rt, "memory");
+    pairs.push((3, 'd')).expect(&rt, "memory");
+    let map: Multimap<u32, Vec<char>> = Multimap::from_pairs(rt.alloc(), pairs).expect(
+        &rt, "memory",
+    );
     let mut keys = Vec::new(rt.alloc());
     for (key, _) in map.iter() {
-        keys.push(*key)?;
+        keys.push(*key).expect(&rt, "memory");
     }
     assert!(rt; keys.as_slice() == [1, 3].as_slice());
     let mut lengths = Vec::new(rt.alloc());
     for (_, list) in map {
-        lengths.push(list.len())?;
+        lengths.push(list.len()).expect(&rt, "memory");
     }
     assert!(rt; lengths.as_slice() == [1, 2].as_slice());
-    Ok(())
 }
 
 #[test]
-fn what_a_collection_says_of_a_push(rt: HostRuntime) -> Result<(), Fail> {
+fn what_a_collection_says_of_a_push(rt: HostRuntime) {
     let mut list: Vec<u32> = Collection::empty(rt.alloc());
-    assert!(rt; Collection::push(&mut list, 1)?);
-    assert!(rt; Collection::push(&mut list, 1)?);
+    assert!(rt; Collection::push(&mut list, 1).expect(&rt, "memory"));
+    assert!(rt; Collection::push(&mut list, 1).expect(&rt, "memory"));
     let mut nothing: Nil = Collection::empty(rt.alloc());
-    assert!(rt; !Collection::push(&mut nothing, Nil)?);
+    assert!(rt; !Collection::push(&mut nothing, Nil).expect(&rt, "memory"));
     let mut maps: Multimap<u32, Vec<u32>> = Collection::empty(rt.alloc());
-    assert!(rt; Collection::push(&mut maps, (1, 2))?);
-    Ok(())
+    assert!(rt; Collection::push(&mut maps, (1, 2)).expect(&rt, "memory"));
 }

@@ -3,59 +3,65 @@
 use crate::grammars::{grammar_of, name_of, production_at, terminal_of, terminal_symbol, token_of};
 use lalrpop_grammar_repr::{Grammar, Map, Production, TerminalSet};
 use lalrpop_grammar_symbols::{List, NonterminalString};
-use lalrpop_lr1_items::{
+use lalrpop_lr1_core::{
     Action, Item, Items, Lookahead, LookaheadInterpret, Lr0State, Lr1Conflict, Lr1Item, Lr1State,
     State, StateGraph, StateIndex,
 };
 use lalrpop_sets::{Nil, Token, TokenSet};
-use std::alloc::{AllocError, Global};
+use std::alloc::Global;
 use std::process::Abort;
-use std::test::Fail;
 
 /// Three productions with the same right side, and the terminals x and y.
 const LINES: &str = "A: \"a\"\nB: \"a\"\nC: \"a\"\nS: \"x\" \"y\"\n";
 
 /// The set of these terminals, and of the end where it is asked for.
 fn set_of(
+    rt: &impl Abort,
     alloc: Global,
     texts: &[&str],
     eof: bool,
     terminals: &TerminalSet,
-) -> Result<TokenSet, AllocError> {
-    let mut set = TokenSet::new(alloc, terminals)?;
+) -> TokenSet {
+    let mut set = TokenSet::new(alloc, terminals).expect(rt, "memory");
     for text in texts {
-        set.insert(&token_of(alloc, text)?, terminals)?;
+        set.insert(&token_of(rt, alloc, text), terminals)
+            .expect(rt, "memory");
     }
     if eof {
-        set.insert_eof(terminals)?;
+        set.insert_eof(terminals).expect(rt, "memory");
     }
-    Ok(set)
+    set
 }
 
 /// A state that shifts y, with these items, reductions and gotos.
 fn state_from<'g, L: Drop>(
+    rt: &impl Abort,
     alloc: Global,
     vec: List<Item<'g, L>>,
     reductions: List<(L, &'g Production)>,
     gotos: Map<NonterminalString, StateIndex>,
-) -> Result<State<'g, L>, AllocError> {
+) -> Box<State<'g, L>> {
     let mut shifts = Map::new(alloc);
-    shifts.insert(terminal_of(alloc, "y")?, StateIndex(5))?;
-    Ok(State {
+    shifts
+        .insert(terminal_of(rt, alloc, "y"), StateIndex(5))
+        .expect(rt, "memory");
+    let state = State {
         index: StateIndex(2),
         items: Items { vec },
         shifts,
         reductions,
         gotos,
-    })
+    };
+    Box::new(alloc, state).expect(rt, "memory")
 }
 
 /// A state that shifts y, and reduces by these productions.
 fn state_of<'g, L: Drop>(
+    rt: &impl Abort,
     alloc: Global,
     reductions: List<(L, &'g Production)>,
-) -> Result<State<'g, L>, AllocError> {
-    state_from(alloc, List::new(alloc), reductions, Map::new(alloc))
+) -> Box<State<'g, L>> {
+    state_from(rt, alloc, List::new(alloc), reductions, Map::new(alloc))
 }
 
 /// A reduction of a state.
@@ -63,89 +69,106 @@ type Reduction<'g> = (TokenSet, &'g Production);
 
 /// The reduction by the production of the nonterminal before these tokens.
 fn reduction_of<'g>(
+    rt: &impl Abort,
     alloc: Global,
     grammar: &'g Grammar,
     name: &str,
     texts: &[&str],
     eof: bool,
-) -> Result<Reduction<'g>, Fail> {
-    let production = production_at(alloc, grammar, name, 0)?;
-    Ok((set_of(alloc, texts, eof, &grammar.terminals)?, production))
+) -> Reduction<'g> {
+    let production = production_at(rt, alloc, grammar, name, 0);
+    (
+        set_of(rt, alloc, texts, eof, &grammar.terminals),
+        production,
+    )
 }
 
 /// The reductions by A before x and y, by B before y, and by C before x and the end.
-fn three_of<'g>(alloc: Global, grammar: &'g Grammar) -> Result<List<Reduction<'g>>, Fail> {
+fn three_of<'g>(rt: &impl Abort, alloc: Global, grammar: &'g Grammar) -> List<Reduction<'g>> {
     let mut reductions = List::new(alloc);
-    reductions.push(reduction_of(alloc, grammar, "A", &["x", "y"], false)?)?;
-    reductions.push(reduction_of(alloc, grammar, "B", &["y"], false)?)?;
-    reductions.push(reduction_of(alloc, grammar, "C", &["x"], true)?)?;
-    Ok(reductions)
+    reductions
+        .push(reduction_of(rt, alloc, grammar, "A", &["x", "y"], false))
+        .expect(rt, "memory");
+    reductions
+        .push(reduction_of(rt, alloc, grammar, "B", &["y"], false))
+        .expect(rt, "memory");
+    reductions
+        .push(reduction_of(rt, alloc, grammar, "C", &["x"], true))
+        .expect(rt, "memory");
+    reductions
 }
 
 /// A state that shifts y, and has these three reductions.
-fn three_reductions<'g>(alloc: Global, grammar: &'g Grammar) -> Result<Lr1State<'g>, Fail> {
-    let reductions = three_of(alloc, grammar)?;
-    Ok(state_of(alloc, reductions)?)
+fn three_reductions<'g>(rt: &impl Abort, alloc: Global, grammar: &'g Grammar) -> Box<Lr1State<'g>> {
+    let reductions = three_of(rt, alloc, grammar);
+    state_of(rt, alloc, reductions)
 }
 
 /// The text of an action: the state to which it leads, or the nonterminal to which it reduces.
-fn action_text(alloc: Global, action: &Action<'_>) -> Result<String, AllocError> {
+fn action_text(rt: &impl Abort, alloc: Global, action: &Action<'_>) -> String {
     match action {
-        Action::Shift(terminal, to) => Ok(format!(in alloc; "{terminal} {to}")?),
-        Action::Reduce(production) => Ok(format!(in alloc; "{}", production.nonterminal)?),
+        Action::Shift(terminal, to) => format!(in alloc; "{terminal} {to}").expect(rt, "memory"),
+        Action::Reduce(production) => format!(in alloc; "{}", production.nonterminal).expect(
+            rt, "memory",
+        ),
     }
 }
 
 /// The text of a conflict.
 fn conflict_text(
+    rt: &impl Abort,
     alloc: Global,
     conflict: &Lr1Conflict<'_>,
     terminals: &TerminalSet,
-) -> Result<String, AllocError> {
-    let shared = conflict.lookahead.shown(alloc, terminals)?;
-    let action = action_text(alloc, &conflict.action)?;
+) -> String {
+    let shared = conflict
+        .lookahead
+        .shown(alloc, terminals)
+        .expect(rt, "memory");
+    let action = action_text(rt, alloc, &conflict.action);
     let name = &conflict.production.nonterminal;
-    Ok(format!(in alloc; "{} {name} {shared} {action}; ", conflict.state)?)
+    format!(in alloc; "{} {name} {shared} {action}; ", conflict.state).expect(rt, "memory")
 }
 
 /// The texts of the conflicts of the state.
 fn conflict_texts(
+    rt: &impl Abort,
     alloc: Global,
     state: &Lr1State<'_>,
     terminals: &TerminalSet,
-) -> Result<String, AllocError> {
+) -> String {
     let mut text = String::new(alloc);
-    for conflict in Lookahead::conflicts(alloc, terminals, state)? {
-        text.push_str(conflict_text(alloc, &conflict, terminals)?.as_str())?;
+    for conflict in Lookahead::conflicts(alloc, terminals, state).expect(rt, "memory") {
+        let told = conflict_text(rt, alloc, &conflict, terminals);
+        text.push_str(told.as_str()).expect(rt, "memory");
     }
-    Ok(text)
+    text
 }
 
 /// The conflicts of the state with three reductions.
 const CONFLICTS: &str = "2 A [\"y\"] \"y\" 5; 2 B [\"y\"] \"y\" 5; 2 A [\"y\"] B; 2 A [\"x\"] C; ";
 
-fn conflicts_of_three(rt: &impl Abort, alloc: Global, grammar: &Grammar) -> Result<(), Fail> {
-    let state = three_reductions(alloc, grammar)?;
-    let text = conflict_texts(alloc, &state, &grammar.terminals)?;
+fn conflicts_of_three(rt: &impl Abort, alloc: Global, grammar: &Grammar) {
+    let state = three_reductions(rt, alloc, grammar);
+    let text = conflict_texts(rt, alloc, &state, &grammar.terminals);
     assert!(rt; text.as_str() == CONFLICTS);
-    Ok(())
 }
 
 #[test]
-fn conflicts_with_lookaheads(rt: HostRuntime) -> Result<(), Fail> {
-    let grammar = grammar_of(rt.alloc(), LINES)?;
-    conflicts_of_three(&rt, rt.alloc(), &grammar)
+fn conflicts_with_lookaheads(rt: HostRuntime) {
+    let grammar = grammar_of(&rt, rt.alloc(), LINES);
+    conflicts_of_three(&rt, rt.alloc(), &grammar);
 }
 
 /// Whether copies of the conflicts equal them, and copies of their actions these.
-fn equal_copies(conflicts: &[Lr1Conflict<'_>]) -> Result<bool, AllocError> {
+fn equal_copies(rt: &impl Abort, conflicts: &[Lr1Conflict<'_>]) -> bool {
     for conflict in conflicts {
-        let copy = conflict.try_clone()?;
-        if copy != *conflict || copy.action.try_clone()? != conflict.action {
-            return Ok(false);
+        let copy = conflict.try_clone().expect(rt, "memory");
+        if copy != *conflict || copy.action.try_clone().expect(rt, "memory") != conflict.action {
+            return false;
         }
     }
-    Ok(true)
+    true
 }
 
 fn copies_of_conflicts(
@@ -153,35 +176,38 @@ fn copies_of_conflicts(
     alloc: Global,
     state: &Lr1State<'_>,
     terminals: &TerminalSet,
-) -> Result<(), Fail> {
-    let conflicts = Lookahead::conflicts(alloc, terminals, state)?;
+) {
+    let conflicts = Lookahead::conflicts(alloc, terminals, state).expect(rt, "memory");
     assert_eq!(rt; conflicts.len(), 4);
-    assert!(rt; equal_copies(conflicts.as_slice())?);
-    Ok(())
+    assert!(rt; equal_copies(rt, conflicts.as_slice()));
 }
 
 /// The item of A with its dot at the end, before x and the end.
-fn item_of<'g>(alloc: Global, grammar: &'g Grammar) -> Result<List<Lr1Item<'g>>, Fail> {
-    let production = production_at(alloc, grammar, "A", 0)?;
-    let ahead = set_of(alloc, &["x"], true, &grammar.terminals)?;
+fn item_of<'g>(rt: &impl Abort, alloc: Global, grammar: &'g Grammar) -> List<Lr1Item<'g>> {
+    let production = production_at(rt, alloc, grammar, "A", 0);
+    let ahead = set_of(rt, alloc, &["x"], true, &grammar.terminals);
     let mut items = List::new(alloc);
-    items.push(Item::lr0(production, 1).with_lookahead(ahead))?;
-    Ok(items)
+    items
+        .push(Item::lr0(production, 1).with_lookahead(ahead))
+        .expect(rt, "memory");
+    items
 }
 
 /// The goto by A to 6.
-fn goto_of(alloc: Global) -> Result<Map<NonterminalString, StateIndex>, AllocError> {
+fn goto_of(rt: &impl Abort, alloc: Global) -> Map<NonterminalString, StateIndex> {
     let mut gotos = Map::new(alloc);
-    gotos.insert(name_of(alloc, "A")?, StateIndex(6))?;
-    Ok(gotos)
+    gotos
+        .insert(name_of(rt, alloc, "A"), StateIndex(6))
+        .expect(rt, "memory");
+    gotos
 }
 
 /// The state with three reductions, with this item and this goto.
-fn full_state<'g>(alloc: Global, grammar: &'g Grammar) -> Result<Lr1State<'g>, Fail> {
-    let gotos = goto_of(alloc)?;
-    let items = item_of(alloc, grammar)?;
-    let reductions = three_of(alloc, grammar)?;
-    Ok(state_from(alloc, items, reductions, gotos)?)
+fn full_state<'g>(rt: &impl Abort, alloc: Global, grammar: &'g Grammar) -> Box<Lr1State<'g>> {
+    let gotos = goto_of(rt, alloc);
+    let items = item_of(rt, alloc, grammar);
+    let reductions = three_of(rt, alloc, grammar);
+    state_from(rt, alloc, items, reductions, gotos)
 }
 
 /// That the copy of the full state has what it has.
@@ -191,53 +217,50 @@ fn equals(
     copy: &Lr1State<'_>,
     state: &Lr1State<'_>,
     terminals: &TerminalSet,
-) -> Result<(), Fail> {
-    assert!(rt; conflict_texts(alloc, copy, terminals)?.as_str() == CONFLICTS);
+) {
+    assert!(rt; conflict_texts(rt, alloc, copy, terminals).as_str() == CONFLICTS);
     assert!(rt; copy.items == state.items && copy.items.vec.len() == 1);
-    assert!(rt; copy.gotos.get(&name_of(alloc, "A")?) == Some(&StateIndex(6)));
-    Ok(())
+    assert!(rt; copy.gotos.get(&name_of(rt, alloc, "A")) == Some(&StateIndex(6)));
 }
 
-fn copies(
-    rt: &impl Abort,
-    alloc: Global,
-    state: &Lr1State<'_>,
-    terminals: &TerminalSet,
-) -> Result<(), Fail> {
-    copies_of_conflicts(rt, alloc, state, terminals)?;
-    equals(rt, alloc, &state.try_clone(alloc)?, state, terminals)
+fn copies(rt: &impl Abort, alloc: Global, state: &Lr1State<'_>, terminals: &TerminalSet) {
+    copies_of_conflicts(rt, alloc, state, terminals);
+    let copy = state.try_clone(alloc).expect(rt, "memory");
+    equals(rt, alloc, &copy, state, terminals);
 }
 
-fn copies_of_full_state(rt: &impl Abort, alloc: Global, grammar: &Grammar) -> Result<(), Fail> {
-    let state = full_state(alloc, grammar)?;
-    copies(rt, alloc, &state, &grammar.terminals)
+fn copies_of_full_state(rt: &impl Abort, alloc: Global, grammar: &Grammar) {
+    let state = full_state(rt, alloc, grammar);
+    copies(rt, alloc, &state, &grammar.terminals);
 }
 
 #[test]
-fn copies_of_a_state_and_its_conflicts(rt: HostRuntime) -> Result<(), Fail> {
-    let grammar = grammar_of(rt.alloc(), LINES)?;
-    copies_of_full_state(&rt, rt.alloc(), &grammar)
+fn copies_of_a_state_and_its_conflicts(rt: HostRuntime) {
+    let grammar = grammar_of(&rt, rt.alloc(), LINES);
+    copies_of_full_state(&rt, rt.alloc(), &grammar);
 }
 
 /// A state that shifts y, and reduces by A, B and C.
-fn three_without<'g>(alloc: Global, grammar: &'g Grammar) -> Result<Lr0State<'g>, Fail> {
+fn three_without<'g>(rt: &impl Abort, alloc: Global, grammar: &'g Grammar) -> Box<Lr0State<'g>> {
     let mut reductions = List::new(alloc);
     for name in ["A", "B", "C"] {
-        reductions.push((Nil, production_at(alloc, grammar, name, 0)?))?;
+        reductions
+            .push((Nil, production_at(rt, alloc, grammar, name, 0)))
+            .expect(rt, "memory");
     }
-    Ok(state_of(alloc, reductions)?)
+    state_of(rt, alloc, reductions)
 }
 
-fn conflicts_without(rt: &impl Abort, alloc: Global, grammar: &Grammar) -> Result<(), Fail> {
-    let state = three_without(alloc, grammar)?;
-    assert!(rt; Lookahead::conflicts(alloc, &grammar.terminals, &state)?.len() == 5);
-    Ok(())
+fn conflicts_without(rt: &impl Abort, alloc: Global, grammar: &Grammar) {
+    let state = three_without(rt, alloc, grammar);
+    let conflicts = Lookahead::conflicts(alloc, &grammar.terminals, &*state).expect(rt, "memory");
+    assert!(rt; conflicts.len() == 5);
 }
 
 #[test]
-fn conflicts_without_lookaheads(rt: HostRuntime) -> Result<(), Fail> {
-    let grammar = grammar_of(rt.alloc(), LINES)?;
-    conflicts_without(&rt, rt.alloc(), &grammar)
+fn conflicts_without_lookaheads(rt: HostRuntime) {
+    let grammar = grammar_of(&rt, rt.alloc(), LINES);
+    conflicts_without(&rt, rt.alloc(), &grammar);
 }
 
 /// The name of the nonterminal to which the state reduces before the token.
@@ -250,19 +273,18 @@ fn reduced_before<'g>(
     Some(production.nonterminal.0.as_str())
 }
 
-fn reduces(rt: &impl Abort, alloc: Global, grammar: &Grammar) -> Result<(), Fail> {
-    let state = three_reductions(alloc, grammar)?;
+fn reduces(rt: &impl Abort, alloc: Global, grammar: &Grammar) {
+    let state = three_reductions(rt, alloc, grammar);
     let terminals = &grammar.terminals;
     assert!(rt; reduced_before(&state, &Token::Eof, terminals) == Some("C"));
-    assert!(rt; reduced_before(&state, &token_of(alloc, "y")?, terminals) == Some("A"));
-    assert!(rt; reduced_before(&state, &token_of(alloc, "a")?, terminals).is_none());
-    Ok(())
+    assert!(rt; reduced_before(&state, &token_of(rt, alloc, "y"), terminals) == Some("A"));
+    assert!(rt; reduced_before(&state, &token_of(rt, alloc, "a"), terminals).is_none());
 }
 
 #[test]
-fn the_production_before_a_token(rt: HostRuntime) -> Result<(), Fail> {
-    let grammar = grammar_of(rt.alloc(), LINES)?;
-    reduces(&rt, rt.alloc(), &grammar)
+fn the_production_before_a_token(rt: HostRuntime) {
+    let grammar = grammar_of(&rt, rt.alloc(), LINES);
+    reduces(&rt, rt.alloc(), &grammar);
 }
 
 /// The grammar of two nonterminals in a row.
@@ -280,107 +302,112 @@ fn state_with<'g>(alloc: Global, vec: List<Item<'g, Nil>>) -> Lr0State<'g> {
 }
 
 /// A state with the dot behind the first C of S, and in front of the c of C.
-fn middle_state<'g>(alloc: Global, grammar: &'g Grammar) -> Result<Lr0State<'g>, Fail> {
+fn middle_state<'g>(rt: &impl Abort, alloc: Global, grammar: &'g Grammar) -> Lr0State<'g> {
     let mut vec = List::new(alloc);
-    vec.push(Item::lr0(production_at(alloc, grammar, "S", 0)?, 1))?;
-    vec.push(Item::lr0(production_at(alloc, grammar, "C", 0)?, 0))?;
-    Ok(state_with(alloc, vec))
+    vec.push(Item::lr0(production_at(rt, alloc, grammar, "S", 0), 1))
+        .expect(rt, "memory");
+    vec.push(Item::lr0(production_at(rt, alloc, grammar, "C", 0), 0))
+        .expect(rt, "memory");
+    state_with(alloc, vec)
 }
 
-fn answers(rt: &impl Abort, alloc: Global, state: &Lr0State<'_>) -> Result<(), Fail> {
+fn answers(rt: &impl Abort, alloc: Global, state: &Lr0State<'_>) {
     assert!(rt; state.max_prefix().len() == 1 && state.will_pop().len() == 1);
     assert!(rt; state.will_push().len() == 1);
     assert!(rt; state.will_produce().map(|name| name.0.as_str()) == Some("S"));
-    assert!(rt; state.try_clone(alloc)?.items == state.items);
-    Ok(())
+    assert!(rt; state.try_clone(alloc).expect(rt, "memory").items == state.items);
 }
 
 #[test]
-fn questions_of_a_state(rt: HostRuntime) -> Result<(), Fail> {
-    let grammar = grammar_of(rt.alloc(), ROW)?;
-    answers(&rt, rt.alloc(), &middle_state(rt.alloc(), &grammar)?)
+fn questions_of_a_state(rt: HostRuntime) {
+    let grammar = grammar_of(&rt, rt.alloc(), ROW);
+    answers(&rt, rt.alloc(), &middle_state(&rt, rt.alloc(), &grammar));
 }
 
 /// Has the terminal lead to the state of the number.
-fn add_shift(
-    alloc: Global,
-    state: &mut Lr0State<'_>,
-    text: &str,
-    to: usize,
-) -> Result<(), AllocError> {
+fn add_shift(rt: &impl Abort, alloc: Global, state: &mut Lr0State<'_>, text: &str, to: usize) {
     state
         .shifts
-        .insert(terminal_of(alloc, text)?, StateIndex(to))?;
-    Ok(())
+        .insert(terminal_of(rt, alloc, text), StateIndex(to))
+        .expect(rt, "memory");
 }
 
 /// A state whose terminal c leads to itself and d to 1, and whose goto by C leads to 2.
-fn first_state(alloc: Global) -> Result<Lr0State<'static>, AllocError> {
+fn first_state(rt: &impl Abort, alloc: Global) -> Lr0State<'static> {
     let mut state = state_with(alloc, List::new(alloc));
-    add_shift(alloc, &mut state, "c", 0)?;
-    add_shift(alloc, &mut state, "d", 1)?;
-    state.gotos.insert(name_of(alloc, "C")?, StateIndex(2))?;
-    Ok(state)
+    add_shift(rt, alloc, &mut state, "c", 0);
+    add_shift(rt, alloc, &mut state, "d", 1);
+    state
+        .gotos
+        .insert(name_of(rt, alloc, "C"), StateIndex(2))
+        .expect(rt, "memory");
+    state
 }
 
 /// A state whose terminal d leads to 1.
-fn last_state(alloc: Global) -> Result<Lr0State<'static>, AllocError> {
+fn last_state(rt: &impl Abort, alloc: Global) -> Lr0State<'static> {
     let mut state = state_with(alloc, List::new(alloc));
-    add_shift(alloc, &mut state, "d", 1)?;
-    Ok(state)
+    add_shift(rt, alloc, &mut state, "d", 1);
+    state
 }
 
 /// The graph of the first state, one that leads nowhere, and the last.
-fn graph_of(alloc: Global) -> Result<StateGraph, AllocError> {
+fn graph_of(rt: &impl Abort, alloc: Global) -> StateGraph {
     let mut states: Vec<Lr0State<'_>> = Vec::new(alloc);
-    states.push(first_state(alloc)?)?;
-    states.push(state_with(alloc, List::new(alloc)))?;
-    states.push(last_state(alloc)?)?;
-    StateGraph::new(alloc, states.as_slice())
+    states.push(first_state(rt, alloc)).expect(rt, "memory");
+    states
+        .push(state_with(alloc, List::new(alloc)))
+        .expect(rt, "memory");
+    states.push(last_state(rt, alloc)).expect(rt, "memory");
+    StateGraph::new(alloc, states.as_slice()).expect(rt, "memory")
 }
 
 /// The states from which these terminals lead to the state.
 fn ways_back(
+    rt: &impl Abort,
     alloc: Global,
     graph: &StateGraph,
     state: usize,
     texts: &[&str],
-) -> Result<Vec<StateIndex>, AllocError> {
+) -> Vec<StateIndex> {
     let mut symbols = Vec::new(alloc);
     for text in texts {
-        symbols.push(terminal_symbol(alloc, text)?)?;
+        symbols
+            .push(terminal_symbol(rt, alloc, text))
+            .expect(rt, "memory");
     }
-    graph.trace_back(alloc, StateIndex(state), symbols.as_slice())
+    let from = StateIndex(state);
+    let back = graph.trace_back(alloc, from, symbols.as_slice());
+    back.expect(rt, "memory")
 }
 
 #[test]
-fn ways_back_in_a_graph(rt: HostRuntime) -> Result<(), Fail> {
+fn ways_back_in_a_graph(rt: HostRuntime) {
     let alloc = rt.alloc();
-    let graph = graph_of(alloc)?;
-    assert!(rt; ways_back(alloc, &graph, 1, &["c", "d"])?.as_slice() == [StateIndex(0)].as_slice());
-    let both = ways_back(alloc, &graph, 1, &["d"])?;
+    let graph = graph_of(&rt, alloc);
+    assert!(rt;
+        ways_back(&rt, alloc, &graph, 1, &["c", "d"]).as_slice() == [StateIndex(0)].as_slice()
+    );
+    let both = ways_back(&rt, alloc, &graph, 1, &["d"]);
     assert!(rt; both.as_slice() == [StateIndex(0), StateIndex(2)].as_slice());
-    assert!(rt; ways_back(alloc, &graph, 1, &[])?.as_slice() == [StateIndex(1)].as_slice());
-    Ok(())
+    assert!(rt; ways_back(&rt, alloc, &graph, 1, &[]).as_slice() == [StateIndex(1)].as_slice());
 }
 
 #[test]
-fn states_behind_a_state(rt: HostRuntime) -> Result<(), Fail> {
+fn states_behind_a_state(rt: HostRuntime) {
     let alloc = rt.alloc();
-    let graph = graph_of(alloc)?;
+    let graph = graph_of(&rt, alloc);
     let mut after = graph.successors(StateIndex(0));
     assert!(rt; after.next() == Some(StateIndex(2)) && after.next() == Some(StateIndex(1)));
     assert!(rt; after.next() == Some(StateIndex(0)) && after.next().is_none());
-    Ok(())
 }
 
 #[test]
-fn states_before_a_state(rt: HostRuntime) -> Result<(), Fail> {
+fn states_before_a_state(rt: HostRuntime) {
     let alloc = rt.alloc();
-    let graph = graph_of(alloc)?;
-    let d = terminal_symbol(alloc, "d")?;
+    let graph = graph_of(&rt, alloc);
+    let d = terminal_symbol(&rt, alloc, "d");
     let mut before = graph.predecessors(StateIndex(1), &d);
     assert!(rt; before.next() == Some(StateIndex(2)) && before.next() == Some(StateIndex(0)));
     assert!(rt; before.next().is_none());
-    Ok(())
 }

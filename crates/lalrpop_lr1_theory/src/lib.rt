@@ -9,6 +9,12 @@
 //! states see their types as these.
 #![tactic(auto)]
 
+pub mod check_laws;
+pub mod collapse_laws;
+pub mod lane_laws;
+pub mod lr0_laws;
+pub mod outward_laws;
+
 ghost use Rattle.lalrpop_lr1_theory.specs.Laws.{MovesRebuild, MovesDetermine, ForestsFollow, ValidAreCarried, FirstTablesAreExact, CarriedAlongSymbols, CanonicalAreValid, CanonicalAreCounted, ConflictsAreTwoMoves, CanonicalAreChecked, Lr1IsNoConflict, ConflictsHaveForests, CanonicalMovesFollow, CheckedAreLr1, OneTree, EndsAreRight, RunsAreOne};
 
 /// The law that the moves of trees, made from no forest, make these trees. They are as many as the leaves and nodes.

@@ -4,8 +4,8 @@ use Rattle.std.proofs.Common.{◌⊎◌, arith}
 use Rattle.std.specs.Prelude.{length, map}
 use Rattle.lalrpop_grammar_language.specs.Among.{Among}
 use Rattle.lalrpop_grammar_language.proofs.PlaceLemmas.{among_map}
-use Rattle.lalrpop_norm_expansion.proofs.AmongLemmas.{map_among}
-use Rattle.lalrpop_norm_key_table.specs.Tables.{HasEachOnce}
+use Rattle.lalrpop_norm_theory.proofs.AmongLemmas.{map_among}
+use Rattle.lalrpop_norm_keys.specs.Tables.{HasEachOnce}
 
 -- a list without one of it
 abbrev without : {A : Type 0} (ys : List A) (x : A) → Among ys x → List A

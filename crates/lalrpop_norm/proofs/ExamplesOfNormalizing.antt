@@ -10,9 +10,9 @@ use Rattle.lalrpop_grammar_repr.specs.declared.norm_error.NormErrorKind.{NormErr
 use Rattle.lalrpop_grammar_repr.specs.declared.norm_error.NormErrorKind.TheVariants as kinds
 use Rattle.lalrpop_grammar_repr.specs.declared.session.NormFault.{NormFault}
 use Rattle.lalrpop_grammar_repr.specs.declared.session.NormFault.TheVariants as faults
-use Rattle.lalrpop_norm_expansion.specs.Premises.{IsReadItem}
-use Rattle.lalrpop_norm_checks.specs.Faults.{CheckStands, HasNoCheckFault}
-use Rattle.lalrpop_norm_macros.specs.PassedOn.{IsStandingFault}
+use Rattle.lalrpop_norm_theory.specs.Premises.{IsReadItem}
+use Rattle.lalrpop_norm_prevalidate.specs.Faults.{CheckStands, HasNoCheckFault}
+use Rattle.lalrpop_norm_chain.specs.StandingFaults.{IsStandingFault}
 use Rattle.lalrpop_norm.specs.Normalizing.{IsNormalizable, IsWrittenFault, TellsOfWritten}
 
 abbrev never : Text → Bool

@@ -11,30 +11,30 @@ use Rattle.lalrpop_grammar_language.specs.Enabled.{Choice, EnabledGrammar, enabl
 use Rattle.lalrpop_grammar_language.specs.Expansion.{InExpansion, IsWrittenProduction, Nonterminal, Produces, WrittenLabel}
 use Rattle.lalrpop_grammar_language.proofs.PlaceLemmas.{among_map}
 use Rattle.lalrpop_grammar_repr.specs.declared.norm_error.NormErrorKind.TheVariants as kinds
-use Rattle.lalrpop_norm_expansion.specs.Between.{grammar_between, rule_between}
-use Rattle.lalrpop_norm_expansion.specs.Keys.{flat_key_text, with_number}
-use Rattle.lalrpop_norm_expansion.specs.Premises.{IsExpanded}
-use Rattle.lalrpop_norm_expansion.specs.Productions.{IsOriginBefore}
-use Rattle.lalrpop_norm_expansion.specs.Rows.{AreExpansionRows, Row}
-use Rattle.lalrpop_norm_expansion.specs.Same.{SameExpansion, rename_side}
-use Rattle.lalrpop_norm_expansion.proofs.AmongLemmas.{map_among}
-use Rattle.lalrpop_norm_expansion.proofs.NumberingLemmas.{not_before_itself}
-use Rattle.lalrpop_norm_checks.specs.Faults.{HasNoCheckFault}
-use Rattle.lalrpop_norm_key_table.specs.Tables.{HasEachOnce}
-use Rattle.lalrpop_norm_entries.specs.Checked.{IsTokenChecked}
-use Rattle.lalrpop_norm_entries.specs.Places.{FirstPlaces}
+use Rattle.lalrpop_norm_theory.specs.Between.{grammar_between, rule_between}
+use Rattle.lalrpop_norm_theory.specs.Keys.{flat_key_text, with_number}
+use Rattle.lalrpop_norm_theory.specs.Premises.{IsExpanded}
+use Rattle.lalrpop_norm_theory.specs.Productions.{IsOriginBefore}
+use Rattle.lalrpop_norm_theory.specs.Rows.{AreExpansionRows, Row}
+use Rattle.lalrpop_norm_theory.specs.Same.{SameExpansion, rename_side}
+use Rattle.lalrpop_norm_theory.proofs.AmongLemmas.{map_among}
+use Rattle.lalrpop_norm_theory.proofs.NumberingLemmas.{not_before_itself}
+use Rattle.lalrpop_norm_prevalidate.specs.Faults.{HasNoCheckFault}
+use Rattle.lalrpop_norm_keys.specs.Tables.{HasEachOnce}
+use Rattle.lalrpop_norm_token_check.specs.Checked.{IsTokenChecked}
+use Rattle.lalrpop_norm_token_check.specs.Places.{FirstPlaces}
 use Rattle.lalrpop_norm_lower.specs.Lowered.{AreChoicesInOrder}
 use Rattle.lalrpop_norm_lower.specs.LoweredLists.{count_actions, count_alternatives, rules_with_starts}
 use Rattle.lalrpop_norm_lower.specs.LoweredSymbols.{lowered_name}
 use Rattle.lalrpop_norm_lower.proofs.EarlierLemmas.{among_at}
 use Rattle.lalrpop_norm_lower.proofs.ExpansionRowLemmas.{alternative_row, are_expansion_rows, lowered_rows, rule_rows, start_row}
-use Rattle.lalrpop_norm_stages.specs.PassedOn.{IsMacroChain}
-use Rattle.lalrpop_norm_stages.specs.PassedOn.{AreInOrder, HasFreePrefix, HasRulesInOrder}
-use Rattle.lalrpop_norm_stages.proofs.PassedOnLemmas.{between_behind}
-use Rattle.lalrpop_norm_stages.proofs.PassedOnLemmas.{prefix_leveled, same_expanded, to}
-use Rattle.lalrpop_norm_stages.proofs.PassedOnLemmas.{keys_free}
-use Rattle.lalrpop_norm_stages.proofs.PassedOnLemmas.{keys_ordered, leveled_ordered}
-use Rattle.lalrpop_norm_stages.proofs.PassedOnLemmas.{leveled_free}
+use Rattle.lalrpop_norm_chain.specs.Chains.{IsMacroChain}
+use Rattle.lalrpop_norm_chain.specs.PremiseLaws.{AreInOrder, HasFreePrefix, HasRulesInOrder}
+use Rattle.lalrpop_norm_chain.proofs.ChainLemmas.{between_behind}
+use Rattle.lalrpop_norm_chain.proofs.FrontLemmas.{prefix_leveled, same_expanded, to}
+use Rattle.lalrpop_norm_chain.proofs.KeyPrefixLemmas.{keys_free}
+use Rattle.lalrpop_norm_chain.proofs.OrderLemmas.{keys_ordered, leveled_ordered}
+use Rattle.lalrpop_norm_chain.proofs.PrefixLemmas.{leveled_free}
 use Rattle.lalrpop_norm.specs.Normalizing.{HasTooManyLabels, IsLabelOf}
 use Rattle.lalrpop_norm.proofs.CountLemmas.{once_before, once_behind, once_within}
 

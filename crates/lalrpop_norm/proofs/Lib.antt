@@ -1,3 +1,8 @@
+pub mod ItemLemmas
+pub mod NameLemmas
+pub mod SymbolLemmas
+pub mod ViewLemmas
+pub mod FinishLemmas
 pub mod OtherItemLemmas
 pub mod ReadyLemmas
 pub mod TypedLemmas

@@ -8,13 +8,13 @@ use Rattle.lalrpop_grammar_symbols.specs.Symbols.{Text}
 use Rattle.lalrpop_grammar.specs.WrittenGrammar.{InternEntry, WrittenItem, Rule, Grammar}
 use Rattle.lalrpop_grammar_language.specs.Among.{Among}
 use Rattle.lalrpop_grammar_language.specs.Enabled.{is_active}
-use Rattle.lalrpop_norm_expansion.specs.Between.{enabled_part, enabled_item, without_disabled}
-use Rattle.lalrpop_norm_expansion.specs.Premises.{IsReadGrammar}
-use Rattle.lalrpop_norm_name_laws.specs.Resolving.{DefinedNames, defined_names, resolved_item, resolved_grammar}
-use Rattle.lalrpop_norm_level_laws.specs.LeveledGrammar.{leveled_rules, leveled_item}
-use Rattle.lalrpop_norm_macros.specs.PassedOn.{other_items}
-use Rattle.lalrpop_norm_stages.specs.PassedOn.{leveled_part}
-use Rattle.lalrpop_norm_stages.specs.PassedOn.{HasNoTokenizer}
+use Rattle.lalrpop_norm_theory.specs.Between.{enabled_part, enabled_item, without_disabled}
+use Rattle.lalrpop_norm_theory.specs.Premises.{IsReadGrammar}
+use Rattle.lalrpop_norm_theory.specs.Resolving.{DefinedNames, defined_names, resolved_item, resolved_grammar}
+use Rattle.lalrpop_norm_theory.specs.LeveledGrammar.{leveled_rules, leveled_item}
+use Rattle.lalrpop_norm_macros.specs.RuleItems.{other_items}
+use Rattle.lalrpop_norm_chain.specs.PremiseLaws.{leveled_part}
+use Rattle.lalrpop_norm_chain.specs.LoweredViews.{HasNoTokenizer}
 
 others_left : (features : List Text) (items : List WrittenItem)
     → other_items (filter_map (enabled_item features) items) ≡ other_items items

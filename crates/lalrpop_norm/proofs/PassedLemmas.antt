@@ -6,26 +6,26 @@ use Rattle.lalrpop_grammar.specs.WrittenGrammar.{Grammar}
 use Rattle.lalrpop_grammar_repr.specs.declared.session.NormFault.{NormFault}
 use Rattle.lalrpop_lexer.specs.Simulation.{Decides, StateView}
 use Rattle.lalrpop_lexer_scan.specs.Literals.{first_span, uses_in_grammar}
-use Rattle.lalrpop_norm_expansion.specs.Between.{without_disabled}
-use Rattle.lalrpop_norm_name_laws.specs.NameFaults.{HasRightNames}
-use Rattle.lalrpop_norm_name_laws.specs.Resolving.{resolved_grammar}
-use Rattle.lalrpop_norm_names.specs.FoundFaults.{IsNameFault}
-use Rattle.lalrpop_norm_level_laws.specs.LevelFaults.{HasRightLevels}
-use Rattle.lalrpop_norm_levels.specs.LevelExpansions.{HasPlainNames, IsLevelExpansion, IsLevelFault}
-use Rattle.lalrpop_norm_checks.specs.Faults.{HasNoCheckFault}
-use Rattle.lalrpop_norm_macros.specs.PassedOn.{other_items}
-use Rattle.lalrpop_norm_entries.specs.Patterns.{entry_patterns, entry_precedences}
-use Rattle.lalrpop_norm_entries.specs.Places.{FirstPlaces}
-use Rattle.lalrpop_norm_stages.specs.PassedOn.{IsMacroChain, IsMacroResult}
-use Rattle.lalrpop_norm_stages.specs.PassedOn.{LoweredGrammar}
-use Rattle.lalrpop_norm_stages.specs.PassedOn.{IsNormalized}
-use Rattle.lalrpop_norm_stages.specs.PassedOn.{resolved_part}
-use Rattle.lalrpop_norm_stages.specs.PassedOn.{HasNoTokenizer}
-use Rattle.lalrpop_norm_stages.specs.Stages.{DecidesEntriesOf, HasNoLaterFault, IsLaterFault, IsNormalizedWhereRead}
-use Rattle.lalrpop_norm_macros.specs.PassedOn.{IsLevelChain}
-use Rattle.lalrpop_norm_macros.specs.PassedOn.{IsRightToLevels, IsRightToMacros}
-use Rattle.lalrpop_norm_macros.specs.PassedOn.{enabled_places}
-use Rattle.lalrpop_norm_macros.proofs.PassedOnLemmas.{right_levels}
+use Rattle.lalrpop_norm_theory.specs.Between.{without_disabled}
+use Rattle.lalrpop_norm_theory.specs.NameFaults.{HasRightNames}
+use Rattle.lalrpop_norm_theory.specs.Resolving.{resolved_grammar}
+use Rattle.lalrpop_norm_resolve.specs.FoundFaults.{IsNameFault}
+use Rattle.lalrpop_norm_theory.specs.LevelFaults.{HasRightLevels}
+use Rattle.lalrpop_norm_precedence.specs.LevelExpansions.{HasPlainNames, IsLevelExpansion, IsLevelFault}
+use Rattle.lalrpop_norm_prevalidate.specs.Faults.{HasNoCheckFault}
+use Rattle.lalrpop_norm_macros.specs.RuleItems.{other_items}
+use Rattle.lalrpop_norm_token_check.specs.Patterns.{entry_patterns, entry_precedences}
+use Rattle.lalrpop_norm_token_check.specs.Places.{FirstPlaces}
+use Rattle.lalrpop_norm_chain.specs.Chains.{IsMacroChain, IsMacroResult}
+use Rattle.lalrpop_norm_chain.specs.Lowered.{LoweredGrammar}
+use Rattle.lalrpop_norm_chain.specs.Normalized.{IsNormalized}
+use Rattle.lalrpop_norm_chain.specs.PremiseLaws.{resolved_part}
+use Rattle.lalrpop_norm_chain.specs.LoweredViews.{HasNoTokenizer}
+use Rattle.lalrpop_norm.specs.Stages.{DecidesEntriesOf, HasNoLaterFault, IsLaterFault, IsNormalizedWhereRead}
+use Rattle.lalrpop_norm_chain.specs.FaultLaws.{IsLevelChain}
+use Rattle.lalrpop_norm_chain.specs.StandingFaults.{IsRightToLevels, IsRightToMacros}
+use Rattle.lalrpop_norm_chain.specs.TokenFaults.{enabled_places}
+use Rattle.lalrpop_norm_chain.proofs.StandingLemmas.{right_levels}
 use Rattle.lalrpop_norm_macros.specs.MacroPass.{HasNoMacroFault, IsMacroFault, IsReadyForMacros}
 use Rattle.lalrpop_norm.specs.Normalizing.{HasNoWrittenFault, IsNormalizable, TellsOfWritten}
 use Rattle.lalrpop_norm.proofs.OtherItemLemmas.{no_tokenizer_there}

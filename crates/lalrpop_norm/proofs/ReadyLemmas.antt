@@ -5,23 +5,23 @@ use Rattle.lalrpop_grammar_symbols.specs.Symbols.{Text}
 use Rattle.lalrpop_grammar.specs.WrittenGrammar.{Grammar, rules_of}
 use Rattle.lalrpop_grammar_language.specs.Enabled.{enabled_grammar}
 use Rattle.lalrpop_grammar_repr.specs.declared.norm_error.NormErrorKind.TheVariants as kinds
-use Rattle.lalrpop_norm_expansion.specs.Between.{grammar_between, without_disabled}
-use Rattle.lalrpop_norm_expansion.specs.Premises.{HasNoRecovery, IsReadGrammar}
-use Rattle.lalrpop_norm_name_laws.specs.NameFaults.{HasRightNames}
-use Rattle.lalrpop_norm_name_laws.proofs.ResolvedLemmas.{right_names_resolve}
-use Rattle.lalrpop_norm_level_laws.specs.LevelLaws.{IsLevelable}
-use Rattle.lalrpop_norm_levels.specs.LevelExpansions.{HasPlainNames}
-use Rattle.lalrpop_norm_checks.specs.Faults.{HasNoCheckFault}
-use Rattle.lalrpop_norm_macros.specs.PassedOn.{HasAllActive}
-use Rattle.lalrpop_norm_macros.specs.PassedOn.{IsNameable}
-use Rattle.lalrpop_norm_macros.specs.PassedOn.{LeavesPrefix}
-use Rattle.lalrpop_norm_macros.proofs.PassedOnLemmas.{leveled_nameable}
-use Rattle.lalrpop_norm_stages.specs.PassedOn.{HasFreePrefix, resolved_part}
-use Rattle.lalrpop_norm_stages.proofs.PassedOnLemmas.{leveled_asks_nothing, all_active}
-use Rattle.lalrpop_norm_stages.proofs.PassedOnLemmas.{names_plain, parameters_plain}
-use Rattle.lalrpop_norm_stages.proofs.PassedOnLemmas.{leveled_free}
-use Rattle.lalrpop_norm_stages.proofs.PassedOnLemmas.{no_recovery}
-use Rattle.lalrpop_norm_macros.specs.PassedOn.{IsLevelChain}
+use Rattle.lalrpop_norm_theory.specs.Between.{grammar_between, without_disabled}
+use Rattle.lalrpop_norm_theory.specs.Premises.{HasNoRecovery, IsReadGrammar}
+use Rattle.lalrpop_norm_theory.specs.NameFaults.{HasRightNames}
+use Rattle.lalrpop_norm_theory.proofs.ResolvedLemmas.{right_names_resolve}
+use Rattle.lalrpop_norm_theory.specs.LevelLaws.{IsLevelable}
+use Rattle.lalrpop_norm_precedence.specs.LevelExpansions.{HasPlainNames}
+use Rattle.lalrpop_norm_prevalidate.specs.Faults.{HasNoCheckFault}
+use Rattle.lalrpop_norm_keys.specs.TableLaws.{HasAllActive}
+use Rattle.lalrpop_norm_macros.specs.KeyNames.{IsNameable}
+use Rattle.lalrpop_norm_macros.specs.NameLaws.{LeavesPrefix}
+use Rattle.lalrpop_norm_macros.proofs.LeveledTextLemmas.{leveled_nameable}
+use Rattle.lalrpop_norm_chain.specs.PremiseLaws.{HasFreePrefix, resolved_part}
+use Rattle.lalrpop_norm_chain.proofs.ActiveLemmas.{leveled_asks_nothing, all_active}
+use Rattle.lalrpop_norm_chain.proofs.PlainNameLemmas.{names_plain, parameters_plain}
+use Rattle.lalrpop_norm_chain.proofs.PrefixLemmas.{leveled_free}
+use Rattle.lalrpop_norm_chain.proofs.RecoveryLemmas.{no_recovery}
+use Rattle.lalrpop_norm_chain.specs.FaultLaws.{IsLevelChain}
 use Rattle.lalrpop_norm_macros.specs.MacroPass.{IsReadyForMacros}
 
 -- names are such that levels can be named

@@ -12,29 +12,29 @@ use Rattle.lalrpop_grammar_repr.specs.declared.norm_error.NormErrorKind.{NormErr
 use Rattle.lalrpop_grammar_repr.specs.declared.norm_error.NormErrorKind.TheVariants as kinds
 use Rattle.lalrpop_grammar_repr.specs.declared.session.NormFault.{NormFault}
 use Rattle.lalrpop_grammar_repr.specs.declared.session.NormFault.TheVariants as faults
-use Rattle.lalrpop_norm_expansion.specs.Between.{grammar_between, without_disabled}
-use Rattle.lalrpop_norm_expansion.specs.Premises.{IsExpanded}
-use Rattle.lalrpop_norm_level_faults.specs.LevelErrors.{told_fault}
-use Rattle.lalrpop_norm_levels.specs.LevelExpansions.{IsLevelFault}
-use Rattle.lalrpop_norm_names.specs.FoundFaults.{IsNameFault, StandsInGrammar, found_fault}
-use Rattle.lalrpop_norm_checks.specs.Faults.{HasNoCheckFault, IsCheckFault}
-use Rattle.lalrpop_norm_macros.specs.PassedOn.{condition_error}
-use Rattle.lalrpop_norm_entries.specs.Checked.{IsTokenChecked}
-use Rattle.lalrpop_norm_entries.specs.Faults.{IsTokenFault}
-use Rattle.lalrpop_norm_entries.specs.Places.{FirstPlaces}
-use Rattle.lalrpop_norm_types.specs.TypeFaults.{HasNoTypeFault, IsTypeFault, WhereExpanded}
+use Rattle.lalrpop_norm_theory.specs.Between.{grammar_between, without_disabled}
+use Rattle.lalrpop_norm_theory.specs.Premises.{IsExpanded}
+use Rattle.lalrpop_norm_precedence.specs.LevelErrors.{told_fault}
+use Rattle.lalrpop_norm_precedence.specs.LevelExpansions.{IsLevelFault}
+use Rattle.lalrpop_norm_resolve.specs.FoundFaults.{IsNameFault, StandsInGrammar, found_fault}
+use Rattle.lalrpop_norm_prevalidate.specs.Faults.{HasNoCheckFault, IsCheckFault}
+use Rattle.lalrpop_norm_keys.specs.MacroFaults.{condition_error}
+use Rattle.lalrpop_norm_token_check.specs.Checked.{IsTokenChecked}
+use Rattle.lalrpop_norm_token_check.specs.Faults.{IsTokenFault}
+use Rattle.lalrpop_norm_token_check.specs.Places.{FirstPlaces}
+use Rattle.lalrpop_norm_tyinfer.specs.TypeFaults.{HasNoTypeFault, IsTypeFault, WhereExpanded}
 use Rattle.lalrpop_norm_lower.specs.LowerFaults.{HasFewActions, IsLowerFault}
-use Rattle.lalrpop_norm_stages.specs.Stages.{HasNoLaterFault, IsLaterFault}
-use Rattle.lalrpop_norm_stages.specs.PassedOn.{resolved_part}
-use Rattle.lalrpop_norm_stages.specs.PassedOn.{IsMacroChain}
-use Rattle.lalrpop_norm_stages.proofs.PassedOnLemmas.{between_behind}
-use Rattle.lalrpop_norm_stages.proofs.PassedOnLemmas.{span_is}
-use Rattle.lalrpop_norm_macros.specs.PassedOn.{IsLevelChain}
-use Rattle.lalrpop_norm_macros.specs.PassedOn.{IsRightToLevels, IsRightToMacros, IsRightToNames, IsRightToTokens}
-use Rattle.lalrpop_norm_macros.specs.PassedOn.{IsStandingFault}
-use Rattle.lalrpop_norm_macros.specs.PassedOn.{enabled_places}
-use Rattle.lalrpop_norm_macros.proofs.PassedOnLemmas.{arity_stands, condition_stands, depth_stands, level_stands, limit_stands}
-use Rattle.lalrpop_norm_macros.proofs.PassedOnLemmas.{right_macros, right_tokens, token_stands, type_stands}
+use Rattle.lalrpop_norm.specs.Stages.{HasNoLaterFault, IsLaterFault}
+use Rattle.lalrpop_norm_chain.specs.PremiseLaws.{resolved_part}
+use Rattle.lalrpop_norm_chain.specs.Chains.{IsMacroChain}
+use Rattle.lalrpop_norm_chain.proofs.ChainLemmas.{between_behind}
+use Rattle.lalrpop_norm_chain.proofs.FrontLemmas.{span_is}
+use Rattle.lalrpop_norm_chain.specs.FaultLaws.{IsLevelChain}
+use Rattle.lalrpop_norm_chain.specs.StandingFaults.{IsRightToLevels, IsRightToMacros, IsRightToNames, IsRightToTokens}
+use Rattle.lalrpop_norm_chain.specs.StandingFaults.{IsStandingFault}
+use Rattle.lalrpop_norm_chain.specs.TokenFaults.{enabled_places}
+use Rattle.lalrpop_norm_chain.proofs.StandingLemmas.{arity_stands, condition_stands, depth_stands, level_stands, limit_stands}
+use Rattle.lalrpop_norm_chain.proofs.StandingLemmas.{right_macros, right_tokens, token_stands, type_stands}
 use Rattle.lalrpop_norm_macros.specs.MacroPass.{HasNoMacroFault, IsMacroFault, IsReadyForMacros, TellsDepth, TellsOfMacros}
 use Rattle.lalrpop_norm.specs.Normalizing.{HasNoWrittenFault, IsRightToTypes, IsWrittenFault, TellsOfWritten}
 use Rattle.lalrpop_norm.proofs.LabelLemmas.{few_labels, many_labels}

@@ -8,13 +8,13 @@ use Rattle.lalrpop_grammar_language.specs.Among.{Among}
 use Rattle.lalrpop_grammar_language.specs.Enabled.{EnabledGrammar, EnabledRule, enabled_grammar}
 use Rattle.lalrpop_grammar_language.specs.Expansion.{InExpansion, Nonterminal}
 use Rattle.lalrpop_grammar_language.proofs.PlaceLemmas.{among_map}
-use Rattle.lalrpop_norm_expansion.specs.Between.{grammar_between, rule_between, without_disabled}
-use Rattle.lalrpop_norm_expansion.specs.Types.{IsGrounded}
-use Rattle.lalrpop_norm_expansion.proofs.ExpansionListLemmas.{rule_there}
-use Rattle.lalrpop_norm_types.specs.TypeFaults.{HasNoType, HasNoTypeFault, TypeFault, is_part_rule, rule_symbol}
-use Rattle.lalrpop_norm_stages.specs.PassedOn.{IsMacroChain}
-use Rattle.lalrpop_norm_stages.proofs.PassedOnLemmas.{closed_to, has_rule, types_expanded}
-use Rattle.lalrpop_norm_macros.specs.PassedOn.{IsDisagreeing, IsUntyped}
+use Rattle.lalrpop_norm_theory.specs.Between.{grammar_between, rule_between, without_disabled}
+use Rattle.lalrpop_norm_theory.specs.Types.{IsGrounded}
+use Rattle.lalrpop_norm_theory.proofs.ExpansionListLemmas.{rule_there}
+use Rattle.lalrpop_norm_tyinfer.specs.TypeFaults.{HasNoType, HasNoTypeFault, TypeFault, is_part_rule, rule_symbol}
+use Rattle.lalrpop_norm_chain.specs.Chains.{IsMacroChain}
+use Rattle.lalrpop_norm_chain.proofs.FrontLemmas.{closed_to, has_rule, types_expanded}
+use Rattle.lalrpop_norm_chain.specs.WrittenTypeFaults.{IsDisagreeing, IsUntyped}
 
 -- each rule has a type, where none is told
 every_typed : (g : EnabledGrammar) (rs : List Rule) → HasNoTypeFault g rs → (r : Rule) → Among rs r → HasNoType g r.name → ⊥

@@ -1,2 +1,3 @@
+pub mod ReadGrammars
+pub mod Stages
 pub mod Normalizing
-pub mod PassedOn

@@ -3,7 +3,7 @@ use Rattle.std.specs.Prelude.{ℕ, ◌≡◌, ◌<◌, ◌^◌, Bool, List, Opti
 use Rattle.lalrpop_grammar_symbols.specs.Symbols.{Text, TextSpan}
 use Rattle.lalrpop_grammar_symbols.specs.Views.{span_view}
 use Rattle.lalrpop_grammar.specs.WrittenGrammar.{Grammar}
-use Rattle.lalrpop_grammar_closed.specs.Finding.{IsSearch}
+use Rattle.lalrpop_grammar_rules.specs.Finding.{IsSearch}
 use Rattle.lalrpop_grammar_language.specs.Among.{Among}
 use Rattle.lalrpop_grammar_language.specs.Enabled.{EnabledGrammar, enabled_grammar}
 use Rattle.lalrpop_grammar_language.specs.Expansion.{InExpansion, IsWrittenProduction, RightSide, WrittenLabel}
@@ -11,12 +11,12 @@ use Rattle.lalrpop_grammar_repr.specs.declared.norm_error.NormErrorKind.{NormErr
 use Rattle.lalrpop_grammar_repr.specs.declared.norm_error.NormErrorKind.TheVariants as kinds
 use Rattle.lalrpop_grammar_repr.specs.declared.session.NormFault.{NormFault}
 use Rattle.lalrpop_grammar_repr.specs.declared.session.NormFault.TheVariants as faults
-use Rattle.lalrpop_norm_expansion.specs.Between.{grammar_between, without_disabled}
-use Rattle.lalrpop_norm_expansion.specs.Premises.{IsReadGrammar, HasNoRecovery}
-use Rattle.lalrpop_norm_key_table.specs.Tables.{HasEachOnce}
-use Rattle.lalrpop_norm_macros.specs.PassedOn.{HasConditionWhere}
-use Rattle.lalrpop_norm_macros.specs.PassedOn.{IsRightToLevels, IsRightToTokens, IsStandingFault}
-use Rattle.lalrpop_norm_macros.specs.PassedOn.{IsDisagreeing, IsUntyped}
+use Rattle.lalrpop_norm_theory.specs.Between.{grammar_between, without_disabled}
+use Rattle.lalrpop_norm_theory.specs.Premises.{IsReadGrammar, HasNoRecovery}
+use Rattle.lalrpop_norm_keys.specs.Tables.{HasEachOnce}
+use Rattle.lalrpop_norm_chain.specs.MadeConditions.{HasConditionWhere}
+use Rattle.lalrpop_norm_chain.specs.StandingFaults.{IsRightToLevels, IsRightToTokens, IsStandingFault}
+use Rattle.lalrpop_norm_chain.specs.WrittenTypeFaults.{IsDisagreeing, IsUntyped}
 
 -- The grammar looks as one that was read, and no enabled alternative has the symbol of error recovery.
 pub record IsNormalizable (finds : Text → Text → Option Bool) (features : List Text) (w : Grammar) : Type 0 where

@@ -2,25 +2,25 @@
 
 ghost use Rattle.std.specs.Prelude.{IfErr, IfOk};
 ghost use Rattle.lalrpop_grammar.specs.Views.{grammar_view};
-ghost use Rattle.lalrpop_judge_search.specs.Search.{finds, is_too_deep};
+ghost use Rattle.lalrpop_grammar_rules.specs.Search.{finds, is_too_deep};
 ghost use Rattle.lalrpop_lexer.specs.Simulation.{Decides};
-ghost use Rattle.lalrpop_norm_stages.specs.PassedOn.{IsNormalized};
-ghost use Rattle.lalrpop_norm_entries.specs.Patterns.{entry_patterns, entry_precedences};
+ghost use Rattle.lalrpop_norm_chain.specs.Normalized.{IsNormalized};
+ghost use Rattle.lalrpop_norm_token_check.specs.Patterns.{entry_patterns, entry_precedences};
 ghost use Rattle.lalrpop_norm_lower.specs.TableReadiness.{IsReadyForTables};
-ghost use Rattle.lalrpop_norm_stages.specs.PassedOn.{lowered_view};
+ghost use Rattle.lalrpop_norm_chain.specs.LoweredViews.{lowered_view};
 ghost use Rattle.lalrpop_norm.specs.Normalizing.{HasNoWrittenFault, IsNormalizable, TellsOfWritten};
 
+use crate::stages::finish_expanded;
 use lalrpop_grammar::Grammar;
 use lalrpop_grammar_repr::{NormResult, Session};
 use lalrpop_lexer::dfa::Dfa;
-use lalrpop_norm_checks::prevalidate;
-use lalrpop_norm_entries::LiteralPlaces;
-use lalrpop_norm_levels::expand_precedence;
 use lalrpop_norm_lower::Normalized;
 use lalrpop_norm_macros::expand_macros;
-use lalrpop_norm_names::resolve;
+use lalrpop_norm_precedence::levels::expand_precedence;
+use lalrpop_norm_prevalidate::prevalidate;
+use lalrpop_norm_resolve::names::resolve;
 use lalrpop_norm_resolve::remove_disabled_decls;
-use lalrpop_norm_stages::finish_expanded;
+use lalrpop_norm_token_check::LiteralPlaces;
 use std::alloc::Global;
 
 /// The grammar's plain productions, one for each choice of the written grammar that the session's features leave, each with its

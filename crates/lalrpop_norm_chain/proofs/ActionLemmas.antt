@@ -10,18 +10,18 @@ use Rattle.lalrpop_grammar_language.specs.Enabled.{Choice, EnabledGrammar, Enabl
 use Rattle.lalrpop_grammar_language.specs.Expansion.{Nonterminal, origin_with}
 use Rattle.lalrpop_grammar_language.specs.Levels.{Rank, ranked_choices}
 use Rattle.lalrpop_grammar_language.proofs.PlaceLemmas.{among_map}
-use Rattle.lalrpop_norm_expansion.specs.Between.{choice_without_cfg, grammar_between, rule_between, rule_without_cfg, with_origins}
-use Rattle.lalrpop_norm_expansion.specs.Between.{without_disabled}
-use Rattle.lalrpop_norm_expansion.specs.Premises.{IsReadGrammar}
-use Rattle.lalrpop_norm_expansion.proofs.AmongLemmas.{map_among}
-use Rattle.lalrpop_norm_expansion.proofs.BetweenLemmas.{rules_left}
-use Rattle.lalrpop_norm_expansion.proofs.ExpansionListLemmas.{rule_there}
-use Rattle.lalrpop_norm_expansion.specs.KeyRules.{AreInstanceChoices, AreKeyChoices, AreTwoChoices, IsOneChoice}
-use Rattle.lalrpop_norm_expansion.specs.LevelRules.{by_level_names}
-use Rattle.lalrpop_norm_name_laws.specs.Resolving.{resolved_grammar}
-use Rattle.lalrpop_norm_level_laws.specs.LeveledGrammar.{leveled_grammar}
-use Rattle.lalrpop_norm_level_laws.proofs.LevelChoiceLemmas.{choice_listed}
-use Rattle.lalrpop_norm_level_laws.proofs.ToldPlaceLemmas.{read_tells}
+use Rattle.lalrpop_norm_theory.specs.Between.{choice_without_cfg, grammar_between, rule_between, rule_without_cfg, with_origins}
+use Rattle.lalrpop_norm_theory.specs.Between.{without_disabled}
+use Rattle.lalrpop_norm_theory.specs.Premises.{IsReadGrammar}
+use Rattle.lalrpop_norm_theory.proofs.AmongLemmas.{map_among}
+use Rattle.lalrpop_norm_theory.proofs.BetweenLemmas.{rules_left}
+use Rattle.lalrpop_norm_theory.proofs.ExpansionListLemmas.{rule_there}
+use Rattle.lalrpop_norm_theory.specs.KeyRules.{AreInstanceChoices, AreKeyChoices, AreTwoChoices, IsOneChoice}
+use Rattle.lalrpop_norm_theory.specs.LevelRules.{by_level_names}
+use Rattle.lalrpop_norm_theory.specs.Resolving.{resolved_grammar}
+use Rattle.lalrpop_norm_theory.specs.LeveledGrammar.{leveled_grammar}
+use Rattle.lalrpop_norm_theory.proofs.LevelChoiceLemmas.{choice_listed}
+use Rattle.lalrpop_norm_theory.proofs.ToldPlaceLemmas.{read_tells}
 use Rattle.lalrpop_norm_chain.specs.Actions.{ChoiceDoes, DoesByChoice}
 use Rattle.lalrpop_norm_chain.proofs.ToldLemmas.{AreToldBy, leveled_told, resolved_told}
 

@@ -12,8 +12,8 @@ use Rattle.lalrpop_grammar_language.specs.Closing.{right_side}
 use Rattle.lalrpop_grammar_language.specs.Admitting.{bind}
 use Rattle.lalrpop_grammar_language.proofs.PlaceLemmas.{among_map}
 use Rattle.lalrpop_grammar_language.proofs.SoundnessLemmas.{part-whole}
-use Rattle.lalrpop_norm_expansion.proofs.LevelLemmas.{no_loosest}
-use Rattle.lalrpop_norm_level_laws.proofs.LevelOrderLemmas.{one_rule}
+use Rattle.lalrpop_norm_theory.proofs.LevelLemmas.{no_loosest}
+use Rattle.lalrpop_norm_theory.proofs.LevelOrderLemmas.{one_rule}
 use Rattle.lalrpop_norm_chain.specs.UsedLiterals.{AreFullExpansionEntries}
 use Rattle.lalrpop_norm_chain.proofs.PlainNameLemmas.{names_plain, read_tells_resolved}
 use Rattle.lalrpop_norm_chain.proofs.ItemLemmas.{no_tokenizer}
@@ -22,27 +22,27 @@ use Rattle.lalrpop_grammar_language.specs.Levels.{loosest, has_levels}
 use Rattle.lalrpop_grammar_language.specs.Expansion.{GrammarSymbol, Nonterminal, RightSide, InExpansion, HasLevel, Produces}
 use Rattle.lalrpop_grammar_language.specs.Expansion.{IsWrittenProduction, WrittenLabel, grammar_symbol}
 use Rattle.lalrpop_grammar_repr.specs.Maps.{at_name}
-use Rattle.lalrpop_grammar_types.specs.declared.type_repr.TypeRepr.{TypeRepr}
-use Rattle.lalrpop_norm_expansion.specs.Between.{rule_between, written_name, grammar_between, without_disabled}
-use Rattle.lalrpop_norm_expansion.specs.Premises.{IsExpanded}
-use Rattle.lalrpop_norm_expansion.specs.Same.{rename_symbol, SameExpansion}
-use Rattle.lalrpop_norm_expansion.specs.Keys.{leveled_key_text, flat_key_text, IsNaming}
-use Rattle.lalrpop_norm_expansion.specs.Inlined.{IsInlined, SameInlined}
-use Rattle.lalrpop_norm_expansion.specs.Productions.{NamedProduction, StandsForLabel}
-use Rattle.lalrpop_norm_expansion.specs.Types.{IsGrounded, SameTypes}
-use Rattle.lalrpop_norm_expansion.proofs.PassLemmas.{productions_before}
-use Rattle.lalrpop_norm_expansion.proofs.ExpansionListLemmas.{rule_there}
-use Rattle.lalrpop_norm_expansion.specs.KeyRules.{by_name, nonterminal_by_name}
-use Rattle.lalrpop_norm_expansion.specs.LevelRules.{by_level_names}
-use Rattle.lalrpop_norm_expansion.proofs.KeyRuleLemmas.{key_called, in_keys}
-use Rattle.lalrpop_norm_name_laws.proofs.DroppingLemmas.{dropped_names}
-use Rattle.lalrpop_norm_name_laws.proofs.ResolvingLemmas.{resolved_names}
-use Rattle.lalrpop_norm_level_laws.specs.LevelLaws.{nonterminal_by_level}
-use Rattle.lalrpop_norm_back_laws.proofs.NameBackLemmas.{names_back}
-use Rattle.lalrpop_norm_entries.specs.Blocks.{block_groups}
-use Rattle.lalrpop_norm_entries.specs.Entries.{with_entries}
-use Rattle.lalrpop_norm_types.specs.GroundViews.{type_repr_view}
-use Rattle.lalrpop_norm_types.specs.TypeFaults.{nonterminal_of, rule_symbol}
+use Rattle.lalrpop_grammar.specs.declared.types.type_repr.TypeRepr.{TypeRepr}
+use Rattle.lalrpop_norm_theory.specs.Between.{rule_between, written_name, grammar_between, without_disabled}
+use Rattle.lalrpop_norm_theory.specs.Premises.{IsExpanded}
+use Rattle.lalrpop_norm_theory.specs.Same.{rename_symbol, SameExpansion}
+use Rattle.lalrpop_norm_theory.specs.Keys.{leveled_key_text, flat_key_text, IsNaming}
+use Rattle.lalrpop_norm_theory.specs.Inlined.{IsInlined, SameInlined}
+use Rattle.lalrpop_norm_theory.specs.Productions.{NamedProduction, StandsForLabel}
+use Rattle.lalrpop_norm_theory.specs.Types.{IsGrounded, SameTypes}
+use Rattle.lalrpop_norm_theory.proofs.PassLemmas.{productions_before}
+use Rattle.lalrpop_norm_theory.proofs.ExpansionListLemmas.{rule_there}
+use Rattle.lalrpop_norm_theory.specs.KeyRules.{by_name, nonterminal_by_name}
+use Rattle.lalrpop_norm_theory.specs.LevelRules.{by_level_names}
+use Rattle.lalrpop_norm_theory.proofs.KeyRuleLemmas.{key_called, in_keys}
+use Rattle.lalrpop_norm_theory.proofs.DroppingLemmas.{dropped_names}
+use Rattle.lalrpop_norm_theory.proofs.ResolvingLemmas.{resolved_names}
+use Rattle.lalrpop_norm_theory.specs.LevelLaws.{nonterminal_by_level}
+use Rattle.lalrpop_norm_theory.proofs.NameBackLemmas.{names_back}
+use Rattle.lalrpop_norm_token_check.specs.Blocks.{block_groups}
+use Rattle.lalrpop_norm_token_check.specs.Entries.{with_entries}
+use Rattle.lalrpop_norm_tyinfer.specs.GroundViews.{type_repr_view}
+use Rattle.lalrpop_norm_tyinfer.specs.TypeFaults.{nonterminal_of, rule_symbol}
 use Rattle.lalrpop_norm_chain.specs.PremiseLaws.{resolved_part, entries_of_items}
 use Rattle.lalrpop_norm_chain.specs.Actions.{ChoiceDoes}
 use Rattle.lalrpop_norm_chain.specs.Lowered.{HasDefinition, IsRuleProduction, IsStartProduction}

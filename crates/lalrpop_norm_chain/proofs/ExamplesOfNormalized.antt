@@ -18,30 +18,30 @@ use Rattle.lalrpop_grammar_language.specs.Enabled.{Choice, EnabledGrammar, Enabl
 use Rattle.lalrpop_grammar_language.specs.Levels.{loosest}
 use Rattle.lalrpop_grammar_language.specs.Expansion.{GrammarSymbol, Nonterminal, InExpansion, RightSide, WrittenLabel}
 use Rattle.lalrpop_grammar_language.proofs.WrittenTreeLemmas.{here, lit, alt, rule_of, grammar, finds, of_macro, macro_of, on_K}
-use Rattle.lalrpop_norm_expansion.proofs.ExpansionListLemmas.{is_all, reached-in, all-of}
-use Rattle.lalrpop_norm_expansion.proofs.AmongLemmas.{flat_map_among}
+use Rattle.lalrpop_norm_theory.proofs.ExpansionListLemmas.{is_all, reached-in, all-of}
+use Rattle.lalrpop_norm_theory.proofs.AmongLemmas.{flat_map_among}
 use Rattle.lalrpop_grammar_repr.specs.Maps.{at_name, at_terminal}
-use Rattle.lalrpop_grammar_types.specs.TypeReprs.{named_type}
-use Rattle.lalrpop_grammar_types.specs.declared.type_repr.TypeRepr.{TypeRepr}
-use Rattle.lalrpop_grammar_types.specs.declared.type_repr.TypeRepr.TheFolds.{fold-roll-TypeRepr}
-use Rattle.lalrpop_grammar_types.specs.declared.type_repr.TypeRepr.TheOpen as layer
-use Rattle.lalrpop_grammar_types.specs.declared.type_repr.TypeRepr.TheVariants as types
-use Rattle.lalrpop_norm_expansion.specs.Keys.{leveled_key_text, IsNaming}
-use Rattle.lalrpop_norm_expansion.specs.Productions.{NamedProduction, AreProductions, StandsForLabel}
-use Rattle.lalrpop_norm_expansion.specs.Inlined.{IsInlined}
-use Rattle.lalrpop_norm_expansion.specs.Types.{GroundType, IsGrounded, text_type}
-use Rattle.lalrpop_norm_expansion.proofs.NamingListLemmas.{name_by, naming-is}
-use Rattle.lalrpop_norm_expansion.proofs.ProductionListLemmas.{listed, is_production, productions_of}
-use Rattle.lalrpop_norm_expansion.proofs.RowListLemmas.{expansion_productions}
-use Rattle.lalrpop_norm_expansion.proofs.TypeListLemmas.{type-in-table}
+use Rattle.lalrpop_grammar.specs.TypeReprs.{named_type}
+use Rattle.lalrpop_grammar.specs.declared.types.type_repr.TypeRepr.{TypeRepr}
+use Rattle.lalrpop_grammar.specs.declared.types.type_repr.TypeRepr.TheFolds.{fold-roll-TypeRepr}
+use Rattle.lalrpop_grammar.specs.declared.types.type_repr.TypeRepr.TheOpen as layer
+use Rattle.lalrpop_grammar.specs.declared.types.type_repr.TypeRepr.TheVariants as types
+use Rattle.lalrpop_norm_theory.specs.Keys.{leveled_key_text, IsNaming}
+use Rattle.lalrpop_norm_theory.specs.Productions.{NamedProduction, AreProductions, StandsForLabel}
+use Rattle.lalrpop_norm_theory.specs.Inlined.{IsInlined}
+use Rattle.lalrpop_norm_theory.specs.Types.{GroundType, IsGrounded, text_type}
+use Rattle.lalrpop_norm_theory.proofs.NamingListLemmas.{name_by, naming-is}
+use Rattle.lalrpop_norm_theory.proofs.ProductionListLemmas.{listed, is_production, productions_of}
+use Rattle.lalrpop_norm_theory.proofs.RowListLemmas.{expansion_productions}
+use Rattle.lalrpop_norm_theory.proofs.DerivableTypeLemmas.{type-in-table}
 use Rattle.lalrpop_lexer_pattern.specs.Matches.{Pattern}
 use Rattle.lalrpop_lexer_pattern.specs.Wins.{HasNoTie}
-use Rattle.lalrpop_norm_entries.specs.Entries.{tokenizer_entries}
-use Rattle.lalrpop_norm_entries.specs.Patterns.{entry_patterns, entry_precedences}
-use Rattle.lalrpop_norm_types.specs.GroundViews.{type_repr_view, ground_step, ground_nominal_step}
-use Rattle.lalrpop_norm_types.specs.TerminalTypes.{AreTerminalTypes}
-use Rattle.lalrpop_norm_types.specs.TypeFaults.{nonterminal_of}
-use Rattle.lalrpop_norm_types.proofs.GroundLemmas.{view-nominal, view-ref}
+use Rattle.lalrpop_norm_token_check.specs.Entries.{tokenizer_entries}
+use Rattle.lalrpop_norm_token_check.specs.Patterns.{entry_patterns, entry_precedences}
+use Rattle.lalrpop_norm_tyinfer.specs.GroundViews.{type_repr_view, ground_step, ground_nominal_step}
+use Rattle.lalrpop_norm_tyinfer.specs.TerminalTypes.{AreTerminalTypes}
+use Rattle.lalrpop_norm_tyinfer.specs.TypeFaults.{nonterminal_of}
+use Rattle.lalrpop_norm_tyinfer.proofs.GroundLemmas.{view-nominal, view-ref}
 use Rattle.lalrpop_norm_lower.specs.Definitions.{definition_of}
 use Rattle.lalrpop_norm_lower.proofs.OrderLemmas.{equal_terminals}
 use Rattle.lalrpop_norm_lower.proofs.PutLemmas.{found_among}

@@ -9,11 +9,11 @@ use Rattle.lalrpop_grammar_language.specs.Levels.{Rank, ranked_choices}
 use Rattle.lalrpop_grammar_language.specs.Admitting.{bind}
 use Rattle.lalrpop_grammar_language.specs.Expansion.{InExpansion, Nonterminal}
 use Rattle.lalrpop_grammar_language.proofs.WrittenTreeLemmas.{alt, cfg, feature, finds, grammar, here, lit, rule_of}
-use Rattle.lalrpop_norm_expansion.proofs.ExpansionListLemmas.{all-of, reached-in}
-use Rattle.lalrpop_norm_key_place_law.specs.KeyPlaces.{IsKeyPlaceIn, keys_met_in_side}
-use Rattle.lalrpop_norm_key_place_law.specs.MetKeys.{MetKey}
-use Rattle.lalrpop_norm_key_place_law.proofs.MadeKeyLemmas.{placed_made}
-use Rattle.lalrpop_norm_level_laws.proofs.LevelOrderLemmas.{one_rule}
+use Rattle.lalrpop_norm_theory.proofs.ExpansionListLemmas.{all-of, reached-in}
+use Rattle.lalrpop_norm_keys.specs.KeyPlaces.{IsKeyPlaceIn, keys_met_in_side}
+use Rattle.lalrpop_norm_keys.specs.MetKeys.{MetKey}
+use Rattle.lalrpop_norm_keys.proofs.MadeKeyLemmas.{placed_made}
+use Rattle.lalrpop_norm_theory.proofs.LevelOrderLemmas.{one_rule}
 use Rattle.lalrpop_norm_chain.specs.Spans.{HasOwnSpan, IsAddedOrigin, StandsByChoice}
 
 -- S = "a" | "b" | "c", whose last alternative asks for a feature

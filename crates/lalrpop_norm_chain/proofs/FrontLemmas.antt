@@ -8,22 +8,22 @@ use Rattle.lalrpop_grammar_language.specs.Enabled.{EnabledGrammar, EnabledRule, 
 use Rattle.lalrpop_norm_chain.proofs.PlainNameLemmas.{read_tells_resolved}
 use Rattle.lalrpop_norm_chain.proofs.ItemLemmas.{block_stays}
 use Rattle.lalrpop_grammar_language.specs.Expansion.{Nonterminal, InExpansion}
-use Rattle.lalrpop_norm_expansion.specs.Between.{grammar_between, without_disabled}
-use Rattle.lalrpop_norm_expansion.specs.Same.{SameExpansion}
-use Rattle.lalrpop_norm_expansion.specs.Inlined.{SameInlined}
-use Rattle.lalrpop_norm_expansion.specs.Types.{SameTypes}
-use Rattle.lalrpop_norm_expansion.proofs.PassLemmas.{SameExpansion-trans}
-use Rattle.lalrpop_norm_expansion.specs.KeyRules.{by_name, nonterminal_by_name}
-use Rattle.lalrpop_norm_expansion.specs.LevelRules.{by_level_names}
-use Rattle.lalrpop_norm_expansion.proofs.KeyRuleLemmas.{key_called, in_keys, expanded as expanded_so, expanded_inlined}
-use Rattle.lalrpop_norm_name_laws.proofs.DroppingLemmas.{dropping_expansion, dropping_inlined, dropping_types}
-use Rattle.lalrpop_norm_name_laws.proofs.ResolvingLemmas.{resolving_expansion, resolving_inlined, resolving_types}
-use Rattle.lalrpop_norm_name_laws.proofs.ResolvedLemmas.{right_names_resolve}
-use Rattle.lalrpop_norm_level_laws.specs.LevelLaws.{nonterminal_by_level, IsLevelable}
-use Rattle.lalrpop_norm_back_laws.proofs.LevelTypeLemmas.{levels_keep}
-use Rattle.lalrpop_norm_back_laws.proofs.KeyStepLemmas.{macros_keep_types}
-use Rattle.lalrpop_norm_back_laws.proofs.ComposedTypeLemmas.{types_composed}
-use Rattle.lalrpop_norm_entries.specs.Blocks.{block_groups}
+use Rattle.lalrpop_norm_theory.specs.Between.{grammar_between, without_disabled}
+use Rattle.lalrpop_norm_theory.specs.Same.{SameExpansion}
+use Rattle.lalrpop_norm_theory.specs.Inlined.{SameInlined}
+use Rattle.lalrpop_norm_theory.specs.Types.{SameTypes}
+use Rattle.lalrpop_norm_theory.proofs.PassLemmas.{SameExpansion-trans}
+use Rattle.lalrpop_norm_theory.specs.KeyRules.{by_name, nonterminal_by_name}
+use Rattle.lalrpop_norm_theory.specs.LevelRules.{by_level_names}
+use Rattle.lalrpop_norm_theory.proofs.KeyRuleLemmas.{key_called, in_keys, expanded as expanded_so, expanded_inlined}
+use Rattle.lalrpop_norm_theory.proofs.DroppingLemmas.{dropping_expansion, dropping_inlined, dropping_types}
+use Rattle.lalrpop_norm_theory.proofs.ResolvingLemmas.{resolving_expansion, resolving_inlined, resolving_types}
+use Rattle.lalrpop_norm_theory.proofs.ResolvedLemmas.{right_names_resolve}
+use Rattle.lalrpop_norm_theory.specs.LevelLaws.{nonterminal_by_level, IsLevelable}
+use Rattle.lalrpop_norm_theory.proofs.LevelTypeLemmas.{levels_keep}
+use Rattle.lalrpop_norm_theory.proofs.KeyStepLemmas.{macros_keep_types}
+use Rattle.lalrpop_norm_theory.proofs.ComposedTypeLemmas.{types_composed}
+use Rattle.lalrpop_norm_token_check.specs.Blocks.{block_groups}
 use Rattle.lalrpop_norm_chain.specs.PremiseLaws.{resolved_part}
 use Rattle.lalrpop_norm_chain.specs.Chains.{IsMacroChain}
 

@@ -6,11 +6,11 @@ use Rattle.lalrpop_grammar_symbols.specs.Symbols.{Text}
 use Rattle.lalrpop_grammar.specs.WrittenGrammar.{WrittenItem, Rule, Grammar}
 use Rattle.lalrpop_grammar_language.specs.Among.{Among}
 use Rattle.lalrpop_grammar_language.specs.Enabled.{is_active}
-use Rattle.lalrpop_norm_expansion.specs.Between.{enabled_part, enabled_item, without_disabled}
-use Rattle.lalrpop_norm_expansion.specs.Premises.{IsReadGrammar, IsReadItem}
-use Rattle.lalrpop_norm_name_laws.specs.Resolving.{DefinedNames, defined_names, resolved_item, resolved_grammar}
-use Rattle.lalrpop_norm_level_laws.specs.LeveledGrammar.{leveled_rules, leveled_item, leveled_grammar}
-use Rattle.lalrpop_norm_entries.specs.Blocks.{block_groups}
+use Rattle.lalrpop_norm_theory.specs.Between.{enabled_part, enabled_item, without_disabled}
+use Rattle.lalrpop_norm_theory.specs.Premises.{IsReadGrammar, IsReadItem}
+use Rattle.lalrpop_norm_theory.specs.Resolving.{DefinedNames, defined_names, resolved_item, resolved_grammar}
+use Rattle.lalrpop_norm_theory.specs.LeveledGrammar.{leveled_rules, leveled_item, leveled_grammar}
+use Rattle.lalrpop_norm_token_check.specs.Blocks.{block_groups}
 use Rattle.lalrpop_norm_chain.specs.PremiseLaws.{entries_of_items}
 
 -- match blocks

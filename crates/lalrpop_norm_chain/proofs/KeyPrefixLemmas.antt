@@ -10,12 +10,12 @@ use Rattle.lalrpop_grammar.specs.WrittenGrammar.{Origin}
 use Rattle.lalrpop_grammar_language.specs.Among.{Among}
 use Rattle.lalrpop_grammar_language.specs.Enabled.{EnabledGrammar, EnabledRule, Choice, IsRule, has_text}
 use Rattle.lalrpop_grammar_language.specs.Expansion.{GrammarSymbol, Nonterminal, grammar_symbol}
-use Rattle.lalrpop_norm_expansion.specs.Keys.{closed_text, closed_texts, before_tilde, flat_key_text, with_number}
-use Rattle.lalrpop_norm_expansion.specs.Premises.{IsExpanded}
-use Rattle.lalrpop_norm_expansion.proofs.ExpansionListLemmas.{rule_there}
-use Rattle.lalrpop_norm_expansion.specs.KeyRules.{IsKey, IsMappedTerminal, IsWrittenFor, AreWrittenFor, AreKeyChoices, IsMacroExpansion}
-use Rattle.lalrpop_norm_level_laws.proofs.LevelOrderLemmas.{found_text}
-use Rattle.lalrpop_norm_checks.specs.Names.{has_prefix}
+use Rattle.lalrpop_norm_theory.specs.Keys.{closed_text, closed_texts, before_tilde, flat_key_text, with_number}
+use Rattle.lalrpop_norm_theory.specs.Premises.{IsExpanded}
+use Rattle.lalrpop_norm_theory.proofs.ExpansionListLemmas.{rule_there}
+use Rattle.lalrpop_norm_theory.specs.KeyRules.{IsKey, IsMappedTerminal, IsWrittenFor, AreWrittenFor, AreKeyChoices, IsMacroExpansion}
+use Rattle.lalrpop_norm_theory.proofs.LevelOrderLemmas.{found_text}
+use Rattle.lalrpop_norm_prevalidate.specs.Names.{has_prefix}
 use Rattle.lalrpop_norm_chain.specs.PremiseLaws.{HasFreePrefix}
 use Rattle.lalrpop_norm_chain.proofs.PrefixLemmas.{free_joined, decimal_high, begun_nowhere, not_begun}
 

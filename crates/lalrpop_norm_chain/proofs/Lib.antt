@@ -10,7 +10,6 @@ pub mod KeyPrefixLemmas
 pub mod NormalizedLemmas
 pub mod OneActionLemmas
 pub mod OrderLemmas
-pub mod PassedOnLemmas
 pub mod PlainNameLemmas
 pub mod PrefixLemmas
 pub mod RecoveryLemmas
@@ -19,3 +18,19 @@ pub mod SpanLemmas
 pub mod SubsymbolLemmas
 pub mod ToldLemmas
 pub mod UsedLiteralLemmas
+pub mod FlatListLemmas
+pub mod MadeConditionLemmas
+pub mod LevelFaultLemmas
+pub mod RightRankLemmas
+pub mod ArityLemmas
+pub mod TokenFaultLemmas
+pub mod PartTypeLemmas
+pub mod PartEquationLemmas
+pub mod TypeFaultLemmas
+pub mod StandingLemmas
+pub mod ExamplesOfStandingFaults
+pub mod EntryLemmas
+pub mod ExamplesOfViews
+pub mod LoweredLemmas
+pub mod MadeLemmas
+pub mod PremiseLemmas

@@ -9,25 +9,25 @@ use Rattle.lalrpop_grammar_language.specs.Among.{Among}
 use Rattle.lalrpop_grammar_language.specs.Enabled.{EnabledGrammar, EnabledRule, IsRule, enabled_grammar}
 use Rattle.lalrpop_grammar_language.specs.Enabled.{has_attr}
 use Rattle.lalrpop_lexer_pattern.specs.Wins.{HasNoTie}
-use Rattle.lalrpop_norm_entries.specs.Patterns.{first_refused, entry_patterns, entry_precedences}
+use Rattle.lalrpop_norm_token_check.specs.Patterns.{first_refused, entry_patterns, entry_precedences}
 use Rattle.lalrpop_grammar_language.specs.Levels.{loosest}
 use Rattle.lalrpop_grammar_language.specs.Expansion.{GrammarSymbol, Nonterminal, RightSide, InExpansion, Produces}
 use Rattle.lalrpop_grammar_language.specs.Expansion.{WrittenLabel, origin_with}
-use Rattle.lalrpop_norm_expansion.specs.Between.{grammar_between}
-use Rattle.lalrpop_norm_expansion.specs.Same.{SameExpansion}
-use Rattle.lalrpop_norm_expansion.specs.Keys.{leveled_key_text, IsNaming}
-use Rattle.lalrpop_norm_expansion.specs.Productions.{NamedProduction, StandsForLabel}
-use Rattle.lalrpop_norm_expansion.proofs.PassLemmas.{productions_before}
-use Rattle.lalrpop_norm_expansion.proofs.ExpansionListLemmas.{rule_there}
-use Rattle.lalrpop_norm_expansion.specs.KeyRules.{nonterminal_by_name}
-use Rattle.lalrpop_norm_expansion.specs.LevelRules.{all_by_level_names, by_level_names, level_name}
-use Rattle.lalrpop_norm_expansion.proofs.KeyRuleLemmas.{in_keys}
-use Rattle.lalrpop_norm_level_laws.specs.LevelLaws.{nonterminal_by_level}
-use Rattle.lalrpop_norm_level_laws.proofs.LevelExpansionLemmas.{call_of, well_in}
-use Rattle.lalrpop_norm_level_laws.proofs.WellLeveledLemmas.{IsWell}
-use Rattle.lalrpop_norm_key_place_law.specs.KeyPlaces.{IsKeyPlace, IsShapeKey, IsWrittenKeyPlace}
-use Rattle.lalrpop_norm_key_place_law.proofs.MadeKeyLemmas.{placed_made}
-use Rattle.lalrpop_norm_key_place_law.proofs.WrittenKeyLemmas.{key_place_written}
+use Rattle.lalrpop_norm_theory.specs.Between.{grammar_between}
+use Rattle.lalrpop_norm_theory.specs.Same.{SameExpansion}
+use Rattle.lalrpop_norm_theory.specs.Keys.{leveled_key_text, IsNaming}
+use Rattle.lalrpop_norm_theory.specs.Productions.{NamedProduction, StandsForLabel}
+use Rattle.lalrpop_norm_theory.proofs.PassLemmas.{productions_before}
+use Rattle.lalrpop_norm_theory.proofs.ExpansionListLemmas.{rule_there}
+use Rattle.lalrpop_norm_theory.specs.KeyRules.{nonterminal_by_name}
+use Rattle.lalrpop_norm_theory.specs.LevelRules.{all_by_level_names, by_level_names, level_name}
+use Rattle.lalrpop_norm_theory.proofs.KeyRuleLemmas.{in_keys}
+use Rattle.lalrpop_norm_theory.specs.LevelLaws.{nonterminal_by_level}
+use Rattle.lalrpop_norm_theory.proofs.LevelExpansionLemmas.{call_of, well_in}
+use Rattle.lalrpop_norm_theory.proofs.WellLeveledLemmas.{IsWell}
+use Rattle.lalrpop_norm_keys.specs.KeyPlaces.{IsKeyPlace, IsShapeKey, IsWrittenKeyPlace}
+use Rattle.lalrpop_norm_keys.proofs.MadeKeyLemmas.{placed_made}
+use Rattle.lalrpop_norm_keys.proofs.WrittenKeyLemmas.{key_place_written}
 use Rattle.lalrpop_norm_chain.specs.PremiseLaws.{leveled_part, resolved_part}
 use Rattle.lalrpop_norm_chain.specs.Spans.{HasOwnSpan, IsAddedOrigin, IsMadeFrom, IsRuleSpan, IsWrittenSpan, StandsByChoice}
 use Rattle.lalrpop_norm_chain.specs.Lowered.{IsAlternativeSpan, IsStartSpan}

@@ -11,7 +11,7 @@ use Rattle.lalrpop_grammar_language.specs.Enabled.{enabled_grammar, enabled_rule
 use Rattle.lalrpop_grammar_language.specs.Expansion.{ByAlternative, ByPassDown, Nonterminal, Produces, RightSide, origin_with}
 use Rattle.lalrpop_grammar_language.proofs.ComparisonLemmas.{same_text-refl}
 use Rattle.lalrpop_grammar_language.proofs.PlaceLemmas.{among_filter, among_map, places_told}
-use Rattle.lalrpop_norm_expansion.proofs.LevelLemmas.{keeps}
+use Rattle.lalrpop_norm_theory.proofs.LevelLemmas.{keeps}
 use Rattle.lalrpop_norm_chain.specs.Actions.{ChoiceDoes, DoesByChoice, IsWrittenAction, ProductionsDoOneThing}
 
 -- no two alternatives of a rule tell one place

@@ -10,21 +10,21 @@ use Rattle.lalrpop_grammar_language.specs.Levels.{Rank, has_levels, ranked_choic
 use Rattle.lalrpop_grammar_language.specs.Admitting.{argument_list}
 use Rattle.lalrpop_grammar_language.specs.Expansion.{origin_with}
 use Rattle.lalrpop_grammar_language.proofs.PlaceLemmas.{among_map}
-use Rattle.lalrpop_norm_expansion.specs.Between.{with_origins, rule_between, grammar_between, alternative_without_cfg}
-use Rattle.lalrpop_norm_expansion.specs.Between.{without_disabled}
-use Rattle.lalrpop_norm_expansion.specs.Premises.{IsReadGrammar, IsExpanded}
-use Rattle.lalrpop_norm_expansion.specs.Productions.{IsOriginBefore}
-use Rattle.lalrpop_norm_expansion.proofs.AmongLemmas.{among_parts}
+use Rattle.lalrpop_norm_theory.specs.Between.{with_origins, rule_between, grammar_between, alternative_without_cfg}
+use Rattle.lalrpop_norm_theory.specs.Between.{without_disabled}
+use Rattle.lalrpop_norm_theory.specs.Premises.{IsReadGrammar, IsExpanded}
+use Rattle.lalrpop_norm_theory.specs.Productions.{IsOriginBefore}
+use Rattle.lalrpop_norm_theory.proofs.AmongLemmas.{among_parts}
 use Rattle.std.proofs.lemmas.List.{append-nil}
-use Rattle.lalrpop_norm_expansion.proofs.ExpansionListLemmas.{rule_there}
-use Rattle.lalrpop_norm_expansion.proofs.LevelLemmas.{ranked_flat}
-use Rattle.lalrpop_norm_expansion.specs.KeyRules.{AreKeyChoices, AreInstanceChoices, AreTwoChoices}
-use Rattle.lalrpop_norm_expansion.specs.KeyRules.{IsMacroExpansion}
-use Rattle.lalrpop_norm_name_laws.specs.Resolving.{DefinedNames, defined_names, resolved_alternative, resolved_grammar}
-use Rattle.lalrpop_norm_level_laws.specs.LeveledGrammar.{has_rank_level, leveled_alternative, level_alternatives}
-use Rattle.lalrpop_norm_level_laws.specs.LeveledGrammar.{pass_down_to, pass_downs, leveled_grammar}
-use Rattle.lalrpop_norm_level_laws.proofs.LevelOrderLemmas.{one_rule}
-use Rattle.lalrpop_norm_level_laws.proofs.LeveledRuleLemmas.{rule_of_key}
+use Rattle.lalrpop_norm_theory.proofs.ExpansionListLemmas.{rule_there}
+use Rattle.lalrpop_norm_theory.proofs.LevelLemmas.{ranked_flat}
+use Rattle.lalrpop_norm_theory.specs.KeyRules.{AreKeyChoices, AreInstanceChoices, AreTwoChoices}
+use Rattle.lalrpop_norm_theory.specs.KeyRules.{IsMacroExpansion}
+use Rattle.lalrpop_norm_theory.specs.Resolving.{DefinedNames, defined_names, resolved_alternative, resolved_grammar}
+use Rattle.lalrpop_norm_theory.specs.LeveledGrammar.{has_rank_level, leveled_alternative, level_alternatives}
+use Rattle.lalrpop_norm_theory.specs.LeveledGrammar.{pass_down_to, pass_downs, leveled_grammar}
+use Rattle.lalrpop_norm_theory.proofs.LevelOrderLemmas.{one_rule}
+use Rattle.lalrpop_norm_theory.proofs.LeveledRuleLemmas.{rule_of_key}
 use Rattle.lalrpop_norm_chain.specs.PremiseLaws.{AreInOrder, HasRulesInOrder}
 use Rattle.lalrpop_norm_chain.proofs.SourceLemmas.{read_rule, left_source, resolved_source, leveled_source}
 

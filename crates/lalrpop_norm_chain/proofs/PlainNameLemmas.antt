@@ -9,13 +9,13 @@ use Rattle.lalrpop_grammar_symbols.specs.Symbols.{Text}
 use Rattle.lalrpop_grammar.specs.WrittenGrammar.{Alternative, Origin, Rule, Grammar, rules_of}
 use Rattle.lalrpop_grammar_language.specs.Among.{Among}
 use Rattle.lalrpop_grammar_language.proofs.PlaceLemmas.{among_map}
-use Rattle.lalrpop_norm_expansion.specs.Between.{without_disabled}
-use Rattle.lalrpop_norm_expansion.specs.Keys.{before_tilde}
-use Rattle.lalrpop_norm_expansion.specs.Premises.{is_identifier, IsReadGrammar}
-use Rattle.lalrpop_norm_name_laws.specs.Resolving.{defined_names, resolved_alternative, resolved_grammar}
-use Rattle.lalrpop_norm_level_laws.specs.LevelNames.{HasNoTildes}
-use Rattle.lalrpop_norm_level_laws.specs.LevelLaws.{TellsOwnRules}
-use Rattle.lalrpop_norm_level_laws.proofs.ToldPlaceLemmas.{read_tells}
+use Rattle.lalrpop_norm_theory.specs.Between.{without_disabled}
+use Rattle.lalrpop_norm_theory.specs.Keys.{before_tilde}
+use Rattle.lalrpop_norm_theory.specs.Premises.{is_identifier, IsReadGrammar}
+use Rattle.lalrpop_norm_theory.specs.Resolving.{defined_names, resolved_alternative, resolved_grammar}
+use Rattle.lalrpop_norm_theory.specs.LevelNames.{HasNoTildes}
+use Rattle.lalrpop_norm_theory.specs.LevelLaws.{TellsOwnRules}
+use Rattle.lalrpop_norm_theory.proofs.ToldPlaceLemmas.{read_tells}
 use Rattle.lalrpop_norm_chain.proofs.SourceLemmas.{read_rule, left_source, resolved_source}
 
 -- texts

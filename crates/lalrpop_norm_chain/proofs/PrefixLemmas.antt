@@ -15,23 +15,23 @@ use Rattle.lalrpop_grammar_language.specs.Levels.{loosest}
 use Rattle.lalrpop_grammar_language.specs.Starts.{has_none}
 use Rattle.lalrpop_grammar_language.specs.Expansion.{HasLevel}
 use Rattle.lalrpop_grammar_language.proofs.PlaceLemmas.{among_map}
-use Rattle.lalrpop_norm_expansion.specs.Between.{rule_between, grammar_between, without_disabled}
-use Rattle.lalrpop_norm_expansion.specs.Keys.{with_number}
-use Rattle.lalrpop_norm_expansion.specs.Premises.{IsReadGrammar}
-use Rattle.lalrpop_norm_expansion.proofs.AmongLemmas.{map_among, flat_map_among, among_flat_map, among_left, among_right, among_parts}
-use Rattle.lalrpop_norm_expansion.proofs.BetweenLemmas.{bares_left}
-use Rattle.lalrpop_norm_expansion.specs.LevelRules.{level_name}
-use Rattle.lalrpop_norm_name_laws.specs.Resolving.{defined_names, resolved_grammar}
-use Rattle.lalrpop_norm_name_laws.proofs.ResolvingLemmas.{bares_resolved}
-use Rattle.lalrpop_norm_level_laws.specs.LeveledGrammar.{leveled_grammar}
-use Rattle.lalrpop_norm_level_laws.specs.LevelNames.{numbered_text, plain_levels, plain_levels_of, tighter_levels, AreLevelNames}
-use Rattle.lalrpop_norm_level_laws.proofs.LevelOrderLemmas.{loosest_or_tighter}
-use Rattle.lalrpop_norm_level_laws.proofs.LeveledRuleLemmas.{rule_of_key, bares_of-leveled}
-use Rattle.lalrpop_norm_level_laws.proofs.PackedNameLemmas.{numbered_as}
+use Rattle.lalrpop_norm_theory.specs.Between.{rule_between, grammar_between, without_disabled}
+use Rattle.lalrpop_norm_theory.specs.Keys.{with_number}
+use Rattle.lalrpop_norm_theory.specs.Premises.{IsReadGrammar}
+use Rattle.lalrpop_norm_theory.proofs.AmongLemmas.{map_among, flat_map_among, among_flat_map, among_left, among_right, among_parts}
+use Rattle.lalrpop_norm_theory.proofs.BetweenLemmas.{bares_left}
+use Rattle.lalrpop_norm_theory.specs.LevelRules.{level_name}
+use Rattle.lalrpop_norm_theory.specs.Resolving.{defined_names, resolved_grammar}
+use Rattle.lalrpop_norm_theory.proofs.ResolvingLemmas.{bares_resolved}
+use Rattle.lalrpop_norm_theory.specs.LeveledGrammar.{leveled_grammar}
+use Rattle.lalrpop_norm_theory.specs.LevelNames.{numbered_text, plain_levels, plain_levels_of, tighter_levels, AreLevelNames}
+use Rattle.lalrpop_norm_theory.proofs.LevelOrderLemmas.{loosest_or_tighter}
+use Rattle.lalrpop_norm_theory.proofs.LeveledRuleLemmas.{rule_of_key, bares_of-leveled}
+use Rattle.lalrpop_norm_theory.proofs.PackedNameLemmas.{numbered_as}
 use Rattle.lalrpop_grammar_repr.specs.declared.norm_error.NormErrorKind.TheVariants as kinds
-use Rattle.lalrpop_norm_checks.specs.Names.{SpannedName, name_in_entry, names_in_group, names_in_rule, names_in_item}
-use Rattle.lalrpop_norm_checks.specs.Names.{has_prefix}
-use Rattle.lalrpop_norm_checks.specs.Faults.{StandsNowhere}
+use Rattle.lalrpop_norm_prevalidate.specs.Names.{SpannedName, name_in_entry, names_in_group, names_in_rule, names_in_item}
+use Rattle.lalrpop_norm_prevalidate.specs.Names.{has_prefix}
+use Rattle.lalrpop_norm_prevalidate.specs.Faults.{StandsNowhere}
 use Rattle.lalrpop_norm_chain.specs.PremiseLaws.{HasFreePrefix}
 use Rattle.lalrpop_norm_chain.proofs.SourceLemmas.{leveled_source}
 use Rattle.lalrpop_norm_chain.proofs.PlainNameLemmas.{from_read}

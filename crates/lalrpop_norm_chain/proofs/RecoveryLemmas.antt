@@ -9,18 +9,18 @@ use Rattle.lalrpop_grammar_language.specs.Enabled.{EnabledRule, Choice, choice_o
 use Rattle.lalrpop_grammar_language.specs.Levels.{tighter, ranked_choices}
 use Rattle.lalrpop_grammar_language.specs.Closing.{Scope}
 use Rattle.lalrpop_grammar_language.proofs.PlaceLemmas.{among_filter, among_map}
-use Rattle.lalrpop_norm_expansion.specs.Between.{with_origins, rule_between, grammar_between, without_disabled}
-use Rattle.lalrpop_norm_expansion.specs.Between.{choice_without_cfg, rule_without_cfg}
-use Rattle.lalrpop_norm_expansion.specs.Premises.{IsReadGrammar, IsNoRecovery, HasNoRecovery}
-use Rattle.lalrpop_norm_expansion.proofs.AmongLemmas.{map_among, among_parts}
-use Rattle.lalrpop_norm_expansion.proofs.BetweenLemmas.{rules_left}
-use Rattle.lalrpop_norm_expansion.specs.LevelRules.{rename_occurrences}
-use Rattle.lalrpop_norm_name_laws.specs.Resolving.{DefinedNames, NameUse, use_of_name, resolved_name, defined_names}
-use Rattle.lalrpop_norm_name_laws.specs.Resolving.{resolved_symbol, resolved_alternative, resolved_grammar}
-use Rattle.lalrpop_norm_level_laws.specs.LeveledGrammar.{ranked_alternatives, has_rank_level, occurrence_scope, leveled_alternative}
-use Rattle.lalrpop_norm_level_laws.specs.LeveledGrammar.{level_alternatives, names_alone, own_call, pass_downs}
-use Rattle.lalrpop_norm_level_laws.specs.LeveledGrammar.{leveled_grammar}
-use Rattle.lalrpop_norm_level_laws.proofs.LeveledRuleLemmas.{rule_of_key}
+use Rattle.lalrpop_norm_theory.specs.Between.{with_origins, rule_between, grammar_between, without_disabled}
+use Rattle.lalrpop_norm_theory.specs.Between.{choice_without_cfg, rule_without_cfg}
+use Rattle.lalrpop_norm_theory.specs.Premises.{IsReadGrammar, IsNoRecovery, HasNoRecovery}
+use Rattle.lalrpop_norm_theory.proofs.AmongLemmas.{map_among, among_parts}
+use Rattle.lalrpop_norm_theory.proofs.BetweenLemmas.{rules_left}
+use Rattle.lalrpop_norm_theory.specs.LevelRules.{rename_occurrences}
+use Rattle.lalrpop_norm_theory.specs.Resolving.{DefinedNames, NameUse, use_of_name, resolved_name, defined_names}
+use Rattle.lalrpop_norm_theory.specs.Resolving.{resolved_symbol, resolved_alternative, resolved_grammar}
+use Rattle.lalrpop_norm_theory.specs.LeveledGrammar.{ranked_alternatives, has_rank_level, occurrence_scope, leveled_alternative}
+use Rattle.lalrpop_norm_theory.specs.LeveledGrammar.{level_alternatives, names_alone, own_call, pass_downs}
+use Rattle.lalrpop_norm_theory.specs.LeveledGrammar.{leveled_grammar}
+use Rattle.lalrpop_norm_theory.proofs.LeveledRuleLemmas.{rule_of_key}
 use Rattle.lalrpop_norm_chain.proofs.SourceLemmas.{resolved_source, leveled_source}
 use Rattle.lalrpop_norm_chain.proofs.ActiveLemmas.{zip_front}
 use Rattle.lalrpop_norm_chain.proofs.SubsymbolLemmas.{listed_subsymbols_resolved, listed_renamed_from}

@@ -7,12 +7,12 @@ use Rattle.lalrpop_grammar.specs.WrittenGrammar.{Rule, WrittenItem, Grammar, rul
 use Rattle.lalrpop_grammar_language.specs.Among.{Among}
 use Rattle.lalrpop_grammar_language.specs.Enabled.{is_active}
 use Rattle.lalrpop_grammar_language.proofs.PlaceLemmas.{among_map}
-use Rattle.lalrpop_norm_expansion.specs.Between.{enabled_part, enabled_item}
-use Rattle.lalrpop_norm_expansion.specs.Premises.{IsReadGrammar, IsReadRule}
-use Rattle.lalrpop_norm_name_laws.specs.Resolving.{defined_names, resolved_rule, resolved_grammar}
-use Rattle.lalrpop_norm_name_laws.proofs.ResolvingLemmas.{rules_resolved}
-use Rattle.lalrpop_norm_level_laws.specs.LeveledGrammar.{leveled_grammar}
-use Rattle.lalrpop_norm_level_laws.proofs.LeveledRuleLemmas.{OfKey, key_only, rules_of-leveled}
+use Rattle.lalrpop_norm_theory.specs.Between.{enabled_part, enabled_item}
+use Rattle.lalrpop_norm_theory.specs.Premises.{IsReadGrammar, IsReadRule}
+use Rattle.lalrpop_norm_theory.specs.Resolving.{defined_names, resolved_rule, resolved_grammar}
+use Rattle.lalrpop_norm_theory.proofs.ResolvingLemmas.{rules_resolved}
+use Rattle.lalrpop_norm_theory.specs.LeveledGrammar.{leveled_grammar}
+use Rattle.lalrpop_norm_theory.proofs.LeveledRuleLemmas.{OfKey, key_only, rules_of-leveled}
 
 -- a rule is one of the items
 pub rule_item : (items : List WrittenItem) (r : Rule) → Among (rules_of items) r → Among items (WrittenItem.nonterminal r)

@@ -9,17 +9,17 @@ use Rattle.lalrpop_grammar_language.specs.Enabled.{at_places, is_active}
 use Rattle.lalrpop_grammar_language.specs.Expansion.{HasLevel}
 use Rattle.lalrpop_grammar_language.specs.Levels.{ranked_choices, tighter}
 use Rattle.lalrpop_grammar_language.proofs.PlaceLemmas.{among_filter, among_map}
-use Rattle.lalrpop_norm_expansion.specs.Between.{alternative_without_cfg, rule_between, without_disabled}
-use Rattle.lalrpop_norm_expansion.specs.Premises.{IsReadGrammar}
-use Rattle.lalrpop_norm_expansion.proofs.AmongLemmas.{among_parts, flat_map_among, map_among}
-use Rattle.lalrpop_norm_expansion.specs.LevelRules.{level_name}
-use Rattle.lalrpop_norm_name_laws.specs.Resolving.{resolved_grammar}
-use Rattle.lalrpop_norm_level_laws.specs.LeveledGrammar.{has_rank_level, level_alternatives, leveled_alternative, leveled_grammar}
-use Rattle.lalrpop_norm_level_laws.specs.LeveledGrammar.{pass_downs, ranked_alternatives}
-use Rattle.lalrpop_norm_level_laws.specs.LevelNames.{AreLevelNames, LeveledKey, leveled_keys, leveled_keys_of}
-use Rattle.lalrpop_norm_level_laws.proofs.LeveledRuleLemmas.{rule_of_key}
-use Rattle.lalrpop_norm_level_laws.proofs.ToldPlaceLemmas.{read_tells}
-use Rattle.lalrpop_norm_level_laws.proofs.WellLeveledLemmas.{key_found, key_named, key_of_rule}
+use Rattle.lalrpop_norm_theory.specs.Between.{alternative_without_cfg, rule_between, without_disabled}
+use Rattle.lalrpop_norm_theory.specs.Premises.{IsReadGrammar}
+use Rattle.lalrpop_norm_theory.proofs.AmongLemmas.{among_parts, flat_map_among, map_among}
+use Rattle.lalrpop_norm_theory.specs.LevelRules.{level_name}
+use Rattle.lalrpop_norm_theory.specs.Resolving.{resolved_grammar}
+use Rattle.lalrpop_norm_theory.specs.LeveledGrammar.{has_rank_level, level_alternatives, leveled_alternative, leveled_grammar}
+use Rattle.lalrpop_norm_theory.specs.LeveledGrammar.{pass_downs, ranked_alternatives}
+use Rattle.lalrpop_norm_theory.specs.LevelNames.{AreLevelNames, LeveledKey, leveled_keys, leveled_keys_of}
+use Rattle.lalrpop_norm_theory.proofs.LeveledRuleLemmas.{rule_of_key}
+use Rattle.lalrpop_norm_theory.proofs.ToldPlaceLemmas.{read_tells}
+use Rattle.lalrpop_norm_theory.proofs.WellLeveledLemmas.{key_found, key_named, key_of_rule}
 use Rattle.lalrpop_norm_chain.specs.Spans.{IsRuleSpan, IsWrittenSpan}
 use Rattle.lalrpop_norm_chain.proofs.ActiveLemmas.{zip_front}
 use Rattle.lalrpop_norm_chain.proofs.PlainNameLemmas.{read_tells_resolved}

@@ -7,9 +7,9 @@ use Rattle.lalrpop_grammar_symbols.specs.Subsymbols.{subsymbols, subsymbols_of}
 use Rattle.lalrpop_grammar_symbols.specs.SymbolMaps.{map_symbol, map_symbols}
 use Rattle.lalrpop_grammar_language.specs.Among.{Among}
 use Rattle.lalrpop_grammar_language.specs.Closing.{Scope, names_owner, occurrences}
-use Rattle.lalrpop_norm_expansion.proofs.AmongLemmas.{among_left, among_right, among_parts}
-use Rattle.lalrpop_norm_expansion.specs.LevelRules.{rename_occurrences, rename_all_occurrences, rename_listed_occurrences}
-use Rattle.lalrpop_norm_name_laws.specs.Resolving.{DefinedNames, NameUse, use_of_name, resolved_name, name_resolution, resolved_symbol}
+use Rattle.lalrpop_norm_theory.proofs.AmongLemmas.{among_left, among_right, among_parts}
+use Rattle.lalrpop_norm_theory.specs.LevelRules.{rename_occurrences, rename_all_occurrences, rename_listed_occurrences}
+use Rattle.lalrpop_norm_theory.specs.Resolving.{DefinedNames, NameUse, use_of_name, resolved_name, name_resolution, resolved_symbol}
 
 -- resolved symbols
 

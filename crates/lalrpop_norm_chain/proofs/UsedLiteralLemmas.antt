@@ -17,16 +17,16 @@ use Rattle.lalrpop_grammar_language.specs.Expansion.{GrammarSymbol, Nonterminal,
 use Rattle.lalrpop_grammar_language.specs.Expansion.{grammar_symbol, origin_with}
 use Rattle.lalrpop_grammar_language.proofs.ComparisonLemmas.{same_text-refl}
 use Rattle.lalrpop_grammar_language.proofs.PlaceLemmas.{among_map, same_text-eq}
-use Rattle.lalrpop_norm_expansion.specs.Between.{with_origins, rule_between, grammar_between}
-use Rattle.lalrpop_norm_expansion.specs.Premises.{IsExpanded, IsExpandedSymbol}
-use Rattle.lalrpop_norm_expansion.specs.Same.{rename_symbol, rename_side, SameExpansion}
-use Rattle.lalrpop_norm_expansion.proofs.AmongLemmas.{map_among, flat_map_among, among_flat_map, among_left, among_right, among_parts}
-use Rattle.lalrpop_norm_expansion.proofs.LevelLemmas.{ranked_flat}
+use Rattle.lalrpop_norm_theory.specs.Between.{with_origins, rule_between, grammar_between}
+use Rattle.lalrpop_norm_theory.specs.Premises.{IsExpanded, IsExpandedSymbol}
+use Rattle.lalrpop_norm_theory.specs.Same.{rename_symbol, rename_side, SameExpansion}
+use Rattle.lalrpop_norm_theory.proofs.AmongLemmas.{map_among, flat_map_among, among_flat_map, among_left, among_right, among_parts}
+use Rattle.lalrpop_norm_theory.proofs.LevelLemmas.{ranked_flat}
 use Rattle.lalrpop_lexer_scan.specs.Literals.{LiteralUse, uses_at, uses_in_alternative, uses_in_rule, uses_in_grammar, same_terminal}
 use Rattle.lalrpop_lexer_scan.specs.Literals.{first_span, IsBefore, IsAscending}
-use Rattle.lalrpop_norm_entries.specs.Blocks.{block_groups}
-use Rattle.lalrpop_norm_entries.specs.Entries.{AreUsed, AreEntries, AreFullEntries}
-use Rattle.lalrpop_norm_types.proofs.ExpandedLemmas.{rule_among, ranked_among, IsRuleKey, reached_key}
+use Rattle.lalrpop_norm_token_check.specs.Blocks.{block_groups}
+use Rattle.lalrpop_norm_token_check.specs.Entries.{AreUsed, AreEntries, AreFullEntries}
+use Rattle.lalrpop_norm_tyinfer.proofs.ExpandedLemmas.{rule_among, ranked_among, IsRuleKey, reached_key}
 use Rattle.lalrpop_norm_chain.specs.UsedLiterals.{IsLiteralTerminal, IsUsedLiteral, AreAscending, AreUsedLiterals, AreExpansionEntries}
 use Rattle.lalrpop_norm_chain.specs.UsedLiterals.{AreFullExpansionEntries}
 

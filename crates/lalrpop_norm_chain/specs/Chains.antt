@@ -5,20 +5,20 @@ use Rattle.lalrpop_grammar_symbols.specs.declared.names.NonterminalString.{Nonte
 use Rattle.lalrpop_grammar.specs.WrittenGrammar.{Alternative, Rule, Grammar, rules_of}
 use Rattle.lalrpop_grammar_language.specs.Among.{Among}
 use Rattle.lalrpop_grammar_language.specs.Expansion.{Nonterminal}
-use Rattle.lalrpop_grammar_types.specs.declared.type_repr.TypeRepr.{TypeRepr}
-use Rattle.lalrpop_norm_expansion.specs.Between.{grammar_between, without_disabled}
-use Rattle.lalrpop_norm_expansion.specs.Premises.{IsReadGrammar, IsExpanded}
-use Rattle.lalrpop_norm_expansion.specs.Keys.{flat_key_text, IsNaming}
-use Rattle.lalrpop_norm_expansion.specs.KeyRules.{IsMacroExpansion}
-use Rattle.lalrpop_norm_back_laws.specs.KeyTypes.{DeclareKeyTypes}
-use Rattle.lalrpop_norm_name_laws.specs.NameFaults.{HasRightNames}
-use Rattle.lalrpop_norm_level_laws.specs.LevelFaults.{HasRightLevels}
-use Rattle.lalrpop_norm_levels.specs.LevelExpansions.{IsLevelExpansion}
-use Rattle.lalrpop_norm_key_place_law.specs.KeyPlaces.{IsKeyPlace, IsShapeKey}
-use Rattle.lalrpop_norm_entries.specs.Blocks.{block_groups}
-use Rattle.lalrpop_norm_entries.specs.Checked.{IsTokenChecked}
-use Rattle.lalrpop_norm_entries.specs.Places.{FirstPlaces}
-use Rattle.lalrpop_norm_types.specs.TypeFaults.{HasRuleTypes}
+use Rattle.lalrpop_grammar.specs.declared.types.type_repr.TypeRepr.{TypeRepr}
+use Rattle.lalrpop_norm_theory.specs.Between.{grammar_between, without_disabled}
+use Rattle.lalrpop_norm_theory.specs.Premises.{IsReadGrammar, IsExpanded}
+use Rattle.lalrpop_norm_theory.specs.Keys.{flat_key_text, IsNaming}
+use Rattle.lalrpop_norm_theory.specs.KeyRules.{IsMacroExpansion}
+use Rattle.lalrpop_norm_theory.specs.KeyTypes.{DeclareKeyTypes}
+use Rattle.lalrpop_norm_theory.specs.NameFaults.{HasRightNames}
+use Rattle.lalrpop_norm_theory.specs.LevelFaults.{HasRightLevels}
+use Rattle.lalrpop_norm_precedence.specs.LevelExpansions.{IsLevelExpansion}
+use Rattle.lalrpop_norm_keys.specs.KeyPlaces.{IsKeyPlace, IsShapeKey}
+use Rattle.lalrpop_norm_token_check.specs.Blocks.{block_groups}
+use Rattle.lalrpop_norm_token_check.specs.Checked.{IsTokenChecked}
+use Rattle.lalrpop_norm_token_check.specs.Places.{FirstPlaces}
+use Rattle.lalrpop_norm_tyinfer.specs.TypeFaults.{HasRuleTypes}
 use Rattle.lalrpop_norm_chain.specs.PremiseLaws.{resolved_part, entries_of_items}
 use Rattle.lalrpop_norm_chain.specs.Lowered.{LoweredGrammar, IsLoweredFrom}
 use Rattle.lalrpop_norm_chain.specs.Spans.{IsAddedOrigin, IsMadeFrom}

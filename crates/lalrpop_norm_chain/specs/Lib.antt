@@ -2,7 +2,13 @@ pub mod Actions
 pub mod Chains
 pub mod Lowered
 pub mod Normalized
-pub mod PassedOn
 pub mod PremiseLaws
 pub mod Spans
 pub mod UsedLiterals
+pub mod FaultLaws
+pub mod MadeConditions
+pub mod StandingFaults
+pub mod TokenFaults
+pub mod WrittenTypeFaults
+pub mod LoweredChains
+pub mod LoweredViews

@@ -11,10 +11,10 @@ use Rattle.lalrpop_grammar_language.specs.Enabled.{Choice, EnabledGrammar, Enabl
 use Rattle.lalrpop_grammar_language.specs.Expansion.{GrammarSymbol, Nonterminal, InExpansion}
 use Rattle.lalrpop_grammar_repr.specs.Maps.{at_name}
 use Rattle.lalrpop_grammar_repr.specs.declared.action.ActionFnDefn.{ActionFnDefn}
-use Rattle.lalrpop_grammar_types.specs.declared.type_repr.TypeRepr.{TypeRepr}
-use Rattle.lalrpop_norm_expansion.specs.Productions.{NamedProduction, AreProductions}
-use Rattle.lalrpop_norm_types.specs.TerminalTypes.{AreTerminalTypes}
-use Rattle.lalrpop_norm_types.specs.TypeFaults.{nonterminal_of}
+use Rattle.lalrpop_grammar.specs.declared.types.type_repr.TypeRepr.{TypeRepr}
+use Rattle.lalrpop_norm_theory.specs.Productions.{NamedProduction, AreProductions}
+use Rattle.lalrpop_norm_tyinfer.specs.TerminalTypes.{AreTerminalTypes}
+use Rattle.lalrpop_norm_tyinfer.specs.TypeFaults.{nonterminal_of}
 use Rattle.lalrpop_norm_lower.specs.Definitions.{definition_of}
 use Rattle.lalrpop_norm_chain.specs.PremiseLaws.{entries_of_items}
 

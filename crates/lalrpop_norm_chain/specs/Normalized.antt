@@ -8,17 +8,17 @@ use Rattle.lalrpop_grammar_language.specs.Enabled.{EnabledGrammar, EnabledRule, 
 use Rattle.lalrpop_grammar_language.specs.Levels.{loosest}
 use Rattle.lalrpop_grammar_language.specs.Expansion.{GrammarSymbol, Nonterminal, InExpansion, RightSide, WrittenLabel}
 use Rattle.lalrpop_grammar_repr.specs.Maps.{at_name}
-use Rattle.lalrpop_grammar_types.specs.declared.type_repr.TypeRepr.{TypeRepr}
+use Rattle.lalrpop_grammar.specs.declared.types.type_repr.TypeRepr.{TypeRepr}
 use Rattle.lalrpop_lexer_pattern.specs.Wins.{HasNoTie}
-use Rattle.lalrpop_norm_expansion.specs.Keys.{leveled_key_text, IsNaming}
-use Rattle.lalrpop_norm_expansion.specs.Productions.{NamedProduction, AreProductions, StandsForLabel}
-use Rattle.lalrpop_norm_expansion.specs.Inlined.{IsInlined}
-use Rattle.lalrpop_norm_expansion.specs.Types.{GroundType, IsGrounded}
-use Rattle.lalrpop_norm_entries.specs.Blocks.{block_groups}
-use Rattle.lalrpop_norm_entries.specs.Patterns.{first_refused, entry_patterns, entry_precedences}
-use Rattle.lalrpop_norm_types.specs.GroundViews.{type_repr_view}
-use Rattle.lalrpop_norm_types.specs.TerminalTypes.{AreTerminalTypes}
-use Rattle.lalrpop_norm_types.specs.TypeFaults.{nonterminal_of}
+use Rattle.lalrpop_norm_theory.specs.Keys.{leveled_key_text, IsNaming}
+use Rattle.lalrpop_norm_theory.specs.Productions.{NamedProduction, AreProductions, StandsForLabel}
+use Rattle.lalrpop_norm_theory.specs.Inlined.{IsInlined}
+use Rattle.lalrpop_norm_theory.specs.Types.{GroundType, IsGrounded}
+use Rattle.lalrpop_norm_token_check.specs.Blocks.{block_groups}
+use Rattle.lalrpop_norm_token_check.specs.Patterns.{first_refused, entry_patterns, entry_precedences}
+use Rattle.lalrpop_norm_tyinfer.specs.GroundViews.{type_repr_view}
+use Rattle.lalrpop_norm_tyinfer.specs.TerminalTypes.{AreTerminalTypes}
+use Rattle.lalrpop_norm_tyinfer.specs.TypeFaults.{nonterminal_of}
 use Rattle.lalrpop_norm_chain.specs.UsedLiterals.{AreFullExpansionEntries}
 use Rattle.lalrpop_norm_chain.specs.Actions.{ChoiceDoes}
 use Rattle.lalrpop_norm_chain.specs.Lowered.{LoweredGrammar, start_name, HasDefinition, IsTerminalOf}

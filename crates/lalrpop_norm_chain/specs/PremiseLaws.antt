@@ -4,18 +4,18 @@ use Rattle.lalrpop_grammar_symbols.specs.Symbols.{Text, Closed}
 use Rattle.lalrpop_grammar.specs.WrittenGrammar.{InternEntry, WrittenItem, Grammar, rules_of}
 use Rattle.lalrpop_grammar_language.specs.Among.{Among}
 use Rattle.lalrpop_grammar_language.specs.Enabled.{EnabledGrammar, EnabledRule, Choice, enabled_grammar}
-use Rattle.lalrpop_norm_expansion.specs.Between.{grammar_between, without_disabled}
-use Rattle.lalrpop_norm_expansion.specs.Keys.{flat_key_text, with_number}
-use Rattle.lalrpop_norm_expansion.specs.Premises.{IsReadGrammar, HasNoRecovery, IsExpanded}
-use Rattle.lalrpop_norm_expansion.specs.Productions.{IsOriginBefore}
-use Rattle.lalrpop_norm_expansion.specs.KeyRules.{IsMacroExpansion}
-use Rattle.lalrpop_norm_name_laws.specs.Resolving.{resolved_grammar}
-use Rattle.lalrpop_norm_name_laws.specs.NameFaults.{HasRightNames}
-use Rattle.lalrpop_norm_level_laws.specs.LeveledGrammar.{leveled_grammar}
-use Rattle.lalrpop_norm_level_laws.specs.LevelNames.{AreLevelNames}
-use Rattle.lalrpop_norm_level_laws.specs.LevelLaws.{TellsOwnRules}
-use Rattle.lalrpop_norm_levels.specs.LevelExpansions.{HasPlainNames}
-use Rattle.lalrpop_norm_checks.specs.Faults.{HasNoCheckFault}
+use Rattle.lalrpop_norm_theory.specs.Between.{grammar_between, without_disabled}
+use Rattle.lalrpop_norm_theory.specs.Keys.{flat_key_text, with_number}
+use Rattle.lalrpop_norm_theory.specs.Premises.{IsReadGrammar, HasNoRecovery, IsExpanded}
+use Rattle.lalrpop_norm_theory.specs.Productions.{IsOriginBefore}
+use Rattle.lalrpop_norm_theory.specs.KeyRules.{IsMacroExpansion}
+use Rattle.lalrpop_norm_theory.specs.Resolving.{resolved_grammar}
+use Rattle.lalrpop_norm_theory.specs.NameFaults.{HasRightNames}
+use Rattle.lalrpop_norm_theory.specs.LeveledGrammar.{leveled_grammar}
+use Rattle.lalrpop_norm_theory.specs.LevelNames.{AreLevelNames}
+use Rattle.lalrpop_norm_theory.specs.LevelLaws.{TellsOwnRules}
+use Rattle.lalrpop_norm_precedence.specs.LevelExpansions.{HasPlainNames}
+use Rattle.lalrpop_norm_prevalidate.specs.Faults.{HasNoCheckFault}
 use Rattle.lalrpop_norm_keys.specs.TableLaws.{HasAllActive}
 
 -- the written grammar without what is disabled, and with each of its names resolved

@@ -5,7 +5,7 @@ use Rattle.lalrpop_grammar.specs.WrittenGrammar.{Alternative, Grammar, Origin, R
 use Rattle.lalrpop_grammar_language.specs.Among.{Among}
 use Rattle.lalrpop_grammar_language.specs.Enabled.{at_places, is_active}
 use Rattle.lalrpop_grammar_language.specs.Expansion.{Nonterminal, origin_with}
-use Rattle.lalrpop_norm_key_place_law.specs.KeyPlaces.{IsWrittenKeyPlace}
+use Rattle.lalrpop_norm_keys.specs.KeyPlaces.{IsWrittenKeyPlace}
 
 -- The rule stands there; it is enabled.
 pub record IsRuleSpan (features : List Text) (w : Grammar) (n : Text) (p : TextSpan) : Type 0 where

@@ -6,6 +6,9 @@
 //! `Chains` (the passes one after the other) and `Normalized` (what a normalized grammar is).
 #![tactic(auto)]
 
+pub mod fault_chain;
+pub mod lower_law;
+
 ghost use Rattle.lalrpop_norm_chain.specs.PremiseLaws.{ReadNamesArePlain, ResolvedTellsOwnRules, NothingIsDisabled, NoRecoveryComesIn};
 ghost use Rattle.lalrpop_norm_chain.specs.PremiseLaws.{PrefixStaysFree, KeysLeavePrefix, RulesStayInOrder, KeysStandInOrder};
 ghost use Rattle.lalrpop_norm_chain.specs.PremiseLaws.{NoTokenizerIsMade};

@@ -12,13 +12,13 @@ use Rattle.lalrpop_grammar_symbols.specs.declared.symbol.SymbolKind.TheViews.{ou
 use Rattle.lalrpop_grammar_symbols.specs.declared.span.Span.{Span}
 use Rattle.lalrpop_grammar_language.specs.Among.{Among}
 use Rattle.lalrpop_grammar_language.specs.Closing.{Binding, Scope, close, close_all, close_list, is_sound, occurrences, sound_or_faulty}
-use Rattle.lalrpop_norm_expansion.specs.Depth.{calls_in, calls_in_all}
-use Rattle.lalrpop_norm_expansion.proofs.AmongLemmas.{among_left, among_parts, among_right}
-use Rattle.lalrpop_grammar_closed.specs.Views.{closed_step, closed_view, closeds}
-use Rattle.lalrpop_grammar_closed.specs.declared.closed_symbol.ClosedSymbol.{ClosedSymbol, fold-roll-ClosedSymbol}
-use Rattle.lalrpop_grammar_closed.specs.declared.closed_symbol.ClosedSymbol.TheOpen as layer
-use Rattle.lalrpop_grammar_closed.specs.declared.closed_symbol.ClosedSymbol.TheVariants as variant
-use Rattle.lalrpop_norm_place_law.specs.CallPlaces.{CountedSymbol, counted_symbols, symbols_of_row, symbols_within, place_of_symbol}
+use Rattle.lalrpop_norm_theory.specs.Depth.{calls_in, calls_in_all}
+use Rattle.lalrpop_norm_theory.proofs.AmongLemmas.{among_left, among_parts, among_right}
+use Rattle.lalrpop_grammar_rules.specs.Views.{closed_step, closed_view, closeds}
+use Rattle.lalrpop_grammar_rules.specs.declared.closed.closed_symbol.ClosedSymbol.{ClosedSymbol, fold-roll-ClosedSymbol}
+use Rattle.lalrpop_grammar_rules.specs.declared.closed.closed_symbol.ClosedSymbol.TheOpen as layer
+use Rattle.lalrpop_grammar_rules.specs.declared.closed.closed_symbol.ClosedSymbol.TheVariants as variant
+use Rattle.lalrpop_norm_theory.specs.CallPlaces.{CountedSymbol, counted_symbols, symbols_of_row, symbols_within, place_of_symbol}
 use Rattle.lalrpop_norm_keys.specs.PlaceSearch.{AreClosedAs, HasOwnPlace, IsClosedAs, IsFoundAmong, IsFoundIn, IsFoundInRow}
 use Rattle.lalrpop_norm_keys.proofs.SymbolViewLemmas.{place_view, seen_group, seen_macro, seen_name}
 

@@ -13,15 +13,15 @@ use Rattle.lalrpop_grammar_language.specs.Levels.{Rank, ranked_choices}
 use Rattle.lalrpop_grammar_language.specs.Closing.{Binding, is_sound, right_side, scope_of}
 use Rattle.lalrpop_grammar_language.specs.Conditions.{Holds}
 use Rattle.lalrpop_grammar_language.specs.Admitting.{bind, rank_level}
-use Rattle.lalrpop_norm_expansion.specs.Depth.{calls_in_all}
-use Rattle.lalrpop_norm_expansion.specs.Premises.{HasNoLevels}
-use Rattle.lalrpop_norm_expansion.proofs.ExpansionListLemmas.{rule_there}
-use Rattle.lalrpop_norm_expansion.proofs.LevelLemmas.{no_rank}
-use Rattle.lalrpop_grammar_closed.specs.Views.{closeds}
+use Rattle.lalrpop_norm_theory.specs.Depth.{calls_in_all}
+use Rattle.lalrpop_norm_theory.specs.Premises.{HasNoLevels}
+use Rattle.lalrpop_norm_theory.proofs.ExpansionListLemmas.{rule_there}
+use Rattle.lalrpop_norm_theory.proofs.LevelLemmas.{no_rank}
+use Rattle.lalrpop_grammar_rules.specs.Views.{closeds}
 use Rattle.lalrpop_grammar_repr.specs.declared.session.NormFault.{NormFault}
 use Rattle.lalrpop_grammar_rules.specs.Ranks.{rank_view}
 use Rattle.lalrpop_grammar_rules.specs.declared.rule.Choice as program
-use Rattle.lalrpop_norm_place_law.specs.CallPlaces.{IsPlaceOfCall}
+use Rattle.lalrpop_norm_theory.specs.CallPlaces.{IsPlaceOfCall}
 use Rattle.lalrpop_norm_keys.specs.Instances.{kept_from}
 use Rattle.lalrpop_norm_keys.specs.PlaceSearch.{AreClosedAs, IsFoundAmong, IsFoundInCalls, IsFoundInSides}
 use Rattle.lalrpop_norm_keys.specs.StandingCalls.{CallStandsIn, StandsInCall}

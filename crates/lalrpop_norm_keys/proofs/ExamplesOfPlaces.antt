@@ -6,7 +6,7 @@ use Rattle.lalrpop_grammar_language.specs.Among.{Among}
 use Rattle.lalrpop_grammar_language.specs.Closing.{Binding, Scope}
 use Rattle.lalrpop_grammar_language.specs.Enabled.{EnabledGrammar, enabled_grammar}
 use Rattle.lalrpop_grammar_language.proofs.WrittenTreeLemmas.{alt, finds, grammar, id, lit, macro_of}
-use Rattle.lalrpop_norm_place_law.specs.CallPlaces.{CountedSymbol, IsInnermost, calls_at, symbols_within, place_of_symbol}
+use Rattle.lalrpop_norm_theory.specs.CallPlaces.{CountedSymbol, IsInnermost, calls_at, symbols_within, place_of_symbol}
 
 abbrev place : ℕ → TextSpan
 place n = (n, n + 1)

@@ -11,28 +11,28 @@ use Rattle.lalrpop_grammar_language.specs.Among.{Among}
 use Rattle.lalrpop_grammar_language.specs.Enabled.{EnabledGrammar, EnabledRule, IsRule, enabled_rule, is_active}
 use Rattle.lalrpop_grammar_language.specs.Expansion.{GrammarSymbol, HasLevel, IsRoot, Nonterminal}
 use Rattle.lalrpop_grammar_language.proofs.PlaceLemmas.{among_filter, among_map}
-use Rattle.lalrpop_norm_expansion.specs.Depth.{CallOccursIn, HasCallChain, IsTooDeep, calls_in_all, calls_in_grammar_symbol}
-use Rattle.lalrpop_norm_expansion.specs.Premises.{HasNoLevels}
-use Rattle.lalrpop_norm_expansion.specs.Rounds.{AreCallsToDepth}
-use Rattle.lalrpop_norm_expansion.proofs.AmongLemmas.{among_either, among_left, among_parts, among_right, map_among}
-use Rattle.lalrpop_norm_expansion.proofs.DepthLemmas.{before_rounds, left_too_deep, one_deeper}
-use Rattle.lalrpop_norm_expansion.proofs.ExpansionListLemmas.{rule_there}
-use Rattle.lalrpop_norm_expansion.proofs.LevelLemmas.{keeps, no_levels}
-use Rattle.lalrpop_norm_expansion.specs.KeyTables.{IsNoCall}
+use Rattle.lalrpop_norm_theory.specs.Depth.{CallOccursIn, HasCallChain, IsTooDeep, calls_in_all, calls_in_grammar_symbol}
+use Rattle.lalrpop_norm_theory.specs.Premises.{HasNoLevels}
+use Rattle.lalrpop_norm_theory.specs.Rounds.{AreCallsToDepth}
+use Rattle.lalrpop_norm_theory.proofs.AmongLemmas.{among_either, among_left, among_parts, among_right, map_among}
+use Rattle.lalrpop_norm_theory.proofs.DepthLemmas.{before_rounds, left_too_deep, one_deeper}
+use Rattle.lalrpop_norm_theory.proofs.ExpansionListLemmas.{rule_there}
+use Rattle.lalrpop_norm_theory.proofs.LevelLemmas.{keeps, no_levels}
+use Rattle.lalrpop_norm_theory.specs.KeyTables.{IsNoCall}
 use Rattle.lalrpop_grammar_repr.specs.declared.session.NormFault.{NormFault}
 use Rattle.lalrpop_grammar_repr.specs.declared.session.NormFault.TheVariants as faults
-use Rattle.lalrpop_norm_key_table.specs.Tables.{AddsKeys}
-use Rattle.lalrpop_norm_key_table.proofs.TableLemmas.{Extends, adds_extend}
+use Rattle.lalrpop_norm_keys.specs.Tables.{AddsKeys}
+use Rattle.lalrpop_norm_keys.proofs.TableLemmas.{Extends, adds_extend}
 use Rattle.lalrpop_norm_keys.specs.FoundCalls.{AreCalls, FindsCalls, HasCallIndex, HasFoundCalls, IsToldAt, TellsOfAnyCall}
 use Rattle.lalrpop_norm_keys.specs.FoundCalls.{TellsOfMadeCall, TellsOfOneCall, plain_call_of, plain_calls}
 use Rattle.lalrpop_norm_keys.specs.SearchPremises.{CanSearch}
 use Rattle.lalrpop_norm_keys.specs.declared.rounds.FoundCalls.{FoundCalls}
 use Rattle.lalrpop_norm_keys.specs.declared.rounds.FoundCalls.TheVariants as found
-use Rattle.lalrpop_norm_place_law.specs.CallPlaces.{IsMadeAt, IsPlaceBelow}
+use Rattle.lalrpop_norm_theory.specs.CallPlaces.{IsMadeAt, IsPlaceBelow}
 use Rattle.lalrpop_norm_keys.specs.Instances.{TellsOfCall}
 use Rattle.lalrpop_norm_keys.specs.StandingCalls.{CallStandsIn, HasCallsOf}
-use Rattle.lalrpop_grammar_closed.specs.Views.{closed_view, closeds}
-use Rattle.lalrpop_grammar_closed.specs.declared.closed_symbol.ClosedSymbol.{ClosedSymbol}
+use Rattle.lalrpop_grammar_rules.specs.Views.{closed_view, closeds}
+use Rattle.lalrpop_grammar_rules.specs.declared.closed.closed_symbol.ClosedSymbol.{ClosedSymbol}
 use Rattle.lalrpop_norm_keys.proofs.StandingCallLemmas.{occurring_stands, standing_occurs}
 use Rattle.lalrpop_norm_keys.proofs.SymbolLemmas.{calls_are_calls}
 

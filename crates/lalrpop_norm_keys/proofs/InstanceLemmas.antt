@@ -15,14 +15,14 @@ use Rattle.lalrpop_grammar_language.specs.Admitting.{argument_list, bind, rank_l
 use Rattle.lalrpop_grammar_language.specs.Expansion.{GrammarSymbol, Nonterminal, RightSide, Produces}
 use Rattle.lalrpop_grammar_language.specs.Expansion.{grammar_symbol, origin_with}
 use Rattle.lalrpop_grammar_language.proofs.PlaceLemmas.{among_map}
-use Rattle.lalrpop_norm_expansion.specs.Premises.{HasNoLevels}
-use Rattle.lalrpop_norm_expansion.proofs.AmongLemmas.{map_among}
-use Rattle.lalrpop_norm_expansion.proofs.ExpansionListLemmas.{rule_there}
-use Rattle.lalrpop_norm_expansion.proofs.LevelLemmas.{no_rank}
-use Rattle.lalrpop_norm_expansion.specs.KeyTables.{KeyStandsIn, keys_in_all}
-use Rattle.lalrpop_grammar_closed.specs.Views.{binding_of, closed_view, closeds}
-use Rattle.lalrpop_grammar_closed.specs.declared.closed_symbol.ClosedSymbol.{ClosedSymbol}
-use Rattle.lalrpop_grammar_closed.proofs.ArgumentLemmas.{closed_list-closeds}
+use Rattle.lalrpop_norm_theory.specs.Premises.{HasNoLevels}
+use Rattle.lalrpop_norm_theory.proofs.AmongLemmas.{map_among}
+use Rattle.lalrpop_norm_theory.proofs.ExpansionListLemmas.{rule_there}
+use Rattle.lalrpop_norm_theory.proofs.LevelLemmas.{no_rank}
+use Rattle.lalrpop_norm_theory.specs.KeyTables.{KeyStandsIn, keys_in_all}
+use Rattle.lalrpop_grammar_rules.specs.Views.{binding_of, closed_view, closeds}
+use Rattle.lalrpop_grammar_rules.specs.declared.closed.closed_symbol.ClosedSymbol.{ClosedSymbol}
+use Rattle.lalrpop_grammar_rules.proofs.ArgumentLemmas.{closed_list-closeds}
 use Rattle.lalrpop_grammar_repr.specs.declared.session.NormFault.{NormFault}
 use Rattle.lalrpop_grammar_repr.specs.declared.session.NormFault.TheVariants as faults
 use Rattle.lalrpop_norm_keys.specs.Instances.{AddsSides, HasKeysOf, TellsOfCall, TellsOfSome}

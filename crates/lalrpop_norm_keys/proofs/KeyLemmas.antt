@@ -7,17 +7,17 @@ use Rattle.lalrpop_grammar_language.specs.Among.{Among}
 use Rattle.lalrpop_grammar_language.specs.Enabled.{EnabledGrammar, EnabledRule, IsRule, enabled_rule, is_active}
 use Rattle.lalrpop_grammar_language.specs.Expansion.{IsRoot, Nonterminal}
 use Rattle.lalrpop_grammar_language.proofs.PlaceLemmas.{among_filter, among_map}
-use Rattle.lalrpop_norm_expansion.specs.Depth.{CallOccursIn}
-use Rattle.lalrpop_norm_expansion.specs.Premises.{HasNoLevels}
-use Rattle.lalrpop_norm_expansion.specs.Rounds.{AreCallsToDepth}
-use Rattle.lalrpop_norm_expansion.proofs.AmongLemmas.{among_either, among_parts}
-use Rattle.lalrpop_norm_expansion.proofs.ExpansionListLemmas.{rule_there}
-use Rattle.lalrpop_norm_expansion.specs.KeyTables.{IsKeyTable, IsMetKey, IsNoCall, IsPlainKey, KeyStandsIn}
-use Rattle.lalrpop_norm_expansion.specs.KeyTables.{keys_in_all}
-use Rattle.lalrpop_grammar_closed.specs.Views.{closeds}
+use Rattle.lalrpop_norm_theory.specs.Depth.{CallOccursIn}
+use Rattle.lalrpop_norm_theory.specs.Premises.{HasNoLevels}
+use Rattle.lalrpop_norm_theory.specs.Rounds.{AreCallsToDepth}
+use Rattle.lalrpop_norm_theory.proofs.AmongLemmas.{among_either, among_parts}
+use Rattle.lalrpop_norm_theory.proofs.ExpansionListLemmas.{rule_there}
+use Rattle.lalrpop_norm_theory.specs.KeyTables.{IsKeyTable, IsMetKey, IsNoCall, IsPlainKey, KeyStandsIn}
+use Rattle.lalrpop_norm_theory.specs.KeyTables.{keys_in_all}
+use Rattle.lalrpop_grammar_rules.specs.Views.{closeds}
 use Rattle.lalrpop_norm_keys.specs.Instances.{HasKeysOf}
-use Rattle.lalrpop_norm_key_table.specs.Tables.{AddsKey, AddsKeys}
-use Rattle.lalrpop_norm_key_table.proofs.TableLemmas.{Extends, adds_extend}
+use Rattle.lalrpop_norm_keys.specs.Tables.{AddsKey, AddsKeys}
+use Rattle.lalrpop_norm_keys.proofs.TableLemmas.{Extends, adds_extend}
 use Rattle.lalrpop_norm_keys.specs.FoundCalls.{AreCalls, plain_calls}
 use Rattle.lalrpop_norm_keys.specs.FoundKeys.{AddsStanding, FindsKeys}
 use Rattle.lalrpop_norm_keys.proofs.FoundLemmas.{chain_is_call, plain_call_is, plain_call_there}

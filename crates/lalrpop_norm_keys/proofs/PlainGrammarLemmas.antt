@@ -15,11 +15,11 @@ use Rattle.lalrpop_grammar_language.specs.Admitting.{Fits, bind, rank_level, arg
 use Rattle.lalrpop_grammar_language.specs.Expansion.{Nonterminal, RightSide, ByAlternative, ByPassDown, Produces, HasLevel, IsRoot}
 use Rattle.lalrpop_grammar_language.specs.Expansion.{grammar_symbol, origin_with}
 use Rattle.lalrpop_grammar_language.proofs.PlaceLemmas.{among_map}
-use Rattle.lalrpop_norm_expansion.specs.Between.{grammar_between, rule_between, with_origins}
-use Rattle.lalrpop_norm_expansion.specs.Depth.{CallOccursIn, HasCallChain, IsTooDeep}
-use Rattle.lalrpop_norm_expansion.specs.Rounds.{AreCallsToDepth}
-use Rattle.lalrpop_norm_expansion.proofs.AmongLemmas.{map_among}
-use Rattle.lalrpop_norm_expansion.specs.KeyTables.{IsKeyTable, IsMetKey, IsPlainKey, KeyStandsIn}
+use Rattle.lalrpop_norm_theory.specs.Between.{grammar_between, rule_between, with_origins}
+use Rattle.lalrpop_norm_theory.specs.Depth.{CallOccursIn, HasCallChain, IsTooDeep}
+use Rattle.lalrpop_norm_theory.specs.Rounds.{AreCallsToDepth}
+use Rattle.lalrpop_norm_theory.proofs.AmongLemmas.{map_among}
+use Rattle.lalrpop_norm_theory.specs.KeyTables.{IsKeyTable, IsMetKey, IsPlainKey, KeyStandsIn}
 use Rattle.lalrpop_norm_keys.specs.TableLaws.{HasAllActive}
 use Rattle.lalrpop_norm_keys.proofs.OriginLemmas.{plain_choice, plain_rule, plain_pair, plain_grammar, levels_plain, ranked_plain}
 use Rattle.lalrpop_norm_keys.proofs.OriginLemmas.{rule_plain, plain_was, side_plain, tighter_plain, same_levels}

@@ -18,12 +18,12 @@ use Rattle.lalrpop_grammar_language.specs.Closing.{right_side, scope_of, sound_o
 use Rattle.lalrpop_grammar_language.specs.Admitting.{bind}
 use Rattle.lalrpop_grammar_language.specs.Expansion.{GrammarSymbol, HasLevel, IsRoot, Nonterminal, Produces, RightSide, grammar_symbol}
 use Rattle.lalrpop_grammar_language.proofs.PlaceLemmas.{among_map}
-use Rattle.lalrpop_norm_expansion.specs.Depth.{CallOccursIn, HasCallChain, calls_in, calls_in_all, calls_in_grammar_symbol}
-use Rattle.lalrpop_norm_expansion.specs.Premises.{HasNoLevels}
-use Rattle.lalrpop_norm_expansion.proofs.AmongLemmas.{among_left, among_parts, among_right}
-use Rattle.lalrpop_norm_expansion.proofs.ExpansionListLemmas.{rule_there}
-use Rattle.lalrpop_norm_expansion.proofs.LevelLemmas.{no_levels, no_loosest, no_rank}
-use Rattle.lalrpop_norm_expansion.specs.KeyTables.{IsNoCall, IsPlainKey, KeyStandsIn, keys_in, keys_in_all}
+use Rattle.lalrpop_norm_theory.specs.Depth.{CallOccursIn, HasCallChain, calls_in, calls_in_all, calls_in_grammar_symbol}
+use Rattle.lalrpop_norm_theory.specs.Premises.{HasNoLevels}
+use Rattle.lalrpop_norm_theory.proofs.AmongLemmas.{among_left, among_parts, among_right}
+use Rattle.lalrpop_norm_theory.proofs.ExpansionListLemmas.{rule_there}
+use Rattle.lalrpop_norm_theory.proofs.LevelLemmas.{no_levels, no_loosest, no_rank}
+use Rattle.lalrpop_norm_theory.specs.KeyTables.{IsNoCall, IsPlainKey, KeyStandsIn, keys_in, keys_in_all}
 use Rattle.lalrpop_grammar.specs.WrittenGrammar.{Origin}
 use Rattle.lalrpop_norm_keys.proofs.FoundLemmas.{chain_is_call}
 use Rattle.lalrpop_norm_keys.proofs.SymbolLemmas.{calls_of_symbol, same_keys}

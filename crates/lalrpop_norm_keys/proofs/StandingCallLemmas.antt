@@ -12,13 +12,13 @@ use Rattle.lalrpop_grammar_language.specs.Admitting.{argument_list, bind, rank_l
 use Rattle.lalrpop_grammar_language.specs.Expansion.{ByAlternative, ByPassDown, Nonterminal, RightSide, Produces}
 use Rattle.lalrpop_grammar_language.specs.Expansion.{grammar_symbol, origin_with}
 use Rattle.lalrpop_grammar_language.proofs.PlaceLemmas.{among_map}
-use Rattle.lalrpop_norm_expansion.specs.Depth.{CallOccursIn, calls_in, calls_in_all, calls_in_grammar_symbol}
-use Rattle.lalrpop_norm_expansion.specs.Premises.{HasNoLevels}
-use Rattle.lalrpop_norm_expansion.proofs.AmongLemmas.{map_among}
-use Rattle.lalrpop_norm_expansion.proofs.ExpansionListLemmas.{rule_there}
-use Rattle.lalrpop_norm_expansion.proofs.LevelLemmas.{no_levels, no_rank}
-use Rattle.lalrpop_norm_expansion.specs.KeyTables.{IsNoCall}
-use Rattle.lalrpop_grammar_closed.specs.Views.{closeds}
+use Rattle.lalrpop_norm_theory.specs.Depth.{CallOccursIn, calls_in, calls_in_all, calls_in_grammar_symbol}
+use Rattle.lalrpop_norm_theory.specs.Premises.{HasNoLevels}
+use Rattle.lalrpop_norm_theory.proofs.AmongLemmas.{map_among}
+use Rattle.lalrpop_norm_theory.proofs.ExpansionListLemmas.{rule_there}
+use Rattle.lalrpop_norm_theory.proofs.LevelLemmas.{no_levels, no_rank}
+use Rattle.lalrpop_norm_theory.specs.KeyTables.{IsNoCall}
+use Rattle.lalrpop_grammar_rules.specs.Views.{closeds}
 use Rattle.lalrpop_norm_keys.specs.Instances.{AddsSides}
 use Rattle.lalrpop_norm_keys.specs.StandingCalls.{CallStandsIn, HasCallsOf, StandsInCall}
 use Rattle.lalrpop_norm_keys.proofs.SideLemmas.{IsOfSide, added_of_sides, all_of_sides}

@@ -4,10 +4,10 @@ use Rattle.lalrpop_grammar_symbols.specs.Symbols.{Terminal, Closed, Closeds}
 use Rattle.lalrpop_grammar_language.specs.Among.{Among}
 use Rattle.lalrpop_grammar_language.specs.Closing.{inner}
 use Rattle.lalrpop_grammar_language.specs.Expansion.{GrammarSymbol, Nonterminal, grammar_symbol, symbol_of_inner, symbol_of_terminal}
-use Rattle.lalrpop_norm_expansion.specs.Depth.{calls_in, calls_in_all, calls_in_grammar_symbol}
-use Rattle.lalrpop_norm_expansion.proofs.AmongLemmas.{among_left, among_parts, among_right}
-use Rattle.lalrpop_norm_expansion.specs.KeyTables.{IsNoCall, keys_in, keys_in_all}
-use Rattle.lalrpop_grammar_closed.specs.Views.{closeds}
+use Rattle.lalrpop_norm_theory.specs.Depth.{calls_in, calls_in_all, calls_in_grammar_symbol}
+use Rattle.lalrpop_norm_theory.proofs.AmongLemmas.{among_left, among_parts, among_right}
+use Rattle.lalrpop_norm_theory.specs.KeyTables.{IsNoCall, keys_in, keys_in_all}
+use Rattle.lalrpop_grammar_rules.specs.Views.{closeds}
 
 -- the closed symbol of a symbol of a right side
 abbrev symbol_behind : GrammarSymbol Nonterminal → Closed

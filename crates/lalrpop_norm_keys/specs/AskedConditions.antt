@@ -7,7 +7,7 @@ use Rattle.lalrpop_grammar_language.specs.Levels.{Rank, ranked_choices}
 use Rattle.lalrpop_grammar_language.specs.Closing.{Binding}
 use Rattle.lalrpop_grammar_language.specs.Admitting.{bind}
 use Rattle.lalrpop_grammar_language.specs.Expansion.{Nonterminal, IsRoot}
-use Rattle.lalrpop_norm_expansion.specs.Depth.{HasCallChain}
+use Rattle.lalrpop_norm_theory.specs.Depth.{HasCallChain}
 use Rattle.lalrpop_norm_keys.specs.MacroFaults.{IsAskable}
 
 -- the conditions of these alternatives can be asked

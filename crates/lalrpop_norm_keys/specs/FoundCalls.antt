@@ -6,14 +6,14 @@ use Rattle.lalrpop_grammar.specs.WrittenGrammar.{Rule}
 use Rattle.lalrpop_grammar_language.specs.Among.{Among}
 use Rattle.lalrpop_grammar_language.specs.Enabled.{EnabledGrammar}
 use Rattle.lalrpop_grammar_language.specs.Expansion.{Nonterminal, IsRoot}
-use Rattle.lalrpop_norm_expansion.specs.Depth.{HasCallChain, IsTooDeep}
-use Rattle.lalrpop_norm_expansion.specs.Rounds.{AreCallsToDepth}
-use Rattle.lalrpop_norm_expansion.specs.KeyTables.{IsNoCall}
+use Rattle.lalrpop_norm_theory.specs.Depth.{HasCallChain, IsTooDeep}
+use Rattle.lalrpop_norm_theory.specs.Rounds.{AreCallsToDepth}
+use Rattle.lalrpop_norm_theory.specs.KeyTables.{IsNoCall}
 use Rattle.lalrpop_grammar_repr.specs.declared.session.NormFault.{NormFault}
 use Rattle.lalrpop_grammar_repr.specs.declared.session.NormFault.TheVariants as faults
-use Rattle.lalrpop_grammar_closed.specs.Views.{closed_view}
-use Rattle.lalrpop_norm_key_table.specs.Tables.{IsKeyIndex, table_keys}
-use Rattle.lalrpop_norm_place_law.specs.CallPlaces.{IsPlaceBelow}
+use Rattle.lalrpop_grammar_rules.specs.Views.{closed_view}
+use Rattle.lalrpop_norm_keys.specs.Tables.{IsKeyIndex, table_keys}
+use Rattle.lalrpop_norm_theory.specs.CallPlaces.{IsPlaceBelow}
 use Rattle.lalrpop_norm_keys.specs.Instances.{TellsOfCall}
 use Rattle.lalrpop_norm_keys.specs.PlaceSearch.{IsFoundInCalls}
 use Rattle.lalrpop_norm_keys.specs.StandingCalls.{CallStandsIn}

@@ -3,7 +3,7 @@ use Rattle.std.specs.Prelude.{◌≡◌, ◌⊎◌, List}
 use Rattle.lalrpop_grammar_symbols.specs.Symbols.{Closed}
 use Rattle.lalrpop_grammar_language.specs.Among.{Among}
 use Rattle.lalrpop_grammar_language.specs.Enabled.{EnabledGrammar}
-use Rattle.lalrpop_norm_expansion.specs.KeyTables.{KeyStandsIn}
+use Rattle.lalrpop_norm_theory.specs.KeyTables.{KeyStandsIn}
 
 -- To the known keys these calls are added, with the keys that stand in them, and no others.
 pub record FindsKeys (g : EnabledGrammar) (ys known all : List Closed) : Type 0 where

@@ -7,8 +7,8 @@ use Rattle.lalrpop_grammar_language.specs.Levels.{Rank}
 use Rattle.lalrpop_grammar_language.specs.Closing.{Binding, right_side}
 use Rattle.lalrpop_grammar_language.specs.Conditions.{Holds}
 use Rattle.lalrpop_grammar_language.specs.Admitting.{bind}
-use Rattle.lalrpop_norm_expansion.specs.KeyTables.{keys_in_all, KeyStandsIn}
-use Rattle.lalrpop_grammar_closed.specs.Views.{closeds}
+use Rattle.lalrpop_norm_theory.specs.KeyTables.{keys_in_all, KeyStandsIn}
+use Rattle.lalrpop_grammar_rules.specs.Views.{closeds}
 use Rattle.lalrpop_grammar_repr.specs.declared.session.NormFault.{NormFault}
 use Rattle.lalrpop_grammar_repr.specs.declared.session.NormFault.TheVariants as faults
 use Rattle.lalrpop_grammar_rules.specs.Details.{ChoiceDetail, choices_view, tighter_in}

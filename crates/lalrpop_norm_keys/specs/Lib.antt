@@ -1,3 +1,6 @@
+pub mod KeyTexts
+pub mod Standing
+pub mod Tables
 pub mod MacroFaults
 pub mod Instances
 pub mod StandingCalls
@@ -8,3 +11,10 @@ pub mod FoundKeys
 pub mod SearchPremises
 pub mod Arity
 pub mod TableLaws
+pub mod FirstPlaces
+pub mod GrammarPlaces
+pub mod KeySpanLaws
+pub mod Views
+pub mod MetKeys
+pub mod KeyPlaces
+pub mod KeyPlaceLaws

@@ -4,9 +4,9 @@ use Rattle.lalrpop_grammar_symbols.specs.Symbols.{Text, TextSpan, Terminal, Clos
 use Rattle.lalrpop_grammar_symbols.specs.Views.{span_view}
 use Rattle.lalrpop_grammar.specs.WrittenGrammar.{Condition}
 use Rattle.lalrpop_grammar_language.specs.Closing.{Binding, parameter_value}
-use Rattle.lalrpop_grammar_closed.specs.Finding.{IsReadWhereAsked, IsSearch, IsUnread}
-use Rattle.lalrpop_grammar_closed.specs.declared.condition.ConditionFault.{ConditionFault}
-use Rattle.lalrpop_grammar_closed.specs.declared.condition.ConditionFault.TheVariants as unknown
+use Rattle.lalrpop_grammar_rules.specs.Finding.{IsReadWhereAsked, IsSearch, IsUnread}
+use Rattle.lalrpop_grammar_rules.specs.declared.closed.condition.ConditionFault.{ConditionFault}
+use Rattle.lalrpop_grammar_rules.specs.declared.closed.condition.ConditionFault.TheVariants as unknown
 use Rattle.lalrpop_grammar_symbols.specs.declared.span.Span.{Span}
 use Rattle.lalrpop_grammar_repr.specs.declared.norm_error.NormErrorKind.{NormErrorKind}
 use Rattle.lalrpop_grammar_repr.specs.declared.norm_error.NormErrorKind.TheVariants as kinds

@@ -8,10 +8,10 @@ use Rattle.lalrpop_grammar_language.specs.Enabled.{EnabledGrammar, EnabledRule, 
 use Rattle.lalrpop_grammar_language.specs.Levels.{Rank}
 use Rattle.lalrpop_grammar_language.specs.Closing.{Binding, Scope, close, occurrences, right_side}
 use Rattle.lalrpop_grammar_language.specs.Conditions.{Holds}
-use Rattle.lalrpop_norm_expansion.specs.Depth.{calls_in, calls_in_all}
-use Rattle.lalrpop_norm_expansion.specs.Premises.{HasNoLevels}
-use Rattle.lalrpop_grammar_closed.specs.Views.{closeds}
-use Rattle.lalrpop_norm_place_law.specs.CallPlaces.{CountedSymbol, IsInnermost, IsPlaceInSide, IsPlaceOfCall, calls_at, counted_symbols}
+use Rattle.lalrpop_norm_theory.specs.Depth.{calls_in, calls_in_all}
+use Rattle.lalrpop_norm_theory.specs.Premises.{HasNoLevels}
+use Rattle.lalrpop_grammar_rules.specs.Views.{closeds}
+use Rattle.lalrpop_norm_theory.specs.CallPlaces.{CountedSymbol, IsInnermost, IsPlaceInSide, IsPlaceOfCall, calls_at, counted_symbols}
 use Rattle.lalrpop_norm_keys.specs.StandingCalls.{CallStandsIn}
 
 -- the place of the call in a symbol, or none where it isn't one of its calls

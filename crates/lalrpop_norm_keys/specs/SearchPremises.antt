@@ -4,8 +4,8 @@ use Rattle.lalrpop_grammar_symbols.specs.Symbols.{Text, Closed}
 use Rattle.lalrpop_grammar.specs.WrittenGrammar.{Grammar, Rule, rules_of}
 use Rattle.lalrpop_grammar_language.specs.Among.{Among}
 use Rattle.lalrpop_grammar_language.specs.Enabled.{EnabledGrammar, EnabledRule, IsRule, is_active}
-use Rattle.lalrpop_norm_expansion.specs.Premises.{HasNoLevels}
-use Rattle.lalrpop_norm_expansion.specs.Rounds.{AreCallsToDepth}
+use Rattle.lalrpop_norm_theory.specs.Premises.{HasNoLevels}
+use Rattle.lalrpop_norm_theory.specs.Rounds.{AreCallsToDepth}
 
 -- No rule of the table has levels, no two share a name, and the features disable none of the written rules.
 pub record CanSearch (g : EnabledGrammar) (features : List Text) (w : Grammar) : Type 0 where

@@ -7,8 +7,8 @@ use Rattle.lalrpop_grammar_language.specs.Levels.{Rank, ranked_choices}
 use Rattle.lalrpop_grammar_language.specs.Closing.{right_side}
 use Rattle.lalrpop_grammar_language.specs.Conditions.{Holds}
 use Rattle.lalrpop_grammar_language.specs.Admitting.{bind}
-use Rattle.lalrpop_norm_expansion.specs.Depth.{calls_in, calls_in_all}
-use Rattle.lalrpop_grammar_closed.specs.Views.{closeds}
+use Rattle.lalrpop_norm_theory.specs.Depth.{calls_in, calls_in_all}
+use Rattle.lalrpop_grammar_rules.specs.Views.{closeds}
 
 -- The call x stands in an alternative of the rule of that name whose condition holds for the arguments.
 pub record StandsInCall (g : EnabledGrammar) (n : Text) (args : Closeds) (x : Closed) : Type 0 where

@@ -2,9 +2,9 @@
 
 ghost use Rattle.std.specs.Prelude.{◌≡◌, IfNone, IfSome, None, map};
 ghost use Rattle.lalrpop_grammar_symbols.specs.Symbols.{Closed, Closeds, Text};
-ghost use Rattle.lalrpop_grammar_closed.specs.Views.{closed_view, closeds};
+ghost use Rattle.lalrpop_grammar_rules.specs.Views.{closed_view, closeds};
 
-use lalrpop_grammar_closed::ClosedSymbol;
+use lalrpop_grammar_rules::closed::ClosedSymbol;
 use lalrpop_grammar_symbols::Atom;
 
 /// A called rule, with arguments.

@@ -8,7 +8,7 @@ ghost use Rattle.lalrpop_grammar_language.specs.Levels.{levels, ranked_choices};
 ghost use Rattle.lalrpop_grammar_rules.specs.Details.{choices_view, enabled_rule_view, tighter_in};
 ghost use Rattle.lalrpop_grammar_rules.specs.Ranks.{rank_view};
 ghost use Rattle.lalrpop_grammar_rules.specs.RuleTable.{IsKept, IsTable, rules_with};
-ghost use Rattle.lalrpop_grammar_closed.specs.Views.{binding_of, closed_view};
+ghost use Rattle.lalrpop_grammar_rules.specs.Views.{binding_of, closed_view};
 ghost use Rattle.lalrpop_norm_keys.specs.FoundCalls.{TellsOfOneCall};
 ghost use Rattle.lalrpop_norm_keys.specs.Instances.{AreTight, TellsOfSome, kept_from};
 ghost use Rattle.lalrpop_norm_keys.specs.MacroFaults.{TellsOfAlternative};
@@ -17,8 +17,8 @@ ghost use Rattle.lalrpop_norm_keys.specs.PlaceSearch.{IsFoundInCalls, IsFoundInS
 use crate::called::unleveled_call;
 use crate::conditions::ask_condition;
 use crate::places::place_in_symbols;
-use lalrpop_grammar_closed::{Binding, ClosedSymbol, Finder, right_side};
 use lalrpop_grammar_repr::NormFault;
+use lalrpop_grammar_rules::closed::{Binding, ClosedSymbol, Finder, right_side};
 use lalrpop_grammar_rules::{Choice, EnabledRule, Rules};
 use lalrpop_grammar_symbols::Span;
 use std::alloc::Global;

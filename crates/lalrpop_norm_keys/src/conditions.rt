@@ -5,16 +5,16 @@ ghost use Rattle.lalrpop_grammar.specs.Views.{condition_view};
 ghost use Rattle.lalrpop_grammar_language.specs.Closing.{parameter_value};
 ghost use Rattle.lalrpop_grammar_language.specs.Conditions.{Holds};
 ghost use Rattle.lalrpop_grammar_rules.specs.RuleTable.{rules_with};
-ghost use Rattle.lalrpop_grammar_closed.specs.Scopes.{binding_view};
+ghost use Rattle.lalrpop_grammar_rules.specs.Scopes.{binding_view};
 ghost use Rattle.lalrpop_norm_keys.specs.MacroFaults.{IsAskable, IsQuotedLiteral, TellsOfAlternative, told_fault_of};
-ghost use Rattle.lalrpop_grammar_closed.specs.Views.{closed_view};
+ghost use Rattle.lalrpop_grammar_rules.specs.Views.{closed_view};
 
 use lalrpop_grammar::Condition;
-use lalrpop_grammar_closed::{
-    Binding, Bound, ClosedSymbol, ConditionFault, Finder, bound_to, holds,
-};
 use lalrpop_grammar_repr::{NormError, NormErrorKind, NormFault};
 use lalrpop_grammar_rules::Rules;
+use lalrpop_grammar_rules::closed::{
+    Binding, Bound, ClosedSymbol, ConditionFault, Finder, bound_to, holds,
+};
 use lalrpop_grammar_symbols::{Span, TerminalLiteral, TerminalString};
 use std::alloc::Global;
 

@@ -5,10 +5,10 @@ ghost use Rattle.std.specs.Prelude.{◌≡◌, [], ◌∷◌, IfErr, IfOk, OnOk,
 ghost use Rattle.lalrpop_grammar_symbols.specs.Symbols.{Closed};
 ghost use Rattle.lalrpop_grammar.specs.Views.{grammar_view};
 ghost use Rattle.lalrpop_grammar_rules.specs.RuleTable.{IsTable, rules_view, rules_with};
-ghost use Rattle.lalrpop_grammar_closed.specs.Views.{closed_view, closeds};
-ghost use Rattle.lalrpop_norm_expansion.specs.Premises.{HasNoLevels};
-ghost use Rattle.lalrpop_norm_expansion.specs.KeyTables.{IsKeyTable};
-ghost use Rattle.lalrpop_norm_key_table.specs.Tables.{IsKeyIndex, table_keys};
+ghost use Rattle.lalrpop_grammar_rules.specs.Views.{closed_view, closeds};
+ghost use Rattle.lalrpop_norm_theory.specs.Premises.{HasNoLevels};
+ghost use Rattle.lalrpop_norm_theory.specs.KeyTables.{IsKeyTable};
+ghost use Rattle.lalrpop_norm_keys.specs.Tables.{IsKeyIndex, table_keys};
 ghost use Rattle.lalrpop_norm_keys.specs.AskedConditions.{AskRightly, AsksRightly, HasAskedConditions};
 ghost use Rattle.lalrpop_norm_keys.specs.FoundCalls.{AreCalls, TellsOfAnyCall, TellsOfMadeCall, TellsOfOneCall};
 ghost use Rattle.lalrpop_norm_keys.specs.FoundKeys.{AddsStanding, FindsKeys};
@@ -17,13 +17,13 @@ ghost use Rattle.lalrpop_norm_keys.specs.SearchPremises.{AreAllCalls, CanSearch}
 
 use crate::called::unleveled_call;
 use crate::instances::symbols_of;
+use crate::key_table::{KeyTable, keys_in_symbols};
 use crate::plain::plain_rules;
 use lalrpop_grammar::Grammar;
-use lalrpop_grammar_closed::{ClosedSymbol, Finder};
 use lalrpop_grammar_repr::NormFault;
 use lalrpop_grammar_rules::Rules;
+use lalrpop_grammar_rules::closed::{ClosedSymbol, Finder};
 use lalrpop_grammar_symbols::Atom;
-use lalrpop_norm_key_table::{KeyTable, keys_in_symbols};
 use std::alloc::Global;
 
 /// Adds the keys that stand in the call of a rule.

@@ -3,14 +3,14 @@
 ghost use Rattle.std.specs.Prelude.{◌↔◌, IfSome, IsTrue, map};
 ghost use Rattle.lalrpop_grammar_symbols.specs.Views.{symbol_view};
 ghost use Rattle.lalrpop_grammar_language.specs.Among.{Among};
-ghost use Rattle.lalrpop_grammar_closed.specs.Views.{closed_view, closeds};
-ghost use Rattle.lalrpop_norm_expansion.specs.Depth.{calls_in, calls_in_all};
-ghost use Rattle.lalrpop_norm_place_law.specs.CallPlaces.{place_of_symbol};
+ghost use Rattle.lalrpop_grammar_rules.specs.Views.{closed_view, closeds};
+ghost use Rattle.lalrpop_norm_theory.specs.Depth.{calls_in, calls_in_all};
+ghost use Rattle.lalrpop_norm_theory.specs.CallPlaces.{place_of_symbol};
 ghost use Rattle.lalrpop_norm_keys.specs.PlaceSearch.{HasOwnPlace, IsFoundAmong, IsFoundIn};
 
-use lalrpop_grammar_closed::ClosedSymbol;
+use crate::key_table::same_symbol;
+use lalrpop_grammar_rules::closed::ClosedSymbol;
 use lalrpop_grammar_symbols::{Span, Symbol, SymbolKind};
-use lalrpop_norm_key_table::same_symbol;
 
 /// Whether the call stands in the symbol, through groups, repeats, names and choices.
 #[cycle(has)]

@@ -4,11 +4,11 @@ ghost use Rattle.std.specs.Prelude.{◌≡◌, ◌++◌, IfOk, OnOk, None, map};
 ghost use Rattle.lalrpop_grammar_symbols.specs.Symbols.{Closed, Closeds};
 ghost use Rattle.lalrpop_grammar.specs.Views.{grammar_view, nonterminal_view};
 ghost use Rattle.lalrpop_grammar.specs.WrittenGrammar.{rules_of};
-ghost use Rattle.lalrpop_grammar_closed.specs.Views.{closed_view};
+ghost use Rattle.lalrpop_grammar_rules.specs.Views.{closed_view};
 ghost use Rattle.lalrpop_norm_keys.specs.FoundCalls.{plain_call_of, plain_calls};
 
 use lalrpop_grammar::{Grammar, NonterminalData};
-use lalrpop_grammar_closed::{ClosedSymbol, Shared};
+use lalrpop_grammar_rules::closed::{ClosedSymbol, Shared};
 use lalrpop_grammar_symbols::{Atom, List};
 use std::alloc::{AllocError, Global};
 

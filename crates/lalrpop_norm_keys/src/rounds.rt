@@ -5,8 +5,8 @@ ghost use Rattle.lalrpop_grammar_symbols.specs.Symbols.{Closed};
 ghost use Rattle.lalrpop_grammar.specs.Views.{grammar_view};
 ghost use Rattle.lalrpop_grammar_language.specs.Among.{Among};
 ghost use Rattle.lalrpop_grammar_rules.specs.RuleTable.{IsTable, rules_with};
-ghost use Rattle.lalrpop_grammar_closed.specs.Views.{closed_view, closeds};
-ghost use Rattle.lalrpop_norm_key_table.specs.Tables.{IsKeyIndex, table_keys};
+ghost use Rattle.lalrpop_grammar_rules.specs.Views.{closed_view, closeds};
+ghost use Rattle.lalrpop_norm_keys.specs.Tables.{IsKeyIndex, table_keys};
 ghost use Rattle.lalrpop_norm_keys.specs.FoundCalls.{FindsCalls, HasCallIndex, HasFoundCalls, IsToldAt, TellsOfAnyCall};
 ghost use Rattle.lalrpop_norm_keys.specs.FoundCalls.{TellsOfMadeCall, TellsOfOneCall};
 ghost use Rattle.lalrpop_norm_keys.specs.Instances.{TellsOfCall};
@@ -16,13 +16,13 @@ ghost use Rattle.lalrpop_norm_keys.specs.StandingCalls.{CallStandsIn};
 use crate::called::unleveled_call;
 use crate::callers::place_of_call;
 use crate::instances::symbols_of;
+use crate::key_table::{KeyTable, calls_in_symbols};
 use crate::plain::plain_rules;
 use lalrpop_grammar::Grammar;
-use lalrpop_grammar_closed::{ClosedSymbol, Finder};
 use lalrpop_grammar_repr::NormFault;
 use lalrpop_grammar_rules::Rules;
+use lalrpop_grammar_rules::closed::{ClosedSymbol, Finder};
 use lalrpop_grammar_symbols::{Atom, List, Span};
-use lalrpop_norm_key_table::{KeyTable, calls_in_symbols};
 use std::alloc::{AllocError, Global};
 
 /// What the search for calls finds.

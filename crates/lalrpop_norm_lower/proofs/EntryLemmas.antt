@@ -7,7 +7,7 @@ use Rattle.lalrpop_grammar_symbols.specs.declared.names.NonterminalString.{Nonte
 use Rattle.lalrpop_grammar.specs.WrittenGrammar.{Action, Alternative, Origin, Rule}
 use Rattle.lalrpop_grammar_language.specs.Among.{Among}
 use Rattle.lalrpop_grammar_repr.specs.declared.action.ActionFnDefn.{ActionFnDefn}
-use Rattle.lalrpop_grammar_types.specs.declared.type_repr.TypeRepr.{TypeRepr}
+use Rattle.lalrpop_grammar.specs.declared.types.type_repr.TypeRepr.{TypeRepr}
 use Rattle.lalrpop_norm_lower.specs.Definitions.{definition_of, type_in_table}
 use Rattle.lalrpop_norm_lower.specs.LoweredLists.{LoweredNonterminal, alternative_definitions, alternative_origins, rule_definitions}
 use Rattle.lalrpop_norm_lower.specs.LoweredLists.{rule_entries, entry_of_rule, rule_origins, start_definitions, start_entries}

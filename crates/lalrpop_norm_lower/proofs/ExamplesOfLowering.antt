@@ -22,19 +22,19 @@ use Rattle.lalrpop_grammar_language.specs.Expansion.{GrammarSymbol}
 use Rattle.lalrpop_grammar_language.proofs.WrittenTreeLemmas.{finds, grammar, here, lit}
 use Rattle.lalrpop_grammar_repr.specs.declared.production.Production.{Production}
 use Rattle.lalrpop_grammar_repr.specs.declared.types.Types.{Types}
-use Rattle.lalrpop_grammar_types.specs.TypeReprs.{named_type}
-use Rattle.lalrpop_grammar_types.specs.declared.type_repr.TypeRepr.{TypeRepr}
-use Rattle.lalrpop_grammar_types.specs.declared.type_repr.TypeRepr.TheVariants as types
-use Rattle.lalrpop_norm_expansion.specs.Types.{GroundType, text_type}
-use Rattle.lalrpop_norm_types.specs.GroundViews.{type_repr_view}
-use Rattle.lalrpop_norm_types.specs.TerminalTypes.{grammar_terminals}
-use Rattle.lalrpop_norm_types.proofs.GroundLemmas.{view-nominal, view-ref}
+use Rattle.lalrpop_grammar.specs.TypeReprs.{named_type}
+use Rattle.lalrpop_grammar.specs.declared.types.type_repr.TypeRepr.{TypeRepr}
+use Rattle.lalrpop_grammar.specs.declared.types.type_repr.TypeRepr.TheVariants as types
+use Rattle.lalrpop_norm_theory.specs.Types.{GroundType, text_type}
+use Rattle.lalrpop_norm_tyinfer.specs.GroundViews.{type_repr_view}
+use Rattle.lalrpop_norm_tyinfer.specs.TerminalTypes.{grammar_terminals}
+use Rattle.lalrpop_norm_tyinfer.proofs.GroundLemmas.{view-nominal, view-ref}
 use Rattle.lalrpop_norm_lower.proofs.OrderLemmas.{equal_terminals}
 use Rattle.lalrpop_norm_lower.proofs.PutLemmas.{found_among}
-use Rattle.lalrpop_norm_expansion.specs.Between.{grammar_between, rule_between}
-use Rattle.lalrpop_norm_expansion.specs.Premises.{IsExpanded, IsExpandedChoice, IsExpandedSymbol}
-use Rattle.lalrpop_norm_expansion.specs.Productions.{IsOriginBefore, NamedProduction}
-use Rattle.lalrpop_norm_types.specs.TypeFaults.{nonterminal_of}
+use Rattle.lalrpop_norm_theory.specs.Between.{grammar_between, rule_between}
+use Rattle.lalrpop_norm_theory.specs.Premises.{IsExpanded, IsExpandedChoice, IsExpandedSymbol}
+use Rattle.lalrpop_norm_theory.specs.Productions.{IsOriginBefore, NamedProduction}
+use Rattle.lalrpop_norm_tyinfer.specs.TypeFaults.{nonterminal_of}
 use Rattle.lalrpop_norm_lower.specs.Definitions.{definition_of}
 use Rattle.lalrpop_norm_lower.specs.LoweredLists.{count_actions, gets_start, lowered_definitions, lowered_entries, lowered_origins}
 use Rattle.lalrpop_norm_lower.specs.declared.lowering.Normalized.{Normalized}

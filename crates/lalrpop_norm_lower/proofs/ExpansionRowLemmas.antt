@@ -11,13 +11,13 @@ use Rattle.lalrpop_grammar_language.specs.Expansion.{GrammarSymbol, InExpansion,
 use Rattle.lalrpop_grammar_language.specs.Starts.{has_none}
 use Rattle.lalrpop_grammar_language.proofs.ComparisonLemmas.{same_text-refl}
 use Rattle.lalrpop_grammar_language.proofs.PlaceLemmas.{among_filter, among_map}
-use Rattle.lalrpop_norm_expansion.specs.Between.{grammar_between, rule_between, with_origins}
-use Rattle.lalrpop_norm_expansion.specs.Premises.{IsExpanded}
-use Rattle.lalrpop_norm_expansion.specs.Productions.{IsOriginBefore}
-use Rattle.lalrpop_norm_expansion.specs.Rows.{AreExpansionRows, Row}
-use Rattle.lalrpop_norm_expansion.proofs.AmongLemmas.{among_flat_map, among_left, among_parts, among_right, flat_map_among, map_among}
-use Rattle.lalrpop_norm_expansion.proofs.LevelLemmas.{keeps}
-use Rattle.lalrpop_norm_types.proofs.ExpandedLemmas.{IsRuleKey, reached_key}
+use Rattle.lalrpop_norm_theory.specs.Between.{grammar_between, rule_between, with_origins}
+use Rattle.lalrpop_norm_theory.specs.Premises.{IsExpanded}
+use Rattle.lalrpop_norm_theory.specs.Productions.{IsOriginBefore}
+use Rattle.lalrpop_norm_theory.specs.Rows.{AreExpansionRows, Row}
+use Rattle.lalrpop_norm_theory.proofs.AmongLemmas.{among_flat_map, among_left, among_parts, among_right, flat_map_among, map_among}
+use Rattle.lalrpop_norm_theory.proofs.LevelLemmas.{keeps}
+use Rattle.lalrpop_norm_tyinfer.proofs.ExpandedLemmas.{IsRuleKey, reached_key}
 use Rattle.lalrpop_norm_lower.proofs.EarlierLemmas.{Across, Earlier, earlier_at, earlier_joined, flat_earlier}
 use Rattle.lalrpop_norm_lower.proofs.RowLemmas.{produced_by_rule, produced_by_start, rule_nonterminal, rule_produces, rule_there}
 use Rattle.lalrpop_norm_lower.proofs.RowLemmas.{side_by_rules, start_produces, start_side, start_there}

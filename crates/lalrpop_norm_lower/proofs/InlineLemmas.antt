@@ -14,14 +14,14 @@ use Rattle.lalrpop_grammar_language.proofs.PlaceLemmas.{among_filter, among_map}
 use Rattle.lalrpop_grammar_repr.specs.Maps.{at_name}
 use Rattle.lalrpop_grammar_repr.specs.declared.production.NonterminalData.{NonterminalData}
 use Rattle.lalrpop_grammar_repr.specs.declared.types.Types.{Types}
-use Rattle.lalrpop_grammar_types.specs.declared.type_repr.TypeRepr.{TypeRepr}
-use Rattle.lalrpop_norm_expansion.specs.Between.{grammar_between, rule_between}
-use Rattle.lalrpop_norm_expansion.specs.Inlined.{IsInlined}
-use Rattle.lalrpop_norm_expansion.specs.Rows.{Row}
-use Rattle.lalrpop_norm_expansion.proofs.AmongLemmas.{among_flat_map, among_parts, map_among}
-use Rattle.lalrpop_norm_expansion.proofs.LevelLemmas.{no_levels}
-use Rattle.lalrpop_norm_types.specs.TypeFaults.{nonterminal_of}
-use Rattle.lalrpop_norm_types.proofs.ExpandedLemmas.{rule_among}
+use Rattle.lalrpop_grammar.specs.declared.types.type_repr.TypeRepr.{TypeRepr}
+use Rattle.lalrpop_norm_theory.specs.Between.{grammar_between, rule_between}
+use Rattle.lalrpop_norm_theory.specs.Inlined.{IsInlined}
+use Rattle.lalrpop_norm_theory.specs.Rows.{Row}
+use Rattle.lalrpop_norm_theory.proofs.AmongLemmas.{among_flat_map, among_parts, map_among}
+use Rattle.lalrpop_norm_theory.proofs.LevelLemmas.{no_levels}
+use Rattle.lalrpop_norm_tyinfer.specs.TypeFaults.{nonterminal_of}
+use Rattle.lalrpop_norm_tyinfer.proofs.ExpandedLemmas.{rule_among}
 use Rattle.lalrpop_norm_lower.specs.Lowered.{AreInlinedAsMarked, AreLoweredNonterminals, IsLowerable, IsLoweredRule, IsLoweredStart}
 use Rattle.lalrpop_norm_lower.specs.Lowered.{says_inline, start_of}
 use Rattle.lalrpop_norm_lower.specs.LoweredLists.{gets_start, rules_with_starts}

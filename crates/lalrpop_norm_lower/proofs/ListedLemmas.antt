@@ -13,11 +13,11 @@ use Rattle.lalrpop_grammar_language.proofs.PlaceLemmas.{among_filter, among_map}
 use Rattle.lalrpop_grammar_repr.specs.Maps.{at_name, at_terminal}
 use Rattle.lalrpop_grammar_repr.specs.declared.terminal_set.TerminalSet.{TerminalSet}
 use Rattle.lalrpop_grammar_repr.specs.declared.types.Types.{Types}
-use Rattle.lalrpop_grammar_types.specs.declared.type_repr.TypeRepr.{TypeRepr}
-use Rattle.lalrpop_norm_expansion.proofs.AmongLemmas.{map_among}
-use Rattle.lalrpop_norm_expansion.proofs.LevelLemmas.{keeps}
-use Rattle.lalrpop_norm_types.specs.TerminalTypes.{HasTerminalTypes}
-use Rattle.lalrpop_norm_types.specs.TypeFaults.{nonterminal_of}
+use Rattle.lalrpop_grammar.specs.declared.types.type_repr.TypeRepr.{TypeRepr}
+use Rattle.lalrpop_norm_theory.proofs.AmongLemmas.{map_among}
+use Rattle.lalrpop_norm_theory.proofs.LevelLemmas.{keeps}
+use Rattle.lalrpop_norm_tyinfer.specs.TerminalTypes.{HasTerminalTypes}
+use Rattle.lalrpop_norm_tyinfer.specs.TypeFaults.{nonterminal_of}
 use Rattle.lalrpop_norm_lower.specs.Definitions.{type_in_table, type_or_unit}
 use Rattle.lalrpop_norm_lower.specs.Lowered.{AreListedStarts, AreLoweredTerminals, AreLoweredTypes, HasStartNamed, start_of}
 use Rattle.lalrpop_norm_lower.specs.LoweredLists.{gets_start, rules_with_starts, start_name_entries, start_type_entries}

@@ -16,12 +16,12 @@ use Rattle.lalrpop_grammar_repr.specs.Maps.{at_name, at_terminal}
 use Rattle.lalrpop_grammar_repr.specs.declared.production.Symbol.{Symbol}
 use Rattle.lalrpop_grammar_repr.specs.declared.production.Symbol.TheVariants as symbols
 use Rattle.lalrpop_grammar_repr.specs.declared.types.Types.{Types}
-use Rattle.lalrpop_grammar_types.specs.declared.type_repr.TypeRepr.{TypeRepr}
-use Rattle.lalrpop_norm_expansion.specs.Between.{grammar_between}
-use Rattle.lalrpop_norm_expansion.specs.Productions.{AreProductions, NamedProduction}
-use Rattle.lalrpop_norm_expansion.proofs.AmongLemmas.{among_flat_map, among_left}
-use Rattle.lalrpop_norm_types.specs.TerminalTypes.{terminals_of_items, terminals_of_rules}
-use Rattle.lalrpop_norm_types.specs.TypeFaults.{nonterminal_of}
+use Rattle.lalrpop_grammar.specs.declared.types.type_repr.TypeRepr.{TypeRepr}
+use Rattle.lalrpop_norm_theory.specs.Between.{grammar_between}
+use Rattle.lalrpop_norm_theory.specs.Productions.{AreProductions, NamedProduction}
+use Rattle.lalrpop_norm_theory.proofs.AmongLemmas.{among_flat_map, among_left}
+use Rattle.lalrpop_norm_tyinfer.specs.TerminalTypes.{terminals_of_items, terminals_of_rules}
+use Rattle.lalrpop_norm_tyinfer.specs.TypeFaults.{nonterminal_of}
 use Rattle.lalrpop_norm_lower.specs.Definitions.{definition_of, type_in_table}
 use Rattle.lalrpop_norm_lower.specs.Lowered.{AreListedStarts, AreLoweredTerminals, IsLowerable, IsLowered, IsLoweredRule}
 use Rattle.lalrpop_norm_lower.specs.Lowered.{AreLoweredTypes, IsLoweredName, IsLoweredSymbol}

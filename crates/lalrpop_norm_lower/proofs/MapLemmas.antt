@@ -11,12 +11,12 @@ use Rattle.lalrpop_grammar_language.proofs.PlaceLemmas.{among_map}
 use Rattle.lalrpop_grammar_repr.specs.Maps.{at_name}
 use Rattle.lalrpop_grammar_repr.specs.declared.production.NonterminalData.{NonterminalData}
 use Rattle.lalrpop_grammar_repr.specs.declared.types.Types.{Types}
-use Rattle.lalrpop_norm_expansion.specs.Between.{grammar_between}
-use Rattle.lalrpop_norm_expansion.specs.Productions.{AreProductions, NamedProduction}
-use Rattle.lalrpop_norm_expansion.specs.Rows.{Row, origins_of, productions_from}
-use Rattle.lalrpop_norm_expansion.proofs.AmongLemmas.{among_flat_map, among_parts, flat_map_among, map_among}
-use Rattle.lalrpop_norm_expansion.proofs.NumberingLemmas.{numbered_productions}
-use Rattle.lalrpop_norm_types.specs.TypeFaults.{nonterminal_of}
+use Rattle.lalrpop_norm_theory.specs.Between.{grammar_between}
+use Rattle.lalrpop_norm_theory.specs.Productions.{AreProductions, NamedProduction}
+use Rattle.lalrpop_norm_theory.specs.Rows.{Row, origins_of, productions_from}
+use Rattle.lalrpop_norm_theory.proofs.AmongLemmas.{among_flat_map, among_parts, flat_map_among, map_among}
+use Rattle.lalrpop_norm_theory.proofs.NumberingLemmas.{numbered_productions}
+use Rattle.lalrpop_norm_tyinfer.specs.TypeFaults.{nonterminal_of}
 use Rattle.lalrpop_norm_lower.specs.Lowered.{IsLowerable}
 use Rattle.lalrpop_norm_lower.specs.LoweredLists.{LoweredNonterminal, LoweredProduction, alternative_productions, gets_start}
 use Rattle.lalrpop_norm_lower.specs.LoweredLists.{lowered_entries, lowered_entry_view, lowered_origins, lowered_production_view}

@@ -18,15 +18,15 @@ use Rattle.lalrpop_grammar_repr.specs.declared.production.NonterminalData.{Nonte
 use Rattle.lalrpop_grammar_repr.specs.declared.production.Production.{Production}
 use Rattle.lalrpop_grammar_repr.specs.declared.production.Symbol.TheVariants as symbols
 use Rattle.lalrpop_grammar_repr.specs.declared.types.Types.{Types}
-use Rattle.lalrpop_grammar_types.specs.declared.type_repr.TypeRepr.{TypeRepr}
-use Rattle.lalrpop_norm_expansion.specs.Between.{grammar_between, rule_between, with_origins}
-use Rattle.lalrpop_norm_expansion.specs.Premises.{IsExpanded, IsExpandedSymbol}
-use Rattle.lalrpop_norm_expansion.proofs.AmongLemmas.{among_flat_map, among_left, among_right, flat_map_among, map_among}
-use Rattle.lalrpop_norm_expansion.proofs.LevelLemmas.{keeps}
-use Rattle.lalrpop_norm_types.specs.TerminalTypes.{inner_terminals, terminals_of_alternatives, terminals_of_rules}
-use Rattle.lalrpop_norm_types.specs.TerminalTypes.{terminals_of_symbols}
-use Rattle.lalrpop_norm_types.specs.TypeFaults.{nonterminal_of}
-use Rattle.lalrpop_norm_types.proofs.ExpandedLemmas.{rule_among}
+use Rattle.lalrpop_grammar.specs.declared.types.type_repr.TypeRepr.{TypeRepr}
+use Rattle.lalrpop_norm_theory.specs.Between.{grammar_between, rule_between, with_origins}
+use Rattle.lalrpop_norm_theory.specs.Premises.{IsExpanded, IsExpandedSymbol}
+use Rattle.lalrpop_norm_theory.proofs.AmongLemmas.{among_flat_map, among_left, among_right, flat_map_among, map_among}
+use Rattle.lalrpop_norm_theory.proofs.LevelLemmas.{keeps}
+use Rattle.lalrpop_norm_tyinfer.specs.TerminalTypes.{inner_terminals, terminals_of_alternatives, terminals_of_rules}
+use Rattle.lalrpop_norm_tyinfer.specs.TerminalTypes.{terminals_of_symbols}
+use Rattle.lalrpop_norm_tyinfer.specs.TypeFaults.{nonterminal_of}
+use Rattle.lalrpop_norm_tyinfer.proofs.ExpandedLemmas.{rule_among}
 use Rattle.lalrpop_norm_lower.specs.Definitions.{definition_of, type_in_table}
 use Rattle.lalrpop_norm_lower.specs.Lowered.{AreLoweredAlternatives, AreLoweredNonterminals, IsLowerable, IsLoweredName, IsLoweredRule}
 use Rattle.lalrpop_norm_lower.specs.Lowered.{IsLoweredStart, start_of}

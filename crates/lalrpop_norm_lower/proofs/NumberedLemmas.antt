@@ -7,9 +7,9 @@ use Rattle.lalrpop_grammar.specs.WrittenGrammar.{Alternative, Origin, Rule}
 use Rattle.lalrpop_grammar_language.specs.Among.{Among}
 use Rattle.lalrpop_grammar_language.specs.Enabled.{EnabledGrammar}
 use Rattle.lalrpop_grammar_language.specs.Expansion.{GrammarSymbol, Nonterminal}
-use Rattle.lalrpop_norm_expansion.specs.Same.{rename_side}
-use Rattle.lalrpop_norm_expansion.specs.Productions.{AreProductions, IsInOrder, NamedProduction}
-use Rattle.lalrpop_norm_expansion.specs.Rows.{Row, production_of_row, productions_from}
+use Rattle.lalrpop_norm_theory.specs.Same.{rename_side}
+use Rattle.lalrpop_norm_theory.specs.Productions.{AreProductions, IsInOrder, NamedProduction}
+use Rattle.lalrpop_norm_theory.specs.Rows.{Row, production_of_row, productions_from}
 use Rattle.lalrpop_norm_lower.proofs.EarlierLemmas.{Earlier, among_at, at_among, earlier_at}
 use Rattle.lalrpop_norm_lower.proofs.ExpansionRowLemmas.{alternative_row, lowered_rows, rule_rows, start_row}
 use Rattle.lalrpop_norm_lower.proofs.RowLemmas.{symbol_by_rules}

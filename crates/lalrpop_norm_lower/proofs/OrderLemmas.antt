@@ -10,7 +10,7 @@ use Rattle.lalrpop_grammar_symbols.specs.declared.terminal.TerminalLiteral.{Term
 use Rattle.lalrpop_grammar_symbols.specs.declared.terminal.TerminalLiteral.TheVariants as literal
 use Rattle.lalrpop_grammar_symbols.specs.declared.terminal.TerminalString.{TerminalString}
 use Rattle.lalrpop_grammar_symbols.specs.declared.terminal.TerminalString.TheVariants as terminal
-use Rattle.lalrpop_norm_types.specs.TypeFaults.{nonterminal_of}
+use Rattle.lalrpop_norm_tyinfer.specs.TypeFaults.{nonterminal_of}
 use Rattle.lalrpop_grammar_symbols.proofs.ComparedLemmas.{same_text}
 
 -- the comparison of names of nonterminals finds them equal exactly where they are

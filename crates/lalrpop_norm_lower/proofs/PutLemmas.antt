@@ -14,7 +14,7 @@ use Rattle.lalrpop_grammar_language.specs.Among.{Among}
 use Rattle.lalrpop_norm_lower.specs.LoweredLists.{put_entries, with_places}
 use Rattle.std.proofs.lemmas.List.{append-nil}
 use Rattle.std.proofs.Math.Seq.{append_snoc}
-use Rattle.lalrpop_norm_types.proofs.TableLemmas.{lookup-insert_entry}
+use Rattle.lalrpop_norm_tyinfer.proofs.TableLemmas.{lookup-insert_entry}
 use Rattle.lalrpop_norm_lower.proofs.EarlierLemmas.{Across, Earlier}
 
 module _ {K X : Type 0} (R : K → K → Ordering) (decides : (a b : K) → Decides (is_eq (R a b)) (a ≡ b)) where

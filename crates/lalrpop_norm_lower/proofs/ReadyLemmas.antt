@@ -18,10 +18,10 @@ use Rattle.lalrpop_grammar_repr.specs.declared.production.NonterminalData.{Nonte
 use Rattle.lalrpop_grammar_repr.specs.declared.production.Production.{Production}
 use Rattle.lalrpop_grammar_repr.specs.declared.production.Symbol.TheVariants as symbols
 use Rattle.lalrpop_grammar_repr.specs.declared.types.Types.{Types}
-use Rattle.lalrpop_grammar_types.specs.declared.type_repr.TypeRepr.{TypeRepr}
-use Rattle.lalrpop_norm_expansion.proofs.AmongLemmas.{among_flat_map, among_left, among_parts, flat_map_among, map_among}
-use Rattle.lalrpop_norm_types.specs.TerminalTypes.{HasTerminalTypes, inner_terminals, terminals_of_alternatives, terminals_of_items}
-use Rattle.lalrpop_norm_types.specs.TerminalTypes.{terminals_of_rules, terminals_of_symbols}
+use Rattle.lalrpop_grammar.specs.declared.types.type_repr.TypeRepr.{TypeRepr}
+use Rattle.lalrpop_norm_theory.proofs.AmongLemmas.{among_flat_map, among_left, among_parts, flat_map_among, map_among}
+use Rattle.lalrpop_norm_tyinfer.specs.TerminalTypes.{HasTerminalTypes, inner_terminals, terminals_of_alternatives, terminals_of_items}
+use Rattle.lalrpop_norm_tyinfer.specs.TerminalTypes.{terminals_of_rules, terminals_of_symbols}
 use Rattle.lalrpop_norm_lower.specs.Definitions.{definition_of, type_in_table}
 use Rattle.lalrpop_norm_lower.specs.LoweredLists.{LoweredNonterminal, LoweredProduction, alternative_productions, count_alternatives}
 use Rattle.lalrpop_norm_lower.specs.LoweredLists.{lowered_definitions, lowered_entries, lowered_entry_view, lowered_production_view}

@@ -8,9 +8,9 @@ use Rattle.lalrpop_grammar_repr.specs.declared.action.ActionFnDefn.{ActionFnDefn
 use Rattle.lalrpop_grammar_repr.specs.declared.action.ActionFnDefnKind.{ActionFnDefnKind}
 use Rattle.lalrpop_grammar_repr.specs.declared.action.ActionFnDefnKind.TheVariants as kinds
 use Rattle.lalrpop_grammar_repr.specs.declared.action.LookaroundActionFnDefn.TheVariants as lookarounds
-use Rattle.lalrpop_grammar_types.specs.declared.type_repr.TypeRepr.{TypeRepr}
-use Rattle.lalrpop_grammar_types.specs.declared.type_repr.TypeRepr.TheVariants as types
-use Rattle.lalrpop_norm_types.specs.TypeFaults.{nonterminal_of}
+use Rattle.lalrpop_grammar.specs.declared.types.type_repr.TypeRepr.{TypeRepr}
+use Rattle.lalrpop_grammar.specs.declared.types.type_repr.TypeRepr.TheVariants as types
+use Rattle.lalrpop_norm_tyinfer.specs.TypeFaults.{nonterminal_of}
 
 -- the type in a table of rules' types; the empty tuple where it has none for the rule
 abbrev pub type_or_unit : Option TypeRepr → TypeRepr

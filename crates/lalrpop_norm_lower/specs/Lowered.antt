@@ -23,13 +23,13 @@ use Rattle.lalrpop_grammar_repr.specs.declared.production.NonterminalData.{Nonte
 use Rattle.lalrpop_grammar_repr.specs.declared.production.Production.{Production}
 use Rattle.lalrpop_grammar_repr.specs.declared.terminal_set.TerminalSet.{TerminalSet}
 use Rattle.lalrpop_grammar_repr.specs.declared.types.Types.{Types}
-use Rattle.lalrpop_grammar_types.specs.declared.type_repr.TypeRepr.{TypeRepr}
-use Rattle.lalrpop_norm_expansion.specs.Between.{grammar_between}
-use Rattle.lalrpop_norm_expansion.specs.Inlined.{IsInlined}
-use Rattle.lalrpop_norm_expansion.specs.Premises.{IsExpanded}
-use Rattle.lalrpop_norm_expansion.specs.Productions.{AreProductions, IsOriginBefore, NamedProduction}
-use Rattle.lalrpop_norm_types.specs.TerminalTypes.{HasTerminalTypes, grammar_terminals}
-use Rattle.lalrpop_norm_types.specs.TypeFaults.{nonterminal_of}
+use Rattle.lalrpop_grammar.specs.declared.types.type_repr.TypeRepr.{TypeRepr}
+use Rattle.lalrpop_norm_theory.specs.Between.{grammar_between}
+use Rattle.lalrpop_norm_theory.specs.Inlined.{IsInlined}
+use Rattle.lalrpop_norm_theory.specs.Premises.{IsExpanded}
+use Rattle.lalrpop_norm_theory.specs.Productions.{AreProductions, IsOriginBefore, NamedProduction}
+use Rattle.lalrpop_norm_tyinfer.specs.TerminalTypes.{HasTerminalTypes, grammar_terminals}
+use Rattle.lalrpop_norm_tyinfer.specs.TypeFaults.{nonterminal_of}
 use Rattle.lalrpop_norm_lower.specs.Definitions.{definition_of, type_in_table}
 use Rattle.lalrpop_norm_lower.specs.LoweredLists.{gets_start, with_places}
 use Rattle.lalrpop_norm_lower.specs.LoweredSymbols.{lowered_name, lowered_side, named_productions, named_symbol}

@@ -8,7 +8,7 @@ use Rattle.lalrpop_grammar_repr.specs.declared.production.NonterminalData.{Nonte
 use Rattle.lalrpop_grammar_repr.specs.declared.production.Production.{Production}
 use Rattle.lalrpop_grammar_repr.specs.declared.production.Symbol.{Symbol}
 use Rattle.lalrpop_grammar_repr.specs.declared.production.Symbol.TheVariants as symbols
-use Rattle.lalrpop_norm_expansion.specs.Productions.{NamedProduction}
+use Rattle.lalrpop_norm_theory.specs.Productions.{NamedProduction}
 
 -- what a symbol of an expanded grammar is on a right side: a rule or a terminal, maybe named or chosen; there is no other
 abbrev pub lowered_symbol : WrittenSymbol → List (GrammarSymbol Text)

@@ -11,7 +11,7 @@ use Rattle.lalrpop_grammar.specs.WrittenGrammar.{Grammar, rules_of}
 use Rattle.lalrpop_grammar_repr.specs.declared.production.NonterminalData.{NonterminalData}
 use Rattle.lalrpop_grammar_repr.specs.declared.terminal_set.TerminalSet.{TerminalSet}
 use Rattle.lalrpop_grammar_repr.specs.declared.types.Types.{Types}
-use Rattle.lalrpop_grammar_types.specs.declared.type_repr.TypeRepr.{TypeRepr}
+use Rattle.lalrpop_grammar.specs.declared.types.type_repr.TypeRepr.{TypeRepr}
 use Rattle.lalrpop_norm_lower.specs.LoweredLists.{lowered_definitions, lowered_entries, lowered_entry_view, lowered_origins}
 use Rattle.lalrpop_norm_lower.specs.LoweredLists.{put_entries, rules_with_starts, start_name_entries, start_type_entries, with_places}
 use Rattle.lalrpop_norm_lower.specs.declared.lowering.Normalized.{Normalized}

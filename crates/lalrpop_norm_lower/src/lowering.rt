@@ -6,7 +6,7 @@ ghost use Rattle.lalrpop_grammar.specs.Items.{first_in, intern_in};
 ghost use Rattle.lalrpop_grammar.specs.Views.{grammar_view, origin_view};
 ghost use Rattle.lalrpop_grammar.specs.WrittenGrammar.{rules_of};
 ghost use Rattle.lalrpop_grammar_repr.specs.Algorithms.{has_lalr};
-ghost use Rattle.lalrpop_norm_expansion.specs.Between.{grammar_between};
+ghost use Rattle.lalrpop_norm_theory.specs.Between.{grammar_between};
 ghost use Rattle.lalrpop_norm_lower.specs.Lowered.{IsLowerable, IsLowered, KeepsTheRest, entries_or_none};
 ghost use Rattle.lalrpop_norm_lower.specs.LoweredLists.{count_actions, lowered_definitions, lowered_origins, rules_with_starts};
 ghost use Rattle.lalrpop_norm_lower.specs.LoweredLists.{start_name_entries, start_type_entries};
@@ -14,7 +14,7 @@ ghost use Rattle.lalrpop_norm_lower.specs.LowerFaults.{HasFewActions, IsLowerFau
 ghost use Rattle.lalrpop_norm_lower.specs.MadeLists.{AreMadeNonterminals, IsMadeOfLists, IsMadeTerminalSet, put_names};
 ghost use Rattle.lalrpop_norm_lower.specs.RuleLists.{rules_at};
 ghost use Rattle.lalrpop_norm_lower.specs.TableReadiness.{IsReadyForTables};
-ghost use Rattle.lalrpop_norm_types.specs.TerminalTypes.{HasTerminalTypes};
+ghost use Rattle.lalrpop_norm_tyinfer.specs.TerminalTypes.{HasTerminalTypes};
 
 use crate::actions::{
     add_rule_definitions, add_rule_origins, add_start_definitions, add_start_origins,

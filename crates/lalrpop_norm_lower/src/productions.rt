@@ -19,12 +19,12 @@ ghost use Rattle.lalrpop_norm_lower.specs.RuleLists.{rules_at};
 
 use crate::starts::start_name;
 use crate::symbols::lower_symbols;
+use lalrpop_grammar::types::clone_attributes;
 use lalrpop_grammar::{Alternative, Grammar, NonterminalData};
 use lalrpop_grammar_repr::{
     ActionFn, NonterminalData as LoweredData, Production, Symbol as LoweredSymbol,
 };
 use lalrpop_grammar_symbols::{Atom, List, NonterminalString};
-use lalrpop_grammar_types::clone_attributes;
 use std::alloc::{AllocError, Global};
 
 /// A nonterminal by its name.

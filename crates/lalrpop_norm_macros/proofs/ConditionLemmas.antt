@@ -9,17 +9,17 @@ use Rattle.lalrpop_grammar_language.specs.Enabled.{EnabledGrammar, EnabledRule, 
 use Rattle.lalrpop_grammar_language.specs.Levels.{Rank, ranked_choices}
 use Rattle.lalrpop_grammar_language.specs.Admitting.{bind, rank_level}
 use Rattle.lalrpop_grammar_language.proofs.PlaceLemmas.{among_map}
-use Rattle.lalrpop_grammar_closed.specs.Finding.{IsReadIn, IsReadPattern, IsSearch, IsUnread}
-use Rattle.lalrpop_norm_expansion.specs.Premises.{HasNoLevels}
-use Rattle.lalrpop_norm_expansion.proofs.AmongLemmas.{map_among}
-use Rattle.lalrpop_norm_expansion.proofs.ExpansionListLemmas.{rule_there}
-use Rattle.lalrpop_norm_expansion.proofs.LevelLemmas.{no_rank}
+use Rattle.lalrpop_grammar_rules.specs.Finding.{IsReadIn, IsReadPattern, IsSearch, IsUnread}
+use Rattle.lalrpop_norm_theory.specs.Premises.{HasNoLevels}
+use Rattle.lalrpop_norm_theory.proofs.AmongLemmas.{map_among}
+use Rattle.lalrpop_norm_theory.proofs.ExpansionListLemmas.{rule_there}
+use Rattle.lalrpop_norm_theory.proofs.LevelLemmas.{no_rank}
 use Rattle.lalrpop_norm_keys.specs.AskedConditions.{HasAskedConditions}
 use Rattle.lalrpop_norm_keys.specs.MacroFaults.{ConditionError, IsAskable, IsConditionError, IsQuotedLiteral, IsUnreadOf}
 use Rattle.lalrpop_norm_keys.proofs.OriginLemmas.{plain_grammar, plain_pair, plain_rule, plain_was, ranked_plain, rule_plain}
 use Rattle.lalrpop_norm_keys.proofs.PlainGrammarLemmas.{chain_alike, root_alike}
 use Rattle.lalrpop_norm_keys.proofs.RightCallLemmas.{HasRightCalls, IsRightCall, chain_right, root_right}
-use Rattle.lalrpop_norm_fault_chain.specs.MadeConditions.{HasWrongCondition, IsMade}
+use Rattle.lalrpop_norm_chain.specs.MadeConditions.{HasWrongCondition, IsMade}
 
 not_read : (answer : Option Bool) (deep : Bool) → IsReadPattern answer deep → IsUnread answer deep → ⊥
 not_read answer deep r (inl e) = r.0 e

@@ -17,15 +17,15 @@ use Rattle.lalrpop_grammar_repr.specs.declared.norm_error.NormError.{NormError}
 use Rattle.lalrpop_grammar_repr.specs.declared.norm_error.NormErrorKind.{NormErrorKind}
 use Rattle.lalrpop_grammar_repr.specs.declared.norm_error.NormErrorKind.TheVariants as kinds
 use Rattle.lalrpop_grammar_repr.specs.declared.session.NormFault.TheVariants as faults
-use Rattle.lalrpop_norm_expansion.specs.Between.{grammar_between}
-use Rattle.lalrpop_norm_expansion.proofs.ClosedComparisonLemmas.{all-each}
-use Rattle.lalrpop_norm_expansion.proofs.ExpansionListLemmas.{is_not_too_deep, is_root, is_too_deep, listed-chain, root-listed, rule_there}
-use Rattle.lalrpop_grammar_closed.specs.Finding.{IsSearch}
-use Rattle.lalrpop_norm_place_law.specs.CallPlaces.{CountedSymbol, IsPlaceBelow, IsPlaceInSide, IsPlaceOfCall, place_of_symbol}
-use Rattle.lalrpop_norm_place_law.specs.CallPlaces.{symbols_within}
+use Rattle.lalrpop_norm_theory.specs.Between.{grammar_between}
+use Rattle.lalrpop_norm_theory.proofs.ClosedComparisonLemmas.{all-each}
+use Rattle.lalrpop_norm_theory.proofs.ExpansionListLemmas.{is_not_too_deep, is_root, is_too_deep, listed-chain, root-listed, rule_there}
+use Rattle.lalrpop_grammar_rules.specs.Finding.{IsSearch}
+use Rattle.lalrpop_norm_theory.specs.CallPlaces.{CountedSymbol, IsPlaceBelow, IsPlaceInSide, IsPlaceOfCall, place_of_symbol}
+use Rattle.lalrpop_norm_theory.specs.CallPlaces.{symbols_within}
 use Rattle.lalrpop_norm_keys.specs.FoundCalls.{TellsOfMadeCall}
 use Rattle.lalrpop_norm_keys.specs.MacroFaults.{ConditionError, TellsOfAlternative}
-use Rattle.lalrpop_norm_fault_chain.specs.MadeConditions.{HasWrongCondition}
+use Rattle.lalrpop_norm_chain.specs.MadeConditions.{HasWrongCondition}
 use Rattle.lalrpop_norm_macros.specs.MacroPass.{HasNoMacroFault, TellsDepth, TellsOfMacros}
 
 abbrev never : Text → Bool

@@ -8,10 +8,10 @@ use Rattle.lalrpop_grammar_repr.specs.declared.norm_error.NormError.{NormError}
 use Rattle.lalrpop_grammar_repr.specs.declared.norm_error.NormErrorKind.TheVariants as kinds
 use Rattle.lalrpop_grammar_repr.specs.declared.session.NormFault.{NormFault}
 use Rattle.lalrpop_grammar_repr.specs.declared.session.NormFault.TheVariants as faults
-use Rattle.lalrpop_norm_expansion.specs.Between.{grammar_between}
-use Rattle.lalrpop_norm_expansion.specs.Depth.{IsTooDeep}
+use Rattle.lalrpop_norm_theory.specs.Between.{grammar_between}
+use Rattle.lalrpop_norm_theory.specs.Depth.{IsTooDeep}
 use Rattle.lalrpop_norm_keys.specs.Arity.{TellsArity, arity_faults}
-use Rattle.lalrpop_norm_place_law.specs.CallPlaces.{IsPlaceBelow}
+use Rattle.lalrpop_norm_theory.specs.CallPlaces.{IsPlaceBelow}
 use Rattle.lalrpop_norm_keys.specs.FoundCalls.{TellsOfMadeCall}
 use Rattle.lalrpop_norm_macros.specs.MacroPass.{IsMacroFault, IsReadyForMacros, TellsOfMacros}
 

@@ -12,17 +12,17 @@ use Rattle.lalrpop_grammar_repr.specs.declared.session.NormFault.{NormFault}
 use Rattle.lalrpop_grammar_repr.specs.declared.session.NormFault.TheVariants as faults
 use Rattle.lalrpop_grammar_rules.specs.RuleTable.{IsOfGrammar, rules_view, rules_with}
 use Rattle.lalrpop_grammar_rules.specs.declared.table.Rules as table
-use Rattle.lalrpop_grammar_closed.specs.Views.{closed_view}
-use Rattle.lalrpop_grammar_closed.specs.declared.closed_symbol.ClosedSymbol.{ClosedSymbol}
-use Rattle.lalrpop_norm_expansion.specs.Between.{grammar_between}
-use Rattle.lalrpop_norm_expansion.specs.Rounds.{AreCallsToDepth}
-use Rattle.lalrpop_norm_expansion.proofs.DepthLemmas.{none_too_deep}
-use Rattle.lalrpop_norm_expansion.specs.KeyTables.{IsKeyTable}
-use Rattle.lalrpop_norm_key_table.specs.Tables.{table_keys}
-use Rattle.lalrpop_norm_key_table.specs.declared.key_table.KeyTable.{KeyTable}
+use Rattle.lalrpop_grammar_rules.specs.Views.{closed_view}
+use Rattle.lalrpop_grammar_rules.specs.declared.closed.closed_symbol.ClosedSymbol.{ClosedSymbol}
+use Rattle.lalrpop_norm_theory.specs.Between.{grammar_between}
+use Rattle.lalrpop_norm_theory.specs.Rounds.{AreCallsToDepth}
+use Rattle.lalrpop_norm_theory.proofs.DepthLemmas.{none_too_deep}
+use Rattle.lalrpop_norm_theory.specs.KeyTables.{IsKeyTable}
+use Rattle.lalrpop_norm_keys.specs.Tables.{table_keys}
+use Rattle.lalrpop_norm_keys.specs.declared.key_table.key_table.KeyTable.{KeyTable}
 use Rattle.lalrpop_norm_keys.specs.Arity.{arity_faults}
 use Rattle.lalrpop_norm_keys.specs.AskedConditions.{HasAskedConditions}
-use Rattle.lalrpop_norm_place_law.specs.CallPlaces.{IsPlaceBelow}
+use Rattle.lalrpop_norm_theory.specs.CallPlaces.{IsPlaceBelow}
 use Rattle.lalrpop_norm_keys.specs.FoundCalls.{HasFoundCalls, TellsOfMadeCall}
 use Rattle.lalrpop_norm_keys.specs.SearchPremises.{AreAllCalls, CanSearch}
 use Rattle.lalrpop_norm_keys.specs.declared.rounds.FoundCalls.{FoundCalls}

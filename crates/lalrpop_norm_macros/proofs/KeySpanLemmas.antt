@@ -15,12 +15,12 @@ use Rattle.lalrpop_grammar_repr.specs.declared.session.NormFault.{NormFault}
 use Rattle.lalrpop_grammar_repr.specs.declared.session.NormFault.TheVariants as faults
 use Rattle.lalrpop_grammar_rules.specs.RuleTable.{IsOfGrammar, rules_with}
 use Rattle.lalrpop_grammar_rules.specs.declared.table.Rules as table
-use Rattle.lalrpop_norm_expansion.specs.Between.{grammar_between}
-use Rattle.lalrpop_norm_expansion.specs.Depth.{HasCallChain}
-use Rattle.lalrpop_norm_expansion.specs.Rounds.{AreCallsToDepth}
-use Rattle.lalrpop_norm_expansion.proofs.AmongLemmas.{among_parts}
-use Rattle.lalrpop_norm_expansion.specs.KeyTables.{IsKeyTable}
-use Rattle.lalrpop_norm_fault_chain.specs.PassedOn.{IsKeyPlace, IsShapeKey}
+use Rattle.lalrpop_norm_theory.specs.Between.{grammar_between}
+use Rattle.lalrpop_norm_theory.specs.Depth.{HasCallChain}
+use Rattle.lalrpop_norm_theory.specs.Rounds.{AreCallsToDepth}
+use Rattle.lalrpop_norm_theory.proofs.AmongLemmas.{among_parts}
+use Rattle.lalrpop_norm_theory.specs.KeyTables.{IsKeyTable}
+use Rattle.lalrpop_norm_keys.specs.KeyPlaces.{IsKeyPlace, IsShapeKey}
 use Rattle.lalrpop_norm_keys.specs.FoundCalls.{TellsOfMadeCall, TellsOfOneCall, plain_calls}
 use Rattle.lalrpop_norm_keys.specs.SearchPremises.{CanSearch}
 use Rattle.lalrpop_norm_keys.proofs.FaultLemmas.{made_alike}
@@ -28,14 +28,14 @@ use Rattle.lalrpop_norm_keys.proofs.FoundLemmas.{plain_call_is, plain_is_root}
 use Rattle.lalrpop_norm_keys.proofs.OriginLemmas.{plain_grammar}
 use Rattle.lalrpop_norm_keys.proofs.PlainGrammarLemmas.{calls_alike, keys_alike, root_alike, table_alike}
 use Rattle.lalrpop_norm_keys.proofs.PremiseLemmas.{flat_back, single_back}
-use Rattle.lalrpop_norm_key_places.specs.GrammarPlaces.{HasKeySpans}
-use Rattle.lalrpop_norm_key_places.specs.KeySpanLaws.{AreKeyPlaces}
-use Rattle.lalrpop_norm_key_places.proofs.KeySpanLemmas.{keys_placed}
-use Rattle.lalrpop_norm_key_places.proofs.PlainPlaceLemmas.{key_place_alike}
-use Rattle.lalrpop_norm_key_rules.specs.FinishedRules.{AreRulesFrom}
-use Rattle.lalrpop_norm_key_rules.specs.KeyRuleLaws.{HasRightKeys}
-use Rattle.lalrpop_norm_key_rules.specs.WrittenKeys.{span_of_key}
-use Rattle.lalrpop_norm_key_rules.proofs.UsableKeyLemmas.{call_holder}
+use Rattle.lalrpop_norm_keys.specs.GrammarPlaces.{HasKeySpans}
+use Rattle.lalrpop_norm_keys.specs.KeySpanLaws.{AreKeyPlaces}
+use Rattle.lalrpop_norm_keys.proofs.KeySpanLemmas.{keys_placed}
+use Rattle.lalrpop_norm_keys.proofs.PlainPlaceLemmas.{key_place_alike}
+use Rattle.lalrpop_norm_macros.specs.FinishedRules.{AreRulesFrom}
+use Rattle.lalrpop_norm_macros.specs.KeyRuleLaws.{HasRightKeys}
+use Rattle.lalrpop_norm_macros.specs.WrittenKeys.{span_of_key}
+use Rattle.lalrpop_norm_macros.proofs.UsableKeyLemmas.{call_holder}
 
 -- each repeat, group and lookaround among these is met at its place, from one on
 abbrev pub ArePlacedFrom : EnabledGrammar → (ℕ → TextSpan) → ℕ → List Closed → Type 0

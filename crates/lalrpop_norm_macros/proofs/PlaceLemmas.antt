@@ -8,9 +8,9 @@ use Rattle.lalrpop_grammar_language.specs.Levels.{Rank, allowed_level, ranked_ch
 use Rattle.lalrpop_grammar_language.specs.Closing.{Binding, close, is_sound, occurrences_in, scope_of}
 use Rattle.lalrpop_grammar_language.specs.Admitting.{Fits, bind, rank_level}
 use Rattle.lalrpop_grammar_language.proofs.PlaceLemmas.{among_map}
-use Rattle.lalrpop_norm_expansion.specs.Depth.{calls_in}
-use Rattle.lalrpop_norm_expansion.proofs.AmongLemmas.{map_among}
-use Rattle.lalrpop_norm_place_law.specs.CallPlaces.{IsMadeAt, IsPlaceBelow, IsPlaceInSide, IsPlaceOfCall}
+use Rattle.lalrpop_norm_theory.specs.Depth.{calls_in}
+use Rattle.lalrpop_norm_theory.proofs.AmongLemmas.{map_among}
+use Rattle.lalrpop_norm_theory.specs.CallPlaces.{IsMadeAt, IsPlaceBelow, IsPlaceInSide, IsPlaceOfCall}
 use Rattle.lalrpop_norm_keys.proofs.OriginLemmas.{allowed_plain, close_same, levels_plain, plain_choice, plain_grammar, plain_pair}
 use Rattle.lalrpop_norm_keys.proofs.OriginLemmas.{plain_rule, plain_was, ranked_plain, rule_plain}
 use Rattle.lalrpop_norm_keys.proofs.PlainGrammarLemmas.{chain_alike, holds_with, root_alike}

@@ -6,28 +6,29 @@ use Rattle.lalrpop_grammar.specs.WrittenGrammar.{Alternative, Grammar, Rule, Wri
 use Rattle.lalrpop_grammar_language.specs.Among.{Among}
 use Rattle.lalrpop_grammar_language.specs.Enabled.{EnabledGrammar}
 use Rattle.lalrpop_grammar_repr.specs.declared.session.NormFault.{NormFault}
-use Rattle.lalrpop_norm_expansion.specs.Between.{grammar_between, rule_between}
-use Rattle.lalrpop_norm_expansion.specs.Rounds.{AreCallsToDepth}
-use Rattle.lalrpop_norm_expansion.proofs.ExpansionListLemmas.{rule_there}
-use Rattle.lalrpop_norm_expansion.specs.KeyTables.{IsKeyTable}
-use Rattle.lalrpop_norm_expansion.proofs.KeyTableLemmas.{table_expansion}
-use Rattle.lalrpop_norm_fault_chain.specs.PassedOn.{IsMacroResult}
-use Rattle.lalrpop_norm_fault_chain.specs.PassedOn.{entries_of_items}
-use Rattle.lalrpop_norm_fault_chain.specs.PassedOn.{IsAddedOrigin, IsKeyPlace, IsMadeFrom, IsShapeKey}
-use Rattle.lalrpop_norm_fault_chain.specs.PassedOn.{block_groups}
-use Rattle.lalrpop_norm_key_table.specs.Tables.{HasEachOnce}
+use Rattle.lalrpop_norm_theory.specs.Between.{grammar_between, rule_between}
+use Rattle.lalrpop_norm_theory.specs.Rounds.{AreCallsToDepth}
+use Rattle.lalrpop_norm_theory.proofs.ExpansionListLemmas.{rule_there}
+use Rattle.lalrpop_norm_theory.specs.KeyTables.{IsKeyTable}
+use Rattle.lalrpop_norm_theory.proofs.KeyTableLemmas.{table_expansion}
+use Rattle.lalrpop_norm_chain.specs.Chains.{IsMacroResult}
+use Rattle.lalrpop_norm_chain.specs.PremiseLaws.{entries_of_items}
+use Rattle.lalrpop_norm_chain.specs.Spans.{IsAddedOrigin, IsMadeFrom}
+use Rattle.lalrpop_norm_keys.specs.KeyPlaces.{IsKeyPlace, IsShapeKey}
+use Rattle.lalrpop_norm_token_check.specs.Blocks.{block_groups}
+use Rattle.lalrpop_norm_keys.specs.Tables.{HasEachOnce}
 use Rattle.lalrpop_norm_keys.specs.Arity.{arity_faults}
 use Rattle.lalrpop_norm_keys.specs.FoundCalls.{TellsOfMadeCall}
-use Rattle.lalrpop_norm_key_names.specs.KeyNames.{AreKeyNames, HasFoundKeys, HoldKeyNames, IsNameable}
-use Rattle.lalrpop_norm_key_names.specs.NameLaws.{nonterminal_name}
-use Rattle.lalrpop_norm_key_names.proofs.ExpansionNameLemmas.{expansion_named}
-use Rattle.lalrpop_norm_key_rules.specs.FinishedRules.{AreFinishedRules, IsFinishedRule}
-use Rattle.lalrpop_norm_key_rules.specs.KeyRuleLaws.{AreRulesUnderNames, HasRightKeys, TellsOfRightKeys}
-use Rattle.lalrpop_norm_key_rules.specs.RuleItems.{grammar_with_rules, other_items}
-use Rattle.lalrpop_norm_key_rules.proofs.CountLemmas.{right_by_counts}
-use Rattle.lalrpop_norm_key_rules.proofs.FinishedGrammarLemmas.{finished_declarations, finished_expanded, finished_key_rules}
-use Rattle.lalrpop_norm_key_rules.proofs.FinishedGrammarLemmas.{rule_of_some}
-use Rattle.lalrpop_norm_key_rules.proofs.FinishedLemmas.{finished_name, rules_of_made}
+use Rattle.lalrpop_norm_macros.specs.KeyNames.{AreKeyNames, HasFoundKeys, HoldKeyNames, IsNameable}
+use Rattle.lalrpop_norm_macros.specs.NameLaws.{nonterminal_name}
+use Rattle.lalrpop_norm_macros.proofs.ExpansionNameLemmas.{expansion_named}
+use Rattle.lalrpop_norm_macros.specs.FinishedRules.{AreFinishedRules, IsFinishedRule}
+use Rattle.lalrpop_norm_macros.specs.KeyRuleLaws.{AreRulesUnderNames, HasRightKeys, TellsOfRightKeys}
+use Rattle.lalrpop_norm_macros.specs.RuleItems.{grammar_with_rules, other_items}
+use Rattle.lalrpop_norm_macros.proofs.CountLemmas.{right_by_counts}
+use Rattle.lalrpop_norm_macros.proofs.FinishedGrammarLemmas.{finished_declarations, finished_expanded, finished_key_rules}
+use Rattle.lalrpop_norm_macros.proofs.FinishedGrammarLemmas.{rule_of_some}
+use Rattle.lalrpop_norm_macros.proofs.FinishedLemmas.{finished_name, rules_of_made}
 use Rattle.lalrpop_norm_macros.specs.MacroPass.{IsMacroFault, IsReadyForMacros}
 use Rattle.lalrpop_norm_macros.proofs.FaultLemmas.{told_condition}
 use Rattle.lalrpop_norm_macros.proofs.KeySpanLemmas.{ArePlacedFrom, rules_placed}

@@ -7,12 +7,13 @@ use Rattle.lalrpop_grammar_language.specs.Among.{Among}
 use Rattle.lalrpop_grammar_language.specs.Enabled.{EnabledGrammar}
 use Rattle.lalrpop_grammar_language.specs.Admitting.{argument_list, bind}
 use Rattle.lalrpop_grammar_language.specs.Conditions.{Holds}
-use Rattle.lalrpop_norm_expansion.specs.Between.{rule_between}
-use Rattle.lalrpop_norm_fault_chain.specs.PassedOn.{IsAddedOrigin, IsMadeFrom, IsShapeKey}
-use Rattle.lalrpop_norm_key_rules.specs.AddedRules.{AddedChoice, AreAddedAlternatives, IsAddedRule, added_choices}
-use Rattle.lalrpop_norm_key_rules.specs.FinishedRules.{BecomesInInstance, IsFinishedRule, IsRepeatType}
-use Rattle.lalrpop_norm_key_rules.specs.InstanceRules.{AreInstancesBy}
-use Rattle.lalrpop_norm_key_rules.specs.PassedOn.{AreWrittenByName}
+use Rattle.lalrpop_norm_theory.specs.Between.{rule_between}
+use Rattle.lalrpop_norm_chain.specs.Spans.{IsAddedOrigin, IsMadeFrom}
+use Rattle.lalrpop_norm_keys.specs.KeyPlaces.{IsShapeKey}
+use Rattle.lalrpop_norm_macros.specs.AddedRules.{AddedChoice, AreAddedAlternatives, IsAddedRule, added_choices}
+use Rattle.lalrpop_norm_macros.specs.FinishedRules.{BecomesInInstance, IsFinishedRule, IsRepeatType}
+use Rattle.lalrpop_norm_macros.specs.InstanceRules.{AreInstancesBy}
+use Rattle.lalrpop_norm_macros.specs.KeyedSymbols.{AreWrittenByName}
 
 -- an alternative of an instance is made of one of the rule
 instance_of : (held : Option Condition → Type 0) (becomes : Alternative → Alternative → Type 0) (as_ bs : List Alternative)

@@ -8,12 +8,12 @@ use Rattle.lalrpop_grammar_language.specs.Enabled.{EnabledGrammar, enabled_gramm
 use Rattle.lalrpop_grammar_repr.specs.declared.session.NormFault.{NormFault}
 use Rattle.lalrpop_grammar_rules.specs.RuleTable.{IsOfGrammar, rules_view, rules_with}
 use Rattle.lalrpop_grammar_rules.specs.declared.table.Rules as table
-use Rattle.lalrpop_norm_expansion.specs.Between.{grammar_between}
-use Rattle.lalrpop_norm_expansion.specs.Depth.{IsTooDeep}
-use Rattle.lalrpop_norm_expansion.specs.Rounds.{AreCallsToDepth}
-use Rattle.lalrpop_norm_expansion.specs.KeyTables.{IsKeyTable}
+use Rattle.lalrpop_norm_theory.specs.Between.{grammar_between}
+use Rattle.lalrpop_norm_theory.specs.Depth.{IsTooDeep}
+use Rattle.lalrpop_norm_theory.specs.Rounds.{AreCallsToDepth}
+use Rattle.lalrpop_norm_theory.specs.KeyTables.{IsKeyTable}
 use Rattle.lalrpop_norm_keys.specs.Arity.{arity_faults}
-use Rattle.lalrpop_norm_place_law.specs.CallPlaces.{IsPlaceBelow}
+use Rattle.lalrpop_norm_theory.specs.CallPlaces.{IsPlaceBelow}
 use Rattle.lalrpop_norm_keys.specs.FoundCalls.{TellsOfMadeCall}
 use Rattle.lalrpop_norm_keys.specs.SearchPremises.{AreAllCalls, CanSearch}
 use Rattle.lalrpop_norm_keys.proofs.FaultLemmas.{arity_alike, made_alike}

@@ -2,7 +2,7 @@
 use Rattle.std.specs.Prelude.{ℕ, Bool, List, [], Option}
 use Rattle.lalrpop_grammar_symbols.specs.Symbols.{Text, Closed}
 use Rattle.lalrpop_grammar.specs.WrittenGrammar.{Grammar}
-use Rattle.lalrpop_norm_key_rules.specs.KeyRuleLaws.{HasRightKeys}
+use Rattle.lalrpop_norm_macros.specs.KeyRuleLaws.{HasRightKeys}
 use Rattle.lalrpop_norm_macros.specs.MacroPass.{HasNoMacroFault}
 
 -- These are the keys of the grammar, and nothing is wrong with its macros.

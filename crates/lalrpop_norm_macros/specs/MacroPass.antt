@@ -7,17 +7,17 @@ use Rattle.lalrpop_grammar_language.specs.Enabled.{EnabledGrammar}
 use Rattle.lalrpop_grammar_repr.specs.declared.norm_error.NormErrorKind.TheVariants as kinds
 use Rattle.lalrpop_grammar_repr.specs.declared.session.NormFault.{NormFault}
 use Rattle.lalrpop_grammar_repr.specs.declared.session.NormFault.TheVariants as faults
-use Rattle.lalrpop_norm_expansion.specs.Between.{grammar_between}
-use Rattle.lalrpop_norm_expansion.specs.Depth.{IsTooDeep}
-use Rattle.lalrpop_norm_expansion.specs.Premises.{HasNoLevels, HasNoRecovery, IsResolved}
+use Rattle.lalrpop_norm_theory.specs.Between.{grammar_between}
+use Rattle.lalrpop_norm_theory.specs.Depth.{IsTooDeep}
+use Rattle.lalrpop_norm_theory.specs.Premises.{HasNoLevels, HasNoRecovery, IsResolved}
 use Rattle.lalrpop_norm_keys.specs.Arity.{arity_faults, TellsArity}
-use Rattle.lalrpop_norm_place_law.specs.CallPlaces.{IsPlaceBelow}
+use Rattle.lalrpop_norm_theory.specs.CallPlaces.{IsPlaceBelow}
 use Rattle.lalrpop_norm_keys.specs.FoundCalls.{TellsOfMadeCall}
 use Rattle.lalrpop_norm_keys.specs.MacroFaults.{ConditionError}
 use Rattle.lalrpop_norm_keys.specs.TableLaws.{HasAllActive}
-use Rattle.lalrpop_norm_key_names.specs.KeyNames.{IsNameable}
-use Rattle.lalrpop_norm_key_names.specs.NameLaws.{LeavesPrefix}
-use Rattle.lalrpop_norm_fault_chain.specs.MadeConditions.{HasWrongCondition}
+use Rattle.lalrpop_norm_macros.specs.KeyNames.{IsNameable}
+use Rattle.lalrpop_norm_macros.specs.NameLaws.{LeavesPrefix}
+use Rattle.lalrpop_norm_chain.specs.MadeConditions.{HasWrongCondition}
 
 -- What the passes before this one leave: names are resolved, no rule has levels, no alternative has the symbol of error recovery,
 -- keys can be named, no name begins with the prefix, and no attribute asks for features.

@@ -2,20 +2,20 @@
 
 ghost use Rattle.std.specs.Prelude.{◌≡◌, IfErr, IfOk, map};
 ghost use Rattle.lalrpop_grammar.specs.Views.{grammar_view, nonterminal_view};
-ghost use Rattle.lalrpop_judge_search.specs.Search.{finds as finds_in, is_too_deep};
-ghost use Rattle.lalrpop_norm_fault_chain.specs.PassedOn.{IsMacroResult};
-ghost use Rattle.lalrpop_norm_key_rules.specs.RuleItems.{grammar_with_rules, other_items};
+ghost use Rattle.lalrpop_grammar_rules.specs.Search.{finds as finds_in, is_too_deep};
+ghost use Rattle.lalrpop_norm_chain.specs.Chains.{IsMacroResult};
+ghost use Rattle.lalrpop_norm_macros.specs.RuleItems.{grammar_with_rules, other_items};
 ghost use Rattle.lalrpop_norm_macros.specs.MacroPass.{HasNoMacroFault, IsMacroFault, IsReadyForMacros};
 
 use crate::finding::macro_keys;
+use crate::key_rules::with_rules;
 use crate::writing::rules_of_keys;
 use lalrpop_grammar::{Grammar, NonterminalData};
-use lalrpop_grammar_closed::Finder;
 use lalrpop_grammar_repr::NormResult;
 use lalrpop_grammar_rules::Rules;
+use lalrpop_grammar_rules::closed::Finder;
+use lalrpop_grammar_rules::search::PatternFinder;
 use lalrpop_grammar_symbols::List;
-use lalrpop_judge_search::PatternFinder;
-use lalrpop_norm_key_rules::with_rules;
 use std::alloc::Global;
 
 /// The rules of the grammar's keys.

@@ -4,18 +4,18 @@ ghost use Rattle.std.specs.Prelude.{◌≡◌, [], IfErr, IfOk};
 ghost use Rattle.lalrpop_grammar.specs.Views.{grammar_view};
 ghost use Rattle.lalrpop_grammar_repr.specs.declared.norm_error.NormErrorKind.TheVariants.{MacroDepth};
 ghost use Rattle.lalrpop_grammar_rules.specs.RuleTable.{IsOfGrammar, IsTable};
-ghost use Rattle.lalrpop_norm_expansion.specs.Between.{grammar_between};
-ghost use Rattle.lalrpop_norm_expansion.specs.Rounds.{AreCallsToDepth};
-ghost use Rattle.lalrpop_norm_key_table.specs.Tables.{IsKeyIndex, table_keys};
+ghost use Rattle.lalrpop_norm_theory.specs.Between.{grammar_between};
+ghost use Rattle.lalrpop_norm_theory.specs.Rounds.{AreCallsToDepth};
+ghost use Rattle.lalrpop_norm_keys.specs.Tables.{IsKeyIndex, table_keys};
 ghost use Rattle.lalrpop_norm_macros.specs.MacroKeys.{HasMacroKeys};
 ghost use Rattle.lalrpop_norm_macros.specs.MacroPass.{IsMacroFault, IsReadyForMacros};
 
 use lalrpop_grammar::Grammar;
-use lalrpop_grammar_closed::Finder;
 use lalrpop_grammar_repr::{NormError, NormErrorKind, NormFault, NormResult};
 use lalrpop_grammar_rules::Rules;
+use lalrpop_grammar_rules::closed::Finder;
 use lalrpop_grammar_symbols::Span;
-use lalrpop_norm_key_table::KeyTable;
+use lalrpop_norm_keys::key_table::KeyTable;
 use lalrpop_norm_keys::{FoundCalls, check_arity, find_calls, find_keys};
 use std::alloc::Global;
 

@@ -5,6 +5,9 @@
 
 mod expanding;
 mod finding;
+pub mod key_names;
+pub mod key_rules;
+pub mod key_symbols;
 mod writing;
 
 pub use expanding::{expand_macros, expand_macros_by};

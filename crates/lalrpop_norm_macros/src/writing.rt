@@ -3,23 +3,23 @@
 ghost use Rattle.std.specs.Prelude.{[], IfErr, IfOk, map};
 ghost use Rattle.lalrpop_grammar.specs.Views.{grammar_view, nonterminal_view};
 ghost use Rattle.lalrpop_grammar_rules.specs.RuleTable.{IsOfGrammar, IsTable};
-ghost use Rattle.lalrpop_norm_expansion.specs.Between.{grammar_between};
-ghost use Rattle.lalrpop_norm_fault_chain.specs.PassedOn.{IsMacroResult};
-ghost use Rattle.lalrpop_norm_key_rules.specs.KeyRuleLaws.{HasRightKeys};
-ghost use Rattle.lalrpop_norm_key_rules.specs.RuleItems.{grammar_with_rules};
-ghost use Rattle.lalrpop_norm_key_table.specs.Tables.{IsKeyIndex, table_keys};
+ghost use Rattle.lalrpop_norm_theory.specs.Between.{grammar_between};
+ghost use Rattle.lalrpop_norm_chain.specs.Chains.{IsMacroResult};
+ghost use Rattle.lalrpop_norm_macros.specs.KeyRuleLaws.{HasRightKeys};
+ghost use Rattle.lalrpop_norm_macros.specs.RuleItems.{grammar_with_rules};
+ghost use Rattle.lalrpop_norm_keys.specs.Tables.{IsKeyIndex, table_keys};
 ghost use Rattle.lalrpop_norm_keys.specs.FoundCalls.{TellsOfMadeCall};
 ghost use Rattle.lalrpop_norm_macros.specs.MacroPass.{IsReadyForMacros};
 
+use crate::key_names::key_names;
+use crate::key_rules::key_rules;
 use lalrpop_grammar::{Grammar, NonterminalData};
-use lalrpop_grammar_closed::Finder;
 use lalrpop_grammar_repr::NormResult;
 use lalrpop_grammar_rules::Rules;
+use lalrpop_grammar_rules::closed::Finder;
 use lalrpop_grammar_symbols::List;
-use lalrpop_norm_key_names::key_names;
-use lalrpop_norm_key_places::key_spans;
-use lalrpop_norm_key_rules::key_rules;
-use lalrpop_norm_key_table::KeyTable;
+use lalrpop_norm_keys::key_places::key_spans;
+use lalrpop_norm_keys::key_table::KeyTable;
 use std::alloc::Global;
 
 /// The rules of the grammar's keys, each under a name of its own; those of repeats, groups and lookarounds stand where these are met

@@ -1,1 +1,4 @@
 pub mod Left
+pub mod FoundFaults
+pub mod Searches
+pub mod NameViews

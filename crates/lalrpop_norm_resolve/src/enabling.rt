@@ -4,7 +4,7 @@
 ghost use Rattle.std.specs.Prelude.{◌≡◌, ◌∷◌, ◌++◌, [], IfOk, OnOk, filter, filter_map, map};
 ghost use Rattle.lalrpop_grammar.specs.Views.{alternative_view, attribute_view, grammar_view, item_view, nonterminal_view};
 ghost use Rattle.lalrpop_grammar_language.specs.Enabled.{is_active};
-ghost use Rattle.lalrpop_norm_expansion.specs.Between.{
+ghost use Rattle.lalrpop_norm_theory.specs.Between.{
   is_cfg as has_cfg_name,
   without_cfg,
   alternative_without_cfg as pure_alternative,
@@ -15,10 +15,10 @@ ghost use Rattle.lalrpop_norm_expansion.specs.Between.{
 ghost use Rattle.lalrpop_grammar.specs.WrittenGrammar.{WrittenItem};
 ghost use Rattle.lalrpop_norm_resolve.specs.Left.{enabled_alternatives as pure_alternatives};
 
+use lalrpop_grammar::types::{Attribute, AttributeArg};
 use lalrpop_grammar::{Alternative, Grammar, GrammarItem, NonterminalData};
 use lalrpop_grammar_repr::Session;
 use lalrpop_grammar_symbols::List;
-use lalrpop_grammar_types::{Attribute, AttributeArg};
 use std::alloc::{AllocError, Global};
 
 /// Whether the attributes leave what they stand on enabled: each `cfg` attribute holds under the session's features. It

@@ -2,5 +2,6 @@
 #![tactic(auto)]
 
 mod enabling;
+pub mod names;
 
 pub use enabling::{cfg_active, remove_disabled_decls};

@@ -5,13 +5,13 @@ use lalrpop_grammar::{Atom, List};
 use lalrpop_grammar_repr::{
     ActionFn, ActionFnDefnKind, InlineActionFnDefn, InlinedSymbol, Symbol, UserActionFnDefn,
 };
-use std::alloc::{AllocError, Global};
-use std::test::Fail;
+use std::alloc::Global;
+use std::process::Abort;
 
 /// The action of an alternative with code.
-fn user_action(alloc: Global) -> Result<UserActionFnDefn, AllocError> {
-    let code = Atom::new(alloc, "x")?;
-    Ok(UserActionFnDefn { code: Some(code) })
+fn user_action(rt: &impl Abort, alloc: Global) -> UserActionFnDefn {
+    let code = Atom::new(alloc, "x").expect(rt, "memory");
+    UserActionFnDefn { code: Some(code) }
 }
 
 /// What became of a symbol that was inlined by the production of number 4, which is empty.
@@ -20,50 +20,49 @@ fn inlined_symbol(alloc: Global) -> InlinedSymbol {
 }
 
 /// The action of number 3, in which that symbol was inlined.
-fn inline_action(alloc: Global) -> Result<InlineActionFnDefn, AllocError> {
-    let symbols = List::from_vec(vec![in alloc; inlined_symbol(alloc)]?);
-    Ok(InlineActionFnDefn {
+fn inline_action(rt: &impl Abort, alloc: Global) -> InlineActionFnDefn {
+    let symbols = vec![in alloc; inlined_symbol(alloc)].expect(rt, "memory");
+    InlineActionFnDefn {
         action: ActionFn::new(3),
-        symbols,
-    })
+        symbols: List::from_vec(symbols),
+    }
 }
 
-fn user_is_copied(alloc: Global) -> Result<bool, AllocError> {
-    let user = user_action(alloc)?;
-    let copy = user.try_clone()?;
-    Ok(copy == user)
+fn user_is_copied(rt: &impl Abort, alloc: Global) -> bool {
+    let user = user_action(rt, alloc);
+    let copy = user.try_clone().expect(rt, "memory");
+    copy == user
 }
 
-fn kind_is_copied(alloc: Global) -> Result<bool, AllocError> {
-    let kind = ActionFnDefnKind::User(user_action(alloc)?);
-    let copy = kind.try_clone(alloc)?;
-    Ok(copy == kind)
+fn kind_is_copied(rt: &impl Abort, alloc: Global) -> bool {
+    let kind = ActionFnDefnKind::User(user_action(rt, alloc));
+    let copy = kind.try_clone(alloc).expect(rt, "memory");
+    copy == kind
 }
 
-fn inlined_is_copied(alloc: Global) -> Result<bool, AllocError> {
+fn inlined_is_copied(rt: &impl Abort, alloc: Global) -> bool {
     let inlined = inlined_symbol(alloc);
-    let copy = inlined.try_clone(alloc)?;
-    Ok(copy == inlined)
+    let copy = inlined.try_clone(alloc).expect(rt, "memory");
+    copy == inlined
 }
 
-fn inline_is_copied(alloc: Global) -> Result<bool, AllocError> {
-    let inline = inline_action(alloc)?;
-    let copy = inline.try_clone(alloc)?;
-    Ok(copy == inline)
+fn inline_is_copied(rt: &impl Abort, alloc: Global) -> bool {
+    let inline = inline_action(rt, alloc);
+    let copy = inline.try_clone(alloc).expect(rt, "memory");
+    copy == inline
 }
 
-fn symbol_is_copied(alloc: Global) -> Result<bool, AllocError> {
-    let symbol = Symbol::Nonterminal(name_of(alloc, "S")?);
-    let copy = symbol.try_clone()?;
-    Ok(copy == symbol)
+fn symbol_is_copied(rt: &impl Abort, alloc: Global) -> bool {
+    let symbol = Symbol::Nonterminal(name_of(rt, alloc, "S"));
+    let copy = symbol.try_clone().expect(rt, "memory");
+    copy == symbol
 }
 
 #[test]
-fn copies_of_actions_by_their_parts(rt: HostRuntime) -> Result<(), Fail> {
-    assert!(rt; user_is_copied(rt.alloc())?);
-    assert!(rt; kind_is_copied(rt.alloc())?);
-    assert!(rt; inlined_is_copied(rt.alloc())?);
-    assert!(rt; inline_is_copied(rt.alloc())?);
-    assert!(rt; symbol_is_copied(rt.alloc())?);
-    Ok(())
+fn copies_of_actions_by_their_parts(rt: HostRuntime) {
+    assert!(rt; user_is_copied(&rt, rt.alloc()));
+    assert!(rt; kind_is_copied(&rt, rt.alloc()));
+    assert!(rt; inlined_is_copied(&rt, rt.alloc()));
+    assert!(rt; inline_is_copied(&rt, rt.alloc()));
+    assert!(rt; symbol_is_copied(&rt, rt.alloc()));
 }

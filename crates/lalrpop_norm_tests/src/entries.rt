@@ -5,27 +5,25 @@ use crate::parts::{is_quoted, is_terminal};
 use lalrpop_grammar::{Atom, Grammar, MatchEntry, MatchMapping, Span, TerminalLiteral};
 use lalrpop_lexer::dfa::{Dfa, NfaIndex, interpret};
 use lalrpop_norm::{LiteralPlaces, token_check};
-use std::alloc::{AllocError, Global};
+use std::alloc::Global;
 use std::process::Abort;
-use std::test::Fail;
 
 /// Where the quoted literal stands first.
-fn place_in(alloc: Global, places: &LiteralPlaces, text: &str) -> Result<Option<Span>, AllocError> {
-    let literal = TerminalLiteral::Quoted(Atom::new(alloc, text)?);
-    Ok(places.get(&literal))
+fn place_in(rt: &impl Abort, alloc: Global, places: &LiteralPlaces, text: &str) -> Option<Span> {
+    let literal = TerminalLiteral::Quoted(Atom::new(alloc, text).expect(rt, "memory"));
+    places.get(&literal)
 }
 
 #[test]
-fn literals_stand_where_they_are_written(rt: HostRuntime) -> Result<(), Fail> {
-    let places = places_of(rt.alloc(), COMMAS)?;
+fn literals_stand_where_they_are_written(rt: HostRuntime) {
+    let places = places_of(&rt, rt.alloc(), COMMAS);
     for (text, place) in [
         ("n", Some(Span(14, 17))),
         (",", Some(Span(39, 42))),
         ("T", None),
     ] {
-        assert!(rt; place_in(rt.alloc(), &places, text)? == place, "{text}");
+        assert!(rt; place_in(&rt, rt.alloc(), &places, text) == place, "{text}");
     }
-    Ok(())
 }
 
 /// Whether it is an entry of the quoted literal, which gives itself, in the only group.
@@ -64,24 +62,23 @@ pub(crate) fn tells_entries(rt: &impl Abort, dfa: &Dfa) {
 }
 
 /// Whether the entries are there where no automaton is asked for.
-fn has_entries_alone(alloc: Global) -> Result<bool, Fail> {
-    let checked = checked_grammar(alloc, COMMAS)?;
-    Ok(ends_with_entries(&checked))
+fn has_entries_alone(rt: &impl Abort, alloc: Global) -> bool {
+    let checked = checked_grammar(rt, alloc, COMMAS);
+    ends_with_entries(&checked)
 }
 
 /// The comma grammar with its entries, and their automaton.
-fn checked_with_dfa(alloc: Global) -> Result<Box<(Grammar, Dfa)>, Fail> {
-    let places = places_of(alloc, COMMAS)?;
-    let expanded = expanded_grammar(alloc, COMMAS)?;
-    let checked = token_check::validate_with_dfa(alloc, Box::into_inner(expanded), &places)?;
-    Ok(Box::new(alloc, checked)?)
+fn checked_with_dfa(rt: &impl Abort, alloc: Global) -> Box<(Grammar, Dfa)> {
+    let places = places_of(rt, alloc, COMMAS);
+    let expanded = expanded_grammar(rt, alloc, COMMAS);
+    let checked = token_check::validate_with_dfa(alloc, Box::into_inner(expanded), &places);
+    Box::new(alloc, checked.expect(rt, "entries")).expect(rt, "memory")
 }
 
 #[test]
-fn literals_become_entries_of_the_tokenizer(rt: HostRuntime) -> Result<(), Fail> {
-    assert!(rt; has_entries_alone(rt.alloc())?);
-    let checked = checked_with_dfa(rt.alloc())?;
+fn literals_become_entries_of_the_tokenizer(rt: HostRuntime) {
+    assert!(rt; has_entries_alone(&rt, rt.alloc()));
+    let checked = checked_with_dfa(&rt, rt.alloc());
     assert!(rt; ends_with_entries(&checked.0));
     tells_entries(&rt, &checked.1);
-    Ok(())
 }

@@ -4,13 +4,12 @@ use crate::finders::{FindsNothing, GivesUp, WithoutMemory};
 use crate::grammars::{COMMAS, CONDITIONS, MACRO_LIMIT, expanded_grammar, leveled_grammar};
 use crate::parts::has_sides;
 use lalrpop_grammar::Grammar;
-use lalrpop_grammar_closed::Finder;
-use lalrpop_judge_search::PatternFinder;
+use lalrpop_grammar_rules::closed::Finder;
+use lalrpop_grammar_rules::search::PatternFinder;
 use lalrpop_norm::NormFault;
 use lalrpop_norm_macros::expand_macros_by;
 use std::alloc::Global;
 use std::process::Abort;
-use std::test::Fail;
 
 /// The rules of the expanded comma grammar, and their alternatives.
 const EXPANDED: [(&str, &str); 6] = [
@@ -35,46 +34,45 @@ fn rule_count(grammar: &Grammar) -> usize {
 }
 
 #[test]
-fn each_call_repeat_and_group_becomes_a_rule(rt: HostRuntime) -> Result<(), Fail> {
-    let grammar = expanded_grammar(rt.alloc(), COMMAS)?;
+fn each_call_repeat_and_group_becomes_a_rule(rt: HostRuntime) {
+    let grammar = expanded_grammar(&rt, rt.alloc(), COMMAS);
     assert_eq!(rt; rule_count(&grammar), EXPANDED.len());
     for (name, sides) in EXPANDED {
-        has_sides(&rt, rt.alloc(), &grammar, name, sides)?;
+        has_sides(&rt, rt.alloc(), &grammar, name, sides);
     }
-    Ok(())
 }
 
 /// What the finder makes of the grammar of conditions: it is expanded, or a fault is told.
 type Expanded = Result<Grammar, NormFault>;
 
 /// The grammar of conditions, expanded by the finder; or the fault.
-fn expand_by<F: Finder>(alloc: Global, finder: &F) -> Result<Box<Expanded>, Fail> {
-    let leveled = leveled_grammar(alloc, CONDITIONS)?;
+fn expand_by<F: Finder>(rt: &impl Abort, alloc: Global, finder: &F) -> Box<Expanded> {
+    let leveled = leveled_grammar(rt, alloc, CONDITIONS);
     let expanded = expand_macros_by(alloc, finder, Box::into_inner(leveled), MACRO_LIMIT);
-    Ok(Box::new(alloc, expanded)?)
+    let boxed: Result<_, _> = Box::new(alloc, expanded);
+    boxed.expect(rt, "memory")
 }
 
 /// That the finder leaves the macro these alternatives.
-fn leaves<F: Finder>(rt: &impl Abort, alloc: Global, finder: &F, sides: &str) -> Result<(), Fail> {
-    match &*expand_by(alloc, finder)? {
+fn leaves<F: Finder>(rt: &impl Abort, alloc: Global, finder: &F, sides: &str) {
+    match &*expand_by(rt, alloc, finder) {
         Ok(grammar) => has_sides(rt, alloc, grammar, r#"M<"ax">"#, sides),
-        Err(_) => Err(Fail::new("a fault")),
+        Err(_) => panic!(rt; "a fault"),
     }
 }
 
 /// Whether the finder has the grammar refused for this.
-fn refuses<F: Finder>(alloc: Global, finder: &F, wanted: &NormFault) -> Result<bool, Fail> {
-    match &*expand_by(alloc, finder)? {
-        Ok(_) => Ok(false),
-        Err(fault) => Ok(*fault == *wanted),
+fn refuses<F: Finder>(rt: &impl Abort, alloc: Global, finder: &F, wanted: &NormFault) -> bool {
+    match &*expand_by(rt, alloc, finder) {
+        Ok(_) => false,
+        Err(fault) => *fault == *wanted,
     }
 }
 
 #[test]
-fn conditions_hold_as_the_finder_says(rt: HostRuntime) -> Result<(), Fail> {
-    leaves(&rt, rt.alloc(), &PatternFinder, r#"| "a""#)?;
-    leaves(&rt, rt.alloc(), &FindsNothing, r#"| "b""#)?;
-    assert!(rt; refuses(rt.alloc(), &GivesUp, &NormFault::ConditionLimit)?);
-    assert!(rt; refuses(rt.alloc(), &WithoutMemory, &NormFault::Memory)?);
-    Ok(())
+fn conditions_hold_as_the_finder_says(rt: HostRuntime) {
+    leaves(&rt, rt.alloc(), &PatternFinder, r#"| "a""#);
+    leaves(&rt, rt.alloc(), &FindsNothing, r#"| "b""#);
+    assert!(rt; refuses(&rt, rt.alloc(), &GivesUp, &NormFault::ConditionLimit));
+    assert!(rt; refuses(&rt, rt.alloc(), &WithoutMemory, &NormFault::Memory));
 }

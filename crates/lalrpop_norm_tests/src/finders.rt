@@ -1,9 +1,9 @@
 //! Finders that search no text.
 
 ghost use Rattle.std.specs.Prelude.{Bool, IfOk, List, Option, Some, false, ℕ};
-ghost use Rattle.lalrpop_grammar_closed.specs.Finding.{IsFinding};
+ghost use Rattle.lalrpop_grammar_rules.specs.Finding.{IsFinding};
 
-use lalrpop_grammar_closed::{Finder, Finding};
+use lalrpop_grammar_rules::closed::{Finder, Finding};
 use std::alloc::{AllocError, Global};
 
 /// It finds no pattern anywhere.

@@ -7,8 +7,8 @@ use lalrpop_norm::{
     token_check,
 };
 use serde_json::Value;
-use std::alloc::{AllocError, Global};
-use std::test::Fail;
+use std::alloc::Global;
+use std::process::Abort;
 
 /// `pub L = Comma<"n">; Comma<T> = { <(<T> ",")*> <T?> };`, with spans in this text.
 pub(crate) const COMMAS: &str =
@@ -44,11 +44,17 @@ pub(crate) const TYPED: &str =
 /// How deep macros may stand in macros.
 pub(crate) const MACRO_LIMIT: u16 = 200;
 
-/// The grammar that the JSON spells. It is boxed, as all that these functions give: each path that drops a box says so by one call.
-pub(crate) fn grammar_of(alloc: Global, text: &str) -> Result<Box<Grammar>, Fail> {
-    let value = Value::from_str(alloc, text)?;
-    let grammar = read_grammar(alloc, &value)?;
-    Ok(Box::new(alloc, grammar)?)
+/// The JSON value. It is boxed, as all that is large here: a box is dropped by one call.
+fn json_value(rt: &impl Abort, alloc: Global, text: &str) -> Box<Value> {
+    let value = Value::from_str(alloc, text).expect(rt, "JSON");
+    Box::new(alloc, value).expect(rt, "memory")
+}
+
+/// The grammar that the JSON spells.
+pub(crate) fn grammar_of(rt: &impl Abort, alloc: Global, text: &str) -> Box<Grammar> {
+    let value = json_value(rt, alloc, text);
+    let grammar = read_grammar(alloc, &value).expect(rt, "a grammar");
+    Box::new(alloc, grammar).expect(rt, "memory")
 }
 
 /// A session in which no feature is on.
@@ -60,57 +66,58 @@ pub(crate) fn plain_session(alloc: Global) -> Session {
 }
 
 /// A session in which the feature f is on.
-pub(crate) fn featured_session(alloc: Global) -> Result<Session, AllocError> {
-    let features = vec![in alloc; Atom::new(alloc, "f")?]?;
-    Ok(Session {
-        features,
+pub(crate) fn featured_session(rt: &impl Abort, alloc: Global) -> Session {
+    let feature = Atom::new(alloc, "f").expect(rt, "memory");
+    Session {
+        features: vec![in alloc; feature].expect(rt, "memory"),
         macro_recursion_limit: MACRO_LIMIT,
-    })
+    }
 }
 
 /// The grammar without what is disabled under the session.
 pub(crate) fn enabled_grammar(
+    rt: &impl Abort,
     alloc: Global,
     session: &Session,
     text: &str,
-) -> Result<Box<Grammar>, Fail> {
-    let grammar = grammar_of(alloc, text)?;
-    let enabled = remove_disabled_decls(alloc, session, Box::into_inner(grammar))?;
-    Ok(Box::new(alloc, enabled)?)
+) -> Box<Grammar> {
+    let grammar = grammar_of(rt, alloc, text);
+    let enabled = remove_disabled_decls(alloc, session, Box::into_inner(grammar));
+    Box::new(alloc, enabled.expect(rt, "memory")).expect(rt, "memory")
 }
 
 /// The grammar, in which nothing is disabled, with its names resolved.
-pub(crate) fn resolved_grammar(alloc: Global, text: &str) -> Result<Box<Grammar>, Fail> {
-    let grammar = grammar_of(alloc, text)?;
-    let resolved = resolve(alloc, Box::into_inner(grammar))?;
-    Ok(Box::new(alloc, resolved)?)
+pub(crate) fn resolved_grammar(rt: &impl Abort, alloc: Global, text: &str) -> Box<Grammar> {
+    let grammar = grammar_of(rt, alloc, text);
+    let resolved = resolve(alloc, Box::into_inner(grammar)).expect(rt, "resolved names");
+    Box::new(alloc, resolved).expect(rt, "memory")
 }
 
 /// The same with a rule for each level.
-pub(crate) fn leveled_grammar(alloc: Global, text: &str) -> Result<Box<Grammar>, Fail> {
-    let resolved = resolved_grammar(alloc, text)?;
-    let leveled = expand_precedence(alloc, Box::into_inner(resolved))?;
-    Ok(Box::new(alloc, leveled)?)
+pub(crate) fn leveled_grammar(rt: &impl Abort, alloc: Global, text: &str) -> Box<Grammar> {
+    let resolved = resolved_grammar(rt, alloc, text);
+    let leveled = expand_precedence(alloc, Box::into_inner(resolved)).expect(rt, "levels");
+    Box::new(alloc, leveled).expect(rt, "memory")
 }
 
 /// The same with its macros expanded.
-pub(crate) fn expanded_grammar(alloc: Global, text: &str) -> Result<Box<Grammar>, Fail> {
-    let leveled = leveled_grammar(alloc, text)?;
-    let expanded = expand_macros(alloc, Box::into_inner(leveled), MACRO_LIMIT)?;
-    Ok(Box::new(alloc, expanded)?)
+pub(crate) fn expanded_grammar(rt: &impl Abort, alloc: Global, text: &str) -> Box<Grammar> {
+    let leveled = leveled_grammar(rt, alloc, text);
+    let expanded = expand_macros(alloc, Box::into_inner(leveled), MACRO_LIMIT).expect(rt, "macros");
+    Box::new(alloc, expanded).expect(rt, "memory")
 }
 
 /// Where the literals of the grammar, in which nothing is disabled, stand first.
-pub(crate) fn places_of(alloc: Global, text: &str) -> Result<LiteralPlaces, Fail> {
-    let grammar = grammar_of(alloc, text)?;
-    let places = LiteralPlaces::new(alloc, &grammar)?;
-    Ok(places)
+pub(crate) fn places_of(rt: &impl Abort, alloc: Global, text: &str) -> Box<LiteralPlaces> {
+    let grammar = grammar_of(rt, alloc, text);
+    let places = LiteralPlaces::new(alloc, &grammar).expect(rt, "memory");
+    Box::new(alloc, places).expect(rt, "memory")
 }
 
 /// The expanded grammar with the tokenizer's entries behind its items.
-pub(crate) fn checked_grammar(alloc: Global, text: &str) -> Result<Box<Grammar>, Fail> {
-    let places = places_of(alloc, text)?;
-    let expanded = expanded_grammar(alloc, text)?;
-    let checked = token_check::validate(alloc, Box::into_inner(expanded), &places)?;
-    Ok(Box::new(alloc, checked)?)
+pub(crate) fn checked_grammar(rt: &impl Abort, alloc: Global, text: &str) -> Box<Grammar> {
+    let places = places_of(rt, alloc, text);
+    let expanded = expanded_grammar(rt, alloc, text);
+    let checked = token_check::validate(alloc, Box::into_inner(expanded), &places);
+    Box::new(alloc, checked.expect(rt, "entries")).expect(rt, "memory")
 }

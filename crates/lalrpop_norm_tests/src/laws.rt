@@ -2,24 +2,24 @@
 
 ghost use Rattle.std.specs.Prelude.{false};
 
-use lalrpop_norm_back_laws::{
-    levels_keep_chains, levels_keep_types, macros_keep_types, names_go_back, types_compose,
-};
-use lalrpop_norm_entries::{entries_are_unique, literals_have_entries};
-use lalrpop_norm_expansion::{
-    enabled_rules_are_left, levels_keep_symbols, macros_keep_expansion, passes_compose,
-    productions_are_numbered, rounds_find_calls, tables_have_types,
-};
-use lalrpop_norm_labels::{
+use lalrpop_grammar_language::labels::{
     InlinedNonterminals, Inlining, expanded_trees_correspond, inlined_labels_have_one_side,
     inlined_trees_correspond, steps_are_exact,
 };
-use lalrpop_norm_level_laws::{
+use lalrpop_norm_theory::back_laws::{
+    levels_keep_chains, levels_keep_types, macros_keep_types, names_go_back, types_compose,
+};
+use lalrpop_norm_theory::expansion::{
+    enabled_rules_are_left, levels_keep_symbols, macros_keep_expansion, passes_compose,
+    productions_are_numbered, rounds_find_calls, tables_have_types,
+};
+use lalrpop_norm_theory::level_laws::{
     levels_keep_expansion, levels_leave_resolved, levels_name_rules, sides_count,
 };
-use lalrpop_norm_name_laws::{
+use lalrpop_norm_theory::name_laws::{
     dropping_keeps_expansion, resolving_keeps_expansion, resolving_resolves_names,
 };
+use lalrpop_norm_token_check::{entries_are_unique, literals_have_entries};
 
 /// Nothing is produced, and nothing is inlined.
 struct InlinesNothing;

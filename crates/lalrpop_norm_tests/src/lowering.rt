@@ -9,28 +9,27 @@ use lalrpop_grammar_repr::{
     ActionFnDefn, ActionFnDefnKind, Grammar, LookaroundActionFnDefn, TerminalSet,
 };
 use lalrpop_norm::{INLINE, Normalized, lower, normalize};
-use std::alloc::{AllocError, Global};
+use std::alloc::Global;
 use std::process::Abort;
-use std::test::Fail;
 
 /// The comma grammar, lowered.
-pub(crate) fn lowered_commas(alloc: Global) -> Result<Box<Normalized>, Fail> {
-    let types = comma_types(alloc)?;
-    let checked = checked_grammar(alloc, COMMAS)?;
+pub(crate) fn lowered_commas(rt: &impl Abort, alloc: Global) -> Box<Normalized> {
+    let types = comma_types(rt, alloc);
+    let checked = checked_grammar(rt, alloc, COMMAS);
     let made = lower(
         alloc,
         &plain_session(alloc),
         Box::into_inner(checked),
-        types,
-    )?;
-    Ok(Box::new(alloc, made)?)
+        Box::into_inner(types),
+    );
+    Box::new(alloc, made.expect(rt, "a lowered grammar")).expect(rt, "memory")
 }
 
 /// The grammar that the JSON spells, normalized.
-pub(crate) fn normalized_grammar(alloc: Global, text: &str) -> Result<Box<Normalized>, Fail> {
-    let grammar = grammar_of(alloc, text)?;
-    let made = normalize(alloc, &plain_session(alloc), Box::into_inner(grammar))?;
-    Ok(Box::new(alloc, made)?)
+pub(crate) fn normalized_grammar(rt: &impl Abort, alloc: Global, text: &str) -> Box<Normalized> {
+    let grammar = grammar_of(rt, alloc, text);
+    let made = normalize(alloc, &plain_session(alloc), Box::into_inner(grammar));
+    Box::new(alloc, made.expect(rt, "a normal grammar")).expect(rt, "memory")
 }
 
 /// Whether they are the comma and n, each with its place.
@@ -46,16 +45,22 @@ fn are_terminals(terminals: &TerminalSet) -> bool {
     }
 }
 
+/// Whether a copy of the terminals has these two.
+fn terminals_are_copied(rt: &impl Abort, alloc: Global, terminals: &TerminalSet) -> bool {
+    let copy = terminals.try_clone(alloc).expect(rt, "memory");
+    are_terminals(&copy)
+}
+
 /// Whether L has a start, which stands alone, and nothing else has one.
-fn starts_with_list(alloc: Global, grammar: &Grammar) -> Result<bool, AllocError> {
-    let rule = name_of(alloc, "L")?;
+fn starts_with_list(rt: &impl Abort, alloc: Global, grammar: &Grammar) -> bool {
+    let rule = name_of(rt, alloc, "L");
     match grammar.start_nonterminals.get(&rule) {
-        Some(start) => Ok(
+        Some(start) => {
             start.0.as_str() == "__L"
                 && grammar.start_is_alone(start)
-                && grammar.start_nonterminals.len() == 1,
-        ),
-        None => Ok(false),
+                && grammar.start_nonterminals.len() == 1
+        }
+        None => false,
     }
 }
 
@@ -95,75 +100,68 @@ const NONTERMINALS: [(&str, Span, bool); 7] = [
 ];
 
 /// That nonterminals stand where they are written, and are marked as they are to be.
-fn nonterminals_stand(rt: &impl Abort, alloc: Global, grammar: &Grammar) -> Result<(), Fail> {
+fn nonterminals_stand(rt: &impl Abort, alloc: Global, grammar: &Grammar) {
     assert_eq!(rt; grammar.nonterminals.len(), NONTERMINALS.len());
     for (name, span, inlined) in NONTERMINALS {
-        let key = name_of(alloc, name)?;
+        let key = name_of(rt, alloc, name);
         assert!(rt; stands(grammar, &key) == Some((span, inlined)), "{name}");
     }
-    Ok(())
 }
 
 /// That the productions of alternatives stand where these do.
-fn alternatives_stand(rt: &impl Abort, alloc: Global, grammar: &Grammar) -> Result<(), Fail> {
+fn alternatives_stand(rt: &impl Abort, alloc: Global, grammar: &Grammar) {
     for (name, span) in [("L", Span(7, 18)), (r#"Comma<"n">"#, Span(31, 50))] {
-        let key = name_of(alloc, name)?;
+        let key = name_of(rt, alloc, name);
         assert!(rt; production_stands(grammar, &key) == Some(span), "{name}");
     }
-    Ok(())
 }
 
 /// Whether a copy of each nonterminal equals it.
-fn are_copied(alloc: Global, grammar: &Grammar) -> Result<bool, AllocError> {
+fn are_copied(rt: &impl Abort, alloc: Global, grammar: &Grammar) -> bool {
     for (_, data) in grammar.nonterminals.iter() {
-        let copy = data.try_clone(alloc)?;
+        let copy = data.try_clone(alloc).expect(rt, "memory");
         if copy != *data {
-            return Ok(false);
+            return false;
         }
     }
-    Ok(true)
+    true
 }
 
 /// That the lowered comma grammar has a start, types, terminals and entries, and of ten productions the actions and origins.
-fn is_lowered(rt: &impl Abort, alloc: Global, made: &Normalized) -> Result<(), Fail> {
-    assert!(rt; starts_with_list(alloc, &made.grammar)?);
-    assert!(rt; gives_list(alloc, &made.grammar.types, "__L")?);
-    assert!(rt; are_terminals(&made.grammar.terminals.try_clone(alloc)?));
-    assert!(rt; are_copied(alloc, &made.grammar)?);
+fn is_lowered(rt: &impl Abort, alloc: Global, made: &Normalized) {
+    assert!(rt; starts_with_list(rt, alloc, &made.grammar));
+    assert!(rt; gives_list(rt, alloc, &made.grammar.types, "__L"));
+    assert!(rt; terminals_are_copied(rt, alloc, &made.grammar.terminals));
+    assert!(rt; are_copied(rt, alloc, &made.grammar));
     assert!(rt; are_entries(made.entries.as_slice()));
     assert_eq!(rt; made.grammar.action_fn_defns.len(), 10);
     assert_eq!(rt; made.origins.len(), 10);
     assert!(rt; !made.grammar.algorithm.lalr);
-    Ok(())
 }
 
 #[test]
-fn rules_become_productions_where_they_are_written(rt: HostRuntime) -> Result<(), Fail> {
-    let made = lowered_commas(rt.alloc())?;
-    is_lowered(&rt, rt.alloc(), &made)?;
-    nonterminals_stand(&rt, rt.alloc(), &made.grammar)?;
-    alternatives_stand(&rt, rt.alloc(), &made.grammar)
+fn rules_become_productions_where_they_are_written(rt: HostRuntime) {
+    let made = lowered_commas(&rt, rt.alloc());
+    is_lowered(&rt, rt.alloc(), &made);
+    nonterminals_stand(&rt, rt.alloc(), &made.grammar);
+    alternatives_stand(&rt, rt.alloc(), &made.grammar);
 }
 
 /// What the action of the production at that place of the nonterminal does.
 fn definition_at<'g>(
+    rt: &impl Abort,
     alloc: Global,
     grammar: &'g Grammar,
     name: &str,
     place: usize,
-) -> Result<&'g ActionFnDefn, Fail> {
-    let name = name_of(alloc, name)?;
-    let Some(production) = grammar.productions_for(&name).get(place) else {
-        return Err(Fail::new("no such production"));
-    };
-    match grammar
-        .action_fn_defns
-        .as_slice()
+) -> &'g ActionFnDefn {
+    let name = name_of(rt, alloc, name);
+    let productions = grammar.productions_for(&name);
+    let production = productions.get(place).expect(rt, "such a production");
+    let actions = grammar.action_fn_defns.as_slice();
+    actions
         .get(production.action.index())
-    {
-        Some(definition) => Ok(definition),
-        None => Err(Fail::new("no such action")),
-    }
+        .expect(rt, "such an action")
 }
 
 /// Whether the action has this code.
@@ -195,17 +193,16 @@ fn looks_ahead(definition: &ActionFnDefn) -> bool {
 }
 
 /// That each action does what its alternative says, a start's and a place's too.
-fn do_as_written(rt: &impl Abort, alloc: Global, grammar: &Grammar) -> Result<(), Fail> {
+fn do_as_written(rt: &impl Abort, alloc: Global, grammar: &Grammar) {
     assert!(rt; grammar.algorithm.lalr);
-    assert!(rt; does(definition_at(alloc, grammar, "__S", 0)?, None, false));
-    assert!(rt; does(definition_at(alloc, grammar, "S", 0)?, Some("l"), false));
-    assert!(rt; does(definition_at(alloc, grammar, "S", 1)?, Some("f"), true));
-    assert!(rt; looks_ahead(definition_at(alloc, grammar, "@L", 0)?));
-    Ok(())
+    assert!(rt; does(definition_at(rt, alloc, grammar, "__S", 0), None, false));
+    assert!(rt; does(definition_at(rt, alloc, grammar, "S", 0), Some("l"), false));
+    assert!(rt; does(definition_at(rt, alloc, grammar, "S", 1), Some("f"), true));
+    assert!(rt; looks_ahead(definition_at(rt, alloc, grammar, "@L", 0)));
 }
 
 #[test]
-fn actions_do_what_alternatives_say(rt: HostRuntime) -> Result<(), Fail> {
-    let made = normalized_grammar(rt.alloc(), ACTIONS)?;
-    do_as_written(&rt, rt.alloc(), &made.grammar)
+fn actions_do_what_alternatives_say(rt: HostRuntime) {
+    let made = normalized_grammar(&rt, rt.alloc(), ACTIONS);
+    do_as_written(&rt, rt.alloc(), &made.grammar);
 }

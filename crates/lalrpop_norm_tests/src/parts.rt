@@ -3,13 +3,12 @@
 use lalrpop_grammar::{
     Alternative, Atom, Grammar, NonterminalData, NonterminalString, TerminalLiteral, TerminalString,
 };
-use std::alloc::{AllocError, Global};
+use std::alloc::Global;
 use std::process::Abort;
-use std::test::Fail;
 
 /// The nonterminal of that name.
-pub(crate) fn name_of(alloc: Global, name: &str) -> Result<NonterminalString, AllocError> {
-    Ok(NonterminalString(Atom::new(alloc, name)?))
+pub(crate) fn name_of(rt: &impl Abort, alloc: Global, name: &str) -> NonterminalString {
+    NonterminalString(Atom::new(alloc, name).expect(rt, "memory"))
 }
 
 /// Whether it is the quoted literal of that text.
@@ -39,30 +38,30 @@ pub(crate) fn rule_of<'g>(grammar: &'g Grammar, name: &str) -> Option<&'g Nonter
 }
 
 /// The symbols of the alternative, each behind a blank.
-fn side_text(alloc: Global, alternative: &Alternative) -> Result<String, AllocError> {
+fn side_text(rt: &impl Abort, alloc: Global, alternative: &Alternative) -> String {
     let mut text = String::new(alloc);
     for symbol in alternative.expr.as_slice() {
-        write!(text, " {symbol}")?;
+        write!(text, " {symbol}").expect(rt, "memory");
     }
-    Ok(text)
+    text
 }
 
 /// The alternatives of the rule, each behind a bar.
-fn sides_text(alloc: Global, rule: &NonterminalData) -> Result<String, AllocError> {
+fn sides_text(rt: &impl Abort, alloc: Global, rule: &NonterminalData) -> String {
     let mut text = String::new(alloc);
     for alternative in rule.alternatives.as_slice() {
-        let side = side_text(alloc, alternative)?;
-        write!(text, "|{side}")?;
+        let side = side_text(rt, alloc, alternative);
+        write!(text, "|{side}").expect(rt, "memory");
     }
-    Ok(text)
+    text
 }
 
 /// The alternatives of the rule of that name, each behind a bar, and their symbols, each behind a blank; nothing where there is no
 /// such rule.
-fn sides_of(alloc: Global, grammar: &Grammar, name: &str) -> Result<String, AllocError> {
+fn sides_of(rt: &impl Abort, alloc: Global, grammar: &Grammar, name: &str) -> String {
     match rule_of(grammar, name) {
-        Some(rule) => sides_text(alloc, rule),
-        None => Ok(String::new(alloc)),
+        Some(rule) => sides_text(rt, alloc, rule),
+        None => String::new(alloc),
     }
 }
 
@@ -73,8 +72,7 @@ pub(crate) fn has_sides(
     grammar: &Grammar,
     name: &str,
     sides: &str,
-) -> Result<(), Fail> {
-    let found = sides_of(alloc, grammar, name)?;
+) {
+    let found = sides_of(rt, alloc, grammar, name);
     assert_eq!(rt; found.as_str(), sides, "{name}");
-    Ok(())
 }

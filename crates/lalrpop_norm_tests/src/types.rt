@@ -5,9 +5,8 @@ use crate::parts::{name_of, rule_of};
 use lalrpop_grammar::{Grammar, TypeRepr};
 use lalrpop_grammar_repr::Types;
 use lalrpop_norm::infer_types;
-use std::alloc::{AllocError, Global};
+use std::alloc::Global;
 use std::process::Abort;
-use std::test::Fail;
 
 /// Whether it is the type of this name, without arguments.
 pub(crate) fn is_named(ty: &TypeRepr, name: &str) -> bool {
@@ -53,35 +52,36 @@ fn is_list(ty: &TypeRepr) -> bool {
 
 /// The type that the table has for the nonterminal of that name.
 fn type_at<'t>(
+    rt: &impl Abort,
     alloc: Global,
     types: &'t Types,
     name: &str,
-) -> Result<Option<&'t TypeRepr>, AllocError> {
-    let name = name_of(alloc, name)?;
-    Ok(types.lookup_nonterminal_type(&name))
+) -> Option<&'t TypeRepr> {
+    let name = name_of(rt, alloc, name);
+    types.lookup_nonterminal_type(&name)
 }
 
 /// Whether the nonterminal of that name has the type of the list of the comma grammar.
-pub(crate) fn gives_list(alloc: Global, types: &Types, name: &str) -> Result<bool, AllocError> {
-    match type_at(alloc, types, name)? {
-        Some(ty) => Ok(is_list(ty)),
-        None => Ok(false),
+pub(crate) fn gives_list(rt: &impl Abort, alloc: Global, types: &Types, name: &str) -> bool {
+    match type_at(rt, alloc, types, name) {
+        Some(ty) => is_list(ty),
+        None => false,
     }
 }
 
 /// Whether the nonterminal of that name has a type of this name, of texts.
-fn gives_texts(alloc: Global, types: &Types, name: &str, of: &str) -> Result<bool, AllocError> {
-    match type_at(alloc, types, name)? {
-        Some(ty) => Ok(holds_text(ty, of)),
-        None => Ok(false),
+fn gives_texts(rt: &impl Abort, alloc: Global, types: &Types, name: &str, of: &str) -> bool {
+    match type_at(rt, alloc, types, name) {
+        Some(ty) => holds_text(ty, of),
+        None => false,
     }
 }
 
 /// Whether the nonterminal of that name has the type of a text.
-fn gives_text(alloc: Global, types: &Types, name: &str) -> Result<bool, AllocError> {
-    match type_at(alloc, types, name)? {
-        Some(ty) => Ok(is_text(ty)),
-        None => Ok(false),
+fn gives_text(rt: &impl Abort, alloc: Global, types: &Types, name: &str) -> bool {
+    match type_at(rt, alloc, types, name) {
+        Some(ty) => is_text(ty),
+        None => false,
     }
 }
 
@@ -96,42 +96,42 @@ fn terminals_are_texts(types: &Types) -> bool {
 }
 
 /// The types of the comma grammar.
-pub(crate) fn comma_types(alloc: Global) -> Result<Types, Fail> {
-    let checked = checked_grammar(alloc, COMMAS)?;
-    let types = infer_types(alloc, &checked)?;
-    Ok(types)
+pub(crate) fn comma_types(rt: &impl Abort, alloc: Global) -> Box<Types> {
+    let checked = checked_grammar(rt, alloc, COMMAS);
+    let types = infer_types(alloc, &checked).expect(rt, "types");
+    Box::new(alloc, types).expect(rt, "memory")
 }
 
 /// That the types of the comma grammar are those of its repeats, its group and its option.
-fn follow(rt: &impl Abort, alloc: Global, types: &Types) -> Result<(), Fail> {
+fn follow(rt: &impl Abort, alloc: Global, types: &Types) {
     assert!(rt; types.nonterminal_types.len() == 6 && terminals_are_texts(types));
-    assert!(rt; gives_list(alloc, types, "L")?);
-    assert!(rt; gives_list(alloc, types, r#"Comma<"n">"#)?);
-    assert!(rt; gives_texts(alloc, types, r#"(<"n"> ",")*"#, "Vec")?);
-    assert!(rt; gives_texts(alloc, types, r#"(<"n"> ",")+"#, "Vec")?);
-    assert!(rt; gives_text(alloc, types, r#"(<"n"> ",")"#)?);
-    assert!(rt; gives_texts(alloc, types, r#""n"?"#, "Option")?);
-    Ok(())
+    assert!(rt; gives_list(rt, alloc, types, "L"));
+    assert!(rt; gives_list(rt, alloc, types, r#"Comma<"n">"#));
+    assert!(rt; gives_texts(rt, alloc, types, r#"(<"n"> ",")*"#, "Vec"));
+    assert!(rt; gives_texts(rt, alloc, types, r#"(<"n"> ",")+"#, "Vec"));
+    assert!(rt; gives_text(rt, alloc, types, r#"(<"n"> ",")"#));
+    assert!(rt; gives_texts(rt, alloc, types, r#""n"?"#, "Option"));
 }
 
 #[test]
-fn types_follow_from_alternatives(rt: HostRuntime) -> Result<(), Fail> {
-    let types = comma_types(rt.alloc())?;
-    follow(&rt, rt.alloc(), &types)
+fn types_follow_from_alternatives(rt: HostRuntime) {
+    let types = comma_types(&rt, rt.alloc());
+    follow(&rt, rt.alloc(), &types);
 }
 
 /// The type of the same shape as the one that the rule of that name declares.
 fn declared_repr(
+    rt: &impl Abort,
     alloc: Global,
     grammar: &Grammar,
     name: &str,
-) -> Result<Option<TypeRepr>, AllocError> {
+) -> Option<TypeRepr> {
     match rule_of(grammar, name) {
         Some(rule) => match &rule.type_decl {
-            Some(declared) => declared.type_repr(alloc),
-            None => Ok(None),
+            Some(declared) => declared.type_repr(alloc).expect(rt, "memory"),
+            None => None,
         },
-        None => Ok(None),
+        None => None,
     }
 }
 
@@ -184,31 +184,38 @@ fn is_whole(ty: &TypeRepr) -> bool {
 }
 
 /// Whether a copy of the type of a name equals it.
-fn name_is_copied(alloc: Global, ty: &TypeRepr) -> Result<bool, AllocError> {
+fn name_is_copied(rt: &impl Abort, alloc: Global, ty: &TypeRepr) -> bool {
     match ty {
         TypeRepr::Nominal(found) => {
-            let copy = found.try_clone(alloc)?;
-            Ok(copy == *found)
+            let copy = found.try_clone(alloc).expect(rt, "memory");
+            copy == *found
         }
-        _ => Ok(false),
+        _ => false,
     }
+}
+
+/// Whether a copy of the type is of that shape.
+fn copy_is_whole(rt: &impl Abort, alloc: Global, ty: &TypeRepr) -> bool {
+    let copy = ty.try_clone(alloc).expect(rt, "memory");
+    is_whole(&copy)
 }
 
 /// That it is the type of that shape, and its copies are.
-fn keeps_shape(rt: &impl Abort, alloc: Global, ty: &TypeRepr) -> Result<(), Fail> {
+fn keeps_shape(rt: &impl Abort, alloc: Global, ty: &TypeRepr) {
     assert!(rt; is_whole(ty));
-    assert!(rt; is_whole(&ty.try_clone(alloc)?));
-    assert!(rt; name_is_copied(alloc, ty)?);
-    Ok(())
+    assert!(rt; copy_is_whole(rt, alloc, ty));
+    assert!(rt; name_is_copied(rt, alloc, ty));
+}
+
+/// That the type that the rule S declares keeps its shape, and the one that T declares has none.
+fn declared_types_keep_shape(rt: &impl Abort, alloc: Global, grammar: &Grammar) {
+    assert!(rt; declared_repr(rt, alloc, grammar, "T").is_none());
+    let declared = declared_repr(rt, alloc, grammar, "S").expect(rt, "a type");
+    keeps_shape(rt, alloc, &declared);
 }
 
 #[test]
-fn written_types_and_their_copies_keep_their_shape(rt: HostRuntime) -> Result<(), Fail> {
-    let alloc = rt.alloc();
-    let grammar = grammar_of(alloc, TYPED)?;
-    assert!(rt; declared_repr(alloc, &grammar, "T")?.is_none());
-    match declared_repr(alloc, &grammar, "S")? {
-        Some(ty) => keeps_shape(&rt, alloc, &ty),
-        None => Err(Fail::new("no type")),
-    }
+fn written_types_and_their_copies_keep_their_shape(rt: HostRuntime) {
+    let grammar = grammar_of(&rt, rt.alloc(), TYPED);
+    declared_types_keep_shape(&rt, rt.alloc(), &grammar);
 }

@@ -10,10 +10,9 @@ use lalrpop_norm::{
     ASSOC_ATTR, Assoc, INLINE, LVL_ARG, PREC_ATTR, ParseAssocError, SIDE_ARG, Session, cfg_active,
     has_prec_attr, prevalidate,
 };
-use std::alloc::{AllocError, Global};
+use std::alloc::Global;
 use std::process::Abort;
 use std::str::FromStr;
-use std::test::Fail;
 
 /// Whether the rule of that name is there under the session.
 fn is_active(grammar: &Grammar, session: &Session, name: &str) -> bool {
@@ -31,20 +30,19 @@ fn asks_for(rt: &impl Abort, grammar: &Grammar, session: &Session, wanted: &str,
 }
 
 /// Whether what no feature asks for goes, and all else stays as it is.
-fn leaves_the_rest(alloc: Global) -> Result<bool, Fail> {
-    let left = grammar_of(alloc, LEFT)?;
-    let found = enabled_grammar(alloc, &plain_session(alloc), FEATURED)?;
-    Ok(*found == *left)
+fn leaves_the_rest(rt: &impl Abort, alloc: Global) -> bool {
+    let left = grammar_of(rt, alloc, LEFT);
+    let found = enabled_grammar(rt, alloc, &plain_session(alloc), FEATURED);
+    *found == *left
 }
 
 #[test]
-fn features_decide_what_is_there(rt: HostRuntime) -> Result<(), Fail> {
-    assert!(rt; leaves_the_rest(rt.alloc())?);
-    let grammar = grammar_of(rt.alloc(), FEATURED)?;
+fn features_decide_what_is_there(rt: HostRuntime) {
+    assert!(rt; leaves_the_rest(&rt, rt.alloc()));
+    let grammar = grammar_of(&rt, rt.alloc(), FEATURED);
     assert!(rt; prevalidate::validate(rt.alloc(), &grammar) == Ok(()));
     asks_for(&rt, &grammar, &plain_session(rt.alloc()), "Id", "D");
-    asks_for(&rt, &grammar, &featured_session(rt.alloc())?, "D", "Id");
-    Ok(())
+    asks_for(&rt, &grammar, &featured_session(&rt, rt.alloc()), "D", "Id");
 }
 
 /// Whether the name stands for the rule of that name.
@@ -109,49 +107,48 @@ fn names_parameter(grammar: &Grammar) -> bool {
 }
 
 #[test]
-fn names_stand_for_rules_bare_names_macros_and_parameters(rt: HostRuntime) -> Result<(), Fail> {
-    let grammar = resolved_grammar(rt.alloc(), LEFT)?;
+fn names_stand_for_rules_bare_names_macros_and_parameters(rt: HostRuntime) {
+    let grammar = resolved_grammar(&rt, rt.alloc(), LEFT);
     assert!(rt; names_all_kinds(&grammar));
     assert!(rt; names_parameter(&grammar));
-    Ok(())
 }
 
 /// The names of the rules that have levels, each behind a blank.
-fn names_with_levels(alloc: Global, grammar: &Grammar) -> Result<String, AllocError> {
+fn names_with_levels(rt: &impl Abort, alloc: Global, grammar: &Grammar) -> String {
     let mut names = String::new(alloc);
     for rule in grammar.rules() {
         if has_prec_attr(rule) {
-            write!(names, " {}", rule.name)?;
+            write!(names, " {}", rule.name).expect(rt, "memory");
         }
     }
-    Ok(names)
+    names
 }
 
 /// Whether these rules have levels, and no other.
-fn has_levels_in(alloc: Global, grammar: &Grammar, names: &str) -> Result<bool, AllocError> {
-    let found = names_with_levels(alloc, grammar)?;
-    Ok(found.as_str() == names)
+fn has_levels_in(rt: &impl Abort, alloc: Global, grammar: &Grammar, names: &str) -> bool {
+    let found = names_with_levels(rt, alloc, grammar);
+    found.as_str() == names
 }
 
 /// Whether E alone has levels before they are expanded.
-fn is_written_with_levels(alloc: Global) -> Result<bool, Fail> {
-    let grammar = grammar_of(alloc, LEVELS)?;
-    Ok(has_levels_in(alloc, &grammar, " E")?)
+fn is_written_with_levels(rt: &impl Abort, alloc: Global) -> bool {
+    let grammar = grammar_of(rt, alloc, LEVELS);
+    has_levels_in(rt, alloc, &grammar, " E")
 }
 
 /// That both levels of E are rules, and nothing has levels.
-fn has_level_rules(rt: &impl Abort, alloc: Global, grammar: &Grammar) -> Result<(), Fail> {
-    assert!(rt; has_levels_in(alloc, grammar, "")?);
-    has_sides(rt, alloc, grammar, "E", r#"| E "+" E1| E1"#)?;
-    has_sides(rt, alloc, grammar, "E1", r#"| "n""#)?;
-    has_sides(rt, alloc, grammar, "T", "| E")
+fn has_level_rules(rt: &impl Abort, alloc: Global, grammar: &Grammar) {
+    assert!(rt; has_levels_in(rt, alloc, grammar, ""));
+    has_sides(rt, alloc, grammar, "E", r#"| E "+" E1| E1"#);
+    has_sides(rt, alloc, grammar, "E1", r#"| "n""#);
+    has_sides(rt, alloc, grammar, "T", "| E");
 }
 
 #[test]
-fn each_level_becomes_a_rule_without_levels(rt: HostRuntime) -> Result<(), Fail> {
-    assert!(rt; is_written_with_levels(rt.alloc())?);
-    let leveled = leveled_grammar(rt.alloc(), LEVELS)?;
-    has_level_rules(&rt, rt.alloc(), &leveled)
+fn each_level_becomes_a_rule_without_levels(rt: HostRuntime) {
+    assert!(rt; is_written_with_levels(&rt, rt.alloc()));
+    let leveled = leveled_grammar(&rt, rt.alloc(), LEVELS);
+    has_level_rules(&rt, rt.alloc(), &leveled);
 }
 
 #[test]

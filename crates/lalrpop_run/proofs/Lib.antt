@@ -1,3 +1,4 @@
+pub mod TokenLineLemmas
 pub mod ParserLemmas
 pub mod ReadLemmas
 pub mod WitnessedTreeLemmas

@@ -6,24 +6,24 @@ use Rattle.lalrpop_grammar.specs.declared.grammar.Grammar.{Grammar}
 use Rattle.lalrpop_grammar.specs.Trees.{Token, Tree}
 use Rattle.lalrpop_grammar.specs.Views.{grammar_view}
 use Rattle.lalrpop_grammar_language.specs.Admitting.{AdmitsFrom}
-use Rattle.lalrpop_judge_search.specs.Search.{finds, is_too_deep}
+use Rattle.lalrpop_grammar_rules.specs.Search.{finds, is_too_deep}
 use Rattle.lalrpop_lexer_scan.specs.Entries.{ScanEntry}
 use Rattle.lalrpop_lexer_scan.specs.Scanning.{IsScannerOf}
-use Rattle.lalrpop_lr1_build.specs.BuiltStates.{theory_grammar}
+use Rattle.lalrpop_lr1_core.specs.TheoryGrammars.{theory_grammar}
 use Rattle.lalrpop_lr1_theory.specs.Answers.{IsLr1}
-use Rattle.lalrpop_run_parser.specs.PassedOn.{IsNormalized}
-use Rattle.lalrpop_norm_expansion.specs.Premises.{IsReadGrammar}
-use Rattle.lalrpop_run_parser.specs.PassedOn.{lowered_view}
+use Rattle.lalrpop_norm_chain.specs.Normalized.{IsNormalized}
+use Rattle.lalrpop_norm_theory.specs.Premises.{IsReadGrammar}
+use Rattle.lalrpop_norm_chain.specs.LoweredViews.{lowered_view}
 use Rattle.lalrpop_run_parser.specs.Parsers.{HasOneTreeEach}
-use Rattle.lalrpop_run_parser.specs.PassedOn.{PreparedGrammar}
-use Rattle.lalrpop_run_parser.specs.PassedOn.{IsGenerable}
-use Rattle.lalrpop_run_parser.specs.PassedOn.{scan_entries}
-use Rattle.lalrpop_run_text_answers.specs.TextAnswers.{IsRightForText}
+use Rattle.lalrpop_run_prepare.specs.PreparedGrammars.{PreparedGrammar}
+use Rattle.lalrpop_run_prepare.specs.Refused.{IsGenerable}
+use Rattle.lalrpop_run_prepare.specs.Tokenizers.{scan_entries}
+use Rattle.lalrpop_run_theory.specs.TextAnswers.{IsRightForText}
 use Rattle.lalrpop_run.specs.Parse.{IsAnswerTold, IsParseReply, TellsTextAnswer}
 use Rattle.lalrpop_run.specs.Parsers.{HasParser, IsPreparedFor}
-use Rattle.lalrpop_run_questions.specs.Questions.{Question}
+use Rattle.lalrpop_run.specs.Questions.{Question}
 use Rattle.lalrpop_run.specs.Tokens.{IsScanReply, IsTokensReply}
-use Rattle.lalrpop_run_replies.specs.declared.reply.Reply.{Reply}
+use Rattle.lalrpop_run.specs.declared.replies.reply.Reply.{Reply}
 
 -- what is lent out of a box is what was prepared for the question
 pub lent : (q : Question) (g : Grammar) {v w : PreparedGrammar} → v ≡ w → IsPreparedFor q g w → IsPreparedFor q g v

@@ -5,8 +5,8 @@ use Rattle.lalrpop_grammar.specs.Views.{grammar_view, item_view}
 use Rattle.lalrpop_json_grammar.proofs.GrammarLemmas.{grammar_takes}
 use Rattle.lalrpop_json_grammar.specs.Readable.{IsReadable}
 use Rattle.lalrpop_json_items.specs.Readable.{IsReadableItem}
-use Rattle.lalrpop_json_read_law.proofs.ItemLemmas.{each_image, item_read}
-use Rattle.lalrpop_norm_expansion.specs.Premises.{IsReadGrammar, IsReadItem}
+use Rattle.lalrpop_norm.proofs.ItemLemmas.{each_image, item_read}
+use Rattle.lalrpop_norm_theory.specs.Premises.{IsReadGrammar, IsReadItem}
 use Rattle.lalrpop_run_options.specs.declared.task.Task.{Task}
 use Rattle.lalrpop_run_options.specs.declared.task.Task.TheVariants as tasks
 use Rattle.lalrpop_run.specs.Replies.{GivesGrammar, IsGrammarFor}

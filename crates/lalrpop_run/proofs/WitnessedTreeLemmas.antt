@@ -2,11 +2,13 @@
 use Rattle.std.proofs.Common.{◌≡◌, ℕ, List, arith}
 use Rattle.std.proofs.lemmas.Option.{slice_get_within}
 use Rattle.lalrpop_grammar.specs.Views.{grammar_view}
-use Rattle.lalrpop_judge_certificates.specs.declared.certificate.Certificate.{Certificate}
+use Rattle.lalrpop_judge.specs.declared.certificates.certificate.Certificate.{Certificate}
 use Rattle.lalrpop_lr1_build.proofs.NumberedAutomatonLemmas.{get_some}
-use Rattle.lalrpop_norm_expansion.specs.Premises.{IsReadGrammar}
-use Rattle.lalrpop_run_parser.specs.PassedOn.{AreWitnessesOf, PreparedGrammar, TableConstructionError}
-use Rattle.lalrpop_run_replies.specs.PassedOn.{HaveTreesOf}
+use Rattle.lalrpop_norm_theory.specs.Premises.{IsReadGrammar}
+use Rattle.lalrpop_lr1_core.specs.declared.table_fault.TableConstructionError.{TableConstructionError}
+use Rattle.lalrpop_run_prepare.specs.PreparedGrammars.{PreparedGrammar}
+use Rattle.lalrpop_run_parser.specs.Witnesses.{AreWitnessesOf}
+use Rattle.lalrpop_run_parser.specs.WrittenConflicts.{HaveTreesOf}
 
 -- certificates of a prepared grammar's conflicts have trees from its start over its productions
 pub witnessed_trees : (v : PreparedGrammar) (error : TableConstructionError (List ℕ)) (certificates : List Certificate) →

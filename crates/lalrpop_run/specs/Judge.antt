@@ -10,12 +10,12 @@ use Rattle.lalrpop_grammar.specs.Trees.{leaves}
 use Rattle.lalrpop_grammar.specs.Views.{grammar_view, tree_view}
 use Rattle.lalrpop_grammar_language.specs.Admitting.{AdmitsFrom}
 use Rattle.lalrpop_grammar_language.specs.Enabled.{enabled_grammar}
-use Rattle.lalrpop_judge_search.specs.Search.{finds}
+use Rattle.lalrpop_grammar_rules.specs.Search.{finds}
 use Rattle.lalrpop_judge.specs.Faults.{HasSearch}
-use Rattle.lalrpop_run_questions.specs.Inputs.{IsJsonOf, IsNoJson}
-use Rattle.lalrpop_run_questions.specs.Questions.{Question}
-use Rattle.lalrpop_run_replies.specs.declared.reply.Reply.{Reply}
-use Rattle.lalrpop_run_replies.specs.declared.reply.Reply.TheVariants as replies
+use Rattle.lalrpop_run.specs.Inputs.{IsJsonOf, IsNoJson}
+use Rattle.lalrpop_run.specs.Questions.{Question}
+use Rattle.lalrpop_run.specs.declared.replies.reply.Reply.{Reply}
+use Rattle.lalrpop_run.specs.declared.replies.reply.Reply.TheVariants as replies
 
 -- what the value of the tree's JSON gives
 abbrev pub GivesTree : Question → Result WrittenTree Fault → Type 0

@@ -1,8 +1,11 @@
+pub mod Outputs
+pub mod ReplyTexts
+pub mod Inputs
+pub mod Questions
 pub mod Check
 pub mod Judge
 pub mod Parse
 pub mod Parsers
 pub mod Replies
-pub mod ReplyVariants
 pub mod Runs
 pub mod Tokens

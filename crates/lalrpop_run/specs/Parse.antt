@@ -5,17 +5,17 @@ use Rattle.lalrpop_grammar_symbols.specs.Symbols.{Text}
 use Rattle.lalrpop_grammar.specs.declared.grammar.Grammar.{Grammar}
 use Rattle.lalrpop_grammar.specs.declared.tree.WrittenTree.{WrittenTree}
 use Rattle.lalrpop_grammar.specs.Views.{grammar_view, tree_view}
-use Rattle.lalrpop_judge_search.specs.Search.{finds}
+use Rattle.lalrpop_grammar_rules.specs.Search.{finds}
 use Rattle.lalrpop_lexer_scan.specs.Entries.{ScanEntry}
-use Rattle.lalrpop_run_parser.specs.PassedOn.{IsNormalized}
-use Rattle.lalrpop_run_parser.specs.PassedOn.{LoweredGrammar}
-use Rattle.lalrpop_run_parser.specs.PassedOn.{PreparedGrammar}
-use Rattle.lalrpop_run_text_answers.specs.TextAnswers.{IsRightForText, TextAnswer}
-use Rattle.lalrpop_run_parser.specs.PassedOn.{scan_entries}
+use Rattle.lalrpop_norm_chain.specs.Normalized.{IsNormalized}
+use Rattle.lalrpop_norm_chain.specs.Lowered.{LoweredGrammar}
+use Rattle.lalrpop_run_prepare.specs.PreparedGrammars.{PreparedGrammar}
+use Rattle.lalrpop_run_theory.specs.TextAnswers.{IsRightForText, TextAnswer}
+use Rattle.lalrpop_run_prepare.specs.Tokenizers.{scan_entries}
 use Rattle.lalrpop_run.specs.Parsers.{HasParser, IsNoParserReply, IsTakenFor}
-use Rattle.lalrpop_run_questions.specs.Questions.{Question}
-use Rattle.lalrpop_run_replies.specs.declared.reply.Reply.{Reply}
-use Rattle.lalrpop_run_replies.specs.declared.reply.Reply.TheVariants as replies
+use Rattle.lalrpop_run.specs.Questions.{Question}
+use Rattle.lalrpop_run.specs.declared.replies.reply.Reply.{Reply}
+use Rattle.lalrpop_run.specs.declared.replies.reply.Reply.TheVariants as replies
 
 -- the reply tells the answer to a text, under this limit
 abbrev pub TellsTextAnswer : ℕ → TextAnswer → Reply → Type 0

@@ -6,21 +6,21 @@ use Rattle.lalrpop_grammar.specs.Trees.{Token, Tree}
 use Rattle.lalrpop_grammar.specs.Views.{grammar_view}
 use Rattle.lalrpop_grammar.specs.WrittenGrammar as written
 use Rattle.lalrpop_grammar_language.specs.Admitting.{AdmitsFrom}
-use Rattle.lalrpop_judge_certificates.specs.declared.certificate.Certificate.{Certificate}
-use Rattle.lalrpop_judge_search.specs.Search.{finds, is_too_deep}
-use Rattle.lalrpop_lr1_build.specs.BuiltStates.{theory_grammar}
+use Rattle.lalrpop_judge.specs.declared.certificates.certificate.Certificate.{Certificate}
+use Rattle.lalrpop_grammar_rules.specs.Search.{finds, is_too_deep}
+use Rattle.lalrpop_lr1_core.specs.TheoryGrammars.{theory_grammar}
 use Rattle.lalrpop_lr1_theory.specs.Answers.{IsLr1}
-use Rattle.lalrpop_run_replies.specs.PassedOn.{AreWrittenConflicts}
-use Rattle.lalrpop_run_replies.specs.PassedOn.{WrittenConflict}
+use Rattle.lalrpop_run_parser.specs.WrittenConflicts.{AreWrittenConflicts}
+use Rattle.lalrpop_run_parser.specs.declared.conflicts.written_conflict.WrittenConflict.{WrittenConflict}
 use Rattle.lalrpop_run_parser.specs.Parsers.{HasConflicts}
-use Rattle.lalrpop_run_parser.specs.PassedOn.{IsPrepared, PreparedGrammar}
-use Rattle.lalrpop_run_parser.specs.PassedOn.{IsPrepareRefusal}
-use Rattle.lalrpop_run_refusals.specs.declared.refusing.GenerateError.{GenerateError}
-use Rattle.lalrpop_run_refusals.specs.declared.refusing.GenerateError.TheVariants as errors
-use Rattle.lalrpop_run_parser.specs.PassedOn.{IsGenerable}
-use Rattle.lalrpop_run_questions.specs.Questions.{Question}
-use Rattle.lalrpop_run_replies.specs.declared.reply.Reply.{Reply}
-use Rattle.lalrpop_run_replies.specs.declared.reply.Reply.TheVariants as replies
+use Rattle.lalrpop_run_prepare.specs.PreparedGrammars.{IsPrepared, PreparedGrammar}
+use Rattle.lalrpop_run_prepare.specs.PrepareRefusals.{IsPrepareRefusal}
+use Rattle.lalrpop_run_prepare.specs.declared.refusals.refusing.GenerateError.{GenerateError}
+use Rattle.lalrpop_run_prepare.specs.declared.refusals.refusing.GenerateError.TheVariants as errors
+use Rattle.lalrpop_run_prepare.specs.Refused.{IsGenerable}
+use Rattle.lalrpop_run.specs.Questions.{Question}
+use Rattle.lalrpop_run.specs.declared.replies.reply.Reply.{Reply}
+use Rattle.lalrpop_run.specs.declared.replies.reply.Reply.TheVariants as replies
 
 -- The grammar is refused for this under the question's features, limit and start, before its states are built.
 abbrev pub IsRefusedFor : Question → written.Grammar → GenerateError → Type 0

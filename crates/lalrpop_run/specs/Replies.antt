@@ -7,17 +7,17 @@ use Rattle.lalrpop_grammar_symbols.specs.Symbols.{Text}
 use Rattle.lalrpop_grammar.specs.Views.{grammar_view}
 use Rattle.lalrpop_json_grammar.specs.Grammars.{grammar_at}
 use Rattle.lalrpop_json_values.specs.declared.fault.Fault.{Fault}
-use Rattle.lalrpop_norm_expansion.specs.Premises.{IsReadGrammar}
+use Rattle.lalrpop_norm_theory.specs.Premises.{IsReadGrammar}
 use Rattle.lalrpop_run_options.specs.declared.task.Task.{Task}
 use Rattle.lalrpop_run_options.specs.declared.task.Task.TheVariants as tasks
 use Rattle.lalrpop_run.specs.Check.{IsCheckReply}
-use Rattle.lalrpop_run_questions.specs.Inputs.{IsJsonOf, IsNoJson}
+use Rattle.lalrpop_run.specs.Inputs.{IsJsonOf, IsNoJson}
 use Rattle.lalrpop_run.specs.Judge.{IsJudgeReply}
 use Rattle.lalrpop_run.specs.Parse.{IsParseReply}
-use Rattle.lalrpop_run_questions.specs.Questions.{Question, reads_text}
+use Rattle.lalrpop_run.specs.Questions.{Question, reads_text}
 use Rattle.lalrpop_run.specs.Tokens.{IsTokensReply}
-use Rattle.lalrpop_run_replies.specs.declared.reply.Reply.{Reply}
-use Rattle.lalrpop_run.specs.ReplyVariants as replies
+use Rattle.lalrpop_run.specs.declared.replies.reply.Reply.{Reply}
+use Rattle.lalrpop_run.specs.declared.replies.reply.Reply.TheVariants as replies
 
 abbrev pub IsTaskReply : Task → Question → Grammar → Text → Reply → Type 0
 IsTaskReply tasks.Judge q g text reply = IsJudgeReply q g reply

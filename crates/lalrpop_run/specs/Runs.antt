@@ -2,12 +2,12 @@
 use Rattle.std.specs.Prelude.{◌≡◌, ◌⊎◌, ℕ, Bool, true, false, List, Option, Ok}
 use Rattle.lalrpop_grammar.specs.declared.grammar.Grammar.{Grammar}
 use Rattle.lalrpop_grammar_streams.specs.Streams.{ReadsAll, Writes}
-use Rattle.lalrpop_run_questions.specs.Questions.{Question, reads_grammar, reads_text}
+use Rattle.lalrpop_run.specs.Questions.{Question, reads_grammar, reads_text}
 use Rattle.lalrpop_run.specs.Replies.{GivesGrammar, IsRunReply}
-use Rattle.lalrpop_run_replies.specs.Outputs.{Output, reply_output}
-use Rattle.lalrpop_run_replies.specs.ReplyTexts.{memory_text, fault_line}
-use Rattle.lalrpop_run_replies.specs.declared.reply.Reply.{Reply}
-use Rattle.lalrpop_run.specs.ReplyVariants as replies
+use Rattle.lalrpop_run.specs.Outputs.{Output, reply_output}
+use Rattle.lalrpop_run.specs.ReplyTexts.{memory_text, fault_line}
+use Rattle.lalrpop_run.specs.declared.replies.reply.Reply.{Reply}
+use Rattle.lalrpop_run.specs.declared.replies.reply.Reply.TheVariants as replies
 
 abbrev pub out_of_memory : Output
 out_of_memory = record { text = memory_text; status = 5 }

@@ -1,18 +1,18 @@
 //! The answer once grammar and text are read.
 
 ghost use Rattle.std.specs.Prelude.{◌≡◌, IfOk};
-ghost use Rattle.lalrpop_run_questions.specs.Questions.{question_of, question_view};
+ghost use Rattle.lalrpop_run.specs.Questions.{question_of, question_view};
 ghost use Rattle.lalrpop_run.specs.Replies.{IsGrammarFor, IsReplyTo};
-ghost use Rattle.lalrpop_run_replies.specs.Outputs.{answer_view, reply_output};
+ghost use Rattle.lalrpop_run.specs.Outputs.{answer_view, reply_output};
 
 use crate::checking::check_reply;
 use crate::judging::judge_reply;
 use crate::parsing::parse_reply;
+use crate::questions::{Question, question_of};
+use crate::replies::{Answer, Reply, put};
 use crate::tokens::tokens_reply;
 use lalrpop_grammar::Grammar;
 use lalrpop_run_options::{Options, Task};
-use lalrpop_run_questions::{Question, question_of};
-use lalrpop_run_replies::{Answer, Reply, put};
 use std::alloc::{AllocError, Global};
 
 /// The answer once the grammar and the text are read. `judge` and `check` have no use for the text. What `tokens`, `check` and `parse` answer is

@@ -3,18 +3,18 @@
 ghost use Rattle.std.specs.Prelude.{◌≡◌, IfOk};
 ghost use Rattle.lalrpop_grammar.specs.Views.{grammar_view};
 ghost use Rattle.lalrpop_grammar.specs.declared.grammar.Grammar.{Grammar as WrittenGrammar};
-ghost use Rattle.lalrpop_norm_expansion.specs.Premises.{IsReadGrammar};
+ghost use Rattle.lalrpop_norm_theory.specs.Premises.{IsReadGrammar};
 ghost use Rattle.lalrpop_run.specs.Check.{IsCheckReply};
 ghost use Rattle.lalrpop_run.specs.Parsers.{IsPreparedFor};
-ghost use Rattle.lalrpop_run_questions.specs.Questions.{Question as AskedQuestion, question_view};
+ghost use Rattle.lalrpop_run.specs.Questions.{Question as AskedQuestion, question_view};
 
 use crate::conflicts::conflicts_reply;
 use crate::preparing::prepare_for;
+use crate::questions::Question;
+use crate::replies::{Reply, refusal_reply};
 use lalrpop_grammar::Grammar;
 use lalrpop_run_options::Method;
 use lalrpop_run_parser::{Prepared, generate};
-use lalrpop_run_questions::Question;
-use lalrpop_run_replies::{Reply, refusal_reply};
 use std::alloc::{AllocError, Global};
 
 /// What `check` replies to a grammar: how many states its parser has, or why it has none.

@@ -3,14 +3,14 @@
 ghost use Rattle.std.specs.Prelude.{IfOk};
 ghost use Rattle.lalrpop_grammar.specs.Views.{grammar_view};
 ghost use Rattle.lalrpop_grammar.specs.declared.grammar.Grammar.{Grammar as WrittenGrammar};
-ghost use Rattle.lalrpop_norm_expansion.specs.Premises.{IsReadGrammar};
+ghost use Rattle.lalrpop_norm_theory.specs.Premises.{IsReadGrammar};
 ghost use Rattle.lalrpop_run_parser.specs.Parsers.{IsGenerateRefusal};
 ghost use Rattle.lalrpop_run.specs.Parsers.{IsNoParserReply, IsPreparedFor};
-ghost use Rattle.lalrpop_run_questions.specs.Questions.{Question as AskedQuestion};
+ghost use Rattle.lalrpop_run.specs.Questions.{Question as AskedQuestion};
 
+use crate::replies::{Reply, written_conflicts};
 use lalrpop_run_parser::Prepared;
-use lalrpop_run_refusals::GenerateError;
-use lalrpop_run_replies::{Reply, written_conflicts};
+use lalrpop_run_prepare::refusals::GenerateError;
 use std::alloc::{AllocError, Global};
 
 /// The reply that tells why a prepared grammar has no parser: its conflicts, with written trees. Want of memory is none.

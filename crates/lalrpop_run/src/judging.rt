@@ -2,12 +2,12 @@
 
 ghost use Rattle.std.specs.Prelude.{◌≡◌, IfOk, Ok, Some};
 ghost use Rattle.lalrpop_run.specs.Judge.{GivesTree, IsJudgeReply};
-ghost use Rattle.lalrpop_run_questions.specs.Questions.{question_view};
+ghost use Rattle.lalrpop_run.specs.Questions.{question_view};
 
+use crate::questions::{Input, Question, tree_input};
+use crate::replies::Reply;
 use lalrpop_grammar::{Grammar, WrittenTree};
 use lalrpop_judge::{JudgeError, judge_tree};
-use lalrpop_run_questions::{Input, Question, tree_input};
-use lalrpop_run_replies::Reply;
 use std::alloc::{AllocError, Global};
 
 /// What `judge` replies to a grammar: whether it admits the question's tree.

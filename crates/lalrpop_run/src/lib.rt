@@ -10,21 +10,23 @@ mod conflicts;
 mod judging;
 mod parsing;
 mod preparing;
+pub mod questions;
+pub mod replies;
 mod running;
 mod tokens;
 mod words;
 
+pub use crate::replies::{Answer, FoldError, Reply, fold, foldings_are_inverse, unfold};
 pub use answering::answer;
+pub use lalrpop_json_grammar::writer::{WriteError, write_grammar};
 pub use lalrpop_json_grammar::{
     Fault, FaultKind, Key, ReadError, Step, TreeText, print_tree, read_grammar, read_tree,
 };
-pub use lalrpop_json_writer::{WriteError, write_grammar};
 pub use lalrpop_run_options::{Method, Options, OptionsError, Task, options};
 pub use lalrpop_run_parser::{
     Certificate, Move, ParseError, Parser, Prepared, ScanError, check_conflict, generate, prepare,
     witness,
 };
-pub use lalrpop_run_refusals::GenerateError;
-pub use lalrpop_run_replies::{Answer, FoldError, Reply, fold, foldings_are_inverse, unfold};
+pub use lalrpop_run_prepare::refusals::GenerateError;
 pub use running::run;
 pub use words::run_words;

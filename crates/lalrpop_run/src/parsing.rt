@@ -6,18 +6,18 @@ ghost use Rattle.lalrpop_grammar.specs.Views.{grammar_view};
 ghost use Rattle.lalrpop_grammar.specs.declared.grammar.Grammar.{Grammar as WrittenGrammar};
 ghost use Rattle.lalrpop_lexer_scan.specs.Entries.{ScanEntry};
 ghost use Rattle.lalrpop_lexer_scan.specs.Scanning.{IsScannerOf};
-ghost use Rattle.lalrpop_norm_expansion.specs.Premises.{IsReadGrammar};
+ghost use Rattle.lalrpop_norm_theory.specs.Premises.{IsReadGrammar};
 ghost use Rattle.lalrpop_run.specs.Parse.{IsAnswerTold, IsParseReply};
 ghost use Rattle.lalrpop_run.specs.Parsers.{IsPreparedFor};
-ghost use Rattle.lalrpop_run_questions.specs.Questions.{Question as AskedQuestion, question_view};
+ghost use Rattle.lalrpop_run.specs.Questions.{Question as AskedQuestion, question_view};
 
 use crate::conflicts::conflicts_reply;
 use crate::preparing::prepare_for;
+use crate::questions::Question;
+use crate::replies::{Reply, refusal_reply};
 use lalrpop_grammar::Grammar;
 use lalrpop_run_options::Method;
 use lalrpop_run_parser::{ParseError, Parser, Prepared, generate};
-use lalrpop_run_questions::Question;
-use lalrpop_run_replies::{Reply, refusal_reply};
 use std::alloc::{AllocError, Global};
 
 /// What `parse` replies to a grammar and a text: the tree of the text, where it has none, or why the grammar has no parser.

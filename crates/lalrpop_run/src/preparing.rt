@@ -2,14 +2,14 @@
 
 ghost use Rattle.std.specs.Prelude.{IfErr, IfOk};
 ghost use Rattle.lalrpop_grammar.specs.Views.{grammar_view};
-ghost use Rattle.lalrpop_norm_expansion.specs.Premises.{IsReadGrammar};
+ghost use Rattle.lalrpop_norm_theory.specs.Premises.{IsReadGrammar};
 ghost use Rattle.lalrpop_run.specs.Parsers.{IsPreparedFor, IsRefusedFor};
-ghost use Rattle.lalrpop_run_questions.specs.Questions.{question_view};
+ghost use Rattle.lalrpop_run.specs.Questions.{question_view};
 
+use crate::questions::Question;
 use lalrpop_grammar::Grammar;
 use lalrpop_run_parser::{Prepared, prepare};
-use lalrpop_run_questions::Question;
-use lalrpop_run_refusals::GenerateError;
+use lalrpop_run_prepare::refusals::GenerateError;
 use std::alloc::Global;
 
 /// The grammar, prepared for the question, or why it is refused before its states are built. What is prepared is large, so it is boxed.
@@ -26,7 +26,7 @@ pub(crate) fn prepare_for(
     let Question { start, session, .. } = question;
     let prepared = prepare(alloc, grammar, &start, session)?;
     // what is known of it
-    prepared.grammar();
+    prepared.known();
     let boxed = Box::new(alloc, prepared)?;
     Ok(boxed)
 }

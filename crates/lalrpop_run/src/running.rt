@@ -3,18 +3,18 @@
 ghost use Rattle.std.specs.Prelude.{◌≡◌, ℕ, List, Option, IfOk, IfErr, Ok, true, false};
 ghost use Rattle.lalrpop_grammar_streams.specs.Streams.{ReadsAll};
 ghost use Rattle.lalrpop_json_grammar.specs.Grammars.{grammar_at};
-ghost use Rattle.lalrpop_run_questions.specs.Inputs.{IsInput};
-ghost use Rattle.lalrpop_run_questions.specs.Questions.{question_of, reads_grammar, reads_text};
+ghost use Rattle.lalrpop_run.specs.Inputs.{IsInput};
+ghost use Rattle.lalrpop_run.specs.Questions.{question_of, reads_grammar, reads_text};
 ghost use Rattle.lalrpop_run.specs.Replies.{GivesGrammar, IsRunReply};
 ghost use Rattle.lalrpop_run.specs.Runs.{read_fault, HasGrammar, IsRightAnswer, IsRightRun, IsWritten};
-ghost use Rattle.lalrpop_run_replies.specs.Outputs.{answer_view, reply_output};
+ghost use Rattle.lalrpop_run.specs.Outputs.{answer_view, reply_output};
 
 use crate::answering::answer;
+use crate::questions::{Input, grammar_input, reads_grammar, reads_text};
+use crate::replies::{Answer, Reply, put};
 use lalrpop_grammar::Grammar;
 use lalrpop_grammar_streams::{Sink, Source, SourceError, read_all, write_all};
 use lalrpop_run_options::Options;
-use lalrpop_run_questions::{Input, grammar_input, reads_grammar, reads_text};
-use lalrpop_run_replies::{Answer, Reply, put};
 use std::alloc::{AllocError, Global};
 use std::str;
 

@@ -1,7 +1,7 @@
 //! The run over the text that the words give.
 
 ghost use Rattle.std.specs.Prelude.{◌≡◌, Bool, Some, false, string_bytes};
-ghost use Rattle.lalrpop_run_questions.specs.Questions.{question_of, reads_grammar};
+ghost use Rattle.lalrpop_run.specs.Questions.{question_of, reads_grammar};
 ghost use Rattle.lalrpop_run.specs.Runs.{IsRightRun};
 
 use crate::running::run;

@@ -1,7 +1,7 @@
 -- The words that name methods.
 use Rattle.std.specs.Prelude.{◌≡◌, ◌⊎◌, ℕ, List, [], ◌∷◌, codes}
-use Rattle.lalrpop_lane_method.specs.declared.Method.{Method}
-use Rattle.lalrpop_lane_method.specs.declared.Method.TheVariants as methods
+use Rattle.lalrpop_grammar_repr.specs.declared.methods.Method.{Method}
+use Rattle.lalrpop_grammar_repr.specs.declared.methods.Method.TheVariants as methods
 
 abbrev pub lane_word : List ℕ
 lane_word = codes "lane"

@@ -6,8 +6,8 @@ use Rattle.std.specs.Option.{option_or}
 use Rattle.std.specs.Str.Parse.{IsNumeral, signed_digits_value, without_leading_sign}
 use Rattle.std.specs.String.{string_bytes}
 use Rattle.clap.specs.Walk.{Row, Text, first_of}
-use Rattle.lalrpop_lane_method.specs.declared.Method.{Method}
-use Rattle.lalrpop_lane_method.specs.declared.Method.TheVariants as methods
+use Rattle.lalrpop_grammar_repr.specs.declared.methods.Method.{Method}
+use Rattle.lalrpop_grammar_repr.specs.declared.methods.Method.TheVariants as methods
 use Rattle.lalrpop_run_options.specs.Hidden.{hidden_value}
 use Rattle.lalrpop_run_options.specs.Method.{canonical_word, lane_word}
 use Rattle.lalrpop_run_options.specs.Task.{word_of}

@@ -5,7 +5,7 @@ use Rattle.clap.specs.Built.{IsPlain, IsPlainArg}
 use Rattle.clap.specs.Walk.{Rule, Text, rule_of, texts}
 use Rattle.clap.specs.declared.builder.arg.Arg.{Arg}
 use Rattle.clap.specs.declared.builder.command.Command.{Command}
-use Rattle.clap.specs.Simple.{App, app_of, new_app, new_rule, new_shape, with_rule}
+use Rattle.clap.specs.Simple.{App, app_of, new_app, new_rule, new_shape, on_top, with_rule}
 use Rattle.clap.specs.declared.builder.action.ArgAction.TheVariants.{Set}
 use Rattle.clap.specs.declared.builder.value_parser.ValueParser.{ValueParser}
 use Rattle.clap.specs.declared.builder.value_parser.ValueParser.TheVariants as vp
@@ -73,10 +73,10 @@ method_rules methods = method_rule methods ∷ copies_rule ∷ []
 abbrev pub rules_of_program : WordList → WordList → List Rule
 rules_of_program tasks methods = task_rule tasks ∷ input_rules ++ limit_rules ++ method_rules methods
 
--- the command line with these rules; `tasks` has the words of the tasks, `methods` those of the methods
+-- the command line with a version to tell and these rules; `tasks` has the words of the tasks, `methods` those of the methods
 unfoldable pub program : WordList → WordList → App
 program tasks methods = record {
-  top = record (new_shape (codes "lalrpop_run")) { rules = rules_of_program tasks methods };
+  top = record (new_shape (codes "lalrpop_run")) { has_version = true; rules = rules_of_program tasks methods };
   subs = [];
 }
 
@@ -115,10 +115,14 @@ pub record AddsRules (rules : List Rule) (old new : Command) : Type 0 where
   pub shape : app_of new ≡ with_rules rules (app_of old)
   pub plain : IsPlain old → IsPlain new
 
--- the command has one argument, the word of a task
+-- the command line with a version to tell
+abbrev pub with_version : App → App
+with_version app = on_top (λ s. record s { has_version = true }) app
+
+-- the command has a version to tell, and one argument, the word of a task
 abbrev pub IsTaskCommand : Command → Type 0
 IsTaskCommand command = (tasks : WordList) × (texts tasks.now ≡ task_words)
-    × (app_of command ≡ with_rule (new_app (codes "lalrpop_run")) (task_rule tasks)) × IsPlain command
+    × (app_of command ≡ with_rule (with_version (new_app (codes "lalrpop_run"))) (task_rule tasks)) × IsPlain command
 
 -- the new command has `--method` and `--copies` after the old one's arguments
 abbrev pub IsMethodCommand : Command → Command → Type 0

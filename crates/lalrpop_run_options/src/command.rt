@@ -11,24 +11,31 @@ use crate::task::TASK_WORDS;
 use clap::{Arg, ArgAction, Command};
 use std::alloc::{AllocError, Global};
 
+/// The version that `--version` tells.
+const VERSION: &str = "0.1.0";
+
 /// What the help says below the options: each task with an example, and what the statuses are.
 const TASKS_AND_STATUSES: &str = "\
 Commands, each with its options and an example:
-  judge   whether the grammar admits a tree: --start, --tree; [--features]
-          lalrpop_run judge --start S --tree \"$(cat examples/lists.tree.json)\" < examples/lists.grammar.json
-  tokens  the tokens of a text: --start; [--text, --features, --macro-limit, --method, --copies]
-          lalrpop_run tokens --start S --text 'a b' < examples/lists.grammar.json
-  check   whether the grammar has a parser: --start; [--features, --macro-limit, --method, --copies]
-          lalrpop_run check --start Expr < examples/calculator.grammar.json
   parse   the tree of a text: --start; [--text, --features, --macro-limit, --limit, --method, --copies]
           lalrpop_run parse --start Expr --text '1+2*3' < examples/calculator.grammar.json
+  check   whether the grammar has a parser: --start; [--features, --macro-limit, --method, --copies]
+          lalrpop_run check --start Expr < examples/calculator.grammar.json
+  tokens  the tokens of a text: --start; [--text, --features, --macro-limit, --method, --copies]
+          lalrpop_run tokens --start S --text 'a b' < examples/lists.grammar.json
+  judge   whether the grammar admits a tree: --start, --tree; [--features]
+          lalrpop_run judge --start S --tree \"$(cat examples/lists.tree.json)\" < examples/lists.grammar.json
+
+Methods:
+  lane       lane tables; they aren't built yet, so the canonical states answer
+  canonical  canonical LR(1) states
 
 Status:
   0  an answer
   1  the answer no, or a text without a tree
   2  a parse would make more moves than --limit says
   3  the grammar is refused
-  4  wrong words, or a value that can't be read
+  4  wrong words, a call for help or the version, or a value that can't be read
   5  out of memory
   6  a read or a write failed";
 
@@ -43,12 +50,13 @@ pub(crate) fn command<'a>(alloc: Global) -> Result<Command<'a>, AllocError>
     with_method(alloc, command)
 }
 
-/// The program's name and what it is for, with the word that names the task.
+/// The program's name, its version and what it is for, with the word that names the task.
 fn with_task<'a>(alloc: Global) -> Result<Command<'a>, AllocError>
     ensures { IfOk result IsTaskCommand }
 {
     Command::new(alloc, "lalrpop_run")
         .bin_name("lalrpop_run")?
+        .version(VERSION)
         .about("Answers for a grammar, which is read as JSON from standard input")
         .after_help(TASKS_AND_STATUSES)
         .arg(task(alloc))
@@ -60,7 +68,12 @@ fn with_inputs<'a>(alloc: Global, command: Command<'a>) -> Result<Command<'a>, A
 {
     command
         .arg(start(alloc))?
-        .arg(option(alloc, "text", "TEXT", "The text to read"))?
+        .arg(option(
+            alloc,
+            "text",
+            "TEXT",
+            "The text to read [default: the empty text]",
+        ))?
         .arg(option(alloc, "tree", "JSON", "The tree to judge"))
 }
 
@@ -106,7 +119,7 @@ fn features<'a>(alloc: Global) -> Arg<'a>
         alloc,
         "features",
         "LIST",
-        "The features that are on, between commas",
+        "The features that are on, between commas [default: none]",
     )
 }
 

@@ -15,7 +15,7 @@ use crate::hidden::hidden_value;
 use crate::method::from_word;
 use crate::{Options, Task};
 use clap::ArgMatches;
-use lalrpop_lane_method::Method;
+use lalrpop_grammar_repr::methods::Method;
 use std::alloc::{AllocError, Global};
 
 /// How deep macros may call macros where the words do not say.

@@ -11,7 +11,7 @@ mod task;
 mod words;
 
 pub use fault::OptionsError;
-pub use lalrpop_lane_method::Method;
+pub use lalrpop_grammar_repr::methods::Method;
 pub use settings::Options;
 pub use task::Task;
 pub use words::options;

@@ -2,7 +2,7 @@
 ghost use Rattle.std.specs.Prelude.{◌≡◌};
 ghost use Rattle.lalrpop_run_options.specs.Method.{IsMethodNamed, IsMethodWord};
 
-use lalrpop_lane_method::Method;
+use lalrpop_grammar_repr::methods::Method;
 
 /// The words that name methods, in the order of `Method`.
 pub(crate) static METHOD_WORDS: [&str; 2] = ["lane", "canonical"];

@@ -1,6 +1,6 @@
 //! What the words ask for.
 use crate::Task;
-use lalrpop_lane_method::Method;
+use lalrpop_grammar_repr::methods::Method;
 
 /// What the words ask for.
 #[derive(Debug, Drop)]

@@ -2,7 +2,7 @@
 use Rattle.std.proofs.Common.{◌≡◌, [], Err, None, Some, refl}
 use Rattle.lalrpop_run_parser.specs.Limits.{TellsLimitWhere, answer_of_result}
 use Rattle.lalrpop_run_parser.specs.declared.parse_error.ParseError.TheVariants as errors
-use Rattle.lalrpop_run_text_answers.specs.TextAnswers.{TextAnswer}
+use Rattle.lalrpop_run_theory.specs.TextAnswers.{TextAnswer}
 
 -- where the limit is passed it is told, and no other answer but want of memory
 limit_told : TellsLimitWhere (Unit {0}) (Err errors.Limit)

@@ -10,12 +10,12 @@ use Rattle.lalrpop_grammar.specs.WrittenGrammar.{Grammar}
 use Rattle.lalrpop_grammar_language.specs.Enabled.{EnabledGrammar, enabled_grammar}
 use Rattle.lalrpop_grammar_language.specs.Expansion.{InExpansion, Nonterminal}
 use Rattle.lalrpop_grammar_language.specs.Sentences.{Begins}
-use Rattle.lalrpop_judge_search.specs.Search.{finds, is_too_deep}
-use Rattle.lalrpop_lane_method.specs.declared.Method.TheVariants.{Canonical}
+use Rattle.lalrpop_grammar_rules.specs.Search.{finds, is_too_deep}
+use Rattle.lalrpop_grammar_repr.specs.declared.methods.Method.TheVariants.{Canonical}
 use Rattle.lalrpop_lexer_scan.proofs.CutLemmas.{same_tokens}
-use Rattle.lalrpop_lr1_build.specs.BuiltStates.{theory_grammar}
-use Rattle.lalrpop_lr1_collapse.specs.CollapseAnswers.{states_over}
-use Rattle.lalrpop_lr1_parse.specs.declared.action_table.ActionTable.{ActionTable}
+use Rattle.lalrpop_lr1_core.specs.TheoryGrammars.{theory_grammar}
+use Rattle.lalrpop_lr1_build.specs.CollapseAnswers.{states_over}
+use Rattle.lalrpop_lr1_interpret.specs.declared.parse.action_table.ActionTable.{ActionTable}
 use Rattle.lalrpop_lr1_theory.specs.Answers.{IsYieldOf}
 use Rattle.lalrpop_lr1_theory.specs.CanonicalStates.{AreCanonicalStates}
 use Rattle.lalrpop_lr1_theory.specs.CheckedStates.{AreCheckedStates, IsStartAlone}
@@ -24,17 +24,17 @@ use Rattle.lalrpop_lr1_theory.specs.Runs.{PassesLimit}
 use Rattle.lalrpop_lr1_theory.specs.Spans.{without_spans}
 use Rattle.lalrpop_lr1_theory.specs.States.{State}
 use Rattle.lalrpop_lr1_theory.specs.ValidItems.{NoneBarren}
-use Rattle.lalrpop_norm_expansion.specs.Premises.{IsReadGrammar}
-use Rattle.lalrpop_run_answers.proofs.WrittenForestLemmas.{root_size}
-use Rattle.lalrpop_run_answers.proofs.YieldLemmas.{yield_beginning, yield_sentence}
-use Rattle.lalrpop_run_answers.specs.ExpansionTrees.{expanded_size}
+use Rattle.lalrpop_norm_theory.specs.Premises.{IsReadGrammar}
+use Rattle.lalrpop_run_theory.proofs.WrittenForestLemmas.{root_size}
+use Rattle.lalrpop_run_theory.proofs.YieldLemmas.{yield_beginning, yield_sentence}
+use Rattle.lalrpop_run_theory.specs.ExpansionTrees.{expanded_size}
 use Rattle.lalrpop_run_parser.specs.Limits.{BeginsSmallSentence, IsFaultAt, TellsFaultsFirst, TellsLimitWhere, TextPassesLimit}
 use Rattle.lalrpop_run_parser.specs.Parsers.{HasTableBy}
 use Rattle.lalrpop_run_parser.proofs.CanonicalRunLemmas.{CantFollow, larger_tree}
-use Rattle.lalrpop_run_witness.specs.PassedOn.{IsPrepared, MayBeParsedFrom, PreparedGrammar}
-use Rattle.lalrpop_run_witness.proofs.PassedOnLemmas.{start_in_expansion}
-use Rattle.lalrpop_run_text_answers.specs.TextAnswers.{AreExpansionOf, terminals_of_tokens}
-use Rattle.lalrpop_run_text_answers.proofs.ExpandedForestLemmas.{expanded_forest}
+use Rattle.lalrpop_run_prepare.specs.PreparedGrammars.{IsPrepared, MayBeParsedFrom, PreparedGrammar}
+use Rattle.lalrpop_run_prepare.proofs.StartLemmas.{start_in_expansion}
+use Rattle.lalrpop_run_theory.specs.TextAnswers.{AreExpansionOf, terminals_of_tokens}
+use Rattle.lalrpop_run_theory.proofs.ExpandedForestLemmas.{expanded_forest}
 
 -- what stands at a place of a list
 record StandsAt (l : List Terminal) (i : ℕ) : Type 0 where

@@ -4,30 +4,31 @@ use Rattle.std.proofs.lemmas.List.{length-map}
 use Rattle.lalrpop_grammar_symbols.specs.declared.names.NonterminalString.{NonterminalString}
 use Rattle.lalrpop_grammar.specs.Views.{grammar_view}
 use Rattle.lalrpop_grammar_repr.specs.declared.grammar.Grammar.{Grammar}
-use Rattle.lalrpop_judge_certificates.specs.declared.certificate.Certificate.{Certificate}
-use Rattle.lalrpop_judge_search.specs.Search.{finds, is_too_deep}
+use Rattle.lalrpop_judge.specs.declared.certificates.certificate.Certificate.{Certificate}
+use Rattle.lalrpop_grammar_rules.specs.Search.{finds, is_too_deep}
 use Rattle.lalrpop_lane.specs.BuilderAnswers.{AreLr1By}
-use Rattle.lalrpop_lane_method.specs.declared.Method.{Method}
-use Rattle.lalrpop_lane_method.specs.declared.Method.TheVariants as methods
-use Rattle.lalrpop_lr1_build.specs.BuiltStates.{IsCanonicalFault, TellsNoLr1, theory_grammar}
-use Rattle.lalrpop_lr1_collapse.specs.CollapseAnswers.{states_over}
-use Rattle.lalrpop_lr1_items.specs.declared.state.State.{State}
-use Rattle.lalrpop_lr1_items.specs.declared.table_fault.TableConstructionError.{TableConstructionError}
-use Rattle.lalrpop_lr1_items.specs.declared.table_fault.TableFault.{TableFault}
-use Rattle.lalrpop_lr1_items.specs.declared.table_fault.TableFault.TheVariants as faults
-use Rattle.lalrpop_lr1_parse.specs.Tables.{IsTableOf}
-use Rattle.lalrpop_lr1_parse.specs.declared.action_table.ActionTable.{ActionTable}
+use Rattle.lalrpop_grammar_repr.specs.declared.methods.Method.{Method}
+use Rattle.lalrpop_grammar_repr.specs.declared.methods.Method.TheVariants as methods
+use Rattle.lalrpop_lr1_build.specs.BuiltStates.{IsCanonicalFault, TellsNoLr1}
+use Rattle.lalrpop_lr1_core.specs.TheoryGrammars.{theory_grammar}
+use Rattle.lalrpop_lr1_build.specs.CollapseAnswers.{states_over}
+use Rattle.lalrpop_lr1_core.specs.declared.state.State.{State}
+use Rattle.lalrpop_lr1_core.specs.declared.table_fault.TableConstructionError.{TableConstructionError}
+use Rattle.lalrpop_lr1_core.specs.declared.table_fault.TableFault.{TableFault}
+use Rattle.lalrpop_lr1_core.specs.declared.table_fault.TableFault.TheVariants as faults
+use Rattle.lalrpop_lr1_interpret.specs.Tables.{IsTableOf}
+use Rattle.lalrpop_lr1_interpret.specs.declared.parse.action_table.ActionTable.{ActionTable}
 use Rattle.lalrpop_lr1_theory.specs.Answers.{IsLr1}
 use Rattle.lalrpop_lr1_theory.specs.CheckedStates.{AreCheckedStates, IsStartAlone}
 use Rattle.lalrpop_lr1_theory.specs.States.{State as TheoryState}
 use Rattle.lalrpop_lr1_theory.specs.ValidItems.{CountsItemSets, NoneBarren}
 use Rattle.lalrpop_lr1_theory.proofs.CountLemmas.{canonical_counted}
-use Rattle.lalrpop_norm_expansion.specs.Premises.{IsReadGrammar}
-use Rattle.lalrpop_run_answers.specs.Laws.{OneWrittenTree}
+use Rattle.lalrpop_norm_theory.specs.Premises.{IsReadGrammar}
+use Rattle.lalrpop_run_theory.specs.Laws.{OneWrittenTree}
 use Rattle.lalrpop_run_parser.specs.Parsers.{AreCountedBy, HasConflicts, HasOneTreeEach, HasStatesBy, HasTableBy, IsParserTable}
-use Rattle.lalrpop_run_witness.specs.PassedOn.{IsPrepared, MayBeParsedFrom, PreparedGrammar}
-use Rattle.lalrpop_run_witness.proofs.PassedOnLemmas.{start_in_expansion}
-use Rattle.lalrpop_run_witness.specs.Witnesses.{AreItsConflicts, AreWitnessesOf}
+use Rattle.lalrpop_run_prepare.specs.PreparedGrammars.{IsPrepared, MayBeParsedFrom, PreparedGrammar}
+use Rattle.lalrpop_run_prepare.proofs.StartLemmas.{start_in_expansion}
+use Rattle.lalrpop_run_parser.specs.Witnesses.{AreItsConflicts, AreWitnessesOf}
 
 -- canonical states of an expansion are counted by its sets of items
 item_sets_counted : (v : PreparedGrammar) (method : Method) (built : List (State (List ℕ))) (count : ℕ)

@@ -8,3 +8,16 @@ pub mod ParserLimitLemmas
 pub mod PlaceLemmas
 pub mod SameAnswerLemmas
 pub mod WrittenStackLemmas
+pub mod FittingLemmas
+pub mod RankLemmas
+pub mod FoldLemmas
+pub mod MeasureLemmas
+pub mod SearchLemmas
+pub mod NamedProductionLemmas
+pub mod UnfoldLemmas
+pub mod PostOrderLemmas
+pub mod BuildingLemmas
+pub mod WholeFoldLemmas
+pub mod WitnessLemmas
+pub mod ConflictLineLemmas
+pub mod UnfoldedLemmas

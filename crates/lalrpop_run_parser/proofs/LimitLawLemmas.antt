@@ -4,13 +4,13 @@ use Rattle.std.proofs.Common.{Err, Ok, Some}
 use Rattle.std.specs.Prelude.{Option, Result}
 use Rattle.lalrpop_grammar.specs.Views.{grammar_view, tree_view}
 use Rattle.lalrpop_grammar.specs.declared.tree.WrittenTree.{WrittenTree}
-use Rattle.lalrpop_judge_search.specs.Search.{finds, is_too_deep}
+use Rattle.lalrpop_grammar_rules.specs.Search.{finds, is_too_deep}
 use Rattle.lalrpop_lexer_scan.specs.Entries.{ScanEntry}
 use Rattle.lalrpop_lexer_scan.specs.Scanning.{IsScannerOf}
-use Rattle.lalrpop_lr1_parse.specs.declared.action_table.ActionTable.{ActionTable}
-use Rattle.lalrpop_lr1_parse.proofs.MoveCountLemmas.{passes_smaller}
-use Rattle.lalrpop_norm_expansion.specs.Premises.{IsReadGrammar}
-use Rattle.lalrpop_run_answers.specs.Laws.{OneWrittenTree}
+use Rattle.lalrpop_lr1_interpret.specs.declared.parse.action_table.ActionTable.{ActionTable}
+use Rattle.lalrpop_lr1_interpret.proofs.MoveCountLemmas.{passes_smaller}
+use Rattle.lalrpop_norm_theory.specs.Premises.{IsReadGrammar}
+use Rattle.lalrpop_run_theory.specs.Laws.{OneWrittenTree}
 use Rattle.lalrpop_run_parser.specs.Limits.{KeepsAnswers, TellsLimitWhere, TextPassesLimit, answer_of_result}
 use Rattle.lalrpop_run_parser.specs.ParserAnswers.{TellsResult}
 use Rattle.lalrpop_run_parser.specs.Parsers.{IsParserTable}
@@ -18,8 +18,8 @@ use Rattle.lalrpop_run_parser.specs.declared.parse_error.ParseError.{ParseError}
 use Rattle.lalrpop_run_parser.specs.declared.parse_error.ParseError.TheVariants as errors
 use Rattle.lalrpop_run_parser.proofs.GenerateLemmas.{one_tree_by}
 use Rattle.lalrpop_run_parser.proofs.SameAnswerLemmas.{same_for_text}
-use Rattle.lalrpop_run_witness.specs.PassedOn.{IsPrepared, PreparedGrammar}
-use Rattle.lalrpop_run_text_answers.specs.TextAnswers.{IsRightForText, TextAnswer, terminals_of_tokens}
+use Rattle.lalrpop_run_prepare.specs.PreparedGrammars.{IsPrepared, PreparedGrammar}
+use Rattle.lalrpop_run_theory.specs.TextAnswers.{IsRightForText, TextAnswer, terminals_of_tokens}
 
 same_some : (a b : TextAnswer) → ◌≡◌ {A = Option TextAnswer} (Some a) (Some b) → a ≡ b
 same_some a b e = cc

@@ -17,38 +17,38 @@ use Rattle.lalrpop_grammar.specs.declared.tree.WrittenTree.{WrittenTree}
 use Rattle.lalrpop_grammar_language.specs.Enabled.{enabled_grammar}
 use Rattle.lalrpop_grammar_language.specs.Expansion.{InExpansion, Nonterminal}
 use Rattle.lalrpop_grammar_repr.specs.declared.action.ActionFnDefn.{ActionFnDefn}
-use Rattle.lalrpop_judge_search.specs.Search.{finds, is_too_deep}
+use Rattle.lalrpop_grammar_rules.specs.Search.{finds, is_too_deep}
 use Rattle.lalrpop_lexer_scan.specs.Entries.{ScanEntry}
 use Rattle.lalrpop_lexer_scan.specs.Faults.{TellsNoToken}
 use Rattle.lalrpop_lexer_scan.specs.Tokens.{AreTokensOf}
 use Rattle.lalrpop_lexer_scan.specs.declared.fault.ScanError.{ScanError}
 use Rattle.lalrpop_lexer_scan.specs.declared.fault.ScanError.TheVariants as scans
-use Rattle.lalrpop_lr1_build.specs.BuiltStates.{theory_grammar}
-use Rattle.lalrpop_lr1_parse.specs.Ends.{MayRun, spans_of, terminals_of}
-use Rattle.lalrpop_lr1_parse.specs.Parses.{IsRightStop, MakesRightTree}
-use Rattle.lalrpop_lr1_parse.specs.declared.action_table.ActionTable.{ActionTable}
-use Rattle.lalrpop_lr1_parse.specs.declared.stop.Stop.{Stop}
-use Rattle.lalrpop_lr1_parse.specs.declared.stop.Stop.TheVariants as stops
+use Rattle.lalrpop_lr1_core.specs.TheoryGrammars.{theory_grammar}
+use Rattle.lalrpop_lr1_interpret.specs.Ends.{MayRun, spans_of, terminals_of}
+use Rattle.lalrpop_lr1_interpret.specs.Parses.{IsRightStop, MakesRightTree}
+use Rattle.lalrpop_lr1_interpret.specs.declared.parse.action_table.ActionTable.{ActionTable}
+use Rattle.lalrpop_lr1_interpret.specs.declared.parse.stop.Stop.{Stop}
+use Rattle.lalrpop_lr1_interpret.specs.declared.parse.stop.Stop.TheVariants as stops
 use Rattle.lalrpop_lr1_theory.specs.Answers as theory
 use Rattle.lalrpop_lr1_theory.specs.Productions.{Production}
 use Rattle.lalrpop_lr1_theory.specs.Spans.{SpannedForest, leaf_spans, none_at, without_spans}
 use Rattle.lalrpop_lr1_theory.specs.Trees.{AreOver, Forest, IsTreeOf, leaf, node, none}
-use Rattle.lalrpop_norm_expansion.specs.Premises.{IsReadGrammar}
-use Rattle.lalrpop_run_answers.specs.Laws.{ForestsAreAdmitted}
+use Rattle.lalrpop_norm_theory.specs.Premises.{IsReadGrammar}
+use Rattle.lalrpop_run_theory.specs.Laws.{ForestsAreAdmitted}
 use Rattle.lalrpop_run_parser.specs.ParserAnswers.{IsRightForItsText, IsRightForItsTokens, IsWrongAt, TellsStop}
 use Rattle.lalrpop_run_parser.specs.ParserAnswers.{parse_error_of_scan}
 use Rattle.lalrpop_run_parser.specs.Parsers.{IsParserTable}
 use Rattle.lalrpop_run_parser.specs.declared.parse_error.ParseError.{ParseError}
 use Rattle.lalrpop_run_parser.specs.declared.parse_error.ParseError.TheVariants as errors
-use Rattle.lalrpop_run_witness.specs.PassedOn.{IsPrepared, MayBeParsedFrom, PreparedGrammar}
-use Rattle.lalrpop_run_witness.proofs.PassedOnLemmas.{start_in_expansion}
-use Rattle.lalrpop_run_text_answers.specs.AnswerLaws.{RightParsesAreRight, StandsForAnswer}
-use Rattle.lalrpop_run_text_answers.specs.TextAnswers.{IsRightForText, IsRightForTokens, TextAnswer, terminals_of_tokens}
-use Rattle.lalrpop_run_written.specs.ActionLabels.{TellsLabel, kept_count}
-use Rattle.lalrpop_run_written.specs.LabelledTrees.{IsPart, StandByActions}
-use Rattle.lalrpop_run_written.proofs.MadeTreeLemmas.{made_admitted}
-use Rattle.lalrpop_run_written.proofs.TakenLemmas.{KeepSymbols}
-use Rattle.lalrpop_run_written.proofs.ToldLemmas.{told_count}
+use Rattle.lalrpop_run_prepare.specs.PreparedGrammars.{IsPrepared, MayBeParsedFrom, PreparedGrammar}
+use Rattle.lalrpop_run_prepare.proofs.StartLemmas.{start_in_expansion}
+use Rattle.lalrpop_run_theory.specs.AnswerLaws.{RightParsesAreRight, StandsForAnswer}
+use Rattle.lalrpop_run_theory.specs.TextAnswers.{IsRightForText, IsRightForTokens, TextAnswer, terminals_of_tokens}
+use Rattle.lalrpop_run_trees.specs.ActionLabels.{TellsLabel, kept_count}
+use Rattle.lalrpop_run_trees.specs.LabelledTrees.{IsPart, StandByActions}
+use Rattle.lalrpop_run_trees.proofs.MadeTreeLemmas.{made_admitted}
+use Rattle.lalrpop_run_trees.proofs.TakenLemmas.{KeepSymbols}
+use Rattle.lalrpop_run_trees.proofs.ToldLemmas.{told_count}
 
 -- the parser's table may be run
 pub may_run : (v : PreparedGrammar) (table : ActionTable) (count : ℕ) → IsParserTable v table count →

@@ -16,10 +16,10 @@ use Rattle.lalrpop_lexer_scan.specs.Tokens.{AreTokensOf}
 use Rattle.lalrpop_lexer_scan.specs.declared.fault.ScanError.{ScanError}
 use Rattle.lalrpop_lexer_scan.specs.declared.fault.ScanError.TheVariants as scans
 use Rattle.lalrpop_lexer_scan.proofs.CutLemmas.{never_both, same_tokens}
-use Rattle.lalrpop_lr1_parse.specs.Ends.{terminals_of}
-use Rattle.lalrpop_lr1_parse.specs.Parses.{IsRightStop, StopsByLimit}
-use Rattle.lalrpop_lr1_parse.specs.declared.stop.Stop.{Stop}
-use Rattle.lalrpop_lr1_parse.specs.declared.stop.Stop.TheVariants as stops
+use Rattle.lalrpop_lr1_interpret.specs.Ends.{terminals_of}
+use Rattle.lalrpop_lr1_interpret.specs.Parses.{IsRightStop, StopsByLimit}
+use Rattle.lalrpop_lr1_interpret.specs.declared.parse.stop.Stop.{Stop}
+use Rattle.lalrpop_lr1_interpret.specs.declared.parse.stop.Stop.TheVariants as stops
 use Rattle.lalrpop_lr1_theory.specs.Productions.{Production}
 use Rattle.lalrpop_lr1_theory.specs.Runs.{PassesLimit}
 use Rattle.lalrpop_lr1_theory.specs.States.{State}
@@ -28,7 +28,7 @@ use Rattle.lalrpop_run_parser.specs.ParserAnswers.{IsWrongAt, TellsStop, parse_e
 use Rattle.lalrpop_run_parser.specs.declared.parse_error.ParseError.{ParseError}
 use Rattle.lalrpop_run_parser.specs.declared.parse_error.ParseError.TheVariants as errors
 use Rattle.lalrpop_run_parser.proofs.ParseLemmas.{token_there}
-use Rattle.lalrpop_run_text_answers.specs.TextAnswers.{terminals_of_tokens}
+use Rattle.lalrpop_run_theory.specs.TextAnswers.{terminals_of_tokens}
 
 -- what is told where something holds is told where something else does that holds just there
 told_where : (P Q : Type 0) → (P → Q) → (Q → P) → (result : Result WrittenTree ParseError) → TellsLimitWhere P result →

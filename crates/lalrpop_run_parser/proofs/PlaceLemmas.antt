@@ -3,10 +3,10 @@ use Rattle.std.proofs.Common.{ℕ, List, [], ◌∷◌}
 use Rattle.lalrpop_grammar.specs.declared.token.ScanToken.{ScanToken}
 use Rattle.lalrpop_lexer_scan.specs.Scanning.{AreEntriesOf}
 use Rattle.lalrpop_lexer_scan.specs.declared.scanner.Scanner.{Scanner}
-use Rattle.lalrpop_lr1_parse.specs.Columns.{AreColumnsOf, ArePlacesOf}
-use Rattle.lalrpop_lr1_parse.specs.declared.action_table.ActionTable.{ActionTable}
-use Rattle.lalrpop_lr1_parse.specs.declared.table_row.NextNumber.{NextNumber}
-use Rattle.lalrpop_lr1_parse.proofs.ColumnLemmas.{column_there}
+use Rattle.lalrpop_lr1_interpret.specs.Columns.{AreColumnsOf, ArePlacesOf}
+use Rattle.lalrpop_lr1_interpret.specs.declared.parse.action_table.ActionTable.{ActionTable}
+use Rattle.lalrpop_lr1_interpret.specs.declared.parse.table_row.NextNumber.{NextNumber}
+use Rattle.lalrpop_lr1_interpret.proofs.ColumnLemmas.{column_there}
 
 pub entries_are_places : (table : ActionTable) (s : Scanner) (columns : List NextNumber)
     → AreColumnsOf table s.terminals.items columns → (tokens : List ScanToken) (entries : List ℕ) → AreEntriesOf s tokens entries

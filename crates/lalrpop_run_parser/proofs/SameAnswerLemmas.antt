@@ -12,7 +12,7 @@ use Rattle.lalrpop_grammar_language.specs.Admitting.{AdmitsFrom}
 use Rattle.lalrpop_grammar_language.specs.Sentences.{Begins, IsSentence}
 use Rattle.lalrpop_lexer_scan.specs.Entries.{ScanEntry}
 use Rattle.lalrpop_lexer_scan.proofs.CutLemmas.{never_both, same_place, same_tokens}
-use Rattle.lalrpop_run_text_answers.specs.TextAnswers.{IsFirstWrong, IsRightForText, IsRightForTokens, TextAnswer, terminals_of_tokens}
+use Rattle.lalrpop_run_theory.specs.TextAnswers.{IsFirstWrong, IsRightForText, IsRightForTokens, TextAnswer, terminals_of_tokens}
 
 module _ (finds : Text → Text → Option Bool) (features : List Text) (w : Grammar) (start : Text) where
   abbrev Starts : List Terminal → Type 0

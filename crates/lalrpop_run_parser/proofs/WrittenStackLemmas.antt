@@ -12,18 +12,18 @@ use Rattle.lalrpop_grammar.specs.declared.origin.Origin as choices
 use Rattle.lalrpop_grammar.specs.declared.tree.WrittenTree.{WrittenTree}
 use Rattle.lalrpop_grammar_language.specs.Derivations.{leaf_token, with_shown}
 use Rattle.lalrpop_grammar_repr.specs.declared.action.ActionFnDefn.{ActionFnDefn}
-use Rattle.lalrpop_lr1_parse.specs.Stacks.{◌beside◌}
-use Rattle.lalrpop_lr1_parse.proofs.StackLemmas.{without-beside}
+use Rattle.lalrpop_lr1_interpret.specs.Stacks.{◌beside◌}
+use Rattle.lalrpop_lr1_interpret.proofs.StackLemmas.{without-beside}
 use Rattle.lalrpop_lr1_theory.specs.Productions.{Production}
 use Rattle.lalrpop_lr1_theory.specs.Spans.{SpannedForest, leaf_at, node_at, none_at, without_spans}
 use Rattle.lalrpop_lr1_theory.specs.Trees.{AreOver, roots}
 use Rattle.lalrpop_lr1_theory.proofs.TreeLemmas.{over-and, over-split, roots-and}
-use Rattle.lalrpop_run_written.specs.ActionLabels.{ChoiceLabel, TellsLabel}
-use Rattle.lalrpop_run_written.specs.LabelledTrees.{IsPart, StandByActions, StandForTrees, shown_trees, tree_by_label}
-use Rattle.lalrpop_run_written.proofs.PartLemmas.{part_of_part, part_same, parts_joined, tree_leaves}
-use Rattle.lalrpop_run_written.proofs.ShownTreeLemmas.{shown_tree}
-use Rattle.lalrpop_run_written.proofs.TakenLemmas.{shown_count}
-use Rattle.lalrpop_run_written.proofs.ToldLemmas.{told_count}
+use Rattle.lalrpop_run_trees.specs.ActionLabels.{ChoiceLabel, TellsLabel}
+use Rattle.lalrpop_run_trees.specs.LabelledTrees.{IsPart, StandByActions, StandForTrees, shown_trees, tree_by_label}
+use Rattle.lalrpop_run_trees.proofs.PartLemmas.{part_of_part, part_same, parts_joined, tree_leaves}
+use Rattle.lalrpop_run_trees.proofs.ShownTreeLemmas.{shown_tree}
+use Rattle.lalrpop_run_trees.proofs.TakenLemmas.{shown_count}
+use Rattle.lalrpop_run_trees.proofs.ToldLemmas.{told_count}
 
 shown_beside : (label_of : ℕ → ChoiceLabel) (ts us : SpannedForest) →
     shown_trees label_of (ts beside us) ≡ shown_trees label_of ts ++ shown_trees label_of us

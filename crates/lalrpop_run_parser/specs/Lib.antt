@@ -1,4 +1,11 @@
 pub mod Limits
 pub mod ParserAnswers
 pub mod Parsers
-pub mod PassedOn
+pub mod FoldedTrees
+pub mod Foldings
+pub mod Folds
+pub mod PassingRanks
+pub mod PostOrders
+pub mod Witnesses
+pub mod WrittenConflicts
+pub mod ConflictTexts

@@ -6,19 +6,19 @@ use Rattle.lalrpop_grammar.specs.Trees.{Token, Tree}
 use Rattle.lalrpop_grammar.specs.Views.{grammar_view, tree_view}
 use Rattle.lalrpop_grammar.specs.declared.tree.WrittenTree.{WrittenTree}
 use Rattle.lalrpop_grammar_language.specs.Sentences.{Begins, IsSentence}
-use Rattle.lalrpop_judge_search.specs.Search.{finds}
+use Rattle.lalrpop_grammar_rules.specs.Search.{finds}
 use Rattle.lalrpop_lexer_scan.specs.Entries.{ScanEntry}
 use Rattle.lalrpop_lexer_scan.specs.Scanning.{IsScannerOf}
 use Rattle.lalrpop_lexer_scan.specs.Tokens.{AreTokensOf}
-use Rattle.lalrpop_lr1_parse.specs.Tables.{IsTableOf}
+use Rattle.lalrpop_lr1_interpret.specs.Tables.{IsTableOf}
 use Rattle.lalrpop_lr1_theory.specs.Runs.{PassesLimit}
 use Rattle.lalrpop_lr1_theory.specs.States.{State}
 use Rattle.lalrpop_run_parser.specs.ParserAnswers.{IsRightForItsText}
 use Rattle.lalrpop_run_parser.specs.Parsers.{ParserView}
 use Rattle.lalrpop_run_parser.specs.declared.parse_error.ParseError.{ParseError}
 use Rattle.lalrpop_run_parser.specs.declared.parse_error.ParseError.TheVariants as errors
-use Rattle.lalrpop_run_witness.specs.PassedOn.{PreparedGrammar}
-use Rattle.lalrpop_run_text_answers.specs.TextAnswers.{IsTreeWithin, TextAnswer, terminals_of_tokens}
+use Rattle.lalrpop_run_prepare.specs.PreparedGrammars.{PreparedGrammar}
+use Rattle.lalrpop_run_theory.specs.TextAnswers.{IsTreeWithin, TextAnswer, terminals_of_tokens}
 
 -- the limit is told exactly where this holds: each other answer, but for want of memory, comes only where it doesn't
 abbrev pub TellsLimitWhere : Type 0 → Result WrittenTree ParseError → Type 0

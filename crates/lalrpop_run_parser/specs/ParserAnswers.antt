@@ -3,16 +3,16 @@ use Rattle.std.specs.Prelude.{ℕ, ◌≡◌, List, Result, Ok, Err, Some, slice
 use Rattle.lalrpop_grammar.specs.Trees.{Token}
 use Rattle.lalrpop_grammar.specs.Views.{grammar_view, tree_view}
 use Rattle.lalrpop_grammar.specs.declared.tree.WrittenTree.{WrittenTree}
-use Rattle.lalrpop_judge_search.specs.Search.{finds}
+use Rattle.lalrpop_grammar_rules.specs.Search.{finds}
 use Rattle.lalrpop_lexer_scan.specs.Entries.{ScanEntry}
 use Rattle.lalrpop_lexer_scan.specs.declared.fault.ScanError.{ScanError}
 use Rattle.lalrpop_lexer_scan.specs.declared.fault.ScanError.TheVariants as scans
-use Rattle.lalrpop_lr1_parse.specs.declared.stop.Stop.{Stop}
-use Rattle.lalrpop_lr1_parse.specs.declared.stop.Stop.TheVariants as stops
+use Rattle.lalrpop_lr1_interpret.specs.declared.parse.stop.Stop.{Stop}
+use Rattle.lalrpop_lr1_interpret.specs.declared.parse.stop.Stop.TheVariants as stops
 use Rattle.lalrpop_run_parser.specs.declared.parse_error.ParseError.{ParseError}
 use Rattle.lalrpop_run_parser.specs.declared.parse_error.ParseError.TheVariants as errors
-use Rattle.lalrpop_run_witness.specs.PassedOn.{PreparedGrammar}
-use Rattle.lalrpop_run_text_answers.specs.TextAnswers.{IsRightForText, IsRightForTokens, TextAnswer}
+use Rattle.lalrpop_run_prepare.specs.PreparedGrammars.{PreparedGrammar}
+use Rattle.lalrpop_run_theory.specs.TextAnswers.{IsRightForText, IsRightForTokens, TextAnswer}
 
 -- what a fault of a scan is as one of a parse
 abbrev pub parse_error_of_scan : ScanError → ParseError

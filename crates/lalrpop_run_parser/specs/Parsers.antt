@@ -3,28 +3,29 @@ use Rattle.std.specs.Prelude.{ℕ, ◌≡◌, List, Contains, length}
 use Rattle.lalrpop_grammar.specs.Trees.{Token, Tree}
 use Rattle.lalrpop_grammar.specs.Views.{grammar_view}
 use Rattle.lalrpop_grammar_language.specs.Admitting.{AdmitsFrom}
-use Rattle.lalrpop_judge_certificates.specs.declared.certificate.Certificate.{Certificate}
-use Rattle.lalrpop_judge_search.specs.Search.{finds}
+use Rattle.lalrpop_judge.specs.declared.certificates.certificate.Certificate.{Certificate}
+use Rattle.lalrpop_grammar_rules.specs.Search.{finds}
 use Rattle.lalrpop_lane.specs.BuilderAnswers.{AreLr1By}
-use Rattle.lalrpop_lane_method.specs.declared.Method.{Method}
-use Rattle.lalrpop_lane_method.specs.declared.Method.TheVariants as methods
-use Rattle.lalrpop_lr1_build.specs.BuiltStates.{IsCanonicalFault, theory_grammar}
-use Rattle.lalrpop_lr1_collapse.specs.CollapseAnswers.{states_over}
-use Rattle.lalrpop_lr1_items.specs.declared.state.State as built_states
-use Rattle.lalrpop_lr1_items.specs.declared.table_fault.TableConstructionError.{TableConstructionError}
-use Rattle.lalrpop_lr1_items.specs.declared.table_fault.TableFault.TheVariants as faults
-use Rattle.lalrpop_lr1_parse.specs.Columns.{AreColumnsOf}
-use Rattle.lalrpop_lr1_parse.specs.Tables.{IsTableOf}
-use Rattle.lalrpop_lr1_parse.specs.declared.action_table.ActionTable.{ActionTable}
-use Rattle.lalrpop_lr1_parse.specs.declared.columns.Columns.{Columns}
+use Rattle.lalrpop_grammar_repr.specs.declared.methods.Method.{Method}
+use Rattle.lalrpop_grammar_repr.specs.declared.methods.Method.TheVariants as methods
+use Rattle.lalrpop_lr1_build.specs.BuiltStates.{IsCanonicalFault}
+use Rattle.lalrpop_lr1_core.specs.TheoryGrammars.{theory_grammar}
+use Rattle.lalrpop_lr1_build.specs.CollapseAnswers.{states_over}
+use Rattle.lalrpop_lr1_core.specs.declared.state.State as built_states
+use Rattle.lalrpop_lr1_core.specs.declared.table_fault.TableConstructionError.{TableConstructionError}
+use Rattle.lalrpop_lr1_core.specs.declared.table_fault.TableFault.TheVariants as faults
+use Rattle.lalrpop_lr1_interpret.specs.Columns.{AreColumnsOf}
+use Rattle.lalrpop_lr1_interpret.specs.Tables.{IsTableOf}
+use Rattle.lalrpop_lr1_interpret.specs.declared.parse.action_table.ActionTable.{ActionTable}
+use Rattle.lalrpop_lr1_interpret.specs.declared.parse.columns.Columns.{Columns}
 use Rattle.lalrpop_lr1_theory.specs.Answers.{IsLr1}
 use Rattle.lalrpop_lr1_theory.specs.CheckedStates.{AreCheckedStates}
 use Rattle.lalrpop_lr1_theory.specs.States.{State}
 use Rattle.lalrpop_lr1_theory.specs.ValidItems.{CountsItemSets}
-use Rattle.lalrpop_run_witness.specs.PassedOn.{PreparedGrammar}
-use Rattle.lalrpop_run_refusals.specs.declared.refusing.GenerateError.{GenerateError}
-use Rattle.lalrpop_run_refusals.specs.declared.refusing.GenerateError.TheVariants as errors
-use Rattle.lalrpop_run_witness.specs.Witnesses.{AreWitnessesOf}
+use Rattle.lalrpop_run_prepare.specs.PreparedGrammars.{PreparedGrammar}
+use Rattle.lalrpop_run_prepare.specs.declared.refusals.refusing.GenerateError.{GenerateError}
+use Rattle.lalrpop_run_prepare.specs.declared.refusals.refusing.GenerateError.TheVariants as errors
+use Rattle.lalrpop_run_parser.specs.Witnesses.{AreWitnessesOf}
 
 -- what is seen of a parser: what it was generated from, the table of what its states do, and how many states it has
 pub record ParserView : Type 0 where

@@ -2,19 +2,19 @@
 
 ghost use Rattle.std.specs.Prelude.{◌≡◌, Contains, IfErr, IfOk};
 ghost use Rattle.lalrpop_grammar.specs.Views.{grammar_view};
-ghost use Rattle.lalrpop_lr1_build.specs.BuiltStates.{theory_grammar};
+ghost use Rattle.lalrpop_lr1_core.specs.TheoryGrammars.{theory_grammar};
 ghost use Rattle.lalrpop_lr1_theory.specs.Answers.{IsLr1};
-ghost use Rattle.lalrpop_norm_expansion.specs.Premises.{IsReadGrammar};
+ghost use Rattle.lalrpop_norm_theory.specs.Premises.{IsReadGrammar};
 ghost use Rattle.lalrpop_run_parser.specs.Parsers.{HasOneTreeEach, HasStatesBy, HasTableBy, IsGenerateRefusal};
 
 use crate::parser::Parser;
+use crate::witnesses::{Prepared, witnesses};
+use lalrpop_grammar_repr::methods::Method;
 use lalrpop_lane::build_lr1_states;
-use lalrpop_lane_method::Method;
-use lalrpop_lr1_items::TableFault;
-use lalrpop_lr1_parse::ActionTable;
-use lalrpop_run_answers::one_written_tree;
-use lalrpop_run_refusals::GenerateError;
-use lalrpop_run_witness::{Prepared, witnesses};
+use lalrpop_lr1_core::TableFault;
+use lalrpop_lr1_interpret::parse::ActionTable;
+use lalrpop_run_prepare::refusals::GenerateError;
+use lalrpop_run_theory::answers::one_written_tree;
 use std::alloc::Global;
 
 /// The parser of the grammar for its start, by LR(1) states.
@@ -37,7 +37,7 @@ pub fn generate<'p>(
 {
     // the law and what is known of the grammar
     one_written_tree();
-    prepared.grammar();
+    prepared.known();
     let start = prepared.start_name().try_clone()?;
     match build_lr1_states(alloc, prepared.expansion(), start, method) {
         Ok(states) => {

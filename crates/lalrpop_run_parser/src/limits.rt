@@ -1,13 +1,13 @@
 //! Laws of the limits that parsers are given.
 
 ghost use Rattle.lalrpop_grammar.specs.Views.{grammar_view};
-ghost use Rattle.lalrpop_lane_method.specs.declared.Method.TheVariants.{Canonical};
-ghost use Rattle.lalrpop_norm_expansion.specs.Premises.{IsReadGrammar};
+ghost use Rattle.lalrpop_grammar_repr.specs.declared.methods.Method.TheVariants.{Canonical};
+ghost use Rattle.lalrpop_norm_theory.specs.Premises.{IsReadGrammar};
 ghost use Rattle.lalrpop_run_parser.specs.Limits.{KeepsAnswers, TellsFaultsFirst};
 ghost use Rattle.lalrpop_run_parser.specs.Parsers.{HasTableBy};
 
 use crate::parser::Parser;
-use lalrpop_run_answers::one_written_tree;
+use lalrpop_run_theory::answers::one_written_tree;
 
 impl<'p> Parser<'p> {
     /// The law that a greater limit changes no other answer: of any two results that say what `parse` says, under a limit and under a
@@ -17,8 +17,7 @@ impl<'p> Parser<'p> {
     {
         // the law and what is known of the grammar
         one_written_tree();
-        self.prepared.grammar();
-        self.prepared.start_name();
+        self.prepared.known();
     }
 
     /// The law that canonical states tell a fault before the limit: a text that has all its tokens, and is no sentence, isn't answered
@@ -29,7 +28,6 @@ impl<'p> Parser<'p> {
             → HasTableBy Canonical self.now.prepared self.now.table self.now.count → TellsFaultsFirst self.now }
     {
         // what is known of the grammar
-        self.prepared.grammar();
-        self.prepared.start_name();
+        self.prepared.known();
     }
 }

@@ -9,10 +9,10 @@ ghost use Rattle.lalrpop_lexer_scan.specs.Given.{HasItsTokens};
 ghost use Rattle.lalrpop_lexer_scan.specs.Scanning.{AreEntriesOf, IsScannerOf};
 ghost use Rattle.lalrpop_lexer_scan.specs.Tokens.{AreTokensOf, FillTheText};
 
+use crate::witnesses::Prepared;
 use lalrpop_grammar::ScanToken;
 use lalrpop_lexer_scan::{EntryTokens, ScanError, TokenReceiver};
-use lalrpop_lr1_parse::{ActionTable, Columns};
-use lalrpop_run_witness::Prepared;
+use lalrpop_lr1_interpret::parse::{ActionTable, Columns};
 use std::alloc::Global;
 use std::marker::Model;
 
@@ -30,9 +30,9 @@ impl<'p> Model for Parser<'p> {
     ghost use Rattle.std.specs.Coded.{codes};
     ghost use Rattle.std.specs.Prelude.{[]};
     ghost use mir.Syntax.{named};
-    ghost use Rattle.lalrpop_lr1_parse.specs.contracts.action_table.ActionTable as tables;
+    ghost use Rattle.lalrpop_lr1_interpret.specs.contracts.parse.action_table.ActionTable as tables;
     ghost use Rattle.lalrpop_run_parser.specs.Parsers.{IsParserWith, ParserView};
-    ghost use Rattle.lalrpop_run_witness.specs.PreparedContracts as preparations;
+    ghost use Rattle.lalrpop_run_prepare.specs.contracts.prepared.Prepared as preparations;
 
     ghost Value = { ParserView };
 

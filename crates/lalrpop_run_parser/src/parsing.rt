@@ -5,22 +5,22 @@ ghost use Rattle.std.specs.Str.{chars};
 ghost use Rattle.lalrpop_grammar.specs.Views.{grammar_view, token_view};
 ghost use Rattle.lalrpop_lexer_scan.specs.Entries.{ScanEntry};
 ghost use Rattle.lalrpop_lexer_scan.specs.Scanning.{AreEntriesOf, IsScannerOf};
-ghost use Rattle.lalrpop_lr1_parse.specs.Tables.{IsTableOf};
+ghost use Rattle.lalrpop_lr1_interpret.specs.Tables.{IsTableOf};
 ghost use Rattle.lalrpop_lr1_theory.specs.Runs.{PassesLimit};
 ghost use Rattle.lalrpop_lr1_theory.specs.States.{State};
-ghost use Rattle.lalrpop_norm_expansion.specs.Premises.{IsReadGrammar};
+ghost use Rattle.lalrpop_norm_theory.specs.Premises.{IsReadGrammar};
 ghost use Rattle.lalrpop_run_parser.specs.Limits.{TellsLimitWhere, TextPassesLimit};
 ghost use Rattle.lalrpop_run_parser.specs.ParserAnswers.{IsRightForItsText, IsRightForItsTokens, IsWrongAt, TellsStop};
-ghost use Rattle.lalrpop_run_text_answers.specs.TextAnswers.{terminals_of_tokens};
+ghost use Rattle.lalrpop_run_theory.specs.TextAnswers.{terminals_of_tokens};
 
 use crate::parse_error::ParseError;
 use crate::parser::Parser;
 use crate::written_stack::WrittenTrees;
 use lalrpop_grammar::{ScanToken, WrittenTree};
 use lalrpop_grammar_symbols::Atom;
-use lalrpop_lr1_parse::Stop;
-use lalrpop_run_answers::forests_correspond;
-use lalrpop_run_text_answers::right_parses_are_right;
+use lalrpop_lr1_interpret::parse::Stop;
+use lalrpop_run_theory::answers::forests_correspond;
+use lalrpop_run_theory::text_answers::right_parses_are_right;
 use std::alloc::Global;
 
 /// That the tokens up to and with this one begin no sentence.
@@ -70,8 +70,7 @@ impl<'p> Parser<'p> {
         // the laws and what is known of the grammar
         forests_correspond();
         right_parses_are_right();
-        self.prepared.grammar();
-        self.prepared.start_name();
+        self.prepared.known();
         let actions = self.prepared.expansion().action_fn_defns.as_slice();
         let mut stack = WrittenTrees::new(alloc, actions, self.prepared.origins());
         match self

@@ -8,8 +8,8 @@ ghost use Rattle.lalrpop_grammar.specs.declared.tree.WrittenTree.{WrittenTree};
 use lalrpop_grammar::{Origin, ScanToken, WrittenTree};
 use lalrpop_grammar_repr::{ActionFnDefn, Production};
 use lalrpop_grammar_symbols::{Atom, TerminalLiteral, TerminalString};
-use lalrpop_lr1_parse::TreeStack;
-use lalrpop_run_written::tree_of_action;
+use lalrpop_lr1_interpret::parse::TreeStack;
+use lalrpop_run_trees::written_trees::tree_of_action;
 use std::alloc::{AllocError, Global};
 
 /// The written trees that a parse has made so far.
@@ -83,7 +83,7 @@ impl<'g, 'p> TreeStack<'g> for WrittenTrees<'p> {
     ghost use Rattle.lalrpop_grammar.specs.Views.{tree_view};
     ghost use Rattle.lalrpop_grammar.specs.declared.origin.Origin.{Origin};
     ghost use Rattle.lalrpop_grammar_repr.specs.declared.action.ActionFnDefn.{ActionFnDefn};
-    ghost use Rattle.lalrpop_run_written.specs.LabelledTrees.{StandByActions};
+    ghost use Rattle.lalrpop_run_trees.specs.LabelledTrees.{StandByActions};
 
     ghost Given = { List ActionFnDefn × List Origin };
 

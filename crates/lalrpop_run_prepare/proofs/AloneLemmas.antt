@@ -10,11 +10,11 @@ use Rattle.lalrpop_grammar_repr.specs.declared.production.Symbol.{Symbol}
 use Rattle.lalrpop_grammar_repr.specs.declared.production.Symbol.TheVariants as symbols
 use Rattle.lalrpop_lr1_theory.specs.CheckedStates.{IsStartAlone}
 use Rattle.lalrpop_lr1_theory.specs.Productions as theory
-use Rattle.lalrpop_lr1_items.specs.Views.{production_symbol_view, production_view}
-use Rattle.lalrpop_lr1_items.proofs.MemberLemmas.{map_has}
-use Rattle.lalrpop_lr1_first.specs.Listings.{productions_of_grammar}
+use Rattle.lalrpop_lr1_core.specs.Views.{production_symbol_view, production_view}
+use Rattle.lalrpop_lr1_core.proofs.MemberLemmas.{map_has}
+use Rattle.lalrpop_lr1_core.specs.TheoryGrammars.{productions_of_grammar}
 use Rattle.lalrpop_lr1_first.proofs.KnownLemmas.{flat_has}
-use Rattle.lalrpop_lr1_build.specs.BuiltStates.{theory_grammar}
+use Rattle.lalrpop_lr1_core.specs.TheoryGrammars.{theory_grammar}
 
 module _ (g : Grammar) (n : NonterminalString) (alone : IsStartAlone (theory_grammar g) n.0) where
   no_symbol : (e : NonterminalString × NonterminalData) (p : Production) (s : Symbol) → Contains g.nonterminals e

@@ -8,14 +8,14 @@ use Rattle.lalrpop_grammar_repr.specs.Productions.{IsAlone}
 use Rattle.lalrpop_grammar_repr.specs.declared.grammar.Grammar.{Grammar}
 use Rattle.lalrpop_lr1_barren.specs.LeastBarren.{IsLeastBarren}
 use Rattle.lalrpop_lr1_barren.proofs.AloneLemmas.{alone_seen}
-use Rattle.lalrpop_lr1_build.specs.BuiltStates.{theory_grammar}
+use Rattle.lalrpop_lr1_core.specs.TheoryGrammars.{theory_grammar}
 use Rattle.lalrpop_lr1_inline.specs.InlinedGrammars.{IsInlinedGrammar}
 use Rattle.lalrpop_lr1_theory.specs.ValidItems.{NoneBarren}
 use Rattle.lalrpop_run_prepare.specs.PrepareRefusals.{IsRefusedExpansion, IsRefusedStart}
 use Rattle.lalrpop_run_prepare.specs.PreparedGrammars.{MayBeParsedFrom}
 use Rattle.lalrpop_run_prepare.proofs.AloneLemmas.{alone_told}
-use Rattle.lalrpop_run_refusals.specs.declared.refusing.GenerateError.{GenerateError}
-use Rattle.lalrpop_run_refusals.specs.declared.refusing.GenerateError.TheVariants as errors
+use Rattle.lalrpop_run_prepare.specs.declared.refusals.refusing.GenerateError.{GenerateError}
+use Rattle.lalrpop_run_prepare.specs.declared.refusals.refusing.GenerateError.TheVariants as errors
 
 never : (r : Bool) → r ≡ false → IsTrue r → ⊥
 never r e t = let wrong : ⊥ = cc in wrong

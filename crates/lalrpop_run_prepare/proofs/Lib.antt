@@ -1,3 +1,12 @@
+pub mod CarriedLemmas
+pub mod TokenEntryLemmas
+pub mod TokenizerLemmas
+pub mod NamedLabelLemmas
+pub mod InlinedEntryLemmas
+pub mod NamedProductionLemmas
+pub mod InlinedExpansionLemmas
+pub mod NormalizedLemmas
+pub mod ExamplesOfNamedLabels
 pub mod SideLemmas
 pub mod TerminalLemmas
 pub mod TableLemmas
@@ -6,3 +15,8 @@ pub mod InlineLemmas
 pub mod ExpandLemmas
 pub mod StartLemmas
 pub mod PrepareLemmas
+pub mod ExamplesOfActionLabels
+pub mod PutLemmas
+pub mod ToldExpansionLemmas
+pub mod ToldRecordLemmas
+pub mod ToldStepLemmas

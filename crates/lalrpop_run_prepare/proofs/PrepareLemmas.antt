@@ -18,32 +18,32 @@ use Rattle.lalrpop_grammar_repr.specs.declared.grammar.Grammar as repr
 use Rattle.lalrpop_lexer.specs.Simulation.{Decides, StateView}
 use Rattle.lalrpop_lexer_scan.specs.Scanning.{IsScannerOf}
 use Rattle.lalrpop_lr1_barren.specs.LeastBarren.{IsLeastAmongBarren}
-use Rattle.lalrpop_lr1_build.specs.BuiltStates.{theory_grammar}
+use Rattle.lalrpop_lr1_core.specs.TheoryGrammars.{theory_grammar}
 use Rattle.lalrpop_lr1_first.specs.NumberedGrammars.{HasItsTerminals}
 use Rattle.lalrpop_lr1_inline.specs.InlinedGrammars.{IsInlinedGrammar}
 use Rattle.lalrpop_lr1_theory.specs.ValidItems.{NoneBarren}
-use Rattle.lalrpop_norm_entries.specs.Patterns.{entry_patterns, entry_precedences}
-use Rattle.lalrpop_norm_expansion.specs.Inlined.{IsInlined}
-use Rattle.lalrpop_norm_expansion.specs.Premises.{IsReadGrammar}
+use Rattle.lalrpop_norm_token_check.specs.Patterns.{entry_patterns, entry_precedences}
+use Rattle.lalrpop_norm_theory.specs.Inlined.{IsInlined}
+use Rattle.lalrpop_norm_theory.specs.Premises.{IsReadGrammar}
 use Rattle.lalrpop_norm_lower.specs.TableReadiness.{IsReadyForTables}
 use Rattle.lalrpop_norm_lower.specs.declared.lowering.Normalized.{Normalized}
-use Rattle.lalrpop_run_label_laws.specs.PassedOn.{lowered_view}
-use Rattle.lalrpop_run_label_laws.proofs.PassedOnLemmas.{base_expansion}
-use Rattle.lalrpop_run_label_laws.proofs.PassedOnLemmas.{named_expansion, named_origins}
-use Rattle.lalrpop_run_answers.specs.Barren.{HasNoBarren, IsLeastBarrenName}
-use Rattle.lalrpop_run_answers.specs.ExpansionTrees.{is_inlined_nonterminal}
-use Rattle.lalrpop_run_answers.specs.Expansions.{AreBaseExpansion}
-use Rattle.lalrpop_run_answers.proofs.BarrenLemmas.{barren_named, named_barren, none_barren_after, none_barren_named, start_is_alone}
-use Rattle.lalrpop_run_answers.proofs.InlinedTestLemmas.{inlined_decided}
-use Rattle.lalrpop_run_label_laws.specs.ToldExpansions.{AreToldExpansion}
-use Rattle.lalrpop_run_label_laws.proofs.ToldExpansionLemmas.{told_expansion}
-use Rattle.lalrpop_run_label_laws.proofs.PassedOnLemmas.{steps_own, steps_sorted}
+use Rattle.lalrpop_norm_chain.specs.LoweredViews.{lowered_view}
+use Rattle.lalrpop_run_prepare.proofs.InlinedExpansionLemmas.{base_expansion}
+use Rattle.lalrpop_run_prepare.proofs.NormalizedLemmas.{named_expansion, named_origins}
+use Rattle.lalrpop_run_theory.specs.Barren.{HasNoBarren, IsLeastBarrenName}
+use Rattle.lalrpop_run_theory.specs.ExpansionTrees.{is_inlined_nonterminal}
+use Rattle.lalrpop_run_theory.specs.Expansions.{AreBaseExpansion}
+use Rattle.lalrpop_run_theory.proofs.BarrenLemmas.{barren_named, named_barren, none_barren_after, none_barren_named, start_is_alone}
+use Rattle.lalrpop_run_theory.proofs.InlinedTestLemmas.{inlined_decided}
+use Rattle.lalrpop_run_prepare.specs.ToldExpansions.{AreToldExpansion}
+use Rattle.lalrpop_run_prepare.proofs.ToldExpansionLemmas.{told_expansion}
+use Rattle.lalrpop_run_prepare.proofs.InlinedEntryLemmas.{steps_own, steps_sorted}
 use Rattle.lalrpop_run_prepare.specs.PrepareRefusals.{IsPrepareRefusal, IsRefusedExpansion, IsRefusedStart}
 use Rattle.lalrpop_run_prepare.specs.PreparedGrammars.{IsPreparedWhereRead, MayBeParsedFrom, PreparedGrammar}
 use Rattle.lalrpop_run_prepare.proofs.StartLemmas.{start_in_expansion}
-use Rattle.lalrpop_run_refusals.specs.declared.refusing.GenerateError.{GenerateError}
-use Rattle.lalrpop_run_tokens.specs.Refused.{IsGenerable, IsGrammarRefusal}
-use Rattle.lalrpop_run_tokens.specs.Tokenizers.{IsNormalizedFor, scan_entries}
+use Rattle.lalrpop_run_prepare.specs.declared.refusals.refusing.GenerateError.{GenerateError}
+use Rattle.lalrpop_run_prepare.specs.Refused.{IsGenerable, IsGrammarRefusal}
+use Rattle.lalrpop_run_prepare.specs.Tokenizers.{IsNormalizedFor, scan_entries}
 
 module _ (finds : Text → Text → Option Bool) (deep : Text → Bool) (features : List Text) (limit : ℕ) (start : Text) (w : Grammar)
     (made : Normalized) (dfa : List StateView) (read : IsReadGrammar w)

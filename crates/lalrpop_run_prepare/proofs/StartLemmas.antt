@@ -11,16 +11,16 @@ use Rattle.lalrpop_grammar_language.specs.Expansion.{InExpansion, Nonterminal}
 use Rattle.lalrpop_grammar_language.specs.Starts.{can_start, has_none, has_start}
 use Rattle.lalrpop_grammar_language.proofs.PlaceLemmas.{same_text-eq}
 use Rattle.lalrpop_grammar_repr.specs.declared.norm_error.NormErrorKind.TheVariants as kinds
-use Rattle.lalrpop_run_tokens.specs.PassedOn.{HasNoWrittenFault, IsWrittenFault}
-use Rattle.lalrpop_norm_checks.specs.Faults.{HasNoCheckFault}
-use Rattle.lalrpop_norm_expansion.specs.Between.{enabled_item, enabled_part, grammar_between, rule_between, without_disabled}
-use Rattle.lalrpop_norm_expansion.specs.Premises.{IsReadGrammar}
-use Rattle.lalrpop_run_tokens.specs.PassedOn.{IsStandingFault}
-use Rattle.lalrpop_norm_name_laws.specs.NameFaults.{HasRightNames, NameFault, name_faults}
-use Rattle.lalrpop_norm_name_laws.specs.Resolving.{defined_names, resolved_grammar, resolved_rule}
-use Rattle.lalrpop_norm_name_laws.proofs.DroppingLemmas.{dropping_expansion}
-use Rattle.lalrpop_norm_name_laws.proofs.ResolvingLemmas.{resolving_expansion}
-use Rattle.lalrpop_norm_name_laws.proofs.RightNameLemmas.{stands_once}
+use Rattle.lalrpop_norm.specs.Normalizing.{HasNoWrittenFault, IsWrittenFault}
+use Rattle.lalrpop_norm_prevalidate.specs.Faults.{HasNoCheckFault}
+use Rattle.lalrpop_norm_theory.specs.Between.{enabled_item, enabled_part, grammar_between, rule_between, without_disabled}
+use Rattle.lalrpop_norm_theory.specs.Premises.{IsReadGrammar}
+use Rattle.lalrpop_norm_chain.specs.StandingFaults.{IsStandingFault}
+use Rattle.lalrpop_norm_theory.specs.NameFaults.{HasRightNames, NameFault, name_faults}
+use Rattle.lalrpop_norm_theory.specs.Resolving.{defined_names, resolved_grammar, resolved_rule}
+use Rattle.lalrpop_norm_theory.proofs.DroppingLemmas.{dropping_expansion}
+use Rattle.lalrpop_norm_theory.proofs.ResolvingLemmas.{resolving_expansion}
+use Rattle.lalrpop_norm_theory.proofs.RightNameLemmas.{stands_once}
 
 both_true : (a b : Bool) → (a && b) ≡ true → (a ≡ true) × (b ≡ true)
 both_true true true e = (refl, refl)

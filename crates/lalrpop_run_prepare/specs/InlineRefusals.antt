@@ -8,8 +8,8 @@ use Rattle.lalrpop_grammar_repr.specs.declared.norm_error.NormErrorKind.TheVaria
 use Rattle.lalrpop_lr1_inline.specs.InlinedGrammars.{IsInlineFault}
 use Rattle.lalrpop_lr1_inline.specs.declared.fault.InlineFault.{InlineFault}
 use Rattle.lalrpop_lr1_inline.specs.declared.fault.InlineFault.TheVariants as faults
-use Rattle.lalrpop_run_refusals.specs.declared.refusing.GenerateError.{GenerateError}
-use Rattle.lalrpop_run_refusals.specs.declared.refusing.GenerateError.TheVariants as errors
+use Rattle.lalrpop_run_prepare.specs.declared.refusals.refusing.GenerateError.{GenerateError}
+use Rattle.lalrpop_run_prepare.specs.declared.refusals.refusing.GenerateError.TheVariants as errors
 
 -- the fault is that there are more actions than numbers
 abbrev pub is_too_many : NormErrorKind → Bool

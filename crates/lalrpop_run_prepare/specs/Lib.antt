@@ -1,4 +1,12 @@
+pub mod Refusals
+pub mod Carried
+pub mod RecoverySearch
+pub mod Refused
+pub mod Tokenizers
+pub mod NamedGrammars
+pub mod NamedLabels
+pub mod NormalizedExpansions
 pub mod InlineRefusals
-pub mod PassedOn
 pub mod PrepareRefusals
 pub mod PreparedGrammars
+pub mod ToldExpansions

@@ -9,19 +9,19 @@ use Rattle.lalrpop_grammar_language.specs.Enabled.{enabled_grammar}
 use Rattle.lalrpop_grammar_repr.specs.declared.grammar.Grammar as repr
 use Rattle.lalrpop_grammar_repr.specs.declared.norm_error.NormError.{NormError}
 use Rattle.lalrpop_lr1_barren.specs.LeastBarren.{IsLeastAmongBarren}
-use Rattle.lalrpop_lr1_build.specs.BuiltStates.{theory_grammar}
+use Rattle.lalrpop_lr1_core.specs.TheoryGrammars.{theory_grammar}
 use Rattle.lalrpop_lr1_inline.specs.InlinedGrammars.{IsInlineFault, IsInlinedGrammar}
 use Rattle.lalrpop_lr1_inline.specs.declared.fault.InlineFault.TheVariants as faults
 use Rattle.lalrpop_lr1_theory.specs.ValidItems.{NoneBarren}
-use Rattle.lalrpop_run_label_laws.specs.PassedOn.{IsNormalized}
+use Rattle.lalrpop_norm_chain.specs.Normalized.{IsNormalized}
 use Rattle.lalrpop_norm_lower.specs.declared.lowering.Normalized.{Normalized}
-use Rattle.lalrpop_run_label_laws.specs.PassedOn.{lowered_view}
-use Rattle.lalrpop_run_answers.specs.Barren.{IsLeastBarrenName}
+use Rattle.lalrpop_norm_chain.specs.LoweredViews.{lowered_view}
+use Rattle.lalrpop_run_theory.specs.Barren.{IsLeastBarrenName}
 use Rattle.lalrpop_run_prepare.specs.InlineRefusals.{IsRefusedInlining, told_at}
 use Rattle.lalrpop_run_prepare.specs.PreparedGrammars.{MayBeParsedFrom}
-use Rattle.lalrpop_run_refusals.specs.declared.refusing.GenerateError.{GenerateError}
-use Rattle.lalrpop_run_refusals.specs.declared.refusing.GenerateError.TheVariants as errors
-use Rattle.lalrpop_run_tokens.specs.Refused.{IsGenerable, IsGrammarRefusal}
+use Rattle.lalrpop_run_prepare.specs.declared.refusals.refusing.GenerateError.{GenerateError}
+use Rattle.lalrpop_run_prepare.specs.declared.refusals.refusing.GenerateError.TheVariants as errors
+use Rattle.lalrpop_run_prepare.specs.Refused.{IsGenerable, IsGrammarRefusal}
 
 -- What is told of plain productions: what is wrong with their inlined rules; or, where these can be inlined, the least barren
 -- nonterminal that the name reaches; or memory ran out.

@@ -14,22 +14,22 @@ use Rattle.lalrpop_grammar_repr.specs.declared.grammar.Grammar as repr
 use Rattle.lalrpop_grammar_repr.specs.declared.session.Session.{Session}
 use Rattle.lalrpop_lexer_scan.specs.Scanning.{IsScannerOf}
 use Rattle.lalrpop_lexer_scan.specs.declared.scanner.Scanner.{Scanner}
-use Rattle.lalrpop_lr1_build.specs.BuiltStates.{theory_grammar}
+use Rattle.lalrpop_lr1_core.specs.TheoryGrammars.{theory_grammar}
 use Rattle.lalrpop_lr1_first.specs.NumberedGrammars.{HasItsTerminals}
 use Rattle.lalrpop_lr1_inline.specs.InlinedGrammars.{IsInlinedGrammar}
 use Rattle.lalrpop_lr1_theory.specs.CheckedStates.{IsStartAlone}
 use Rattle.lalrpop_lr1_theory.specs.ValidItems.{NoneBarren}
-use Rattle.lalrpop_run_flat_labels.specs.LabelTables.{kept_place, label_places, last_place}
-use Rattle.lalrpop_run_flat_labels.specs.declared.label_table.LabelTable.{LabelTable}
-use Rattle.lalrpop_run_flat_labels.specs.declared.mark.LabelMark.{LabelMark}
-use Rattle.lalrpop_run_label_laws.specs.PassedOn.{IsNormalized}
-use Rattle.lalrpop_norm_expansion.specs.Premises.{IsReadGrammar}
+use Rattle.lalrpop_run_trees.specs.LabelTables.{kept_place, label_places, last_place}
+use Rattle.lalrpop_run_trees.specs.declared.flat_labels.label_table.LabelTable.{LabelTable}
+use Rattle.lalrpop_run_trees.specs.declared.flat_labels.mark.LabelMark.{LabelMark}
+use Rattle.lalrpop_norm_chain.specs.Normalized.{IsNormalized}
+use Rattle.lalrpop_norm_theory.specs.Premises.{IsReadGrammar}
 use Rattle.lalrpop_norm_lower.specs.declared.lowering.Normalized.{Normalized}
-use Rattle.lalrpop_run_label_laws.specs.PassedOn.{lowered_view}
-use Rattle.lalrpop_run_label_laws.specs.PassedOn.{StandUnderNames}
-use Rattle.lalrpop_run_label_laws.specs.ToldExpansions.{AreToldExpansion}
-use Rattle.lalrpop_run_tokens.specs.Refused.{IsGenerable}
-use Rattle.lalrpop_run_tokens.specs.Tokenizers.{scan_entries}
+use Rattle.lalrpop_norm_chain.specs.LoweredViews.{lowered_view}
+use Rattle.lalrpop_run_prepare.specs.NamedGrammars.{StandUnderNames}
+use Rattle.lalrpop_run_prepare.specs.ToldExpansions.{AreToldExpansion}
+use Rattle.lalrpop_run_prepare.specs.Refused.{IsGenerable}
+use Rattle.lalrpop_run_prepare.specs.Tokenizers.{scan_entries}
 
 -- the written grammar with the features and the limit of macros, the rule to start from and its start's name, the plain productions
 -- before and after inlining, with the written choices that those before stand for, and the scanner of its tokens

@@ -2,7 +2,7 @@
 
 ghost use Rattle.std.specs.Prelude.{◌≡◌, ◌⊎◌, ◌++◌, Contains, IfErr, IfOk};
 ghost use Rattle.lalrpop_lr1_barren.specs.LeastBarren.{IsLeastBarren};
-ghost use Rattle.lalrpop_lr1_build.specs.BuiltStates.{theory_grammar};
+ghost use Rattle.lalrpop_lr1_core.specs.TheoryGrammars.{theory_grammar};
 ghost use Rattle.lalrpop_lr1_first.specs.NumberedGrammars.{HasItsTerminals};
 ghost use Rattle.lalrpop_lr1_inline.specs.InlinedGrammars.{IsInlinedGrammar};
 ghost use Rattle.lalrpop_lr1_theory.specs.ValidItems.{NoneBarren};
@@ -11,11 +11,11 @@ ghost use Rattle.lalrpop_run_prepare.specs.PrepareRefusals.{IsRefusedExpansion, 
 ghost use Rattle.lalrpop_run_prepare.specs.PreparedGrammars.{MayBeParsedFrom};
 
 use crate::inlining::inline_rules;
+use crate::refusals::GenerateError;
 use lalrpop_grammar::Atom;
 use lalrpop_grammar_repr::{Grammar, NormError, NormErrorKind};
 use lalrpop_grammar_symbols::{NonterminalString, Span};
 use lalrpop_lr1_barren::barren_nonterminal;
-use lalrpop_run_refusals::GenerateError;
 use std::alloc::{AllocError, Global};
 
 /// The name of the start among the plain productions: the prefix before the name of the rule.

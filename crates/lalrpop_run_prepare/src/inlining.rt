@@ -5,10 +5,10 @@ ghost use Rattle.lalrpop_lr1_inline.specs.InlinedGrammars.{IsInlinedGrammar};
 ghost use Rattle.lalrpop_norm_lower.specs.TableReadiness.{IsReadyForTables};
 ghost use Rattle.lalrpop_run_prepare.specs.InlineRefusals.{IsRefusedInlining, inline_refusal_at, is_too_many, told_at};
 
+use crate::refusals::GenerateError;
 use lalrpop_grammar_repr::{Grammar, NormError, NormErrorKind};
 use lalrpop_grammar_symbols::Span;
 use lalrpop_lr1_inline::{InlineFault, inline};
-use lalrpop_run_refusals::GenerateError;
 use std::alloc::Global;
 
 /// Whether the fault is that there are more actions than numbers.

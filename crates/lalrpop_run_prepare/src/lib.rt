@@ -5,10 +5,14 @@
 //! start may be parsed from, and `prepared` is what comes out.
 #![tactic(auto)]
 
+pub mod answer_laws;
 mod expanding;
 mod inlining;
+pub mod label_laws;
 mod prepared;
 mod preparing;
+pub mod refusals;
+pub mod tokens;
 
 pub use prepared::Prepared;
 pub use preparing::prepare;

@@ -2,16 +2,16 @@
 
 ghost use Rattle.std.specs.Prelude.{◌≡◌, ◌++◌, length};
 ghost use Rattle.lalrpop_grammar.specs.Views.{grammar_view};
-ghost use Rattle.lalrpop_judge_search.specs.Search.{finds, is_too_deep};
+ghost use Rattle.lalrpop_grammar_rules.specs.Search.{finds, is_too_deep};
 ghost use Rattle.lalrpop_lr1_first.specs.NumberedGrammars.{HasItsTerminals};
-ghost use Rattle.lalrpop_norm_expansion.specs.Premises.{IsReadGrammar};
+ghost use Rattle.lalrpop_norm_theory.specs.Premises.{IsReadGrammar};
 ghost use Rattle.lalrpop_run_prepare.specs.PreparedGrammars.{AreLabelsOf, HasNamedProductions, IsPrepared, MayBeParsedFrom};
 
 use lalrpop_grammar::{Atom, Grammar, Origin};
 use lalrpop_grammar_repr::{Grammar as LoweredGrammar, Session};
 use lalrpop_grammar_symbols::{List, NonterminalString};
 use lalrpop_lexer_scan::Scanner;
-use lalrpop_run_flat_labels::LabelTable;
+use lalrpop_run_trees::flat_labels::LabelTable;
 use std::marker::Model;
 
 /// A written grammar in which nothing is wrong, for one of its starts: its plain productions, before and after inlining, with the
@@ -36,7 +36,7 @@ impl Model for Prepared {
     ghost use Rattle.lalrpop_grammar.specs.contracts.grammar.Grammar as written_grammar;
     ghost use Rattle.lalrpop_grammar.specs.contracts.origin.Origin as written_choice;
     ghost use Rattle.lalrpop_grammar_repr.specs.contracts.grammar.Grammar as plain_grammar;
-    ghost use Rattle.lalrpop_judge_search.specs.Search.{finds, is_too_deep};
+    ghost use Rattle.lalrpop_grammar_rules.specs.Search.{finds, is_too_deep};
     ghost use Rattle.lalrpop_run_prepare.specs.PreparedGrammars.{AreLabelsOf, IsPreparedWhereRead, PreparedGrammar};
     ghost use Rattle.std.specs.Prelude.{length};
 
@@ -105,11 +105,7 @@ impl Prepared {
 
     /// The start's name among the plain productions: a nonterminal whose one production is the rule to start from.
     pub fn start_name(&self) -> &NonterminalString
-        ensures name { result.now ≡ self.now.start_name }
-        ensures prefixed { result.now.0 ≡ self.now.written.prefix ++ self.now.start }
-        ensures terminals { HasItsTerminals self.now.expansion }
-        ensures named { HasNamedProductions self.now.expansion }
-        ensures parsed { MayBeParsedFrom self.now.expansion self.now.start_name }
+        ensures { result.now ≡ self.now.start_name }
     {
         &self.start_name
     }
@@ -123,9 +119,20 @@ impl Prepared {
 
     /// The grammar as it is written.
     pub fn grammar(&self) -> &Grammar
-        ensures written { result.now ≡ self.now.written }
-        ensures prepared { IsReadGrammar (grammar_view self.now.written) → IsPrepared finds is_too_deep self.now }
+        ensures { result.now ≡ self.now.written }
     {
         &self.written
+    }
+
+    /// What is known of a prepared grammar: a law for proofs.
+    pub fn known(&self)
+        ensures prepared { IsReadGrammar (grammar_view self.now.written) → IsPrepared finds is_too_deep self.now }
+        ensures prefixed { self.now.start_name.0 ≡ self.now.written.prefix ++ self.now.start }
+        ensures terminals { HasItsTerminals self.now.expansion }
+        ensures named { HasNamedProductions self.now.expansion }
+        ensures parsed { MayBeParsedFrom self.now.expansion self.now.start_name }
+    {
+        // the prover takes what holds of the parts from the first that is named
+        let _ = &self.written;
     }
 }

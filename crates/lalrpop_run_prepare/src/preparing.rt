@@ -1,40 +1,30 @@
 //! The refusals of a grammar in their order, and what is prepared where none stands.
 
 ghost use Rattle.std.specs.Prelude.{◌≡◌, ◌++◌, IfErr, IfOk, length, map};
-ghost use Rattle.std.specs.List.Sorted.{IsStrictlySortedBy};
-ghost use Rattle.std.specs.Map.{keys_of};
-ghost use Rattle.lalrpop_grammar_symbols.specs.contracts.names.NonterminalStringOrd.TheImpl as names_order;
 ghost use Rattle.lalrpop_grammar.specs.Views.{grammar_view, intern_entry_view};
-ghost use Rattle.lalrpop_judge_search.specs.Search.{finds, is_too_deep};
+ghost use Rattle.lalrpop_grammar_rules.specs.Search.{finds, is_too_deep};
 ghost use Rattle.lalrpop_lexer.specs.Simulation.{Decides};
 ghost use Rattle.lalrpop_lexer_scan.specs.Scanning.{IsScannerOf};
 ghost use Rattle.lalrpop_lr1_first.specs.NumberedGrammars.{HasItsTerminals};
 ghost use Rattle.lalrpop_lr1_inline.specs.InlinedGrammars.{IsInlinedGrammar};
-ghost use Rattle.lalrpop_norm_entries.specs.Patterns.{entry_patterns, entry_precedences};
-ghost use Rattle.lalrpop_norm_expansion.specs.Premises.{IsReadGrammar};
+ghost use Rattle.lalrpop_norm_token_check.specs.Patterns.{entry_patterns, entry_precedences};
+ghost use Rattle.lalrpop_norm_theory.specs.Premises.{IsReadGrammar};
 ghost use Rattle.lalrpop_norm_lower.specs.TableReadiness.{IsReadyForTables};
 ghost use Rattle.lalrpop_run_prepare.specs.PrepareRefusals.{IsPrepareRefusal, IsRefusedStart};
 ghost use Rattle.lalrpop_run_prepare.specs.PreparedGrammars.{AreLabelsOf, IsPreparedWhereRead, MayBeParsedFrom};
-ghost use Rattle.lalrpop_run_tokens.specs.Tokenizers.{scan_entries};
+ghost use Rattle.lalrpop_run_prepare.specs.Tokenizers.{scan_entries};
 
 use crate::expanding::expand;
 use crate::prepared::Prepared;
+use crate::refusals::GenerateError;
+use crate::tokens::{Normalized, normalize_for_start, terminals_of};
 use lalrpop_grammar::{Atom, Grammar, MatchEntry, Origin};
 use lalrpop_grammar_repr::{Grammar as LoweredGrammar, Session};
 use lalrpop_grammar_symbols::{List, NonterminalString, Span};
 use lalrpop_lexer::dfa::Dfa;
 use lalrpop_lexer_scan::Scanner;
-use lalrpop_run_flat_labels::LabelTable;
-use lalrpop_run_refusals::GenerateError;
-use lalrpop_run_tokens::{Normalized, normalize_for_start, terminals_of};
+use lalrpop_run_trees::flat_labels::LabelTable;
 use std::alloc::{AllocError, Global};
-
-/// Looks at the map of the nonterminals, which says that their names ascend.
-fn see_order(lowered: &LoweredGrammar)
-    ensures { IsStrictlySortedBy (names_order.ghosts).cmp (keys_of lowered.now.nonterminals) }
-{
-    lowered.nonterminals.iter();
-}
 
 /// The scanner of the tokenizer's entries, which the automaton decides.
 fn scanner_of(alloc: Global, dfa: Dfa, entries: List<MatchEntry>) -> Result<Scanner, AllocError>
@@ -116,7 +106,7 @@ fn parts_of(
 {
     let copy = grammar.try_clone(alloc)?;
     let (made, dfa) = normalize_for_start(alloc, session, start, copy)?;
-    see_order(&made.grammar);
+    made.grammar.nonterminals.known();
     let expanded = expand_with_labels(alloc, &made, &grammar.prefix, start, grammar.span)?;
     let (expansion, start_name, labels) = expanded;
     let Normalized {

@@ -11,7 +11,7 @@ use crate::onto::onto_text;
 use crate::parses::parse_text;
 use lalrpop_grammar_repr::Grammar;
 use lalrpop_grammar_symbols::NonterminalString;
-use lalrpop_lr1_answers::{
+use lalrpop_plain_tables::answers::{
     AnswerFault, answer_tokens, canonical_states, counts_of, parsable_states, read_productions,
     start_of,
 };

@@ -6,9 +6,9 @@ use crate::case::WrittenState;
 use crate::states::states_of;
 use lalrpop_grammar_repr::{Grammar, Map, Production, TerminalSet};
 use lalrpop_grammar_symbols::{List, NonterminalString};
-use lalrpop_lr1_answers::canonical_states;
 use lalrpop_lr1_check::check_states;
-use lalrpop_lr1_items::{Items, Lr1State, State, StateIndex};
+use lalrpop_lr1_core::{Items, Lr1State, State, StateIndex};
+use lalrpop_plain_tables::answers::canonical_states;
 use lalrpop_sets::TokenSet;
 use std::alloc::{AllocError, Global};
 

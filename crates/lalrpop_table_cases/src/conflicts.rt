@@ -1,14 +1,14 @@
 //! Conflicts, as text.
 
 ghost use Rattle.lalrpop_lr1_first.specs.NumberedGrammars.{HasItsTerminals};
-ghost use Rattle.lalrpop_lr1_collapse.specs.CollapseAnswers.{AreCanonicalOfSome};
+ghost use Rattle.lalrpop_lr1_build.specs.CollapseAnswers.{AreCanonicalOfSome};
 
 use lalrpop_grammar_repr::{Grammar, TerminalSet};
 use lalrpop_grammar_symbols::NonterminalString;
-use lalrpop_lr1_answers::canonical_states;
 use lalrpop_lr1_build::build_lr1_states_canonical;
-use lalrpop_lr1_collapse::collapse_to_lalr_states;
-use lalrpop_lr1_items::{Action, Lr1Conflict, Lr1State, TableFault};
+use lalrpop_lr1_build::collapse::collapse_to_lalr_states;
+use lalrpop_lr1_core::{Action, Lr1Conflict, Lr1State, TableFault};
+use lalrpop_plain_tables::answers::canonical_states;
 use std::alloc::{AllocError, Global};
 
 /// The text of an action: the terminal and the state to which it leads, or the nonterminal to which it reduces.

@@ -3,8 +3,8 @@
 ghost use Rattle.lalrpop_lr1_first.specs.NumberedGrammars.{HasItsTerminals};
 
 use lalrpop_grammar_repr::{Grammar, Symbol};
-use lalrpop_lr1_answers::start_of;
 use lalrpop_lr1_first::FirstSets;
+use lalrpop_plain_tables::answers::start_of;
 use std::alloc::{AllocError, Global};
 
 /// The nonterminals whose names stand in the text between blanks.

@@ -4,12 +4,12 @@ ghost use Rattle.lalrpop_lr1_first.specs.NumberedGrammars.{HasItsTerminals};
 
 use lalrpop_grammar_repr::Grammar;
 use lalrpop_grammar_symbols::NonterminalString;
-use lalrpop_lr1_answers::AnswerFault;
-use lalrpop_lr1_begin_trees::BeginTrees;
+use lalrpop_lr1_interpret::parse::ExpandedTree;
+use lalrpop_lr1_least_trees::begin_trees::BeginTrees;
+use lalrpop_lr1_least_trees::made_trees::{begin_tree, empty_tree, least_tree};
 use lalrpop_lr1_least_trees::{LeastTrees, TreeMove};
-use lalrpop_lr1_lines::read_tokens;
-use lalrpop_lr1_made_trees::{begin_tree, empty_tree, least_tree};
-use lalrpop_lr1_parse::ExpandedTree;
+use lalrpop_plain_tables::answers::AnswerFault;
+use lalrpop_plain_tables::lines::read_tokens;
 use std::alloc::{AllocError, Global};
 
 /// What is said where there is no such tree.

@@ -14,7 +14,7 @@ mod states;
 use crate::answer::answer_of;
 use crate::case::Case;
 use anyhow::{Context, Result};
-use lalrpop_case_files::{TableCase, Tally, read_text, run_cases, tell};
+use lalrpop_case_kinds::files::{TableCase, Tally, read_text, run_cases, tell};
 use std::alloc::Global;
 use std::rt::Files;
 

@@ -1,15 +1,15 @@
 //! Parses onto a stack of the cases' own, as text.
 
 ghost use Rattle.lalrpop_lr1_first.specs.NumberedGrammars.{HasItsTerminals};
-ghost use Rattle.lalrpop_lr1_parse.specs.Parses.{AreParsable};
+ghost use Rattle.lalrpop_lr1_interpret.specs.Parses.{AreParsable};
 
 use crate::parses::{stop_text, tokens_of};
 use lalrpop_grammar::ScanToken;
 use lalrpop_grammar_repr::{Grammar, Production, TerminalSet};
 use lalrpop_grammar_symbols::NonterminalString;
-use lalrpop_lr1_answers::{AnswerFault, parsable_states};
-use lalrpop_lr1_items::Lr1State;
-use lalrpop_lr1_parse::{ActionTable, TreeStack};
+use lalrpop_lr1_core::Lr1State;
+use lalrpop_lr1_interpret::parse::{ActionTable, TreeStack};
+use lalrpop_plain_tables::answers::{AnswerFault, parsable_states};
 use std::alloc::{AllocError, Global};
 
 /// What is made, each leaf and each node as a word, in the order in which they are made.

@@ -1,15 +1,15 @@
 //! Parses within limits, as text.
 
 ghost use Rattle.lalrpop_lr1_first.specs.NumberedGrammars.{HasItsTerminals};
-ghost use Rattle.lalrpop_lr1_parse.specs.Parses.{AreParsable};
+ghost use Rattle.lalrpop_lr1_interpret.specs.Parses.{AreParsable};
 
 use lalrpop_grammar::ScanToken;
 use lalrpop_grammar_repr::{Grammar, TerminalSet};
 use lalrpop_grammar_symbols::{NonterminalString, Span};
-use lalrpop_lr1_answers::{AnswerFault, parsable_states};
-use lalrpop_lr1_items::Lr1State;
-use lalrpop_lr1_lines::read_tokens;
-use lalrpop_lr1_parse::{Stop, parse_limited};
+use lalrpop_lr1_core::Lr1State;
+use lalrpop_lr1_interpret::parse::{Stop, parse_limited};
+use lalrpop_plain_tables::answers::{AnswerFault, parsable_states};
+use lalrpop_plain_tables::lines::read_tokens;
 use std::alloc::{AllocError, Global};
 
 /// The tokens whose terminals stand in the text between blanks.

@@ -3,8 +3,8 @@
 use crate::case::WrittenState;
 use lalrpop_grammar_repr::{Grammar, Map, Production, TerminalSet};
 use lalrpop_grammar_symbols::{Atom, List, NonterminalString, TerminalString};
-use lalrpop_lr1_answers::start_of;
-use lalrpop_lr1_items::{Item, Items, Lr1Item, Lr1State, State, StateIndex};
+use lalrpop_lr1_core::{Item, Items, Lr1Item, Lr1State, State, StateIndex};
+use lalrpop_plain_tables::answers::start_of;
 use lalrpop_sets::{Token, TokenSet};
 use std::alloc::{AllocError, Global};
 

@@ -7,10 +7,10 @@ use anyhow::Result;
 use clap::ArgMatches;
 use lalrpop_grammar_repr::Grammar;
 use lalrpop_grammar_symbols::NonterminalString;
-use lalrpop_lr1_answers::{
+use lalrpop_lr1_check::check_states;
+use lalrpop_plain_tables::answers::{
     answer_tokens, canonical_states, counts_of, parsable_states, read_productions, start_of,
 };
-use lalrpop_lr1_check::check_states;
 use std::alloc::Global;
 use std::io;
 use std::rt::{Clock, Files};

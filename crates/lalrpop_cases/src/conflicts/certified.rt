@@ -3,8 +3,8 @@
 use crate::conflicts::difference::Difference;
 use lalrpop_grammar::WrittenTree;
 use lalrpop_judge::judge_tree;
-use lalrpop_lr1_parse::ExpandedTree;
-use lalrpop_run_conflicts::{FoldError, WrittenConflict, fold, written_conflicts};
+use lalrpop_lr1_interpret::parse::ExpandedTree;
+use lalrpop_run_parser::conflicts::{FoldError, WrittenConflict, fold, written_conflicts};
 use lalrpop_run_parser::{Certificate, Prepared, check_conflict};
 use std::alloc::Global;
 

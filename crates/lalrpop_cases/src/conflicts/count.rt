@@ -5,9 +5,9 @@ use crate::conflicts::certified::see_all;
 use crate::conflicts::difference::Difference;
 use crate::conflicts::given::prepared_grammar;
 use crate::conflicts::witnessed::witness_count;
-use lalrpop_lane_method::Method;
+use lalrpop_grammar_repr::methods::Method;
 use lalrpop_run_parser::{Certificate, Prepared, generate};
-use lalrpop_run_refusals::GenerateError;
+use lalrpop_run_prepare::refusals::GenerateError;
 use std::alloc::Global;
 
 /// How many conflicts the case's grammar has, for each of which a certificate is accepted. They are as many as the canonical states have.

@@ -1,17 +1,18 @@
 //! Certificates that are made of one conflict alone.
 
 ghost use Rattle.std.specs.Prelude.{◌<◌, length};
-ghost use Rattle.lalrpop_run_parser.specs.PassedOn.{AreItsConflicts};
+ghost use Rattle.lalrpop_run_parser.specs.Witnesses.{AreItsConflicts};
 
 use crate::conflicts::certified::see_accepted;
 use crate::conflicts::difference::Difference;
 use lalrpop_lr1_build::build_lr1_states_canonical;
-use lalrpop_lr1_items::{Lr1TableConstructionError, TableFault};
+use lalrpop_lr1_core::{Lr1TableConstructionError, TableFault};
 use lalrpop_run_parser::{Prepared, witness};
 use std::alloc::Global;
 
 /// How many conflicts the canonical states have, for each of which the certificate that is made of it alone is accepted.
 pub(crate) fn witness_count(alloc: Global, prepared: &Prepared) -> Result<usize, Difference> {
+    prepared.known();
     let start = prepared.start_name().try_clone()?;
     match build_lr1_states_canonical(alloc, prepared.expansion(), start) {
         Ok(_) => Ok(0),

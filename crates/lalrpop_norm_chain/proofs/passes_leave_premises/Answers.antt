@@ -1,5 +1,5 @@
-use Rattle.lalrpop_norm_name_laws.proofs.ResolvedLemmas.{right_names_resolve}
-use Rattle.lalrpop_norm_expansion.specs.Between.{without_disabled}
+use Rattle.lalrpop_norm_theory.proofs.ResolvedLemmas.{right_names_resolve}
+use Rattle.lalrpop_norm_theory.specs.Between.{without_disabled}
 use Rattle.lalrpop_grammar_repr.specs.declared.norm_error.NormErrorKind.TheVariants as kinds
 use Rattle.lalrpop_norm_chain.proofs.PlainNameLemmas.{names_plain, parameters_plain, read_tells_resolved}
 use Rattle.lalrpop_norm_chain.proofs.ActiveLemmas.{leveled_asks_nothing, all_active}

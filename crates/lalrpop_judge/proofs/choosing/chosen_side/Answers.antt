@@ -1,5 +1,5 @@
 use Rattle.std.proofs.Common.{rules, IsTrue, map}
-use Rattle.lalrpop_grammar_closed.specs.Views.{closed_view}
+use Rattle.lalrpop_grammar_rules.specs.Views.{closed_view}
 use Rattle.lalrpop_judge.proofs.ChoiceLemmas.{side_of}
 use Rattle.lalrpop_judge.proofs.choosing.chosen_side.Goals as goal
 

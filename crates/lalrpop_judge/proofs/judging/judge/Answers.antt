@@ -1,7 +1,7 @@
 use Rattle.std.proofs.Common.{rules, ◌↔◌, IsTrue, map, subst, sym}
 use Rattle.lalrpop_grammar.specs.Views.{grammar_view, token_view, tree_view}
 use Rattle.lalrpop_grammar_language.specs.Enabled.{enabled_grammar}
-use Rattle.lalrpop_judge_search.specs.Search.{finds}
+use Rattle.lalrpop_grammar_rules.specs.Search.{finds}
 use Rattle.lalrpop_grammar_language.specs.Admitting.{AdmitsFrom}
 use Rattle.lalrpop_judge.proofs.StartLemmas.{start_apart}
 use Rattle.lalrpop_judge.proofs.WalkLemmas.{never}

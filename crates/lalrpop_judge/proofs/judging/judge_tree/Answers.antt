@@ -2,7 +2,7 @@ use Rattle.std.proofs.Common.{rules, refl}
 use Rattle.lalrpop_grammar.specs.Trees.{leaves}
 use Rattle.lalrpop_grammar.specs.Views.{grammar_view, tree_view}
 use Rattle.lalrpop_grammar_language.specs.Enabled.{enabled_grammar}
-use Rattle.lalrpop_judge_search.specs.Search.{finds}
+use Rattle.lalrpop_grammar_rules.specs.Search.{finds}
 use Rattle.lalrpop_judge.specs.Faults.{HasSearch, OnlyWhere}
 use Rattle.lalrpop_judge.proofs.StartLemmas.{over_grammar, over_tokens}
 use Rattle.lalrpop_judge.proofs.judging.judge_tree.Goals as goal

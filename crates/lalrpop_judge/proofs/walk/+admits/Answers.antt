@@ -7,8 +7,8 @@ use Rattle.lalrpop_grammar.specs.Trees.{trees, Tree, Trees}
 use Rattle.lalrpop_grammar.specs.Views.{tree_view}
 use Rattle.lalrpop_grammar_language.specs.Closing.{inner}
 use Rattle.lalrpop_grammar_rules.specs.RuleTable.{rules_with}
-use Rattle.lalrpop_grammar_closed.specs.Views.{closed_view, closeds}
-use Rattle.lalrpop_grammar_closed.proofs.ArgumentLemmas.{args_to, args_from}
+use Rattle.lalrpop_grammar_rules.specs.Views.{closed_view, closeds}
+use Rattle.lalrpop_grammar_rules.proofs.ArgumentLemmas.{args_to, args_from}
 use Rattle.lalrpop_judge.specs.Admitted.{Admitted, AdmittedAll, AdmittedEach, IsRightSideAt}
 use Rattle.lalrpop_judge.specs.Faults.{HaveSearch, OnlyWhere}
 use Rattle.lalrpop_judge.proofs.SearchLemmas.{one_of}

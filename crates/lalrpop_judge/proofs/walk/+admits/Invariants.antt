@@ -2,7 +2,7 @@ use Rattle.std.proofs.Common.{◌+◌, ◌*◌, ◌↔◌, map, drop}
 use Rattle.lalrpop_grammar.specs.Trees.{trees}
 use Rattle.lalrpop_grammar.specs.Views.{tree_view}
 use Rattle.lalrpop_grammar_rules.specs.RuleTable.{rules_with}
-use Rattle.lalrpop_grammar_closed.specs.Views.{closed_view}
+use Rattle.lalrpop_grammar_rules.specs.Views.{closed_view}
 use Rattle.lalrpop_judge.specs.Admitted.{AdmittedAll, AdmittedEach}
 use Rattle.lalrpop_judge.proofs.SizeLemmas.{weight, weights}
 use Rattle.lalrpop_judge.proofs.walk.+admits.Given as goal

@@ -1,5 +1,5 @@
 use Rattle.std.proofs.Common.{length}
-use Rattle.lalrpop_lr1_collapse.specs.Renumbering.{HaveTargetsWithin}
+use Rattle.lalrpop_lr1_build.specs.Renumbering.{HaveTargetsWithin}
 use Rattle.lalrpop_lane.specs.BuilderAnswers.{AreLalrWithout}
 use Rattle.lalrpop_lane.proofs.AnswerLemmas.{if_ok}
 use Rattle.lalrpop_lane.proofs.TargetLemmas.{lalr_within}

@@ -1,6 +1,6 @@
 use Rattle.std.proofs.Common.{length}
 use Rattle.lalrpop_lr1_build.specs.BuiltStates.{AreCanonicalWithout}
-use Rattle.lalrpop_lr1_collapse.specs.Renumbering.{HaveTargetsWithin}
+use Rattle.lalrpop_lr1_build.specs.Renumbering.{HaveTargetsWithin}
 use Rattle.lalrpop_lane.proofs.AnswerLemmas.{if_ok}
 use Rattle.lalrpop_lane.proofs.TargetLemmas.{canonical_within}
 use Rattle.lalrpop_lane.proofs.building.build_lr1_states.Goals as goal

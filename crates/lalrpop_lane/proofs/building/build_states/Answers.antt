@@ -1,9 +1,9 @@
 use Rattle.std.proofs.Common.{List, ℕ, subst, sym, true}
 use Rattle.lalrpop_lr1_theory.specs.CheckedStates.{AreCheckedStates}
-use Rattle.lalrpop_lr1_items.specs.declared.state.State.{State}
-use Rattle.lalrpop_lr1_build.specs.BuiltStates.{theory_grammar}
-use Rattle.lalrpop_lr1_collapse.specs.CollapseAnswers.{states_over}
-use Rattle.lalrpop_lane_laws.proofs.RenumberLemmas.{renumbered_checked}
+use Rattle.lalrpop_lr1_core.specs.declared.state.State.{State}
+use Rattle.lalrpop_lr1_core.specs.TheoryGrammars.{theory_grammar}
+use Rattle.lalrpop_lr1_build.specs.CollapseAnswers.{states_over}
+use Rattle.lalrpop_lr1_theory.proofs.RenumberLemmas.{renumbered_checked}
 use Rattle.lalrpop_lane.specs.BuilderAnswers.{AreAskedInOrder}
 use Rattle.lalrpop_lane.specs.GotoNumbers.{fronts_of, goto_numbers, in_goto_order}
 use Rattle.lalrpop_lane.proofs.OrderLemmas.{ordered_fronts, ordered_renumbered}

@@ -1,6 +1,6 @@
 use Rattle.std.proofs.Common.{List, ℕ, subst, sym}
-use Rattle.lalrpop_lr1_items.specs.declared.state.State.{State}
-use Rattle.lalrpop_lr1_collapse.specs.CollapseAnswers.{AreCanonicalOfSome, IsCollapseWithout}
+use Rattle.lalrpop_lr1_core.specs.declared.state.State.{State}
+use Rattle.lalrpop_lr1_build.specs.CollapseAnswers.{AreCanonicalOfSome, IsCollapseWithout}
 use Rattle.lalrpop_lane.specs.BuilderAnswers.{AreLalrWithout}
 use Rattle.lalrpop_lane.proofs.AnswerLemmas.{if_ok}
 use Rattle.lalrpop_lane.proofs.TargetLemmas.{canonical_of}

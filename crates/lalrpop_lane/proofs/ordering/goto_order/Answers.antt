@@ -1,5 +1,5 @@
 use Rattle.std.proofs.Common.{◌∙◌, ap, length, subst, sym, true}
-use Rattle.lalrpop_lr1_collapse.specs.Renumbering.{HaveTargetsWithin}
+use Rattle.lalrpop_lr1_build.specs.Renumbering.{HaveTargetsWithin}
 use Rattle.lalrpop_lane.proofs.NumberLemmas.{fronts_length, lent_length, renumbered_length}
 use Rattle.lalrpop_lane.proofs.ordering.goto_order.Goals as goal
 

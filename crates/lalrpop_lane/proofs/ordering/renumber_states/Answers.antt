@@ -1,8 +1,8 @@
 use Rattle.std.proofs.Common.{◌≡◌, ◌∙◌, ◌<◌, ◌++◌, ◌∷◌, List, [], ℕ, ap, arith, drop, length}
 use Rattle.std.proofs.Common.{length-append, rules, suc, subst, sym, get_or}
 use Rattle.std.specs.Vec.Iter.{into_iter_items}
-use Rattle.lalrpop_lr1_items.specs.declared.state.State.{State}
-use Rattle.lalrpop_lr1_collapse.specs.Renumbering.{HaveTargetsWithin}
+use Rattle.lalrpop_lr1_core.specs.declared.state.State.{State}
+use Rattle.lalrpop_lr1_build.specs.Renumbering.{HaveTargetsWithin}
 use Rattle.lalrpop_lane.specs.GotoNumbers.{state_by_numbers, states_by_numbers}
 use Rattle.lalrpop_lane.proofs.NumberLemmas.{renumber_more}
 use Rattle.lalrpop_lane.proofs.ordering.renumber_states.Goals as goal

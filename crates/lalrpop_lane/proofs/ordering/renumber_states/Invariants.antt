@@ -1,6 +1,6 @@
 use Rattle.std.proofs.Common.{◌≡◌, ◌++◌, ◌+◌, drop, length}
 use Rattle.std.specs.Vec.Iter.{into_iter_items, into_iter_len}
-use Rattle.lalrpop_lr1_collapse.specs.Renumbering.{HaveTargetsWithin}
+use Rattle.lalrpop_lr1_build.specs.Renumbering.{HaveTargetsWithin}
 use Rattle.lalrpop_lane.specs.GotoNumbers.{states_by_numbers}
 use Rattle.lalrpop_lane.proofs.ordering.renumber_states.Given as goal
 

@@ -4,7 +4,7 @@ use Rattle.std.proofs.lemmas.List.{map-append}
 use Rattle.std.proofs.lemmas.Bool.Decides.{nat_tests}
 use Rattle.lalrpop_lexer_pattern.specs.Matches.{Pattern}
 use Rattle.lalrpop_lexer_pattern.specs.Meaning.{meaning}
-use Rattle.lalrpop_lexer_classes.specs.Outcome.{closing_at}
+use Rattle.lalrpop_lexer_regex.specs.Outcome.{closing_at}
 use Rattle.lalrpop_lexer_regex.specs.Patterns.{concat_of, one_of, atom_at, factor_at, pattern_at}
 use Rattle.lalrpop_lexer_regex.proofs.PatternLemmas.{inner_at-none, inner_at-more, pattern_with-is, fails_first, fails_second, branches_bar}
 use Rattle.lalrpop_lexer_regex.proofs.PatternLemmas.{branches_piece, branches_fail, branches_end, branches_none}

@@ -1,6 +1,6 @@
 use Rattle.std.proofs.Common.{arith}
-use Rattle.lalrpop_lr1_check_names.specs.Clauses.{IsMarked}
-use Rattle.lalrpop_lr1_check_names.proofs.ClauseLemmas.{each_below, marked_within}
+use Rattle.lalrpop_lr1_barren.specs.Clauses.{IsMarked}
+use Rattle.lalrpop_lr1_barren.proofs.ClauseLemmas.{each_below, marked_within}
 use Rattle.lalrpop_lr1_barren.proofs.least.first_lacking.Goals as goal
 
 pub returns-then-is_lacking : goal.returns-then-is_lacking

@@ -1,5 +1,5 @@
 use Rattle.std.proofs.Common.{◌<◌, ℕ}
-use Rattle.lalrpop_lr1_check_names.specs.Clauses.{IsMarked}
+use Rattle.lalrpop_lr1_barren.specs.Clauses.{IsMarked}
 use Rattle.lalrpop_lr1_barren.proofs.least.first_lacking.Given as goal
 
 abbrev pub invariant-loop-number : goal.invariant-loop-number

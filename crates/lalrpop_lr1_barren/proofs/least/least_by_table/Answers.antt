@@ -9,9 +9,9 @@ use Rattle.lalrpop_lr1_first.specs.NumberedGrammars.{IsSeenIn, table_names, tabl
 use Rattle.lalrpop_lr1_first.specs.Tables.{symbol_or}
 use Rattle.lalrpop_lr1_first.proofs.ListLemmas.{get_slice}
 use Rattle.lalrpop_lr1_first.proofs.TableLemmas.{get_mapped, long_map}
-use Rattle.lalrpop_lr1_check_names.specs.Clauses.{IsMarked}
-use Rattle.lalrpop_lr1_check_names.specs.NameMarks.{IsNumberOf, IsPlaceOfElement}
-use Rattle.lalrpop_lr1_check_names.proofs.ClauseLemmas.{marked_within}
+use Rattle.lalrpop_lr1_barren.specs.Clauses.{IsMarked}
+use Rattle.lalrpop_lr1_barren.specs.NameMarks.{IsNumberOf, IsPlaceOfElement}
+use Rattle.lalrpop_lr1_barren.proofs.ClauseLemmas.{marked_within}
 use Rattle.lalrpop_lr1_barren.specs.LeastBarren.{IsFirstMissing, IsLeastBarren}
 use Rattle.lalrpop_lr1_barren.proofs.BarrenLemmas.{absent_least, first_least, none_least}
 use Rattle.lalrpop_lr1_barren.proofs.least.least_by_table.Goals as goal

@@ -1,7 +1,7 @@
 use Rattle.std.proofs.Common.{◌≡◌, ◌∙◌, ◌++◌, ◌∷◌, [], List, ap, append-nil, append_assoc, arith, length, rules, sym}
 use Rattle.std.specs.Vec.Iter.{into_iter_items}
 use Rattle.std.proofs.lemmas.List.{nil_from_length}
-use Rattle.lalrpop_lr1_items.specs.declared.conflict.Conflict.{Conflict}
+use Rattle.lalrpop_lr1_core.specs.declared.conflict.Conflict.{Conflict}
 use Rattle.lalrpop_lr1_build.proofs.construction.add_conflicts.Goals as goal
 
 pub loop-conflict-init : goal.loop-conflict-init

@@ -1,11 +1,11 @@
 use Rattle.std.proofs.Common.{false, [], Global, Vec}
 use Rattle.std.proofs.lemmas.Result.{IfErr-weaker, IfOk-weaker}
-use Rattle.lalrpop_lr1_items.specs.Conflicts.{nil_conflicts}
-use Rattle.lalrpop_lr1_items.specs.Views.{nil_lookahead}
-use Rattle.lalrpop_lr1_items.specs.declared.state.State.{State}
-use Rattle.lalrpop_lr1_items.specs.declared.table_fault.TableFault.{TableFault}
+use Rattle.lalrpop_lr1_core.specs.Conflicts.{nil_conflicts}
+use Rattle.lalrpop_lr1_core.specs.Views.{nil_lookahead}
+use Rattle.lalrpop_lr1_core.specs.declared.state.State.{State}
+use Rattle.lalrpop_lr1_core.specs.declared.table_fault.TableFault.{TableFault}
 use Rattle.lalrpop_sets.specs.declared.nil.Nil.{Nil}
-use Rattle.lalrpop_lr1_turn.specs.Nexts.{IsNextIn}
+use Rattle.lalrpop_lr1_build.specs.Nexts.{IsNextIn}
 use Rattle.lalrpop_lr1_build.specs.BuiltStates.{AreLr0Without, HaveNoConflictBuilt, IsFaultBuilt, IsLr0Fault}
 use Rattle.lalrpop_lr1_build.proofs.AnswerLemmas.{lr0_fault, lr0_states}
 use Rattle.lalrpop_lr1_build.proofs.construction.build_lr0_states.Goals as goal

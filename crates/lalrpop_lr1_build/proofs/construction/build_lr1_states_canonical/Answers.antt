@@ -2,13 +2,13 @@ use Rattle.std.proofs.Common.{ℕ, true, List, Contains, Global, Vec, map}
 use Rattle.std.proofs.lemmas.Result.{IfErr-weaker, IfOk-weaker, MatchResult-from_both}
 use Rattle.lalrpop_lr1_theory.specs.Answers.{IsLr1}
 use Rattle.lalrpop_lr1_theory.specs.CheckedStates.{AreCheckedStates}
-use Rattle.lalrpop_lr1_items.specs.Conflicts.{token_conflicts}
-use Rattle.lalrpop_lr1_items.specs.Views.{lr_state_view, token_lookahead}
-use Rattle.lalrpop_lr1_items.specs.declared.state.State.{State}
-use Rattle.lalrpop_lr1_items.specs.declared.table_fault.TableFault.{TableFault}
-use Rattle.lalrpop_lr1_turn.specs.Nexts.{IsNextIn}
+use Rattle.lalrpop_lr1_core.specs.Conflicts.{token_conflicts}
+use Rattle.lalrpop_lr1_core.specs.Views.{lr_state_view, token_lookahead}
+use Rattle.lalrpop_lr1_core.specs.declared.state.State.{State}
+use Rattle.lalrpop_lr1_core.specs.declared.table_fault.TableFault.{TableFault}
+use Rattle.lalrpop_lr1_build.specs.Nexts.{IsNextIn}
 use Rattle.lalrpop_lr1_build.specs.BuiltStates.{AreCanonicalWithout, HaveNoConflictBuilt, IsCanonicalFault, IsFaultBuilt, TellsNoLr1}
-use Rattle.lalrpop_lr1_build.specs.BuiltStates.{theory_grammar}
+use Rattle.lalrpop_lr1_core.specs.TheoryGrammars.{theory_grammar}
 use Rattle.lalrpop_lr1_build.proofs.AnswerLemmas.{canonical_fault, canonical_states, fault_tells}
 use Rattle.lalrpop_lr1_build.proofs.Lr1Lemmas.{built_checked, built_lr1}
 use Rattle.lalrpop_lr1_build.proofs.construction.build_lr1_states_canonical.Goals as goal

@@ -5,7 +5,7 @@ use Rattle.std.proofs.lemmas.List.{nil_from_length}
 use Rattle.lalrpop_lr1_first.specs.NumberedGrammars.{table_productions}
 use Rattle.lalrpop_lr1_first.specs.declared.numbered.Numbered.{Numbered}
 use Rattle.lalrpop_lr1_first.proofs.ListLemmas.{eqb_true}
-use Rattle.lalrpop_lr1_turn.specs.Nexts.{IsNextIn}
+use Rattle.lalrpop_lr1_build.specs.Nexts.{IsNextIn}
 use Rattle.lalrpop_lr1_build.specs.BuiltStates.{AreBuiltStates}
 use Rattle.lalrpop_lr1_build.specs.PublicStates.{ArePublicStates, IsWellNumbered, start_items}
 use Rattle.lalrpop_lr1_build.proofs.BuiltLemmas.{built_states, start_is_kernel, well_numbered}

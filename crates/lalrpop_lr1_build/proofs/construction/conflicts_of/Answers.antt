@@ -1,5 +1,5 @@
 use Rattle.std.proofs.Common.{◌∙◌, ◌++◌, List, ap}
-use Rattle.lalrpop_lr1_items.specs.declared.conflict.Conflict.{Conflict}
+use Rattle.lalrpop_lr1_core.specs.declared.conflict.Conflict.{Conflict}
 use Rattle.lalrpop_lr1_build.proofs.EntryLemmas.{flat_more}
 use Rattle.lalrpop_lr1_build.proofs.construction.conflicts_of.Goals as goal
 

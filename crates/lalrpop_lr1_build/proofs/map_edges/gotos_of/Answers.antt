@@ -2,7 +2,7 @@ use Rattle.std.proofs.Common.{◌≡◌, ◌∙◌, ◌+◌, ◌≤◌, ℕ, Som
 use Rattle.std.proofs.Common.{length, refl, slice_get, subst, sym, take}
 use Rattle.std.specs.BTreeMap.{insert_entry}
 use Rattle.lalrpop_grammar_symbols.specs.contracts.names.NonterminalStringOrd.TheImpl as names_order
-use Rattle.lalrpop_lr1_items.specs.declared.state_index.StateIndex.{StateIndex}
+use Rattle.lalrpop_lr1_core.specs.declared.state_index.StateIndex.{StateIndex}
 use Rattle.lalrpop_lr1_first.specs.NumberedGrammars.{table_names}
 use Rattle.lalrpop_lr1_first.proofs.ListLemmas.{get_slice, read_slice}
 use Rattle.lalrpop_lr1_first.proofs.TableLemmas.{get_mapped, long_map}

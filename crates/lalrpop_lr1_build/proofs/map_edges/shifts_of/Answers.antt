@@ -2,7 +2,7 @@ use Rattle.std.proofs.Common.{◌≡◌, ◌∙◌, ◌+◌, ◌-◌, ◌<◌, �
 use Rattle.std.proofs.Common.{arith, get_or, length, refl, slice_get, subst, sym, take}
 use Rattle.std.specs.BTreeMap.{insert_entry}
 use Rattle.lalrpop_grammar_symbols.specs.contracts.terminal.TerminalStringOrd.TheImpl as terminals_order
-use Rattle.lalrpop_lr1_items.specs.declared.state_index.StateIndex.{StateIndex}
+use Rattle.lalrpop_lr1_core.specs.declared.state_index.StateIndex.{StateIndex}
 use Rattle.lalrpop_lr1_theory.proofs.ListLemmas.{get_contains}
 use Rattle.lalrpop_lr1_first.specs.FirstNumbers.{name_count}
 use Rattle.lalrpop_lr1_first.proofs.ListLemmas.{get_slice, read_slice}

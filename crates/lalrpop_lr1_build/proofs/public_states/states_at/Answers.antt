@@ -1,7 +1,7 @@
 use Rattle.std.proofs.Common.{◌∙◌, ◌++◌, ◌∷◌, [], List, ap, append_assoc, arith, length, slice_get}
 use Rattle.std.proofs.Common.{subst, sym}
 use Rattle.std.specs.Vec.Iter.{into_iter_items}
-use Rattle.lalrpop_lr1_turn.specs.declared.numbered_states.NumberedState.{NumberedState}
+use Rattle.lalrpop_lr1_build.specs.declared.states.numbered_states.NumberedState.{NumberedState}
 use Rattle.lalrpop_lr1_build.specs.PublicStates.{ArePublicStates}
 use Rattle.lalrpop_lr1_build.proofs.EntryLemmas.{get_behind, public_more}
 use Rattle.lalrpop_lr1_build.proofs.public_states.states_at.Goals as goal

@@ -1,6 +1,6 @@
 use Rattle.std.proofs.Common.{◌≡◌, ◌++◌, List, length}
 use Rattle.std.specs.Vec.Iter.{into_iter_items, into_iter_len}
-use Rattle.lalrpop_lr1_turn.specs.declared.numbered_states.NumberedState.{NumberedState}
+use Rattle.lalrpop_lr1_build.specs.declared.states.numbered_states.NumberedState.{NumberedState}
 use Rattle.lalrpop_lr1_build.specs.PublicStates.{ArePublicStates}
 use Rattle.lalrpop_lr1_build.proofs.public_states.states_at.Given as goal
 

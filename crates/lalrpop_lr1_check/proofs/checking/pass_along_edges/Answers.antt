@@ -1,9 +1,9 @@
 use Rattle.std.proofs.Common.{◌≡◌, ◌∙◌, ◌↔◌, List, ℕ, map, subst, sym, true, false}
 use Rattle.lalrpop_lr1_theory.specs.States.{HasEdge, HasItem}
-use Rattle.lalrpop_lr1_items.specs.Views.{lr_state_view, token_lookahead}
-use Rattle.lalrpop_lr1_items.specs.declared.state.State.{State}
-use Rattle.lalrpop_lr1_check_parts.specs.Moves.{FollowsEdges}
-use Rattle.lalrpop_lr1_check_parts.specs.Reductions.{FinishedAsSeen}
+use Rattle.lalrpop_lr1_core.specs.Views.{lr_state_view, token_lookahead}
+use Rattle.lalrpop_lr1_core.specs.declared.state.State.{State}
+use Rattle.lalrpop_lr1_check_lookaheads.specs.Moves.{FollowsEdges}
+use Rattle.lalrpop_lr1_check_lookaheads.specs.Reductions.{FinishedAsSeen}
 use Rattle.lalrpop_lr1_check.proofs.checking.pass_along_edges.Goals as goal
 
 pub returns-then-not-reduces_finished : goal.returns-then-not-reduces_finished

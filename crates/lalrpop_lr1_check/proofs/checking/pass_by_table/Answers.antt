@@ -1,4 +1,4 @@
-use Rattle.lalrpop_lr1_items.specs.Views.{token_lookahead}
+use Rattle.lalrpop_lr1_core.specs.Views.{token_lookahead}
 use Rattle.lalrpop_lr1_check.proofs.checking.pass_by_table.Goals as goal
 
 pub returns : goal.returns

@@ -1,5 +1,5 @@
 use Rattle.std.proofs.Common.{◌∙◌, ap, subst, sym, take}
-use Rattle.lalrpop_lr1_items.proofs.MemberLemmas.{map_has}
+use Rattle.lalrpop_lr1_core.proofs.MemberLemmas.{map_has}
 use Rattle.lalrpop_lr1_first.specs.Listings.{lent}
 use Rattle.lalrpop_lr1_first.specs.Tables.{AreLaid}
 use Rattle.lalrpop_lr1_first.proofs.AddLemmas.{lent_more, taken_more}

@@ -4,7 +4,8 @@ use Rattle.std.specs.Prelude.{flat_map}
 use Rattle.lalrpop_grammar_symbols.specs.declared.names.NonterminalString.{NonterminalString}
 use Rattle.lalrpop_grammar_repr.specs.declared.production.NonterminalData.{NonterminalData}
 use Rattle.lalrpop_grammar_repr.specs.declared.production.Production.{Production}
-use Rattle.lalrpop_lr1_first.specs.Listings.{lent, lent_in, productions_of_grammar}
+use Rattle.lalrpop_lr1_first.specs.Listings.{lent, lent_in}
+use Rattle.lalrpop_lr1_core.specs.TheoryGrammars.{productions_of_grammar}
 use Rattle.lalrpop_lr1_first.proofs.AddLemmas.{puts_all, puts_more, puts_start}
 use Rattle.lalrpop_lr1_first.proofs.listing.productions_in.Goals as goal
 

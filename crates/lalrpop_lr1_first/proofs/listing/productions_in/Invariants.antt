@@ -1,6 +1,7 @@
 use Rattle.std.proofs.Common.{◌⊎◌, ◌↔◌, Contains}
 use Rattle.std.specs.Prelude.{flat_map}
-use Rattle.lalrpop_lr1_first.specs.Listings.{lent_in, productions_of_grammar}
+use Rattle.lalrpop_lr1_first.specs.Listings.{lent_in}
+use Rattle.lalrpop_lr1_core.specs.TheoryGrammars.{productions_of_grammar}
 use Rattle.lalrpop_grammar_repr.specs.declared.production.Production.{Production}
 use Rattle.lalrpop_lr1_first.proofs.listing.productions_in.Given as goal
 

@@ -1,5 +1,5 @@
 use Rattle.std.proofs.Common.{◌∙◌, false, map}
-use Rattle.lalrpop_lr1_items.specs.Views.{lr_state_view, token_lookahead}
+use Rattle.lalrpop_lr1_core.specs.Views.{lr_state_view, token_lookahead}
 use Rattle.lalrpop_lr1_interpret.specs.Interpretations.{move_limit}
 use Rattle.lalrpop_lr1_interpret.proofs.InterpretLemmas.{fault_right, halt_within, states_right}
 use Rattle.lalrpop_lr1_interpret.proofs.interpreting.states_by_table.Goals as goal

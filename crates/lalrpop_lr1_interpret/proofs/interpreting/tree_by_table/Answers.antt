@@ -1,8 +1,8 @@
 use Rattle.std.proofs.Common.{◌≡◌, map, true}
 use Rattle.lalrpop_lr1_theory.specs.Spans.{without_spans}
-use Rattle.lalrpop_lr1_items.specs.Views.{lr_state_view, token_lookahead}
+use Rattle.lalrpop_lr1_core.specs.Views.{lr_state_view, token_lookahead}
 use Rattle.lalrpop_lr1_interpret.specs.Interpretations.{move_limit}
-use Rattle.lalrpop_lr1_parse_trees.specs.NamedTrees.{name_forest, parse_tree_views}
+use Rattle.lalrpop_lr1_interpret.specs.NamedTrees.{name_forest, parse_tree_views}
 use Rattle.lalrpop_lr1_interpret.proofs.InterpretLemmas.{fault_right, halt_within, none_made, tree_right}
 use Rattle.lalrpop_lr1_interpret.proofs.interpreting.tree_by_table.Goals as goal
 

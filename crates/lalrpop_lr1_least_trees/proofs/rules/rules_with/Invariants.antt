@@ -1,5 +1,5 @@
 use Rattle.std.proofs.Common.{◌≡◌, ◌++◌, drop, map}
-use Rattle.lalrpop_lr1_least_counts.specs.NumberedTrees.{rule_views}
+use Rattle.lalrpop_lr1_least_trees.specs.NumberedTrees.{rule_views}
 use Rattle.lalrpop_lr1_least_trees.specs.GrammarTrees.{number_rule}
 use Rattle.lalrpop_lr1_least_trees.proofs.rules.rules_with.Given as goal
 

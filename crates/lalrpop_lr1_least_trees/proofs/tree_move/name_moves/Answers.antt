@@ -1,4 +1,4 @@
-use Rattle.lalrpop_lr1_least_counts.specs.declared.rule.NumberMove.TheVariants.{Shift}
+use Rattle.lalrpop_lr1_least_trees.specs.declared.least_counts.rule.NumberMove.TheVariants.{Shift}
 use Rattle.std.proofs.lemmas.Option.{slice_get-get_or}
 use Rattle.lalrpop_lr1_least_trees.specs.GrammarTrees.{production_by, symbols_by}
 use Rattle.lalrpop_lr1_least_trees.proofs.MoveLemmas.{named_more}

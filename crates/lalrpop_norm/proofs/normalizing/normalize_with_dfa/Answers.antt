@@ -1,8 +1,8 @@
 use Rattle.std.proofs.lemmas.Result.{IfErr-weaker, IfOk-weaker, err_from_is_err_and}
 use Rattle.lalrpop_grammar.specs.Views.{grammar_view}
-use Rattle.lalrpop_judge_search.specs.Search.{finds, is_too_deep}
-use Rattle.lalrpop_norm_entries.specs.KeptPlaces.{first_places}
-use Rattle.lalrpop_norm_stages.specs.PassedOn.{lowered_view}
+use Rattle.lalrpop_grammar_rules.specs.Search.{finds, is_too_deep}
+use Rattle.lalrpop_norm_token_check.specs.KeptPlaces.{first_places}
+use Rattle.lalrpop_norm_chain.specs.LoweredViews.{lowered_view}
 use Rattle.lalrpop_norm.proofs.PassedLemmas.{entries_decided, levels_told, macros_told, names_told, normalized_given}
 use Rattle.lalrpop_norm.proofs.PassedLemmas.{nothing_stands, rest_told}
 use Rattle.lalrpop_norm.proofs.ToldLemmas.{check_told}

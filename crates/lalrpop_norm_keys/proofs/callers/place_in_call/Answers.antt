@@ -4,7 +4,7 @@ use Rattle.lalrpop_grammar_symbols.specs.Symbols.{closed_list}
 use Rattle.lalrpop_grammar_symbols.specs.declared.names.NonterminalString.{NonterminalString}
 use Rattle.lalrpop_grammar_rules.specs.Details.{enabled_rule_view}
 use Rattle.lalrpop_grammar_rules.specs.RuleTable.{rules_with}
-use Rattle.lalrpop_grammar_closed.specs.Views.{binding_of, closed_view, closeds}
+use Rattle.lalrpop_grammar_rules.specs.Views.{binding_of, closed_view, closeds}
 use Rattle.lalrpop_norm_keys.proofs.InstanceLemmas.{as_many, binding_same, symbols_err}
 use Rattle.lalrpop_norm_keys.proofs.CallerLemmas.{call_found, no_rule_stands_in}
 use Rattle.lalrpop_norm_keys.proofs.FoundLemmas.{told_of_call}

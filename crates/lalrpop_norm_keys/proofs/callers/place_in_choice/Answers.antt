@@ -2,7 +2,7 @@ use Rattle.std.proofs.Common.{[], ◌∷◌, refl, inl, subst}
 use Rattle.lalrpop_grammar_language.specs.Levels.{levels}
 use Rattle.lalrpop_grammar_rules.specs.Details.{choice_view, choices_view, enabled_rule_view}
 use Rattle.lalrpop_grammar_rules.specs.RuleTable.{rules_with}
-use Rattle.lalrpop_grammar_closed.specs.Views.{binding_of, closed_view}
+use Rattle.lalrpop_grammar_rules.specs.Views.{binding_of, closed_view}
 use Rattle.lalrpop_norm_keys.specs.Instances.{AreTight}
 use Rattle.lalrpop_norm_keys.proofs.SideLemmas.{tells_one_err}
 use Rattle.lalrpop_norm_keys.proofs.CallerLemmas.{kept_found}

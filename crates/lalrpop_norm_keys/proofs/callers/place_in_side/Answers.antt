@@ -4,7 +4,7 @@ use Rattle.lalrpop_grammar_language.specs.Enabled.{choice_of}
 use Rattle.lalrpop_grammar_rules.specs.Details.{enabled_rule_view}
 use Rattle.lalrpop_grammar_rules.specs.Ranks.{rank_view}
 use Rattle.lalrpop_grammar_rules.specs.RuleTable.{rules_with}
-use Rattle.lalrpop_grammar_closed.specs.Views.{binding_of, closed_view}
+use Rattle.lalrpop_grammar_rules.specs.Views.{binding_of, closed_view}
 use Rattle.lalrpop_norm_keys.proofs.CallerLemmas.{side_found}
 use Rattle.lalrpop_norm_keys.proofs.callers.place_in_side.Goals as goal
 

@@ -3,7 +3,7 @@ use Rattle.std.specs.Prelude.{None, Some}
 use Rattle.std.proofs.lemmas.List.{drop_all, drop_more}
 use Rattle.std.proofs.lemmas.Result.{err_from_is_err_and}
 use Rattle.lalrpop_grammar_rules.specs.RuleTable.{rules_with}
-use Rattle.lalrpop_grammar_closed.specs.Views.{closed_view}
+use Rattle.lalrpop_grammar_rules.specs.Views.{closed_view}
 use Rattle.lalrpop_norm_keys.specs.PlaceSearch.{IsFoundInCalls}
 use Rattle.lalrpop_norm_keys.proofs.CallerLemmas.{callers_here, callers_later, no_caller}
 use Rattle.lalrpop_norm_keys.proofs.FoundLemmas.{item_among, told_wider}

@@ -1,6 +1,6 @@
 use Rattle.std.proofs.Common.{◌++◌, ◌∙◌, IsTrue, ap, inl, map, rules}
 use Rattle.std.proofs.lemmas.List.{map-append}
-use Rattle.lalrpop_grammar_closed.specs.Views.{closed_view}
+use Rattle.lalrpop_grammar_rules.specs.Views.{closed_view}
 use Rattle.lalrpop_norm_keys.proofs.instances.add_side.Goals as goal
 
 pub returns-clause-added : goal.returns-clause-added

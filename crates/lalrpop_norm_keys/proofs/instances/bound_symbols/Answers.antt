@@ -4,7 +4,7 @@ use Rattle.std.proofs.lemmas.Result.{err_from_is_err_and}
 use Rattle.lalrpop_grammar_language.specs.Levels.{levels, ranked_choices}
 use Rattle.lalrpop_grammar_rules.specs.Details.{choices_view, enabled_rule_view}
 use Rattle.lalrpop_grammar_rules.specs.RuleTable.{rules_with}
-use Rattle.lalrpop_grammar_closed.specs.Views.{binding_of, closed_view}
+use Rattle.lalrpop_grammar_rules.specs.Views.{binding_of, closed_view}
 use Rattle.lalrpop_norm_keys.specs.Instances.{AddsSides, AreTight, TellsOfSome, kept_from}
 use Rattle.lalrpop_norm_keys.proofs.SideLemmas.{kept_are_ranked, kept_are_tight, sides_next, tells_later, tells_of_all, tight_first}
 use Rattle.lalrpop_norm_keys.proofs.SideLemmas.{tight_others}

@@ -4,7 +4,7 @@ use Rattle.lalrpop_grammar_language.specs.Levels.{levels}
 use Rattle.lalrpop_grammar_repr.specs.declared.session.NormFault.{NormFault}
 use Rattle.lalrpop_grammar_rules.specs.Details.{choices_view, enabled_rule_view}
 use Rattle.lalrpop_grammar_rules.specs.RuleTable.{rules_with}
-use Rattle.lalrpop_grammar_closed.specs.Views.{binding_of, closed_view}
+use Rattle.lalrpop_grammar_rules.specs.Views.{binding_of, closed_view}
 use Rattle.lalrpop_norm_keys.specs.AskedConditions.{AreAskable}
 use Rattle.lalrpop_norm_keys.specs.Instances.{AddsSides, AreTight, TellsOfSome, kept_from}
 use Rattle.lalrpop_norm_keys.proofs.instances.bound_symbols.Given as goal

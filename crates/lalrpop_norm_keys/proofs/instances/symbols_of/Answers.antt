@@ -4,7 +4,7 @@ use Rattle.lalrpop_grammar_symbols.specs.Symbols.{Closed, closed_list}
 use Rattle.lalrpop_grammar_symbols.specs.declared.names.NonterminalString.{NonterminalString}
 use Rattle.lalrpop_grammar_rules.specs.Details.{enabled_rule_view}
 use Rattle.lalrpop_grammar_rules.specs.RuleTable.{rules_with}
-use Rattle.lalrpop_grammar_closed.specs.Views.{binding_of, closed_view, closeds}
+use Rattle.lalrpop_grammar_rules.specs.Views.{binding_of, closed_view, closeds}
 use Rattle.lalrpop_norm_keys.specs.Instances.{HasKeysOf}
 use Rattle.lalrpop_norm_keys.specs.StandingCalls.{HasCallsOf}
 use Rattle.lalrpop_norm_keys.proofs.InstanceLemmas.{as_many, binding_same, calls_ok, keys_of_nothing, keys_ok}

@@ -1,8 +1,8 @@
 use Rattle.std.proofs.Common.{map, None}
 use Rattle.lalrpop_grammar_symbols.specs.Symbols.{Closed}
 use Rattle.lalrpop_grammar_rules.specs.RuleTable.{rules_with}
-use Rattle.lalrpop_grammar_closed.specs.Views.{closed_view, closeds}
-use Rattle.lalrpop_norm_key_table.specs.Tables.{table_keys}
+use Rattle.lalrpop_grammar_rules.specs.Views.{closed_view, closeds}
+use Rattle.lalrpop_norm_keys.specs.Tables.{table_keys}
 use Rattle.lalrpop_norm_keys.proofs.FoundLemmas.{told_of_call}
 use Rattle.lalrpop_norm_keys.proofs.KeyLemmas.{found_ok, keys_of_leveled}
 use Rattle.lalrpop_norm_keys.proofs.AskedLemmas.{ask_no_call, ask_one_ok}

@@ -1,8 +1,8 @@
 use Rattle.std.proofs.Common.{map, take}
 use Rattle.lalrpop_grammar_rules.specs.RuleTable.{rules_with}
-use Rattle.lalrpop_grammar_closed.specs.Views.{closed_view}
-use Rattle.lalrpop_norm_expansion.specs.Premises.{HasNoLevels}
-use Rattle.lalrpop_norm_key_table.specs.Tables.{IsKeyIndex, table_keys}
+use Rattle.lalrpop_grammar_rules.specs.Views.{closed_view}
+use Rattle.lalrpop_norm_theory.specs.Premises.{HasNoLevels}
+use Rattle.lalrpop_norm_keys.specs.Tables.{IsKeyIndex, table_keys}
 use Rattle.lalrpop_norm_keys.specs.AskedConditions.{AskRightly}
 use Rattle.lalrpop_norm_keys.specs.FoundCalls.{AreCalls}
 use Rattle.lalrpop_norm_keys.specs.FoundKeys.{FindsKeys}

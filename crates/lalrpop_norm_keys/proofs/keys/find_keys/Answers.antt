@@ -5,8 +5,8 @@ use Rattle.lalrpop_grammar.specs.Views.{grammar_view}
 use Rattle.lalrpop_grammar.specs.WrittenGrammar.{rules_of}
 use Rattle.lalrpop_grammar_language.specs.Enabled.{enabled_rule, is_active}
 use Rattle.lalrpop_grammar_rules.specs.RuleTable.{rules_with}
-use Rattle.lalrpop_grammar_closed.specs.Views.{closed_view}
-use Rattle.lalrpop_norm_key_table.specs.Tables.{table_keys}
+use Rattle.lalrpop_grammar_rules.specs.Views.{closed_view}
+use Rattle.lalrpop_norm_keys.specs.Tables.{table_keys}
 use Rattle.lalrpop_norm_keys.specs.AskedConditions.{AskRightly}
 use Rattle.lalrpop_norm_keys.specs.FoundCalls.{AreCalls, plain_calls}
 use Rattle.lalrpop_norm_keys.specs.FoundKeys.{FindsKeys}

@@ -1,5 +1,5 @@
 use Rattle.lalrpop_grammar_language.specs.Enabled.{enabled_grammar}
-use Rattle.lalrpop_norm_expansion.specs.Between.{grammar_between}
+use Rattle.lalrpop_norm_theory.specs.Between.{grammar_between}
 use Rattle.lalrpop_grammar.specs.WrittenGrammar.{rules_of}
 use Rattle.lalrpop_norm_keys.proofs.FaultLemmas.{arity_alike, made_alike}
 use Rattle.lalrpop_norm_keys.proofs.PlainGrammarLemmas.{calls_alike, keys_alike, table_alike, too_deep_alike}

@@ -1,6 +1,6 @@
 use Rattle.std.proofs.Common.{◌≡◌, ◌∷◌, ◌+◌, ◌∙◌, ap, drop, sym}
 use Rattle.std.proofs.lemmas.List.{drop_more}
-use Rattle.lalrpop_grammar_closed.specs.Views.{closed_view}
+use Rattle.lalrpop_grammar_rules.specs.Views.{closed_view}
 use Rattle.lalrpop_norm_keys.proofs.CallPlaceLemmas.{have_here, have_next}
 use Rattle.lalrpop_norm_keys.proofs.places.+has.Goals as goal
 

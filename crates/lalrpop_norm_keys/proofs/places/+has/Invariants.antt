@@ -1,7 +1,7 @@
 use Rattle.std.proofs.Common.{◌↔◌, drop, map}
 use Rattle.lalrpop_grammar_language.specs.Among.{Among}
-use Rattle.lalrpop_grammar_closed.specs.Views.{closed_view, closeds}
-use Rattle.lalrpop_norm_expansion.specs.Depth.{calls_in_all}
+use Rattle.lalrpop_grammar_rules.specs.Views.{closed_view, closeds}
+use Rattle.lalrpop_norm_theory.specs.Depth.{calls_in_all}
 use Rattle.lalrpop_norm_keys.proofs.places.+has.Given as goal
 
 abbrev pub invariant-have_call-loop-symbol : goal.invariant-have_call-loop-symbol

@@ -2,7 +2,7 @@ use Rattle.std.proofs.Common.{◌≡◌, ◌∷◌, ◌+◌, ◌∙◌, ap, drop
 use Rattle.std.proofs.lemmas.List.{drop_all, drop_more}
 use Rattle.std.specs.Prelude.{None, Some}
 use Rattle.lalrpop_grammar_symbols.specs.Views.{symbol_view}
-use Rattle.lalrpop_grammar_closed.specs.Views.{closed_view}
+use Rattle.lalrpop_grammar_rules.specs.Views.{closed_view}
 use Rattle.lalrpop_norm_keys.proofs.CallPlaceLemmas.{closed_ended, first_found, group_place, macro_place, name_place}
 use Rattle.lalrpop_norm_keys.proofs.CallPlaceLemmas.{others_found, symbols_ended, there_first, there_later}
 use Rattle.lalrpop_norm_keys.proofs.places.+place.Goals as goal

@@ -3,8 +3,8 @@ use Rattle.std.specs.Prelude.{Option}
 use Rattle.lalrpop_grammar_symbols.specs.Views.{symbol_view}
 use Rattle.lalrpop_grammar_symbols.specs.declared.span.Span.{Span}
 use Rattle.lalrpop_grammar_language.specs.Among.{Among}
-use Rattle.lalrpop_grammar_closed.specs.Views.{closed_view, closeds}
-use Rattle.lalrpop_norm_expansion.specs.Depth.{calls_in_all}
+use Rattle.lalrpop_grammar_rules.specs.Views.{closed_view, closeds}
+use Rattle.lalrpop_norm_theory.specs.Depth.{calls_in_all}
 use Rattle.lalrpop_norm_keys.specs.PlaceSearch.{IsFoundAmong}
 use Rattle.lalrpop_norm_keys.proofs.places.+place.Given as goal
 

@@ -1,9 +1,9 @@
 use Rattle.std.proofs.Common.{◌∙◌, ap, map, None}
 use Rattle.lalrpop_grammar_symbols.specs.Symbols.{Closed}
 use Rattle.lalrpop_grammar_rules.specs.RuleTable.{rules_with}
-use Rattle.lalrpop_grammar_closed.specs.Views.{closed_view, closeds}
-use Rattle.lalrpop_norm_expansion.specs.Depth.{calls_in_all}
-use Rattle.lalrpop_norm_key_table.specs.Tables.{table_keys}
+use Rattle.lalrpop_grammar_rules.specs.Views.{closed_view, closeds}
+use Rattle.lalrpop_norm_theory.specs.Depth.{calls_in_all}
+use Rattle.lalrpop_norm_keys.specs.Tables.{table_keys}
 use Rattle.lalrpop_norm_keys.proofs.FoundLemmas.{found_of_symbols}
 use Rattle.lalrpop_norm_keys.proofs.rounds.add_calls_of.Goals as goal
 

@@ -1,7 +1,7 @@
 use Rattle.std.proofs.Common.{map}
 use Rattle.lalrpop_grammar_rules.specs.RuleTable.{rules_with}
-use Rattle.lalrpop_grammar_closed.specs.Views.{closed_view, closeds}
-use Rattle.lalrpop_norm_key_table.specs.Tables.{table_keys}
+use Rattle.lalrpop_grammar_rules.specs.Views.{closed_view, closeds}
+use Rattle.lalrpop_norm_keys.specs.Tables.{table_keys}
 use Rattle.lalrpop_norm_keys.proofs.FoundLemmas.{found_of_leveled, told_of_call}
 use Rattle.lalrpop_norm_keys.proofs.rounds.add_calls_of_call.Goals as goal
 

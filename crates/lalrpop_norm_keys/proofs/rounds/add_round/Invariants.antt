@@ -1,7 +1,7 @@
 use Rattle.std.proofs.Common.{map, take}
 use Rattle.lalrpop_grammar_rules.specs.RuleTable.{rules_with}
-use Rattle.lalrpop_grammar_closed.specs.Views.{closed_view}
-use Rattle.lalrpop_norm_key_table.specs.Tables.{IsKeyIndex, table_keys}
+use Rattle.lalrpop_grammar_rules.specs.Views.{closed_view}
+use Rattle.lalrpop_norm_keys.specs.Tables.{IsKeyIndex, table_keys}
 use Rattle.lalrpop_norm_keys.specs.FoundCalls.{FindsCalls}
 use Rattle.lalrpop_norm_keys.proofs.rounds.add_round.Given as goal
 

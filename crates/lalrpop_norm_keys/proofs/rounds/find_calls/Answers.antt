@@ -5,9 +5,9 @@ use Rattle.lalrpop_grammar.specs.Views.{grammar_view}
 use Rattle.lalrpop_grammar.specs.WrittenGrammar.{rules_of}
 use Rattle.lalrpop_grammar_language.specs.Enabled.{enabled_rule, is_active}
 use Rattle.lalrpop_grammar_rules.specs.RuleTable.{rules_with}
-use Rattle.lalrpop_grammar_closed.specs.Views.{closed_view}
-use Rattle.lalrpop_norm_key_table.specs.Tables.{table_keys}
-use Rattle.lalrpop_norm_place_law.specs.CallPlaces.{IsMadeAt}
+use Rattle.lalrpop_grammar_rules.specs.Views.{closed_view}
+use Rattle.lalrpop_norm_keys.specs.Tables.{table_keys}
+use Rattle.lalrpop_norm_theory.specs.CallPlaces.{IsMadeAt}
 use Rattle.lalrpop_norm_keys.specs.FoundCalls.{FindsCalls}
 use Rattle.lalrpop_norm_keys.proofs.FoundLemmas.{all_found_by, deep_found, deep_told, first_too_deep, found_first, later_calls}
 use Rattle.lalrpop_norm_keys.proofs.FoundLemmas.{later_stands, next_stands, plain_are_made, round_kept, told_of_any, told_of_made}

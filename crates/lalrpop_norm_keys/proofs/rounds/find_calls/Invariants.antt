@@ -3,10 +3,10 @@ use Rattle.lalrpop_grammar.specs.Views.{grammar_view}
 use Rattle.lalrpop_grammar_symbols.specs.Symbols.{Closed}
 use Rattle.lalrpop_grammar_language.specs.Among.{Among}
 use Rattle.lalrpop_grammar_rules.specs.RuleTable.{rules_with}
-use Rattle.lalrpop_grammar_closed.specs.Views.{closed_view}
-use Rattle.lalrpop_norm_expansion.specs.Rounds.{AreCallsToDepth}
-use Rattle.lalrpop_norm_key_table.specs.Tables.{IsKeyIndex, table_keys}
-use Rattle.lalrpop_norm_place_law.specs.CallPlaces.{IsMadeAt}
+use Rattle.lalrpop_grammar_rules.specs.Views.{closed_view}
+use Rattle.lalrpop_norm_theory.specs.Rounds.{AreCallsToDepth}
+use Rattle.lalrpop_norm_keys.specs.Tables.{IsKeyIndex, table_keys}
+use Rattle.lalrpop_norm_theory.specs.CallPlaces.{IsMadeAt}
 use Rattle.lalrpop_norm_keys.specs.SearchPremises.{CanSearch}
 use Rattle.lalrpop_norm_keys.specs.StandingCalls.{CallStandsIn}
 use Rattle.lalrpop_norm_keys.proofs.rounds.find_calls.Given as goal

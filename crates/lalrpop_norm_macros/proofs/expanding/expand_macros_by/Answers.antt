@@ -1,8 +1,8 @@
 use Rattle.std.proofs.Common.{◌∙◌, ap, map, subst, sym}
 use Rattle.lalrpop_grammar.specs.Views.{grammar_view, nonterminal_view}
 use Rattle.lalrpop_grammar.specs.WrittenGrammar.{Grammar}
-use Rattle.lalrpop_norm_fault_chain.specs.PassedOn.{IsMacroResult}
-use Rattle.lalrpop_norm_key_rules.specs.RuleItems.{other_items}
+use Rattle.lalrpop_norm_chain.specs.Chains.{IsMacroResult}
+use Rattle.lalrpop_norm_macros.specs.RuleItems.{other_items}
 use Rattle.lalrpop_norm_macros.proofs.ResultLemmas.{others_stay}
 use Rattle.lalrpop_norm_macros.proofs.expanding.expand_macros_by.Goals as goal
 

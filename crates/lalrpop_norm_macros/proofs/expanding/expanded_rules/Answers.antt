@@ -1,6 +1,6 @@
 use Rattle.std.proofs.Common.{map}
 use Rattle.lalrpop_grammar.specs.Views.{grammar_view, nonterminal_view}
-use Rattle.lalrpop_norm_key_table.specs.Tables.{table_keys}
+use Rattle.lalrpop_norm_keys.specs.Tables.{table_keys}
 use Rattle.lalrpop_norm_macros.proofs.ResultLemmas.{answered, fault_of_found, made_of_found}
 use Rattle.lalrpop_norm_macros.proofs.expanding.expanded_rules.Goals as goal
 

@@ -2,7 +2,7 @@ use Rattle.std.proofs.lemmas.Result.{err_from_is_err_and}
 use Rattle.lalrpop_grammar.specs.Views.{grammar_view}
 use Rattle.lalrpop_grammar.specs.WrittenGrammar.{rules_of}
 use Rattle.lalrpop_grammar_rules.specs.RuleTable.{rules_view}
-use Rattle.lalrpop_norm_key_table.specs.Tables.{table_keys}
+use Rattle.lalrpop_norm_keys.specs.Tables.{table_keys}
 use Rattle.lalrpop_norm_keys.specs.Arity.{arity_faults}
 use Rattle.lalrpop_norm_macros.proofs.FaultLemmas.{told_arity}
 use Rattle.lalrpop_norm_macros.proofs.FindingLemmas.{keys_ready, keys_told}

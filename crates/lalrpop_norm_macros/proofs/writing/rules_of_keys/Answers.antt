@@ -4,9 +4,9 @@ use Rattle.lalrpop_grammar_symbols.specs.Views.{span_view}
 use Rattle.lalrpop_grammar.specs.Views.{grammar_view, nonterminal_view}
 use Rattle.lalrpop_grammar.specs.WrittenGrammar.{rules_of}
 use Rattle.lalrpop_grammar_rules.specs.RuleTable.{rules_with}
-use Rattle.lalrpop_norm_key_places.specs.GrammarPlaces.{HasKeySpans}
-use Rattle.lalrpop_norm_key_rules.specs.WrittenKeys.{span_of_key}
-use Rattle.lalrpop_norm_key_table.specs.Tables.{table_keys}
+use Rattle.lalrpop_norm_keys.specs.GrammarPlaces.{HasKeySpans}
+use Rattle.lalrpop_norm_macros.specs.WrittenKeys.{span_of_key}
+use Rattle.lalrpop_norm_keys.specs.Tables.{table_keys}
 use Rattle.lalrpop_norm_macros.proofs.KeySpanLemmas.{found_placed, told_of_walked_keys}
 use Rattle.lalrpop_norm_macros.proofs.ResultLemmas.{told_of_keys, written_ok}
 use Rattle.lalrpop_norm_macros.proofs.writing.rules_of_keys.Goals as goal

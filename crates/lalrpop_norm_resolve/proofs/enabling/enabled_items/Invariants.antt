@@ -2,7 +2,7 @@ use Rattle.std.proofs.Common.{◌≡◌, ◌++◌, map}
 use Rattle.std.specs.Prelude.{filter_map}
 use Rattle.std.specs.Vec.Iter.{into_iter_items}
 use Rattle.lalrpop_grammar.specs.Views.{item_view}
-use Rattle.lalrpop_norm_expansion.specs.Between.{enabled_item}
+use Rattle.lalrpop_norm_theory.specs.Between.{enabled_item}
 use Rattle.lalrpop_norm_resolve.proofs.enabling.enabled_items.Given as goal
 
 abbrev pub invariant-loop-item : goal.invariant-loop-item

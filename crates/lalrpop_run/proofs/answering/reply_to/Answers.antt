@@ -1,6 +1,6 @@
 use Rattle.std.proofs.Common.{subst, sym}
 use Rattle.lalrpop_run_options.specs.declared.task.Task.{Task}
-use Rattle.lalrpop_run_questions.specs.Questions.{question_view}
+use Rattle.lalrpop_run.specs.Questions.{question_view}
 use Rattle.lalrpop_run.specs.Replies.{IsGrammarFor, IsTaskReply}
 use Rattle.lalrpop_run.proofs.answering.reply_to.Goals as goal
 

@@ -1,10 +1,10 @@
 use Rattle.std.proofs.Common.{ap, subst, sym}
 use Rattle.std.proofs.lemmas.Result.{IfOk-weaker}
-use Rattle.lalrpop_lane_method.specs.declared.Method.{Method}
+use Rattle.lalrpop_grammar_repr.specs.declared.methods.Method.{Method}
 use Rattle.lalrpop_run_parser.specs.Parsers.{HasStatesBy}
 use Rattle.lalrpop_run.proofs.ParserLemmas.{parser_for}
 use Rattle.lalrpop_run.specs.Check.{IsCheckReply}
-use Rattle.lalrpop_run_replies.specs.declared.reply.Reply.TheVariants as replies
+use Rattle.lalrpop_run.specs.declared.replies.reply.Reply.TheVariants as replies
 use Rattle.lalrpop_run.proofs.checking.states_reply.Goals as goal
 
 pub returns-in-Ok : goal.returns-in-Ok

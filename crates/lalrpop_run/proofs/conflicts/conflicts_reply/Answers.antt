@@ -1,9 +1,9 @@
 use Rattle.std.proofs.Common.{List, refl, subst, sym}
 use Rattle.lalrpop_grammar.specs.declared.grammar.Grammar.{Grammar}
 use Rattle.lalrpop_grammar.specs.Views.{grammar_view}
-use Rattle.lalrpop_judge_certificates.specs.declared.certificate.Certificate.{Certificate}
-use Rattle.lalrpop_norm_expansion.specs.Premises.{IsReadGrammar}
-use Rattle.lalrpop_run_replies.specs.PassedOn.{AreWrittenConflicts, HaveTreesOf}
+use Rattle.lalrpop_judge.specs.declared.certificates.certificate.Certificate.{Certificate}
+use Rattle.lalrpop_norm_theory.specs.Premises.{IsReadGrammar}
+use Rattle.lalrpop_run_parser.specs.WrittenConflicts.{AreWrittenConflicts, HaveTreesOf}
 use Rattle.lalrpop_run_parser.specs.Parsers.{IsGenerateRefusal}
 use Rattle.lalrpop_run.specs.Parsers.{IsNoParserReply}
 use Rattle.lalrpop_run.proofs.WitnessedTreeLemmas.{witnessed_trees}

@@ -2,9 +2,9 @@ use Rattle.std.proofs.Common.{refl, subst}
 use Rattle.std.proofs.lemmas.Result.{IfOk-weaker}
 use Rattle.lalrpop_grammar.specs.declared.tree.WrittenTree.{WrittenTree}
 use Rattle.lalrpop_json_grammar.specs.ReadTrees.{tree_at}
-use Rattle.lalrpop_run_questions.specs.Inputs.{IsInput}
+use Rattle.lalrpop_run.specs.Inputs.{IsInput}
 use Rattle.lalrpop_run.specs.Judge.{IsJudgeReply}
-use Rattle.lalrpop_run_questions.specs.declared.input.Input.{Input}
+use Rattle.lalrpop_run.specs.declared.questions.input.Input.{Input}
 use Rattle.lalrpop_run.proofs.judging.reply_to_text.Goals as goal
 
 pub returns-in-Value : goal.returns-in-Value

@@ -5,7 +5,7 @@ use Rattle.lalrpop_grammar.specs.Views.{grammar_view, tree_view}
 use Rattle.lalrpop_grammar_language.specs.Admitting.{AdmitsFrom}
 use Rattle.lalrpop_grammar_language.specs.Enabled.{enabled_grammar}
 use Rattle.lalrpop_judge.specs.Faults.{HasSearch}
-use Rattle.lalrpop_judge_search.specs.Search.{finds}
+use Rattle.lalrpop_grammar_rules.specs.Search.{finds}
 use Rattle.lalrpop_run.specs.Judge.{IsJudgeReply}
 use Rattle.lalrpop_run.proofs.judging.verdict.Goals as goal
 

@@ -2,7 +2,7 @@ use Rattle.std.proofs.Common.{refl}
 use Rattle.std.proofs.lemmas.Result.{IfOk-weaker}
 use Rattle.lalrpop_run.specs.Parse.{IsParseReply}
 use Rattle.lalrpop_run.specs.Parsers.{IsNoParserReply}
-use Rattle.lalrpop_run_questions.specs.Questions.{question_view}
+use Rattle.lalrpop_run.specs.Questions.{question_view}
 use Rattle.lalrpop_run.proofs.ParserLemmas.{lent}
 use Rattle.lalrpop_run.proofs.parsing.parse_reply.Goals as goal
 

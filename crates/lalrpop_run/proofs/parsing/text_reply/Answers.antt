@@ -4,8 +4,8 @@ use Rattle.std.proofs.lemmas.Result.{IfOk-weaker}
 use Rattle.lalrpop_grammar.specs.Views.{grammar_view}
 use Rattle.lalrpop_lexer_scan.specs.Entries.{ScanEntry}
 use Rattle.lalrpop_lexer_scan.specs.Scanning.{IsScannerOf}
-use Rattle.lalrpop_norm_expansion.specs.Premises.{IsReadGrammar}
-use Rattle.lalrpop_run_parser.specs.PassedOn.{PreparedGrammar}
+use Rattle.lalrpop_norm_theory.specs.Premises.{IsReadGrammar}
+use Rattle.lalrpop_run_prepare.specs.PreparedGrammars.{PreparedGrammar}
 use Rattle.lalrpop_run.proofs.ParserLemmas.{parser_for, sentence}
 use Rattle.lalrpop_run.specs.Parse.{IsAnswerTold, IsParseReply}
 use Rattle.lalrpop_run.proofs.parsing.text_reply.Goals as goal

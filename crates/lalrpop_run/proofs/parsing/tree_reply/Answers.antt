@@ -1,6 +1,6 @@
 use Rattle.std.proofs.Common.{refl}
 use Rattle.lalrpop_grammar.specs.Views.{tree_view}
-use Rattle.lalrpop_run_text_answers.specs.TextAnswers.{TextAnswer}
+use Rattle.lalrpop_run_theory.specs.TextAnswers.{TextAnswer}
 use Rattle.lalrpop_run.proofs.parsing.tree_reply.Goals as goal
 
 pub returns-in-Ok : goal.returns-in-Ok

@@ -3,11 +3,12 @@ use Rattle.std.proofs.lemmas.Result.{err_from_is_err_and}
 use Rattle.lalrpop_grammar.specs.declared.grammar.Grammar.{Grammar}
 use Rattle.lalrpop_grammar.specs.Views.{grammar_view}
 use Rattle.lalrpop_grammar_repr.specs.declared.session.Session.{Session}
-use Rattle.lalrpop_norm_expansion.specs.Premises.{IsReadGrammar}
+use Rattle.lalrpop_norm_theory.specs.Premises.{IsReadGrammar}
 use Rattle.lalrpop_run.specs.Parsers.{IsPreparedFor}
-use Rattle.lalrpop_run_parser.specs.PassedOn.{IsPrepareRefusal, PreparedGrammar}
-use Rattle.lalrpop_run_questions.specs.Questions.{question_view}
-use Rattle.lalrpop_run_tokens.specs.Refused.{IsGrammarRefusal}
+use Rattle.lalrpop_run_prepare.specs.PrepareRefusals.{IsPrepareRefusal}
+use Rattle.lalrpop_run_prepare.specs.PreparedGrammars.{PreparedGrammar}
+use Rattle.lalrpop_run.specs.Questions.{question_view}
+use Rattle.lalrpop_run_prepare.specs.Refused.{IsGrammarRefusal}
 use Rattle.lalrpop_run.proofs.preparing.prepare_for.Goals as goal
 
 pub returns-clause-prepared : goal.returns-clause-prepared
@@ -19,7 +20,7 @@ returns-clause-prepared c = λ read.
       features_are = ap (λ (s : Session). s.features.items) is.session;
       limit_is = ap (λ (s : Session). s.macro_recursion_limit) is.session;
       start_is = is.start;
-      prepared = c.grammar.ensures.prepared (subst (λ (w : Grammar). IsReadGrammar (grammar_view w)) (sym is.written) read);
+      prepared = c.known.ensures.prepared (subst (λ (w : Grammar). IsReadGrammar (grammar_view w)) (sym is.written) read);
     })
 
 pub returns-in_err-prepared-clause-refused : goal.returns-in_err-prepared-clause-refused

@@ -1,7 +1,7 @@
 use Rattle.std.proofs.Common.{◌≡◌, ◌∙◌, [], Bool, List, ℕ, false, refl, subst, sym, true}
 use Rattle.lalrpop_grammar_streams.specs.Streams.{ReadsAll}
 use Rattle.lalrpop_run.proofs.ReadLemmas.{grammar_read}
-use Rattle.lalrpop_run_questions.specs.Questions.{question_of, reads_text}
+use Rattle.lalrpop_run.specs.Questions.{question_of, reads_text}
 use Rattle.lalrpop_run.specs.Replies.{IsRunReply, IsTextIn}
 use Rattle.lalrpop_run.proofs.running.answer_over.Goals as goal
 

@@ -1,7 +1,7 @@
 use Rattle.std.proofs.Common.{Bool, List, ℕ, refl, subst, sym}
-use Rattle.lalrpop_run_questions.specs.Questions.{question_of}
+use Rattle.lalrpop_run.specs.Questions.{question_of}
 use Rattle.lalrpop_run.specs.Replies.{IsReplyTo, IsRunReply, IsTextIn}
-use Rattle.lalrpop_run.specs.ReplyVariants as replies
+use Rattle.lalrpop_run.specs.declared.replies.reply.Reply.TheVariants as replies
 use Rattle.lalrpop_run.proofs.ReadLemmas.{grammar_read}
 use Rattle.lalrpop_run.proofs.running.answer_over_bytes.Goals as goal
 

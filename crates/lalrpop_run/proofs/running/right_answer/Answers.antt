@@ -1,12 +1,12 @@
 use Rattle.std.proofs.Common.{◌≡◌, true, arith, refl, subst, sym}
 use Rattle.lalrpop_grammar.specs.declared.grammar.Grammar.{Grammar}
 use Rattle.lalrpop_json_grammar.specs.Grammars.{grammar_at}
-use Rattle.lalrpop_run_questions.specs.Inputs.{IsInput}
-use Rattle.lalrpop_run_questions.specs.Questions.{question_of, reads_grammar}
+use Rattle.lalrpop_run.specs.Inputs.{IsInput}
+use Rattle.lalrpop_run.specs.Questions.{question_of, reads_grammar}
 use Rattle.lalrpop_run.specs.Replies.{IsRunReply}
 use Rattle.lalrpop_run.specs.Runs.{IsRightAnswer}
-use Rattle.lalrpop_run_questions.specs.declared.input.Input.{Input}
-use Rattle.lalrpop_run.specs.ReplyVariants as replies
+use Rattle.lalrpop_run.specs.declared.questions.input.Input.{Input}
+use Rattle.lalrpop_run.specs.declared.replies.reply.Reply.TheVariants as replies
 use Rattle.lalrpop_run.proofs.running.right_answer.Goals as goal
 
 pub returns-in_ok-answer-in-Value-clause-answer : goal.returns-in_ok-answer-in-Value-clause-answer

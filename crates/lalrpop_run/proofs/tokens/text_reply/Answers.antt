@@ -1,7 +1,7 @@
 use Rattle.std.proofs.Common.{subst, sym}
 use Rattle.std.proofs.lemmas.Result.{IfOk-weaker}
 use Rattle.lalrpop_lexer_scan.specs.Scanning.{IsScannerOf}
-use Rattle.lalrpop_run_parser.specs.PassedOn.{PreparedGrammar}
+use Rattle.lalrpop_run_prepare.specs.PreparedGrammars.{PreparedGrammar}
 use Rattle.lalrpop_run.proofs.ParserLemmas.{parser_for, scanned}
 use Rattle.lalrpop_run.specs.Tokens.{IsTokensReply}
 use Rattle.lalrpop_run.proofs.tokens.text_reply.Goals as goal

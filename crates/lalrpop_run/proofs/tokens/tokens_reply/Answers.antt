@@ -1,6 +1,6 @@
 use Rattle.std.proofs.lemmas.Result.{IfOk-weaker}
 use Rattle.lalrpop_run.specs.Parsers.{IsNoParserReply}
-use Rattle.lalrpop_run_questions.specs.Questions.{question_view}
+use Rattle.lalrpop_run.specs.Questions.{question_view}
 use Rattle.lalrpop_run.proofs.ParserLemmas.{lent}
 use Rattle.lalrpop_run.specs.Tokens.{IsTokensReply}
 use Rattle.lalrpop_run.proofs.tokens.tokens_reply.Goals as goal

@@ -5,7 +5,7 @@ use Rattle.std.proofs.lemmas.List.Elements.{All-nil}
 use Rattle.clap.proofs.CallerLemmas.{added_plain}
 use Rattle.clap.specs.Built.{IsPlain, IsPlainArg}
 use Rattle.clap.specs.Simple.{app_of_fields, with_rule}
-use Rattle.lalrpop_run_options.specs.Program.{IsTaskCommand}
+use Rattle.lalrpop_run_options.specs.Program.{IsTaskCommand, with_version}
 use Rattle.lalrpop_run_options.proofs.command.with_task.Goals as goal
 
 pub returns : goal.returns
@@ -14,11 +14,12 @@ returns c =
     let empty : IsPlain c.after_help.result = (
       subst (All IsPlainArg) (sym
           (ap (λ f. f.args.items) c.after_help.ensures
-          ∙ (ap (λ f. f.args.items) c.about.ensures ∙ (ap (λ f. f.args.items) c.in_ok-bin_name.ensures.0 ∙ c.new.ensures.empty.0))))
+          ∙ (ap (λ f. f.args.items) c.about.ensures ∙ (ap (λ f. f.args.items) c.version.ensures
+          ∙ (ap (λ f. f.args.items) c.in_ok-bin_name.ensures.0 ∙ c.new.ensures.empty.0)))))
           (All-nil IsPlainArg),
       ap (λ f. f.groups.items) c.after_help.ensures
-          ∙ (ap (λ f. f.groups.items) c.about.ensures
-          ∙ (ap (λ f. f.groups.items) c.in_ok-bin_name.ensures.0 ∙ c.new.ensures.empty.1)),
+          ∙ (ap (λ f. f.groups.items) c.about.ensures ∙ (ap (λ f. f.groups.items) c.version.ensures
+          ∙ (ap (λ f. f.groups.items) c.in_ok-bin_name.ensures.0 ∙ c.new.ensures.empty.1))),
     ) in
     IfOk-weaker c.arg.result _ IsTaskCommand
     (λ r added. (
@@ -26,7 +27,8 @@ returns c =
       tasks.1,
       added.shape tasks.2.global
           ∙ ap₂ with_rule (ap app_of_fields c.after_help.ensures
-          ∙ (ap app_of_fields c.about.ensures ∙ (ap app_of_fields c.in_ok-bin_name.ensures.0 ∙ c.new.ensures.app))) tasks.2.rule,
+          ∙ (ap app_of_fields c.about.ensures ∙ (ap app_of_fields c.version.ensures
+          ∙ ap with_version (ap app_of_fields c.in_ok-bin_name.ensures.0 ∙ c.new.ensures.app)))) tasks.2.rule,
       added_plain _ r _ added empty tasks.2.plain,
     ))
     c.arg.ensures

@@ -1,12 +1,11 @@
 use Rattle.std.proofs.Common.{◌∙◌, List, Option, ap, length, subst, sym}
-use Rattle.lalrpop_grammar_symbols.specs.declared.names.NonterminalString.{NonterminalString}
 use Rattle.lalrpop_grammar_symbols.specs.declared.terminal.TerminalString.{TerminalString}
 use Rattle.lalrpop_run_parser.proofs.GenerateLemmas.{conflicts_stand, conflicts_told, is_table, one_tree_each, states_checked}
 use Rattle.lalrpop_run_parser.proofs.GenerateLemmas.{states_counted}
 use Rattle.lalrpop_grammar_repr.specs.declared.grammar.Grammar.{Grammar}
 use Rattle.lalrpop_lane.specs.BuilderAnswers.{AreLr1By}
 use Rattle.lalrpop_lexer_scan.specs.declared.scanner.Scanner.{Scanner}
-use Rattle.lalrpop_lr1_parse.specs.Columns.{AreColumnsOf}
+use Rattle.lalrpop_lr1_interpret.specs.Columns.{AreColumnsOf}
 use Rattle.lalrpop_run_parser.proofs.GenerateLemmas.{states_lr1, table_built}
 use Rattle.lalrpop_run_parser.proofs.generating.generate.Goals as goal
 
@@ -15,7 +14,7 @@ invariant_of-result c =
     let v = c.args.prepared.now in
     let checked =
     states_checked v c.expansion.result.now c.in_ok-start.start c.expansion.ensures
-    (c.in_ok-start.ensures ∙ c.start_name.ensures.name) c.in-Ok.states.items c.in-Ok.ensures.checked c.start_name.ensures.parsed in
+    (c.in_ok-start.ensures ∙ c.start_name.ensures) c.in-Ok.states.items c.in-Ok.ensures.checked c.known.ensures.parsed in
     record {
       table_runs = is_table v c.in-Ok.states.items checked c.in_ok-table-in-Ok.table c.expansion-in-Ok.result.now
           c.as_slice-built.result.now (length c.as_slice-built.result.now) c.expansion-in-Ok.ensures c.as_slice-built.ensures.value
@@ -29,52 +28,52 @@ invariant_of-result c =
 pub returns-in_ok-columns-in-Ok-clause-states : goal.returns-in_ok-columns-in-Ok-clause-states
 returns-in_ok-columns-in-Ok-clause-states c =
     let v = c.args.prepared.now in
-    let named = c.in_ok-start.ensures ∙ c.start_name.ensures.name in
+    let named = c.in_ok-start.ensures ∙ c.start_name.ensures in
     let checked =
     states_checked v c.expansion.result.now c.in_ok-start.start c.expansion.ensures named c.in-Ok.states.items c.in-Ok.ensures.checked
-    c.start_name.ensures.parsed in
+    c.known.ensures.parsed in
     states_counted v c.expansion.result.now c.in_ok-start.start c.expansion.ensures named c.args.method c.in-Ok.states.items
-    (length c.as_slice-built.result.now) checked c.in-Ok.ensures.states c.start_name.ensures.parsed
+    (length c.as_slice-built.result.now) checked c.in-Ok.ensures.states c.known.ensures.parsed
     (ap length c.as_slice-built.ensures.value)
 
 pub returns-in_ok-columns-in-Ok-clause-table : goal.returns-in_ok-columns-in-Ok-clause-table
 returns-in_ok-columns-in-Ok-clause-table c =
     let v = c.args.prepared.now in
-    let named = c.in_ok-start.ensures ∙ c.start_name.ensures.name in
+    let named = c.in_ok-start.ensures ∙ c.start_name.ensures in
     let checked =
     states_checked v c.expansion.result.now c.in_ok-start.start c.expansion.ensures named c.in-Ok.states.items c.in-Ok.ensures.checked
-    c.start_name.ensures.parsed in
+    c.known.ensures.parsed in
     table_built v c.in-Ok.states.items checked c.args.method c.in_ok-start.start c.in_ok-table-in-Ok.table c.expansion-in-Ok.result.now
     c.as_slice-built.result.now (length c.as_slice-built.result.now) c.expansion-in-Ok.ensures named c.as_slice-built.ensures.value
     (subst (λ (h : Grammar). AreLr1By c.args.method h c.in_ok-start.start c.in-Ok.states.items)
-    (c.expansion.ensures ∙ sym c.expansion-in-Ok.ensures) c.in-Ok.ensures.states) c.start_name.ensures.parsed
+    (c.expansion.ensures ∙ sym c.expansion-in-Ok.ensures) c.in-Ok.ensures.states) c.known.ensures.parsed
     c.in_ok-table-in-Ok.ensures (ap length c.as_slice-built.ensures.value)
 
 pub returns-in_ok-columns-in-Ok-clause-lr1 : goal.returns-in_ok-columns-in-Ok-clause-lr1
 returns-in_ok-columns-in-Ok-clause-lr1 c =
     states_lr1 c.args.prepared.now c.expansion.result.now c.in_ok-start.start c.expansion.ensures
-    (c.in_ok-start.ensures ∙ c.start_name.ensures.name) c.in-Ok.ensures.lr1 c.start_name.ensures.parsed
+    (c.in_ok-start.ensures ∙ c.start_name.ensures) c.in-Ok.ensures.lr1 c.known.ensures.parsed
 
 pub returns-in_ok-columns-in-Ok-clause-one_tree : goal.returns-in_ok-columns-in-Ok-clause-one_tree
 returns-in_ok-columns-in-Ok-clause-one_tree c =
     let v = c.args.prepared.now in
     let checked =
     states_checked v c.expansion.result.now c.in_ok-start.start c.expansion.ensures
-    (c.in_ok-start.ensures ∙ c.start_name.ensures.name) c.in-Ok.states.items c.in-Ok.ensures.checked c.start_name.ensures.parsed in
+    (c.in_ok-start.ensures ∙ c.start_name.ensures) c.in-Ok.states.items c.in-Ok.ensures.checked c.known.ensures.parsed in
     λ read.
-    one_tree_each v c.in-Ok.states.items checked c.one_written_tree.ensures (c.grammar.ensures.prepared read) read
-    (ap (λ (n : NonterminalString). n.0) (sym c.start_name.ensures.name) ∙ c.start_name.ensures.prefixed)
+    one_tree_each v c.in-Ok.states.items checked c.one_written_tree.ensures (c.known.ensures.prepared read) read
+    c.known.ensures.prefixed
 
 pub witnesses-requires : goal.witnesses-requires
 witnesses-requires c =
     conflicts_stand c.args.prepared.now c.expansion.result.now c.in_ok-start.start c.expansion.ensures
-    (c.in_ok-start.ensures ∙ c.start_name.ensures.name) c.in-Err-Conflicts.field-0 c.in-Err-Conflicts.error
+    (c.in_ok-start.ensures ∙ c.start_name.ensures) c.in-Err-Conflicts.field-0 c.in-Err-Conflicts.error
     c.in-Err-Conflicts.field-0-is c.in-Err-Conflicts.ensures.fault
 
 pub returns-in_ok-certificates-in-Err-Conflicts-clause-refused : goal.returns-in_ok-certificates-in-Err-Conflicts-clause-refused
 returns-in_ok-certificates-in-Err-Conflicts-clause-refused c =
     conflicts_told c.args.prepared.now c.expansion.result.now c.in_ok-start.start c.expansion.ensures
-    (c.in_ok-start.ensures ∙ c.start_name.ensures.name) c.in-Err-Conflicts.field-0 c.in-Err-Conflicts.error
+    (c.in_ok-start.ensures ∙ c.start_name.ensures) c.in-Err-Conflicts.field-0 c.in-Err-Conflicts.error
     c.in_ok-certificates-in-Err-Conflicts.certificates.items c.in-Err-Conflicts.field-0-is
     c.in_ok-certificates-in-Err-Conflicts.ensures c.in-Err-Conflicts.ensures.fault c.in-Err-Conflicts.ensures.lr1
-    c.start_name.ensures.parsed
+    c.known.ensures.parsed

@@ -1,5 +1,5 @@
 use Rattle.std.proofs.Common.{◌∙◌, ap}
-use Rattle.lalrpop_run_flat_labels.specs.LabelTables.{label_places, last_place}
+use Rattle.lalrpop_run_trees.specs.LabelTables.{label_places, last_place}
 use Rattle.lalrpop_run_prepare.proofs.preparing.labels_of.Goals as goal
 
 pub returns : goal.returns

@@ -2,13 +2,13 @@ use Rattle.std.proofs.Common.{refl, subst}
 use Rattle.std.proofs.lemmas.Result.{err_from_is_err_and}
 use Rattle.lalrpop_grammar.specs.Views.{grammar_view}
 use Rattle.lalrpop_grammar.specs.declared.grammar.Grammar.{Grammar}
-use Rattle.lalrpop_judge_search.specs.Search.{finds, is_too_deep}
-use Rattle.lalrpop_norm_expansion.specs.Premises.{IsReadGrammar}
+use Rattle.lalrpop_grammar_rules.specs.Search.{finds, is_too_deep}
+use Rattle.lalrpop_norm_theory.specs.Premises.{IsReadGrammar}
 use Rattle.lalrpop_run_prepare.specs.PrepareRefusals.{IsPrepareRefusal}
 use Rattle.lalrpop_run_prepare.proofs.PrepareLemmas.{prepared_where_read, start_refused}
 use Rattle.lalrpop_run_prepare.proofs.preparing.parts_of.Goals as goal
-use Rattle.lalrpop_run_tokens.specs.Refused.{IsGrammarRefusal}
-use Rattle.lalrpop_run_tokens.specs.Tokenizers.{IsNormalizedFor}
+use Rattle.lalrpop_run_prepare.specs.Refused.{IsGrammarRefusal}
+use Rattle.lalrpop_run_prepare.specs.Tokenizers.{IsNormalizedFor}
 
 pub returns-in_err-made-clause-refused : goal.returns-in_err-made-clause-refused
 returns-in_err-made-clause-refused c =
@@ -28,7 +28,7 @@ returns-in_err-expanded-clause-refused c =
     (grammar_view g) c.in_ok-made.made c.in_ok-made.dfa) c.in_ok-copy.ensures c.in_ok-made.ensures.made in
     rw (p.1, p.2) (λ read. start_refused finds is_too_deep c.args.session.now.features.items c.args.session.now.macro_recursion_limit
     c.args.start.now (grammar_view c.args.grammar.now) c.in_ok-made.made c.in_ok-made.dfa read (normal read) c.in_ok-made.ensures.ready
-    c.see_order.ensures c.args.grammar.now.span c.in_err-expanded.field-0.0 refl c.in_err-expanded.ensures.refused)
+    c.known.ensures c.args.grammar.now.span c.in_err-expanded.field-0.0 refl c.in_err-expanded.ensures.refused)
 
 pub returns-in_err-scanner-clause-refused : goal.returns-in_err-scanner-clause-refused
 returns-in_err-scanner-clause-refused c =
@@ -48,7 +48,7 @@ returns-clause-prepared c =
     (grammar_view g) c.in_ok-made.made c.in_ok-made.dfa) c.in_ok-copy.ensures c.in_ok-made.ensures.made in
     prepared_where_read finds is_too_deep _ c.in_ok-made.made c.in_ok-made.dfa c.args.start.now refl refl c.in_ok-start.ensures
     c.in_ok-expanded.ensures.name c.in_ok-expanded.ensures.terminals c.in_ok-expanded.ensures.parsed
-    c.in_ok-expanded.ensures.inlined c.in_ok-made.ensures.ready c.see_order.ensures normal c.in_ok-scanner.ensures
+    c.in_ok-expanded.ensures.inlined c.in_ok-made.ensures.ready c.known.ensures normal c.in_ok-scanner.ensures
 
 pub returns-clause-labels : goal.returns-clause-labels
 returns-clause-labels c = c.in_ok-expanded.ensures.labels

@@ -1,6 +1,6 @@
 use Rattle.std.proofs.Common.{[]}
 use Rattle.regex.specs.Names.{names_of}
-use Rattle.lalrpop_judge_search.proofs.ReadingLemmas.{finds_read, read_pattern, unread}
+use Rattle.lalrpop_grammar_rules.proofs.ReadingLemmas.{finds_read, read_pattern, unread}
 use Rattle.lalrpop_judge.proofs.CompiledLemmas.{readable_from, unreadable_from}
 use Rattle.lalrpop_judge.proofs.compiled.CompiledPattern.new.Goals as goal
 

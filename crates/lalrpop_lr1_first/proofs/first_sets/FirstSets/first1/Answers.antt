@@ -1,6 +1,6 @@
 use Rattle.std.proofs.Common.{◌∙◌, ap, map, true}
 use Rattle.lalrpop_sets.specs.Tokens.{eof_number}
-use Rattle.lalrpop_lr1_items.specs.Views.{production_symbol_view}
+use Rattle.lalrpop_lr1_core.specs.Views.{production_symbol_view}
 use Rattle.lalrpop_lr1_first.specs.Flows.{comes}
 use Rattle.lalrpop_lr1_first.proofs.NamedFirstLemmas.{first_is_before}
 use Rattle.lalrpop_lr1_first.proofs.first_sets.FirstSets.first1.Goals as goal

@@ -1,7 +1,8 @@
 use Rattle.std.proofs.Common.{◌≡◌, refl, rules, subst, sym, Contains}
 use Rattle.std.specs.Prelude.{flat_map}
 use Rattle.lalrpop_grammar_repr.specs.declared.production.Production.{Production}
-use Rattle.lalrpop_lr1_first.specs.Listings.{HoldSame, lent, lent_in, names_in_production, productions_of_grammar}
+use Rattle.lalrpop_lr1_first.specs.Listings.{HoldSame, lent, lent_in, names_in_production}
+use Rattle.lalrpop_lr1_core.specs.TheoryGrammars.{productions_of_grammar}
 use Rattle.lalrpop_lr1_first.specs.Tables.{AreLaid, IsKnownProduction}
 use Rattle.lalrpop_lr1_first.proofs.KnownLemmas.{known_production}
 use Rattle.lalrpop_lr1_first.proofs.numbered.Numbered.new.Goals as goal

@@ -1,10 +1,10 @@
 use Rattle.std.proofs.Common.{◌∙◌, ap}
 use Rattle.lalrpop_grammar_symbols.specs.Views.{span_view, terminal_view}
 use Rattle.lalrpop_lr1_theory.specs.Spans.{leaf_at, none_at}
-use Rattle.lalrpop_lr1_parse_trees.specs.NamedTrees.{named_leaf, no_trees}
-use Rattle.lalrpop_lr1_parse_trees.specs.declared.parse_tree.ParseTree.TheVariants.{Terminal}
+use Rattle.lalrpop_lr1_interpret.specs.NamedTrees.{named_leaf, no_trees}
+use Rattle.lalrpop_lr1_interpret.specs.declared.parse_trees.parse_tree.ParseTree.TheVariants.{Terminal}
 use Rattle.lalrpop_lr1_interpret.proofs.NamedStackLemmas.{named_leaf_on}
-use Rattle.lalrpop_lr1_parse_trees.proofs.NamedLemmas.{terminal_seen}
+use Rattle.lalrpop_lr1_interpret.proofs.NamedLemmas.{terminal_seen}
 use Rattle.lalrpop_lr1_interpret.proofs.parse_tree_stack.ParseTreesTreeStack.leaf.Goals as goal
 
 pub returns-clause-leaf_stands : goal.returns-clause-leaf_stands

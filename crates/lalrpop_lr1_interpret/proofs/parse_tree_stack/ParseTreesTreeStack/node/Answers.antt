@@ -1,8 +1,8 @@
 use Rattle.std.proofs.Common.{◌-◌, ◌∙◌, ap, arith}
-use Rattle.lalrpop_lr1_parse_trees.specs.NamedTrees.{named_node, no_trees, parse_tree_views}
-use Rattle.lalrpop_lr1_parse_trees.specs.declared.parse_tree.ParseTree.TheVariants.{Nonterminal}
+use Rattle.lalrpop_lr1_interpret.specs.NamedTrees.{named_node, no_trees, parse_tree_views}
+use Rattle.lalrpop_lr1_interpret.specs.declared.parse_trees.parse_tree.ParseTree.TheVariants.{Nonterminal}
 use Rattle.lalrpop_lr1_interpret.proofs.NamedStackLemmas.{enough_named, named_node_on}
-use Rattle.lalrpop_lr1_parse_trees.proofs.NamedLemmas.{nonterminal_seen}
+use Rattle.lalrpop_lr1_interpret.proofs.NamedLemmas.{nonterminal_seen}
 use Rattle.lalrpop_lr1_interpret.proofs.parse_tree_stack.ParseTreesTreeStack.node.Goals as goal
 
 pub overflow_sub-first : goal.overflow_sub-first

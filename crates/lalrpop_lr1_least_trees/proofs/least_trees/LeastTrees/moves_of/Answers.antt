@@ -1,8 +1,8 @@
 use Rattle.std.proofs.Common.{◌∙◌, ◌∷◌, [], Vec, Global, map, subst, sym}
 use Rattle.std.specs.Option.{option_map}
 use Rattle.lalrpop_lr1_first.specs.FirstNumbers.{name_count}
-use Rattle.lalrpop_lr1_least_counts.specs.LeastTrees.{AreLeastMoves}
-use Rattle.lalrpop_lr1_least_counts.specs.declared.rule.NumberMove.{NumberMove}
+use Rattle.lalrpop_lr1_least_trees.specs.LeastTrees.{AreLeastMoves}
+use Rattle.lalrpop_lr1_least_trees.specs.declared.least_counts.rule.NumberMove.{NumberMove}
 use Rattle.lalrpop_lr1_least_trees.specs.GrammarTrees.{production_by, HaveNames, number_rules, symbols_by}
 use Rattle.lalrpop_lr1_least_trees.specs.MoveViews.{SpellsMoves, tree_move_view}
 use Rattle.lalrpop_lr1_least_trees.proofs.AnswerLemmas.{moves_answer, moves_named, no_moves, nothing_there}

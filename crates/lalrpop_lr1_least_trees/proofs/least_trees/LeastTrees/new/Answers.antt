@@ -1,6 +1,6 @@
 use Rattle.std.proofs.Common.{◌∙◌, ap, length, subst, sym}
 use Rattle.lalrpop_lr1_first.specs.FirstNumbers.{name_count}
-use Rattle.lalrpop_lr1_least_counts.specs.NumberedTrees.{NamesAreBelow, rule_views}
+use Rattle.lalrpop_lr1_least_trees.specs.NumberedTrees.{NamesAreBelow, rule_views}
 use Rattle.lalrpop_lr1_least_trees.proofs.GrammarLemmas.{names_below}
 use Rattle.lalrpop_lr1_least_trees.proofs.least_trees.LeastTrees.new.Goals as goal
 

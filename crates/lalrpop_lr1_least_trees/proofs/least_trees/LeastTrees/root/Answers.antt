@@ -1,5 +1,5 @@
 use Rattle.std.proofs.Common.{Some, None, arith}
-use Rattle.lalrpop_lr1_items.specs.Views.{production_view}
+use Rattle.lalrpop_lr1_core.specs.Views.{production_view}
 use Rattle.lalrpop_lr1_first.specs.NumberedGrammars.{table_productions}
 use Rattle.lalrpop_lr1_first.proofs.TableLemmas.{long_map}
 use Rattle.lalrpop_lr1_least_trees.proofs.AnswerLemmas.{entry_says, none_wanted, root_answer, root_inside}

@@ -9,7 +9,7 @@ use Rattle.lalrpop_run_parser.specs.ParserAnswers.{IsRightForItsTokens}
 use Rattle.lalrpop_run_parser.specs.Limits.{TellsLimitWhere}
 use Rattle.lalrpop_run_parser.proofs.ParseLemmas.{text_right, untokened_right}
 use Rattle.lalrpop_run_parser.proofs.ParserLimitLemmas.{text_within, untokened_within}
-use Rattle.lalrpop_run_text_answers.specs.TextAnswers.{terminals_of_tokens}
+use Rattle.lalrpop_run_theory.specs.TextAnswers.{terminals_of_tokens}
 use Rattle.lalrpop_run_parser.proofs.parser.Parser.parse.Goals as goal
 
 pub returns-in_err-found-clause-right : goal.returns-in_err-found-clause-right

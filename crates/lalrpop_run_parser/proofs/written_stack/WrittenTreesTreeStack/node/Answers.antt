@@ -1,7 +1,7 @@
 use Rattle.std.proofs.Common.{◌-◌, arith, map}
 use Rattle.std.proofs.lemmas.List.{length-map}
 use Rattle.lalrpop_grammar.specs.Views.{tree_view}
-use Rattle.lalrpop_lr1_items.specs.Views.{production_symbol_view, production_view}
+use Rattle.lalrpop_lr1_core.specs.Views.{production_symbol_view, production_view}
 use Rattle.lalrpop_run_parser.proofs.WrittenStackLemmas.{node_fits, node_on}
 use Rattle.lalrpop_run_parser.proofs.written_stack.WrittenTreesTreeStack.node.Goals as goal
 

@@ -1,0 +1,119 @@
+//! What grammars are normalized to.
+
+use crate::normalizing::case::Case;
+use crate::normalizing::passes::{fault_value, grammar_of_case, session_of};
+use anyhow::{Result, bail};
+use lalrpop_grammar::Origin;
+use lalrpop_grammar_repr::{NonterminalData, NormFault, NormResult, Production, Symbol};
+use lalrpop_norm::{Normalized, normalize};
+use serde_json::{Value, json};
+use std::alloc::{AllocError, Global};
+
+/// The fault of normalizing, with its span, `null` where there is none.
+pub(crate) fn fault(alloc: Global, case: &Case) -> Result<Value> {
+    match normal(alloc, case)? {
+        Ok(_) => Ok(Value::Null),
+        Err(fault) => fault_value(alloc, fault),
+    }
+}
+
+/// The names of the nonterminals, in order; or the fault.
+pub(crate) fn nonterminals(alloc: Global, case: &Case) -> Result<Value> {
+    match normal(alloc, case)? {
+        Ok(made) => Ok(names_value(alloc, &made)?),
+        Err(fault) => fault_value(alloc, fault),
+    }
+}
+
+/// The productions, each by its nonterminal, its symbols and its written choice; or the fault.
+pub(crate) fn productions(alloc: Global, case: &Case) -> Result<Value> {
+    match normal(alloc, case)? {
+        Ok(made) => productions_value(alloc, &made),
+        Err(fault) => fault_value(alloc, fault),
+    }
+}
+
+/// What the case's grammar is normalized to.
+fn normal(alloc: Global, case: &Case) -> Result<NormResult<Normalized>> {
+    let grammar = grammar_of_case(alloc, case)?;
+    let session = session_of(alloc, case)?;
+    Ok(normalize(alloc, &session, grammar))
+}
+
+fn names_value(alloc: Global, made: &Normalized) -> Result<Value, AllocError> {
+    let mut names = Vec::new(alloc);
+    for (name, _) in made.grammar.nonterminals.iter() {
+        names.push(Value::from(name.to_string(alloc)?))?;
+    }
+    Ok(Value::Array(names))
+}
+
+fn productions_value(alloc: Global, made: &Normalized) -> Result<Value> {
+    let mut productions = Vec::new(alloc);
+    for (_, data) in made.grammar.nonterminals.iter() {
+        add_productions(alloc, made, data, &mut productions)?;
+    }
+    Ok(Value::Array(productions))
+}
+
+/// Puts the nonterminal's productions behind the others.
+fn add_productions(
+    alloc: Global,
+    made: &Normalized,
+    data: &NonterminalData,
+    productions: &mut Vec<Value>,
+) -> Result<()> {
+    for production in data.productions.as_slice() {
+        productions.push(production_value(alloc, made, production)?)?;
+    }
+    Ok(())
+}
+
+fn production_value(alloc: Global, made: &Normalized, production: &Production) -> Result<Value> {
+    let name = production.nonterminal.to_string(alloc)?;
+    let symbols = symbols_value(alloc, production.symbols.as_slice())?;
+    let Some(origin) = made.origins.as_slice().get(production.action.index()) else {
+        bail!("a production without an origin");
+    };
+    let origin = origin_value(alloc, origin)?;
+    Ok(json!(in alloc; [name, symbols, origin])?)
+}
+
+/// The texts of the symbols.
+fn symbols_value(alloc: Global, symbols: &[Symbol]) -> Result<Value, AllocError> {
+    let mut texts = Vec::new(alloc);
+    for symbol in symbols {
+        texts.push(Value::from(symbol_text(alloc, symbol)?))?;
+    }
+    Ok(Value::Array(texts))
+}
+
+fn symbol_text(alloc: Global, symbol: &Symbol) -> Result<String, AllocError> {
+    match symbol {
+        Symbol::Nonterminal(name) => name.to_string(alloc),
+        Symbol::Terminal(terminal) => terminal.to_string(alloc),
+    }
+}
+
+/// A written alternative by its rule, the texts of its arguments and its place, another choice by its word.
+fn origin_value(alloc: Global, origin: &Origin) -> Result<Value> {
+    match origin {
+        Origin::Start => Ok(json!(in alloc; "Start")?),
+        Origin::Alternative { rule, args, place } => {
+            let mut texts = Vec::new(alloc);
+            for argument in args.as_slice() {
+                texts.push(Value::from(argument.to_string(alloc)?))?;
+            }
+            Ok(json!(in alloc; [rule.to_string(alloc)?, Value::Array(texts), *place])?)
+        }
+        Origin::PassDown => Ok(json!(in alloc; "PassDown")?),
+        Origin::PlusOne => Ok(json!(in alloc; "PlusOne")?),
+        Origin::PlusMore => Ok(json!(in alloc; "PlusMore")?),
+        Origin::StarNone => Ok(json!(in alloc; "StarNone")?),
+        Origin::StarSome => Ok(json!(in alloc; "StarSome")?),
+        Origin::OptNone => Ok(json!(in alloc; "OptNone")?),
+        Origin::OptSome => Ok(json!(in alloc; "OptSome")?),
+        Origin::Group => Ok(json!(in alloc; "Group")?),
+        Origin::Look => Ok(json!(in alloc; "Look")?),
+    }
+}

@@ -1,0 +1,135 @@
+//! What the passes of the normalizer say of grammars, up to some pass.
+
+use crate::normalizing::case::Case;
+use anyhow::{Result, bail};
+use lalrpop_grammar::{Atom, Grammar, NonterminalData, Symbol};
+use lalrpop_grammar_repr::{NormFault, NormResult, Session};
+use lalrpop_json_grammar::read_grammar;
+use lalrpop_norm_precedence::levels::{expand_precedence, level_fault};
+use lalrpop_norm_prevalidate::prevalidate::validate;
+use lalrpop_norm_resolve::names::resolve;
+use lalrpop_norm_resolve::remove_disabled_decls;
+use lalrpop_norm_token_check::{LiteralPlaces, token_check};
+use serde_json::{Value, json};
+use std::alloc::{AllocError, Global};
+
+/// How deep macros may stand in macros, where no case says it.
+const MACRO_LIMIT: u16 = 200;
+
+/// The first fault that a pass tells, up to the levels, with its span, `null` where none does.
+pub(crate) fn first_fault(alloc: Global, case: &Case) -> Result<Value> {
+    let grammar = grammar_of_case(alloc, case)?;
+    let session = session_of(alloc, case)?;
+    match check_and_resolve(alloc, &session, grammar) {
+        Ok(_) => Ok(Value::Null),
+        Err(fault) => fault_value(alloc, fault),
+    }
+}
+
+/// The same up to the token check, of a grammar without levels and macros.
+pub(crate) fn token_fault(alloc: Global, case: &Case) -> Result<Value> {
+    let grammar = grammar_of_case(alloc, case)?;
+    let session = session_of(alloc, case)?;
+    match check_tokens(alloc, &session, grammar) {
+        Ok(()) => Ok(Value::Null),
+        Err(fault) => fault_value(alloc, fault),
+    }
+}
+
+/// The rules of the grammar in which each level has a rule of its own, each by its name and the texts of its symbols,
+/// alternative by alternative; or the fault.
+pub(crate) fn leveled_rules(alloc: Global, case: &Case) -> Result<Value> {
+    let grammar = grammar_of_case(alloc, case)?;
+    let session = session_of(alloc, case)?;
+    match expand_levels(alloc, &session, grammar) {
+        Ok(grammar) => Ok(rules_value(alloc, &grammar)?),
+        Err(fault) => fault_value(alloc, fault),
+    }
+}
+
+/// The grammar, with the prefix of the case where it has one.
+pub(crate) fn grammar_of_case(alloc: Global, case: &Case) -> Result<Grammar> {
+    let Ok(mut grammar) = read_grammar(alloc, &case.grammar) else {
+        bail!("no grammar");
+    };
+    if let Some(prefix) = &case.prefix {
+        grammar.prefix = Atom::new(alloc, prefix)?;
+    }
+    Ok(grammar)
+}
+
+/// The text of the fault behind its span.
+pub(crate) fn fault_value(alloc: Global, fault: NormFault) -> Result<Value> {
+    match fault {
+        NormFault::Norm(error) => {
+            let text = format!(in alloc; "{}..{}: {error}", error.span.0, error.span.1)?;
+            Ok(Value::from(text))
+        }
+        NormFault::ConditionLimit => bail!("condition limit"),
+        NormFault::Memory => Err(AllocError.into()),
+    }
+}
+
+/// The features that are on, and how deep macros may stand in macros.
+pub(crate) fn session_of(alloc: Global, case: &Case) -> Result<Session, AllocError> {
+    let mut features = Vec::new(alloc);
+    for feature in &case.features {
+        features.push(Atom::new(alloc, feature)?)?;
+    }
+    Ok(Session {
+        features,
+        macro_recursion_limit: case.macro_limit.unwrap_or(MACRO_LIMIT),
+    })
+}
+
+/// The grammar without what is disabled and with names resolved, where the passes up to the levels take it.
+fn check_and_resolve(alloc: Global, session: &Session, grammar: Grammar) -> NormResult<Grammar> {
+    validate(alloc, &grammar)?;
+    let enabled = remove_disabled_decls(alloc, session, grammar)?;
+    let resolved = resolve(alloc, enabled)?;
+    match level_fault(&resolved) {
+        Some(error) => Err(NormFault::Norm(error)),
+        None => Ok(resolved),
+    }
+}
+
+/// The grammar in which each level has a rule of its own, where the passes up to that take it.
+fn expand_levels(alloc: Global, session: &Session, grammar: Grammar) -> NormResult<Grammar> {
+    let resolved = check_and_resolve(alloc, session, grammar)?;
+    expand_precedence(alloc, resolved)
+}
+
+/// Whether the passes up to the token check take the grammar.
+fn check_tokens(alloc: Global, session: &Session, grammar: Grammar) -> NormResult<()> {
+    let resolved = check_and_resolve(alloc, session, grammar)?;
+    let places = LiteralPlaces::new(alloc, &resolved)?;
+    token_check::validate(alloc, resolved, &places)?;
+    Ok(())
+}
+
+/// The rules, each by its name and its alternatives.
+fn rules_value(alloc: Global, grammar: &Grammar) -> Result<Value, AllocError> {
+    let mut rules = Vec::new(alloc);
+    for rule in grammar.rules() {
+        rules.push(rule_value(alloc, rule)?)?;
+    }
+    Ok(Value::Array(rules))
+}
+
+fn rule_value(alloc: Global, rule: &NonterminalData) -> Result<Value, AllocError> {
+    let mut alternatives = Vec::new(alloc);
+    for alternative in rule.alternatives.as_slice() {
+        alternatives.push(symbols_value(alloc, alternative.expr.as_slice())?)?;
+    }
+    let name = rule.name.to_string(alloc)?;
+    Ok(json!(in alloc; [name, rule.visibility.is_pub(), alternatives])?)
+}
+
+/// The texts of the symbols.
+fn symbols_value(alloc: Global, symbols: &[Symbol]) -> Result<Value, AllocError> {
+    let mut texts = Vec::new(alloc);
+    for symbol in symbols {
+        texts.push(Value::from(symbol.canonical_form(alloc)?))?;
+    }
+    Ok(Value::Array(texts))
+}

@@ -1,5 +1,0 @@
-pub mod SizeLemmas
-pub mod SoundLemmas
-pub mod ArgumentLemmas
-pub mod ClosedListLemmas
-pub mod CallLemmas

@@ -1,4 +1,0 @@
-pub mod Views
-pub mod Scopes
-pub mod Finding
-pub mod formers

@@ -1,0 +1,65 @@
+//! Messages of faults that no grammar of the cases has, and what a `?` makes of faults.
+
+use crate::lowered::parts::name_of;
+use lalrpop_grammar_repr::{NormError, NormErrorKind, NormFault, NormResult};
+use lalrpop_grammar_symbols::Span;
+use std::alloc::{AllocError, AllocFailed, Global};
+use std::process::Abort;
+
+/// That the fault of this kind prints this, and where it stands isn't printed.
+fn prints(rt: &impl Abort, alloc: Global, kind: NormErrorKind, text: &str) {
+    let shown = format!(in alloc; "{kind}").expect(rt, "memory");
+    assert!(rt; shown.as_str() == text, "{text}");
+    let span = Span(40, 44);
+    let fault = NormFault::Norm(NormError { kind, span });
+    let shown = format!(in alloc; "{fault}").expect(rt, "memory");
+    assert!(rt; shown.as_str() == text, "{text}");
+}
+
+#[test]
+fn messages_of_actions_and_inlining(rt: HostRuntime) {
+    let alloc = rt.alloc();
+    prints(
+        &rt,
+        alloc,
+        NormErrorKind::TooManyActions,
+        "too many actions",
+    );
+    let kind = NormErrorKind::CyclicInline(name_of(&rt, alloc, "A"));
+    let text = "cyclic inline directive: `A` would have to be inlined into itself";
+    prints(&rt, alloc, kind, text);
+}
+
+#[test]
+fn messages_of_other_refusals(rt: HostRuntime) {
+    let alloc = rt.alloc();
+    let text = format!(in alloc; "{}, {}", NormFault::ConditionLimit, NormFault::Memory);
+    let text = text.expect(&rt, "memory");
+    assert!(rt; text.as_str() == "condition limit, out of memory");
+}
+
+/// What a `?` makes of the fault.
+fn fault_of(error: NormError) -> NormResult<()> {
+    Err(error)?
+}
+
+/// What a `?` makes of refused memory.
+fn without_memory() -> NormResult<()> {
+    Err(AllocError)?
+}
+
+/// What a `?` makes of a value that could not be stored.
+fn not_stored() -> NormResult<()> {
+    Err(AllocFailed { value: 7u64 })?
+}
+
+#[test]
+fn faults_by_a_question_mark(rt: HostRuntime) {
+    let error = NormError {
+        kind: NormErrorKind::TooManyActions,
+        span: Span(0, 1),
+    };
+    assert!(rt; fault_of(error).is_err());
+    assert!(rt; without_memory() == Err(NormFault::Memory));
+    assert!(rt; not_stored() == Err(NormFault::Memory));
+}

@@ -1,3 +1,0 @@
-pub mod Attributes
-pub mod Grounding
-pub mod TypeReprs

@@ -1,0 +1,94 @@
+//! The JSON value that spells a grammar, where there is one.
+
+ghost use Rattle.std.specs.Prelude.{◌≡◌, ◌↔◌, Ok, IfOk, IsTrue};
+ghost use Rattle.serde_json.specs.Data.{Data};
+ghost use Rattle.serde_json.specs.View.{view};
+ghost use Rattle.lalrpop_json_values.specs.Prefix.{IsFreePrefix};
+ghost use Rattle.lalrpop_json_values.specs.Strings.{strings};
+ghost use Rattle.lalrpop_json_grammar.specs.Grammars.{grammar_at};
+ghost use Rattle.lalrpop_json_grammar.specs.Spelling.{spelling};
+ghost use Rattle.lalrpop_json_grammar.specs.Written.{AreReadableParts, WritesGrammar, WritesAgain};
+
+use crate::writer::fault::WriteError;
+use lalrpop_grammar::Grammar;
+use lalrpop_grammar_symbols::Atom;
+use lalrpop_json_document::lend_value;
+use lalrpop_json_items::writer::{are_readable_items, items_value};
+use lalrpop_json_symbols::writer::{
+    are_readable_attributes, attributes_value, is_readable_span, span_value,
+};
+use lalrpop_json_values::{longest_in, prefix_past};
+use serde_json::{Value, json};
+use std::alloc::{AllocError, Global};
+
+/// Whether each part of the grammar has a spelling; its prefix isn't looked at.
+fn are_readable_parts(grammar: &Grammar) -> bool
+    ensures { IsTrue result ↔ AreReadableParts grammar.now }
+{
+    is_readable_span(grammar.span)
+        && are_readable_attributes(grammar.attributes.as_slice())
+        && are_readable_items(grammar.items.as_slice())
+}
+
+/// Whether the prefix is the shortest run of at least two underscores that occurs in no string of the value.
+fn is_free_prefix(alloc: Global, prefix: &Atom, value: &Value) -> Result<bool, AllocError>
+    ensures { IfOk result (λ is. IsTrue is
+        ↔ IsFreePrefix (strings (view value.now)) prefix.now) }
+{
+    let document = lend_value(alloc, value)?;
+    let wanted = prefix_past(alloc, longest_in(&document))?;
+    Ok(wanted == *prefix)
+}
+
+/// The grammar as an object. The prefix isn't written.
+#[tactic(auto, unfolding(lalrpop_json_values::specs::Key::key_text))]
+fn grammar_value(alloc: Global, grammar: &Grammar) -> Result<Value, AllocError>
+    ensures { IfOk result (λ value. view value ≡ spelling grammar.now) }
+{
+    let attributes = attributes_value(alloc, grammar.attributes.as_slice())?;
+    let items = items_value(alloc, grammar.items.as_slice())?;
+    let parameters = grammar.parameters.as_str();
+    let span = span_value(alloc, grammar.span)?;
+    let type_parameters = grammar.type_parameters.as_str();
+    let where_clauses = grammar.where_clauses.as_str();
+    json!(in alloc; {
+        "attributes": attributes,
+        "items": items,
+        "parameters": parameters,
+        "span": span,
+        "type_parameters": type_parameters,
+        "where_clauses": where_clauses,
+    })
+}
+
+#[tactic(auto, using(crate::proofs::GrammarSpellingLemmas::grammars_told))]
+fn written_value(alloc: Global, grammar: &Grammar) -> Result<Value, WriteError>
+    ensures { WritesGrammar result grammar.now }
+{
+    if !are_readable_parts(grammar) {
+        return Err(WriteError::NotWritten);
+    }
+    let value = grammar_value(alloc, grammar)?;
+    if !is_free_prefix(alloc, &grammar.prefix, &value)? {
+        return Err(WriteError::NotWritten);
+    }
+    Ok(value)
+}
+
+/// The one JSON value that spells the grammar.
+///
+/// It is the value that `read_grammar` reads as this very grammar, and a grammar that was read is written as the value
+/// that it was read from.
+///
+/// `NotWritten` says that no value is read as the grammar: it has a tokenizer's entries, a resolved name of a rule or a
+/// bare name as a symbol, an action for `@L` or `@R`, a name that is none, a span that ends before it begins or
+/// beyond 2^32 - 1, an alternative whose origin isn't its own place, an entry that is mapped to error recovery, or
+/// another prefix than the shortest run of at least two underscores that occurs in none of its texts. `Memory` says
+/// that there was no memory.
+pub fn write_grammar(alloc: Global, grammar: &Grammar) -> Result<Value, WriteError>
+    ensures writes { WritesGrammar result grammar.now }
+    ensures read_back { IfOk result (λ value. grammar_at (view value) ≡ Ok grammar.now) }
+    ensures again { (d : Data) → grammar_at d ≡ Ok grammar.now → WritesAgain result d }
+{
+    written_value(alloc, grammar)
+}

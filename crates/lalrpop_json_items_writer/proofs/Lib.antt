@@ -1,3 +1,0 @@
-pub mod AlternativeLemmas
-pub mod ItemLemmas
-pub mod MatchLemmas

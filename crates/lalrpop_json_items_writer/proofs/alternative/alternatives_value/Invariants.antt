@@ -1,6 +1,0 @@
-use Rattle.lalrpop_json_items.specs.Spelling.{alternative_json}
-use Rattle.lalrpop_json_symbols_writer.proofs.ListLemmas.{AreFirst}
-use Rattle.lalrpop_json_items_writer.proofs.alternative.alternatives_value.Given as goal
-
-abbrev pub invariant-loop-alternative : goal.invariant-loop-alternative
-invariant-loop-alternative l = AreFirst alternative_json l.alternatives l.values.items l.alternative-index

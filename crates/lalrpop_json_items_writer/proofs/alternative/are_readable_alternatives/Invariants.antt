@@ -1,6 +1,0 @@
-use Rattle.lalrpop_json_items.specs.Readable.{IsReadableAlternative}
-use Rattle.lalrpop_json_symbols_writer.proofs.EachLemmas.{RestDecides}
-use Rattle.lalrpop_json_items_writer.proofs.alternative.are_readable_alternatives.Given as goal
-
-abbrev pub invariant-loop-place : goal.invariant-loop-place
-invariant-loop-place l = RestDecides (IsReadableAlternative l.rule) l.alternatives l.place

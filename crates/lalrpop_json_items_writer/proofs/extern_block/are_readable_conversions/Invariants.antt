@@ -1,6 +1,0 @@
-use Rattle.lalrpop_json_items.specs.Readable.{IsReadableConversion}
-use Rattle.lalrpop_json_symbols_writer.proofs.EachLemmas.{RestDecides}
-use Rattle.lalrpop_json_items_writer.proofs.extern_block.are_readable_conversions.Given as goal
-
-abbrev pub invariant-loop-conversion : goal.invariant-loop-conversion
-invariant-loop-conversion l = RestDecides (λ _. IsReadableConversion) l.conversions l.conversion-index

@@ -1,6 +1,0 @@
-use Rattle.lalrpop_json_items.specs.Spelling.{associated_json}
-use Rattle.lalrpop_json_symbols_writer.proofs.ListLemmas.{AreFirst}
-use Rattle.lalrpop_json_items_writer.proofs.extern_block.associated_value.Given as goal
-
-abbrev pub invariant-loop-declared : goal.invariant-loop-declared
-invariant-loop-declared l = AreFirst associated_json l.associated l.values.items l.declared-index

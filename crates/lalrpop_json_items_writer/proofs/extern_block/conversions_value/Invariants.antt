@@ -1,6 +1,0 @@
-use Rattle.lalrpop_json_items.specs.Spelling.{conversion_json}
-use Rattle.lalrpop_json_symbols_writer.proofs.ListLemmas.{AreFirst}
-use Rattle.lalrpop_json_items_writer.proofs.extern_block.conversions_value.Given as goal
-
-abbrev pub invariant-loop-conversion : goal.invariant-loop-conversion
-invariant-loop-conversion l = AreFirst conversion_json l.conversions l.values.items l.conversion-index

@@ -1,6 +1,0 @@
-use Rattle.lalrpop_json_items.specs.Readable.{IsReadableItem}
-use Rattle.lalrpop_json_symbols_writer.proofs.EachLemmas.{RestDecides}
-use Rattle.lalrpop_json_items_writer.proofs.item.are_readable_items.Given as goal
-
-abbrev pub invariant-loop-item : goal.invariant-loop-item
-invariant-loop-item l = RestDecides (λ _. IsReadableItem) l.items l.item-index

@@ -1,6 +1,0 @@
-use Rattle.lalrpop_json_items.specs.Spelling.{contents_json}
-use Rattle.lalrpop_json_symbols_writer.proofs.ListLemmas.{AreFirst}
-use Rattle.lalrpop_json_items_writer.proofs.match_block.groups_value.Given as goal
-
-abbrev pub invariant-loop-group : goal.invariant-loop-group
-invariant-loop-group l = AreFirst contents_json l.groups l.values.items l.group-index

@@ -1,6 +1,0 @@
-use Rattle.lalrpop_json_items.specs.Readable.{IsReadableEntry}
-use Rattle.lalrpop_json_symbols_writer.proofs.EachLemmas.{RestDecides}
-use Rattle.lalrpop_json_items_writer.proofs.match_block.is_readable_group.Given as goal
-
-abbrev pub invariant-loop-entry : goal.invariant-loop-entry
-invariant-loop-entry l = RestDecides (λ _. IsReadableEntry) l.group.items l.entry-index

@@ -1,4 +1,0 @@
-pub mod ItemLemmas
-pub mod NameLemmas
-pub mod SymbolLemmas
-pub mod ViewLemmas

@@ -1,7 +1,0 @@
-mod ConvertedLemmas
-mod ExamplesOfTokens
-mod MemberOrderLemmas
-mod NumberLemmas
-mod ReadingLemmas
-mod TurnLemmas
-mod ValueLemmas

@@ -1,2 +1,0 @@
-pub mod MemberOrder
-pub mod TokenData

@@ -1,6 +1,0 @@
-pub mod AttributeLemmas
-pub mod EachLemmas
-pub mod ListLemmas
-pub mod SymbolLemmas
-pub mod TerminalLemmas
-pub mod TypeLemmas

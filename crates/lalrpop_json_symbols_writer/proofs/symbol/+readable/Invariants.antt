@@ -1,6 +1,0 @@
-use Rattle.lalrpop_json_symbols.specs.Readable.{IsReadableSymbol}
-use Rattle.lalrpop_json_symbols_writer.proofs.EachLemmas.{RestDecides}
-use Rattle.lalrpop_json_symbols_writer.proofs.symbol.+readable.Given as goal
-
-abbrev pub invariant-are_readable_symbols-loop-symbol : goal.invariant-are_readable_symbols-loop-symbol
-invariant-are_readable_symbols-loop-symbol l = RestDecides (λ _. IsReadableSymbol) l.symbols l.symbol-index

@@ -1,6 +1,0 @@
-use Rattle.std.proofs.Common.{Contains}
-use Rattle.lalrpop_judge_certificates.proofs.MoveLemmas.{refutes_lr1}
-use Rattle.lalrpop_judge_certificates.proofs.laws.certificates_refute.Goals as goal
-
-pub returns : goal.returns
-returns c = λ grammar s shown certifies lr1. refutes_lr1 (Contains grammar) s shown certifies lr1

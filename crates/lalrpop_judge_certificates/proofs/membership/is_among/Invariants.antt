@@ -1,6 +1,0 @@
-use Rattle.std.proofs.Common.{◌≡◌, ℕ, ◌<◌, get_or}
-use Rattle.lalrpop_grammar_repr.specs.declared.production.Production.{Production}
-use Rattle.lalrpop_judge_certificates.proofs.membership.is_among.Given as goal
-
-abbrev pub invariant-loop-other : goal.invariant-loop-other
-invariant-loop-other l = (k : ℕ) (d : Production) → k < l.other-index → get_or l.productions k d ≡ l.production → ⊥

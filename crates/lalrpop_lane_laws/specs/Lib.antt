@@ -1,3 +1,0 @@
-pub mod RenumberedStates
-pub mod GotoOrders
-pub mod OrderLaws

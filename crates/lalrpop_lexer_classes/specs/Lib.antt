@@ -1,8 +1,0 @@
-pub mod Outcome
-pub mod Numbers
-pub mod Escapes
-pub mod Properties
-pub mod SetEscapes
-pub mod Posix
-pub mod ClassItems
-pub mod Classes

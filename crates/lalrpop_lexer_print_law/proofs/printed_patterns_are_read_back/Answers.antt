@@ -1,5 +1,0 @@
-use Rattle.lalrpop_lexer_print_law.proofs.PrintLemmas.{printed_read_back}
-use Rattle.lalrpop_lexer_print_law.proofs.printed_patterns_are_read_back.Goals as goal
-
-pub returns : goal.returns
-returns c = printed_read_back

@@ -1,4 +1,0 @@
-pub mod Printing
-pub mod Printable
-pub mod ReadBack
-pub mod Complements

@@ -1,2 +1,0 @@
-pub mod ActionMoves
-pub mod PassedOn

@@ -1,2 +1,0 @@
-mod ParsableLemmas
-mod TerminalLemmas

@@ -1,8 +1,0 @@
-use Rattle.std.proofs.Common.{◌≡◌, ◌++◌, drop, map}
-use Rattle.lalrpop_lr1_begin_trees.specs.DerivedRules.{whole_symbol}
-use Rattle.lalrpop_lr1_begin_trees.proofs.sides.add_whole.Given as goal
-
-abbrev pub invariant-loop-symbol : goal.invariant-loop-symbol
-invariant-loop-symbol l =
-    l.side.items ++ map (whole_symbol l.names) (drop l.symbol-index l.symbols)
-    ≡ l.initial.side.items ++ map (whole_symbol l.names) l.symbols

@@ -1,3 +1,0 @@
-pub mod DerivedRules
-pub mod BeginForests
-pub mod BeginTables

@@ -1,4 +1,0 @@
-pub mod CertificateLemmas
-pub mod ShownLemmas
-pub mod SlotLemmas
-pub mod StartLemmas

@@ -1,5 +1,0 @@
-use Rattle.lalrpop_lr1_certificates.specs.Slots.{AreLeastTokensOf}
-use Rattle.lalrpop_lr1_certificates.proofs.shown.ShownConflicts.least_tokens.Given as goal
-
-abbrev pub invariant-loop-number : goal.invariant-loop-number
-invariant-loop-number l = AreLeastTokensOf l.self l.number l.tokens.items

@@ -1,5 +1,0 @@
-use Rattle.lalrpop_lr1_certificates.specs.Slots.{AreFilledSlots}
-use Rattle.lalrpop_lr1_certificates.proofs.slots.all_certificates.Given as goal
-
-abbrev pub invariant-loop-number : goal.invariant-loop-number
-invariant-loop-number l = AreFilledSlots l.shown l.slots.items l.number

@@ -1,6 +1,0 @@
-use Rattle.std.specs.Vec.Iter.{into_iter_items, into_iter_len}
-use Rattle.lalrpop_lr1_certificates.specs.Slots.{AreTakenOut}
-use Rattle.lalrpop_lr1_certificates.proofs.slots.filled_slots.Given as goal
-
-abbrev pub invariant-loop-slot : goal.invariant-loop-slot
-invariant-loop-slot l = AreTakenOut l.fn.slots.items l.all.items (into_iter_items l.slot-iterator) (into_iter_len l.slot-iterator)

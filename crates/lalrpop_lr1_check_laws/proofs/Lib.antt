@@ -1,3 +1,0 @@
-pub mod NameLemmas
-pub mod CoverLemmas
-pub mod HandedLemmas

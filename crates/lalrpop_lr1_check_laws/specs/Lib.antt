@@ -1,4 +1,0 @@
-pub mod NameClosures
-pub mod CoverTests
-pub mod HandedNexts
-pub mod CheckLaws

@@ -1,0 +1,14 @@
+pub mod ListTests
+pub mod ApartSets
+pub mod ItemHashes
+pub mod ListedItems
+pub mod SeenEdges
+pub mod Moves
+pub mod Reductions
+pub mod Listings
+pub mod CheckedTests
+pub mod HandSlots
+pub mod Brought
+pub mod HandEdges
+pub mod HandReductions
+pub mod HandFlows

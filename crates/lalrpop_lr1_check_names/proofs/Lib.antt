@@ -1,6 +1,0 @@
-pub mod ClauseLemmas
-pub mod FollowLemmas
-pub mod NameLemmas
-pub mod RuleLemmas
-pub mod SearchLemmas
-pub mod NamedLemmas

@@ -1,7 +1,0 @@
-use Rattle.std.proofs.Common.{◌≡◌, ℕ, [], length}
-use Rattle.std.specs.Prelude.{slice_index_or}
-use Rattle.lalrpop_lr1_check_names.specs.NamedLists.{production_lists}
-use Rattle.lalrpop_lr1_check_names.proofs.named.empty_lists.Given as goal
-
-abbrev pub invariant-loop : goal.invariant-loop
-invariant-loop l = (length l.lists.items ≡ l.counter) × ((s : ℕ) → slice_index_or (production_lists l.lists.items) s [] ≡ [])

@@ -1,8 +1,0 @@
-use Rattle.std.proofs.Common.{◌≡◌, ◌++◌, drop, map}
-use Rattle.lalrpop_lr1_check_names.specs.Clauses.{clause_view}
-use Rattle.lalrpop_lr1_check_names.specs.RuleClauses.{tree_of_rule}
-use Rattle.lalrpop_lr1_check_names.proofs.rule_names.tree_clauses_of.Given as goal
-
-abbrev pub invariant-loop-rule : goal.invariant-loop-rule
-invariant-loop-rule l =
-    map clause_view l.clauses.items ++ map (tree_of_rule l.table) (drop l.rule-index l.rules) ≡ map (tree_of_rule l.table) l.rules

@@ -1,5 +1,0 @@
-pub mod Clauses
-pub mod ClauseRules
-pub mod RuleClauses
-pub mod NameMarks
-pub mod NamedLists

@@ -1,9 +1,0 @@
-use Rattle.lalrpop_lr1_check_parts.specs.ListedItems.{item_key}
-use Rattle.lalrpop_lr1_check_parts.specs.contracts.listed.ListedItemPartialEq.TheImpl as items
-use Rattle.lalrpop_lr1_check_parts.proofs.GainLemmas.{gains_one}
-use Rattle.lalrpop_lr1_check_parts.proofs.ListedLemmas.{same_items}
-use Rattle.lalrpop_lr1_check_parts.proofs.listed.list_item.Goals as goal
-
-pub returns : goal.returns
-returns c = gains_one item_key (items.ghosts).eq same_items c.args.listed.now.keys c.insert.new.self.keys c.args.item
-    c.in_ok-insert.ensures.keys

@@ -1,7 +1,0 @@
-use Rattle.std.proofs.Common.{map, take}
-use Rattle.lalrpop_lr1_check_parts.specs.ListTests.{HaveSameElements}
-use Rattle.lalrpop_lr1_check_parts.specs.ListedItems.{item_key, keys_of_states}
-use Rattle.lalrpop_lr1_check_parts.proofs.listed.listed_items.Given as goal
-
-abbrev pub invariant-loop-state : goal.invariant-loop-state
-invariant-loop-state l = HaveSameElements (map item_key l.listed.keys) (keys_of_states (take l.state l.states))

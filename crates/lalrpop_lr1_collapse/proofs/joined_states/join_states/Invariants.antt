@@ -1,5 +1,0 @@
-use Rattle.lalrpop_lr1_collapse.specs.JoinedStates.{AreJoinedByNumbers}
-use Rattle.lalrpop_lr1_collapse.proofs.joined_states.join_states.Given as goal
-
-abbrev pub invariant-loop-place : goal.invariant-loop-place
-invariant-loop-place l = AreJoinedByNumbers l.states l.numbers l.place l.joined.items

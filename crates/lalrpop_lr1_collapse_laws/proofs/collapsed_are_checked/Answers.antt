@@ -1,6 +1,0 @@
-use Rattle.lalrpop_lr1_collapse_laws.proofs.CollapseLemmas.{collapsed_checked}
-use Rattle.lalrpop_lr1_collapse_laws.proofs.collapsed_are_checked.Goals as goal
-
-pub returns : goal.returns
-returns c = λ grammar s states collapsed numbers nb alone can fold apart.
-    collapsed_checked states collapsed numbers fold grammar s can nb alone apart

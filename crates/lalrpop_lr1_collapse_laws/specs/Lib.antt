@@ -1,4 +1,0 @@
-pub mod CollapsedStates
-pub mod SameStates
-pub mod JoinedStates
-pub mod CollapseLaws

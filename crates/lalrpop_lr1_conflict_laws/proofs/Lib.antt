@@ -1,2 +1,0 @@
-pub mod ToldLemmas
-pub mod LackLemmas

@@ -1,6 +1,0 @@
-use Rattle.lalrpop_lr1_conflict_laws.proofs.LackLemmas.{lacks_none}
-use Rattle.lalrpop_lr1_conflict_laws.proofs.standing_conflicts_have_moves.Goals as goal
-
-pub returns : goal.returns
-returns c = λ g s states ways x conflict nb can stepped stands lacks.
-    lacks_none g s states ways nb can stepped.paths x conflict stands lacks

@@ -1,3 +1,0 @@
-pub mod Laws
-pub mod PassedOn
-pub mod StandingConflicts

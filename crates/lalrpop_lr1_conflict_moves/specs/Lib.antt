@@ -1,2 +1,0 @@
-pub mod ConflictMoves
-pub mod PassedOn

@@ -1,0 +1,12 @@
+pub mod NextLemmas
+pub mod ShownLemmas
+pub mod ShownTreeLemmas
+pub mod PlaceLemmas
+pub mod ActionLemmas
+pub mod ConflictLemmas
+pub mod ToldLemmas
+pub mod LackLemmas
+pub mod CertificateLemmas
+pub mod ShownConflictLemmas
+pub mod SlotLemmas
+pub mod StartLemmas

@@ -1,0 +1,11 @@
+pub mod ShownMoves
+pub mod ShownLaws
+pub mod ShiftPlaces
+pub mod ActionMoves
+pub mod ConflictMoves
+pub mod ConflictLaws
+pub mod StandingConflicts
+pub mod ConflictCertificates
+pub mod MadeCertificates
+pub mod ShownStates
+pub mod Slots

@@ -1,0 +1,58 @@
+//! Ways out before what comes next: a terminal, or the end.
+
+ghost use Rattle.lalrpop_lr1_counterexamples.specs.ShownMoves.{IsNextOut, TellsNextOut};
+
+use lalrpop_grammar_symbols::NonterminalString;
+use lalrpop_lr1_least_trees::TreeMove;
+use lalrpop_lr1_paths::completions::{EndOut, WantedOut};
+use std::alloc::{AllocError, Global};
+
+/// Light ways out before what comes next.
+#[derive(Drop)]
+pub enum NextOut<'x, 'w, 't, 'g> {
+    /// The end comes.
+    End(EndOut<'w, 't, 'g>),
+    /// The terminal of these comes.
+    Terminal(WantedOut<'x, 'w, 't, 'g>),
+}
+
+impl<'x, 'w, 't, 'g> NextOut<'x, 'w, 't, 'g> {
+    /// The moves that are left behind a tree of the nonterminal in the state, out to a whole tree, before what comes next; none where there
+    /// is no such way out.
+    ///
+    /// # Errors
+    ///
+    /// Memory is refused. It is where light trees have as many leaves and nodes as the greatest number or more.
+    pub fn moves(
+        &self,
+        alloc: Global,
+        state: usize,
+        nonterminal: &NonterminalString,
+    ) -> Result<Option<Vec<TreeMove<'g>>>, AllocError>
+        requires { IsNextOut self.now }
+        ensures { TellsNextOut self.now state nonterminal.now result }
+    {
+        match self {
+            NextOut::End(out) => out.moves(alloc, state, nonterminal),
+            NextOut::Terminal(out) => out.moves(alloc, state, nonterminal),
+        }
+    }
+
+    /// How many moves `moves` gives; the greatest number where they are as many or more. None where no way leads out.
+    ///
+    /// # Errors
+    ///
+    /// Memory is refused.
+    pub fn count(
+        &self,
+        state: usize,
+        nonterminal: &NonterminalString,
+    ) -> Result<Option<u64>, AllocError>
+        requires { IsNextOut self.now }
+    {
+        match self {
+            NextOut::End(out) => out.count(state, nonterminal),
+            NextOut::Terminal(out) => out.count(state, nonterminal),
+        }
+    }
+}

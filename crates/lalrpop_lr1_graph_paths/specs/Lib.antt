@@ -1,3 +1,0 @@
-pub mod GraphPaths
-pub mod Graphs
-pub mod PathSearches

@@ -1,9 +1,0 @@
-pub mod OnceLemmas
-pub mod KeptLemmas
-pub mod MadeLabelLemmas
-pub mod StepLabelLemmas
-pub mod GivenLabelLemmas
-pub mod OrderLabelLemmas
-pub mod SmallerLemmas
-pub mod LabelsExistLemmas
-pub mod ExamplesOfInlinedLabels

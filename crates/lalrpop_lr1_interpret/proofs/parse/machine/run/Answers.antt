@@ -1,0 +1,250 @@
+use Rattle.std.proofs.Common.{◌≡◌, ◌∙◌, ◌-◌, ◌+◌, [], ◌∷◌, ◌++◌, length, Some}
+use Rattle.std.proofs.Common.{ap, subst, arith, refl, take}
+use Rattle.lalrpop_lr1_core.specs.Views.{production_view}
+use Rattle.lalrpop_lr1_interpret.specs.Ends.{token_views}
+use Rattle.lalrpop_lr1_interpret.specs.Stacks.{HasChildren}
+use Rattle.lalrpop_lr1_interpret.specs.Tables.{IsActionBefore}
+use Rattle.lalrpop_lr1_interpret.proofs.RunLemmas.{as_read, behind_there, done, enough, has_children, is_stuck, not_both, read_behind}
+use Rattle.lalrpop_lr1_interpret.proofs.RunLemmas.{reduce_limit, reduce_on, running_start, shift_limit, shift_on, state_there}
+use Rattle.lalrpop_lr1_interpret.proofs.parse.machine.run.Goals as goal
+use Rattle.lalrpop_lr1_interpret.proofs.parse.machine.run.Goals.{else-not-whole-via-else-not-whole}
+use Rattle.lalrpop_lr1_interpret.proofs.parse.machine.run.Goals.{else-not-whole-via-then-not-whole+else-at-tokens}
+
+pub moves-init : goal.moves-init
+moves-init g c = record {
+  running = running_start c.args.table.now c.args.tokens.now c.args.limit c.args.whole (g.S.TreeStack.stands c.args.stack.now)
+      c.push_number.new.numbers.items c.next_number-next.result c.requires.empty
+      (c.in_ok-push_number.ensures ∙ ap (λ l. l ++ 0 ∷ []) c.new-numbers.ensures.items) c.next_number-next.ensures;
+  same = refl;
+}
+
+pub action_before-requires-clause-there : goal.action_before-requires-clause-there
+action_before-requires-clause-there g c =
+    state_there c.args.table.now c.args.tokens.now c.args.limit c.args.whole
+    (g.S.TreeStack.stands c.moves.stack) c.moves.numbers.items c.moves.at
+    c.moves.left c.moves.next c.moves.invariant.running c.index-state.result.now
+    (as_read c.moves.numbers.items c.index-state.result.now (c.len.result - 1) c.index-state.ensures (omega arith)) c.requires.checked
+
+pub returns-then-left-eq0-clause-ends : goal.returns-then-left-eq0-clause-ends
+returns-then-left-eq0-clause-ends g c = λ grammar s states alone ok is.
+    shift_limit c.args.table.now c.args.tokens.now c.args.limit c.args.whole
+    (g.S.TreeStack.stands c.moves.stack) c.moves.numbers.items c.moves.at
+    c.moves.left c.moves.next c.moves.invariant.running c.index-state.result.now
+    (as_read c.moves.numbers.items c.index-state.result.now (c.len.result - 1) c.index-state.ensures
+    (omega arith)) c.in-Some-Shift.target (subst (IsActionBefore c.args.table.now c.index-state.result.now c.moves.next)
+    (ap Some c.in-Some-Shift.field-0-is) c.in-Some-Shift.ensures) c.if-left-eq0.true states is
+
+pub moves-preserved-in-Some-Shift : goal.moves-preserved-in-Some-Shift
+moves-preserved-in-Some-Shift g c = record {
+  running = shift_on c.args.table.now c.args.tokens.now c.args.limit c.args.whole
+      (g.S.TreeStack.stands c.moves.stack) c.moves.numbers.items c.moves.at
+      c.moves.left c.moves.next c.moves.invariant.running c.index-state.result.now
+      (as_read c.moves.numbers.items c.index-state.result.now (c.len.result - 1) c.index-state.ensures
+      (omega arith)) c.in-Some-Shift.target (c.moves.left - 1) (c.moves.at + 1)
+      c.push_number-in-Some-Shift.new.numbers.items
+      c.index-tokens-at.result c.next_number-next-in-Some-Shift.result (g.S.TreeStack.stands c.leaf.new.self) (omega arith) (subst
+      (IsActionBefore c.args.table.now c.index-state.result.now c.moves.next)
+      (ap Some c.in-Some-Shift.field-0-is) c.in-Some-Shift.ensures)
+      (omega (arith, c.if-left-eq0.false)) c.index-tokens-at.is c.in_ok-push_number-in-Some-Shift.ensures
+      c.in_ok-leaf-in-Some-Shift.ensures.leaf_stands
+      c.next_number-next-in-Some-Shift.ensures;
+  same = c.in_ok-leaf-in-Some-Shift.ensures.same ∙ c.moves.invariant.same;
+}
+
+pub returns-then-left-eq0-2-clause-ends : goal.returns-then-left-eq0-2-clause-ends
+returns-then-left-eq0-2-clause-ends g c = λ grammar s states alone ok is.
+    let k = has_children c.args.table.now c.args.tokens.now c.args.limit c.args.whole
+    (g.S.TreeStack.stands c.moves.stack) c.moves.numbers.items c.moves.at
+    c.moves.left c.moves.next c.moves.invariant.running c.index-state.result.now
+    (as_read c.moves.numbers.items c.index-state.result.now (c.len.result - 1) c.index-state.ensures
+    (omega arith)) c.requires.checked c.in-Some-Reduce.by (subst (IsActionBefore c.args.table.now c.index-state.result.now c.moves.next)
+    (ap Some c.in-Some-Reduce.field-0-is) c.in-Some-Reduce.ensures) in
+    reduce_limit c.args.table.now c.args.tokens.now c.args.limit c.args.whole
+    (g.S.TreeStack.stands c.moves.stack) c.moves.numbers.items c.moves.at
+    c.moves.left c.moves.next c.moves.invariant.running c.index-state.result.now
+    (as_read c.moves.numbers.items c.index-state.result.now (c.len.result - 1) c.index-state.ensures
+    (omega arith)) c.requires.checked c.in-Some-Reduce.by (subst (IsActionBefore c.args.table.now c.index-state.result.now c.moves.next)
+    (ap Some c.in-Some-Reduce.field-0-is) c.in-Some-Reduce.ensures) k.kept k.children k.stands k.roots_are c.if-left-eq0-2.true states is
+
+pub node-requires : goal.node-requires
+node-requires g c κs =
+    let k = has_children c.args.table.now c.args.tokens.now c.args.limit c.args.whole
+    (g.S.TreeStack.stands c.moves.stack) c.moves.numbers.items c.moves.at
+    c.moves.left c.moves.next c.moves.invariant.running c.index-state.result.now
+    (as_read c.moves.numbers.items c.index-state.result.now (c.len.result - 1) c.index-state.ensures
+    (omega arith)) c.requires.checked c.in-Some-Reduce.by (subst (IsActionBefore c.args.table.now c.index-state.result.now c.moves.next)
+    (ap Some c.in-Some-Reduce.field-0-is) c.in-Some-Reduce.ensures) in
+    let made : HasChildren (g.S.TreeStack.stands c.moves.stack) (production_view c.in-Some-Reduce.by.production.now) = record {
+      kept = k.kept;
+      children = k.children;
+      tokens = take c.moves.at (token_views c.args.tokens.now);
+      stands = subst (λ ts. g.S.TreeStack.stands c.moves.stack ts (take c.moves.at (token_views c.args.tokens.now))) k.stands
+          c.moves.invariant.running.stands;
+      roots_are = k.roots_are;
+    } in ((refl, tt), made)
+
+pub overflow_sub-kept : goal.overflow_sub-kept
+overflow_sub-kept g c =
+    let k = has_children c.args.table.now c.args.tokens.now c.args.limit c.args.whole
+    (g.S.TreeStack.stands c.moves.stack) c.moves.numbers.items c.moves.at
+    c.moves.left c.moves.next c.moves.invariant.running c.index-state.result.now
+    (as_read c.moves.numbers.items c.index-state.result.now (c.len.result - 1) c.index-state.ensures
+    (omega arith)) c.requires.checked c.in-Some-Reduce.by (subst (IsActionBefore c.args.table.now c.index-state.result.now c.moves.next)
+    (ap Some c.in-Some-Reduce.field-0-is) c.in-Some-Reduce.ensures) in
+    omega (
+      arith,
+      enough c.args.table.now c.args.tokens.now c.args.limit c.args.whole
+          (g.S.TreeStack.stands c.moves.stack) c.moves.numbers.items c.moves.at
+          c.moves.left c.moves.next c.moves.invariant.running c.index-state.result.now
+          (as_read c.moves.numbers.items c.index-state.result.now (c.len.result - 1) c.index-state.ensures
+          (omega arith)) c.requires.checked c.in-Some-Reduce.by (subst
+          (IsActionBefore c.args.table.now c.index-state.result.now c.moves.next)
+          (ap Some c.in-Some-Reduce.field-0-is) c.in-Some-Reduce.ensures) k.kept k.children k.stands k.roots_are,
+      c.len-in-Some-Reduce.ensures,
+    )
+
+pub overflow_sub-kept-in-Some-Reduce : goal.overflow_sub-kept-in-Some-Reduce
+overflow_sub-kept-in-Some-Reduce g c =
+    let k = has_children c.args.table.now c.args.tokens.now c.args.limit c.args.whole
+    (g.S.TreeStack.stands c.moves.stack) c.moves.numbers.items c.moves.at
+    c.moves.left c.moves.next c.moves.invariant.running c.index-state.result.now
+    (as_read c.moves.numbers.items c.index-state.result.now (c.len.result - 1) c.index-state.ensures
+    (omega arith)) c.requires.checked c.in-Some-Reduce.by (subst (IsActionBefore c.args.table.now c.index-state.result.now c.moves.next)
+    (ap Some c.in-Some-Reduce.field-0-is) c.in-Some-Reduce.ensures) in
+    omega (
+      arith,
+      enough c.args.table.now c.args.tokens.now c.args.limit c.args.whole
+          (g.S.TreeStack.stands c.moves.stack) c.moves.numbers.items c.moves.at
+          c.moves.left c.moves.next c.moves.invariant.running c.index-state.result.now
+          (as_read c.moves.numbers.items c.index-state.result.now (c.len.result - 1) c.index-state.ensures
+          (omega arith)) c.requires.checked c.in-Some-Reduce.by (subst
+          (IsActionBefore c.args.table.now c.index-state.result.now c.moves.next)
+          (ap Some c.in-Some-Reduce.field-0-is) c.in-Some-Reduce.ensures) k.kept k.children k.stands k.roots_are,
+      c.len-in-Some-Reduce.ensures,
+    )
+
+pub index-requires : goal.index-requires
+index-requires g c =
+    let k = has_children c.args.table.now c.args.tokens.now c.args.limit c.args.whole
+    (g.S.TreeStack.stands c.moves.stack) c.moves.numbers.items c.moves.at
+    c.moves.left c.moves.next c.moves.invariant.running c.index-state.result.now
+    (as_read c.moves.numbers.items c.index-state.result.now (c.len.result - 1) c.index-state.ensures
+    (omega arith)) c.requires.checked c.in-Some-Reduce.by (subst (IsActionBefore c.args.table.now c.index-state.result.now c.moves.next)
+    (ap Some c.in-Some-Reduce.field-0-is) c.in-Some-Reduce.ensures) in
+    omega (
+      arith,
+      enough c.args.table.now c.args.tokens.now c.args.limit c.args.whole
+          (g.S.TreeStack.stands c.moves.stack) c.moves.numbers.items c.moves.at
+          c.moves.left c.moves.next c.moves.invariant.running c.index-state.result.now
+          (as_read c.moves.numbers.items c.index-state.result.now (c.len.result - 1) c.index-state.ensures
+          (omega arith)) c.requires.checked c.in-Some-Reduce.by (subst
+          (IsActionBefore c.args.table.now c.index-state.result.now c.moves.next)
+          (ap Some c.in-Some-Reduce.field-0-is) c.in-Some-Reduce.ensures) k.kept k.children k.stands k.roots_are,
+      c.len-in-Some-Reduce.ensures,
+      c.truncate.ensures.len,
+    )
+
+pub goto-requires-clause-there : goal.goto-requires-clause-there
+goto-requires-clause-there g c =
+    let k = has_children c.args.table.now c.args.tokens.now c.args.limit c.args.whole
+    (g.S.TreeStack.stands c.moves.stack) c.moves.numbers.items c.moves.at
+    c.moves.left c.moves.next c.moves.invariant.running c.index-state.result.now
+    (as_read c.moves.numbers.items c.index-state.result.now (c.len.result - 1) c.index-state.ensures
+    (omega arith)) c.requires.checked c.in-Some-Reduce.by (subst (IsActionBefore c.args.table.now c.index-state.result.now c.moves.next)
+    (ap Some c.in-Some-Reduce.field-0-is) c.in-Some-Reduce.ensures) in
+    let fewer = enough c.args.table.now c.args.tokens.now c.args.limit c.args.whole
+    (g.S.TreeStack.stands c.moves.stack) c.moves.numbers.items c.moves.at
+    c.moves.left c.moves.next c.moves.invariant.running c.index-state.result.now
+    (as_read c.moves.numbers.items c.index-state.result.now (c.len.result - 1) c.index-state.ensures
+    (omega arith)) c.requires.checked c.in-Some-Reduce.by (subst (IsActionBefore c.args.table.now c.index-state.result.now c.moves.next)
+    (ap Some c.in-Some-Reduce.field-0-is) c.in-Some-Reduce.ensures) k.kept k.children k.stands k.roots_are in
+    let left = c.len-in-Some-Reduce.result - c.in-Some-Reduce.by.length in
+    let kept : left ≡ length c.moves.numbers.items - c.in-Some-Reduce.by.length = omega (arith, c.len-in-Some-Reduce.ensures) in
+    let read = read_behind c.moves.numbers.items c.truncate.new.self.items left c.index.result.now (left - 1) c.truncate.ensures.items
+    (omega (arith, fewer, c.len-in-Some-Reduce.ensures)) c.index.ensures refl in
+    behind_there c.args.table.now c.args.tokens.now c.args.limit c.args.whole
+    (g.S.TreeStack.stands c.moves.stack) c.moves.numbers.items c.moves.at
+    c.moves.left c.moves.next c.moves.invariant.running c.index-state.result.now
+    (as_read c.moves.numbers.items c.index-state.result.now (c.len.result - 1) c.index-state.ensures
+    (omega arith)) c.requires.checked c.in-Some-Reduce.by (subst (IsActionBefore c.args.table.now c.index-state.result.now c.moves.next)
+    (ap Some c.in-Some-Reduce.field-0-is) c.in-Some-Reduce.ensures) k.kept k.children k.stands k.roots_are left c.index.result.now kept read
+
+pub moves-preserved : goal.moves-preserved
+moves-preserved g c =
+    let k = has_children c.args.table.now c.args.tokens.now c.args.limit c.args.whole
+    (g.S.TreeStack.stands c.moves.stack) c.moves.numbers.items c.moves.at
+    c.moves.left c.moves.next c.moves.invariant.running c.index-state.result.now
+    (as_read c.moves.numbers.items c.index-state.result.now (c.len.result - 1) c.index-state.ensures
+    (omega arith)) c.requires.checked c.in-Some-Reduce.by (subst (IsActionBefore c.args.table.now c.index-state.result.now c.moves.next)
+    (ap Some c.in-Some-Reduce.field-0-is) c.in-Some-Reduce.ensures) in
+    let fewer = enough c.args.table.now c.args.tokens.now c.args.limit c.args.whole
+    (g.S.TreeStack.stands c.moves.stack) c.moves.numbers.items c.moves.at
+    c.moves.left c.moves.next c.moves.invariant.running c.index-state.result.now
+    (as_read c.moves.numbers.items c.index-state.result.now (c.len.result - 1) c.index-state.ensures
+    (omega arith)) c.requires.checked c.in-Some-Reduce.by (subst (IsActionBefore c.args.table.now c.index-state.result.now c.moves.next)
+    (ap Some c.in-Some-Reduce.field-0-is) c.in-Some-Reduce.ensures) k.kept k.children k.stands k.roots_are in
+    let left = c.len-in-Some-Reduce.result - c.in-Some-Reduce.by.length in
+    let kept : left ≡ length c.moves.numbers.items - c.in-Some-Reduce.by.length = omega (arith, c.len-in-Some-Reduce.ensures) in
+    let read = read_behind c.moves.numbers.items c.truncate.new.self.items left c.index.result.now (left - 1) c.truncate.ensures.items
+    (omega (arith, fewer, c.len-in-Some-Reduce.ensures)) c.index.ensures refl in
+    record {
+      running = reduce_on c.args.table.now c.args.tokens.now c.args.limit c.args.whole
+          (g.S.TreeStack.stands c.moves.stack) c.moves.numbers.items c.moves.at
+          c.moves.left c.moves.next c.moves.invariant.running c.index-state.result.now
+          (as_read c.moves.numbers.items c.index-state.result.now (c.len.result - 1) c.index-state.ensures
+          (omega arith)) c.requires.checked c.in-Some-Reduce.by
+          (subst (IsActionBefore c.args.table.now c.index-state.result.now c.moves.next)
+          (ap Some c.in-Some-Reduce.field-0-is) c.in-Some-Reduce.ensures) k.kept k.children k.stands k.roots_are
+          left c.index.result.now c.in-Some.target (c.moves.left - 1) c.push_number-in-Some.new.numbers.items
+          (g.S.TreeStack.stands c.node.new.self) (omega (arith, c.if-left-eq0-2.false)) kept read c.in-Some.ensures.found
+          (c.in_ok-push_number-in-Some.ensures ∙ ap (λ l. l ++ c.in-Some.target ∷ []) c.truncate.ensures.items)
+          (c.in_ok-node-in-Some-Reduce.ensures.node_stands k.kept k.children (take c.moves.at (token_views c.args.tokens.now))
+          (subst (λ ts. g.S.TreeStack.stands c.moves.stack ts (take c.moves.at (token_views c.args.tokens.now))) k.stands
+          c.moves.invariant.running.stands) k.roots_are)
+          (elim c.else-not-whole.branch [
+            | else-not-whole-via-then-not-whole+else-at-tokens w ↦ λ partly ended. w.if-at-tokens.false ended
+            | else-not-whole-via-else-not-whole w ↦ λ partly ended. not_both c.args.whole w.if-not-whole.false partly
+          ]);
+      same = c.in_ok-node-in-Some-Reduce.ensures.same ∙ c.moves.invariant.same;
+    }
+
+pub returns-in-None-goto-clause-ends : goal.returns-in-None-goto-clause-ends
+returns-in-None-goto-clause-ends g c = λ grammar s states alone ok is.
+    let k = has_children c.args.table.now c.args.tokens.now c.args.limit c.args.whole
+    (g.S.TreeStack.stands c.moves.stack) c.moves.numbers.items c.moves.at
+    c.moves.left c.moves.next c.moves.invariant.running c.index-state.result.now
+    (as_read c.moves.numbers.items c.index-state.result.now (c.len.result - 1) c.index-state.ensures
+    (omega arith)) c.requires.checked c.in-Some-Reduce.by (subst (IsActionBefore c.args.table.now c.index-state.result.now c.moves.next)
+    (ap Some c.in-Some-Reduce.field-0-is) c.in-Some-Reduce.ensures) in
+    let fewer = enough c.args.table.now c.args.tokens.now c.args.limit c.args.whole
+    (g.S.TreeStack.stands c.moves.stack) c.moves.numbers.items c.moves.at
+    c.moves.left c.moves.next c.moves.invariant.running c.index-state.result.now
+    (as_read c.moves.numbers.items c.index-state.result.now (c.len.result - 1) c.index-state.ensures
+    (omega arith)) c.requires.checked c.in-Some-Reduce.by (subst (IsActionBefore c.args.table.now c.index-state.result.now c.moves.next)
+    (ap Some c.in-Some-Reduce.field-0-is) c.in-Some-Reduce.ensures) k.kept k.children k.stands k.roots_are in
+    let left = c.len-in-Some-Reduce.result - c.in-Some-Reduce.by.length in
+    let kept : left ≡ length c.moves.numbers.items - c.in-Some-Reduce.by.length = omega (arith, c.len-in-Some-Reduce.ensures) in
+    let read = read_behind c.moves.numbers.items c.truncate.new.self.items left c.index.result.now (left - 1) c.truncate.ensures.items
+    (omega (arith, fewer, c.len-in-Some-Reduce.ensures)) c.index.ensures refl in
+    done c.args.table.now c.args.tokens.now c.args.limit c.args.whole (g.S.TreeStack.stands c.moves.stack) c.moves.numbers.items c.moves.at
+    c.moves.left c.moves.next c.moves.invariant.running c.index-state.result.now
+    (as_read c.moves.numbers.items c.index-state.result.now (c.len.result - 1) c.index-state.ensures
+    (omega arith)) c.requires.checked c.in-Some-Reduce.by (subst (IsActionBefore c.args.table.now c.index-state.result.now c.moves.next)
+    (ap Some c.in-Some-Reduce.field-0-is) c.in-Some-Reduce.ensures) k.kept k.children k.stands k.roots_are
+    grammar s states ok is left c.index.result.now (c.moves.left - 1) c.truncate.new.self.items
+    (g.S.TreeStack.stands c.node.new.self) (omega (arith, c.if-left-eq0-2.false)) kept read c.in-None-goto.ensures.none
+    (c.in_ok-node-in-Some-Reduce.ensures.node_stands k.kept k.children (take c.moves.at (token_views c.args.tokens.now))
+    (subst (λ ts. g.S.TreeStack.stands c.moves.stack ts (take c.moves.at (token_views c.args.tokens.now))) k.stands
+    c.moves.invariant.running.stands) k.roots_are)
+    (elim c.else-not-whole.branch [
+      | else-not-whole-via-then-not-whole+else-at-tokens w ↦ λ partly ended. w.if-at-tokens.false ended
+      | else-not-whole-via-else-not-whole w ↦ λ partly ended. not_both c.args.whole w.if-not-whole.false partly
+    ])
+
+pub returns-in-None-clause-ends : goal.returns-in-None-clause-ends
+returns-in-None-clause-ends g c = λ grammar s states alone ok is.
+    is_stuck c.args.table.now c.args.tokens.now c.args.limit c.args.whole
+    (g.S.TreeStack.stands c.moves.stack) c.moves.numbers.items c.moves.at
+    c.moves.left c.moves.next c.moves.invariant.running c.index-state.result.now
+    (as_read c.moves.numbers.items c.index-state.result.now (c.len.result - 1) c.index-state.ensures
+    (omega arith)) c.in-None.ensures states is

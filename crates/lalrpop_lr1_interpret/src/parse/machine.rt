@@ -1,0 +1,113 @@
+//! The machine: it runs a table over tokens, and its stack makes what is to be made.
+
+ghost use Rattle.std.specs.Prelude.{◌≡◌, ◌++◌, ◌∷◌, [], List, OnOk, map};
+ghost use Rattle.lalrpop_grammar_symbols.specs.Symbols.{Text};
+ghost use Rattle.lalrpop_grammar_symbols.specs.Views.{span_view, terminal_view};
+ghost use Rattle.lalrpop_lr1_theory.specs.CheckedStates.{AreCheckedStates, IsStartAlone};
+ghost use Rattle.lalrpop_lr1_theory.specs.Productions.{Production};
+ghost use Rattle.lalrpop_lr1_theory.specs.Spans.{none_at};
+ghost use Rattle.lalrpop_lr1_theory.specs.States.{State};
+ghost use Rattle.lalrpop_lr1_interpret.specs.Columns.{TellNumbers};
+ghost use Rattle.lalrpop_lr1_interpret.specs.Ends.{IsEndOfRun, MayRun};
+ghost use Rattle.lalrpop_lr1_interpret.specs.Tables.{IsTableOf};
+
+use crate::parse::action_table::ActionTable;
+use crate::parse::table_row::TableAction;
+use crate::parse::token_numbers::TokenNumbers;
+use crate::parse::tree_stack::TreeStack;
+use lalrpop_grammar::ScanToken;
+use std::alloc::{AllocError, Global};
+
+/// Why the machine stops before it accepts.
+#[derive(Drop)]
+pub enum Halt {
+    /// The state does nothing before the token at this place, or before the end.
+    Stuck {
+        /// The place of the token; the number of all tokens at the end.
+        at: usize,
+        /// The number of the state.
+        state: usize,
+    },
+    /// More moves would be made than the limit says.
+    Limit,
+    /// Memory ran out.
+    Memory,
+}
+
+impl From<AllocError> for Halt {
+    ghost use Rattle.lalrpop_lr1_interpret.specs.declared.parse.machine.Halt.TheVariants.{Memory};
+
+    ghost from_gives = { λ _ halt. halt ≡ Memory };
+
+    fn from(_: AllocError) -> Halt {
+        Halt::Memory
+    }
+}
+
+/// Puts the number behind the others.
+fn push_number(numbers: &mut Vec<usize>, number: usize) -> Result<(), AllocError>
+    ensures { OnOk result (numbers.new.items ≡ numbers.old.items ++ number ∷ []) }
+{
+    numbers.push(number)?;
+    Ok(())
+}
+
+/// Runs the table over the tokens, whose numbers are so found, from no tree: until it accepts, where the parse is to be whole, or else
+/// until all tokens are shifted. What is made stands on the stack, which keeps what it was given. Answers the states on the stack, by
+/// their numbers.
+pub fn run<'g, S: TreeStack<'g>>(
+    alloc: Global,
+    table: &ActionTable<'g>,
+    tokens: &[ScanToken<'_>],
+    found: TokenNumbers<'_>,
+    limit: u64,
+    whole: bool,
+    stack: &mut S,
+) -> Result<Vec<usize>, Halt>
+    requires checked { MayRun table.now }
+    requires found { TellNumbers found table.now tokens.now }
+    requires empty { S.stands stack.old none_at [] }
+    ensures ends { (grammar : List Production) (s : Text) (states : List State) → IsStartAlone grammar s
+        → AreCheckedStates grammar s states → IsTableOf table.now states
+        → IsEndOfRun states s tokens.now limit whole (S.stands stack.new) result }
+    ensures same { S.given stack.new ≡ S.given stack.old }
+{
+    let mut numbers = Vec::new(alloc);
+    push_number(&mut numbers, 0)?;
+    let mut at = 0;
+    let mut left = limit;
+    let mut next = found.next_number(table, tokens, 0);
+    'moves: loop {
+        if !whole && at == tokens.len() {
+            return Ok(numbers);
+        }
+        let state = numbers[numbers.len() - 1];
+        match table.action_before(state, next) {
+            Some(TableAction::Shift(target)) => {
+                if left == 0 {
+                    return Err(Halt::Limit);
+                }
+                left -= 1;
+                let token = &tokens[at];
+                stack.leaf(token)?;
+                push_number(&mut numbers, target)?;
+                at += 1;
+                next = found.next_number(table, tokens, at);
+            }
+            Some(TableAction::Reduce(by)) => {
+                if left == 0 {
+                    return Err(Halt::Limit);
+                }
+                left -= 1;
+                stack.node(by.production)?;
+                let kept = numbers.len() - by.length;
+                numbers.truncate(kept);
+                match table.goto(numbers[kept - 1], by.nonterminal) {
+                    Some(target) => push_number(&mut numbers, target)?,
+                    None => return Ok(numbers),
+                }
+            }
+            None => return Err(Halt::Stuck { at, state }),
+        }
+    }
+}

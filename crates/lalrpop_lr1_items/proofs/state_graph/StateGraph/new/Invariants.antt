@@ -1,6 +1,0 @@
-use Rattle.std.proofs.Common.{◌≡◌, take}
-use Rattle.lalrpop_lr1_items.specs.Edges.{edges_of}
-use Rattle.lalrpop_lr1_items.proofs.state_graph.StateGraph.new.Given as goal
-
-abbrev pub invariant-loop-source : goal.invariant-loop-source
-invariant-loop-source g l = l.edges ≡ edges_of (take l.source l.states)

@@ -1,6 +1,0 @@
-use Rattle.std.proofs.Common.{◌≡◌, Some, take}
-use Rattle.lalrpop_lr1_least_counts.specs.Searches.{count_of, node_count}
-use Rattle.lalrpop_lr1_least_counts.proofs.counts.side_count.Given as goal
-
-abbrev pub invariant-loop-symbol : goal.invariant-loop-symbol
-invariant-loop-symbol l = node_count (count_of l.leaves l.table) (take l.symbol-index l.symbols) ≡ Some l.count

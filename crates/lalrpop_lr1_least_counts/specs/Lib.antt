@@ -1,4 +1,0 @@
-pub mod NumberedTrees
-pub mod LeastTrees
-pub mod Searches
-pub mod Openings

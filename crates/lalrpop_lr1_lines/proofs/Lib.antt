@@ -1,3 +1,0 @@
-pub mod ExamplesOfLines
-pub mod LineLemmas
-pub mod WordLemmas

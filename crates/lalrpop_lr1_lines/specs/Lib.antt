@@ -1,3 +1,0 @@
-pub mod ErrorTexts
-pub mod Lines
-pub mod Words

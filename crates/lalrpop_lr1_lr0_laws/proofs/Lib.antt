@@ -1,2 +1,0 @@
-pub mod ChoiceLemmas
-pub mod CoreLemmas

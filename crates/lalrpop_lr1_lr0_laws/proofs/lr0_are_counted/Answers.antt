@@ -1,5 +1,0 @@
-use Rattle.lalrpop_lr1_lr0_laws.proofs.CoreLemmas.{states_counted}
-use Rattle.lalrpop_lr1_lr0_laws.proofs.lr0_are_counted.Goals as goal
-
-pub returns : goal.returns
-returns c = λ grammar s states nb lr0. states_counted grammar s states lr0 nb

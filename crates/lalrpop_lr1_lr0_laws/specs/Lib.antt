@@ -1,2 +1,0 @@
-pub mod ValidCores
-pub mod Lr0Laws

@@ -1,3 +1,0 @@
-pub mod MakingLemmas
-pub mod LeastLemmas
-mod ExamplesOfMadeTrees

@@ -1,2 +1,0 @@
-pub mod SpanNumbers
-pub mod LeastExpanded

@@ -1,4 +1,0 @@
-pub mod OutSteps
-pub mod ToldSteps
-pub mod EmptySteps
-pub mod OutGraphs

@@ -1,4 +1,0 @@
-pub mod PathLemmas
-pub mod OutwardLemmas
-pub mod WayOutLemmas
-pub mod ExamplesOfWaysOut

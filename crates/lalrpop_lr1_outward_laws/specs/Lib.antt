@@ -1,3 +1,0 @@
-pub mod PathTrees
-pub mod OutwardMoves
-pub mod Laws

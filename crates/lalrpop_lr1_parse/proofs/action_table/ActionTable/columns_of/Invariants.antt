@@ -1,6 +1,0 @@
-use Rattle.std.proofs.Common.{take}
-use Rattle.lalrpop_lr1_parse.specs.Columns.{AreColumnsOf}
-use Rattle.lalrpop_lr1_parse.proofs.action_table.ActionTable.columns_of.Given as goal
-
-abbrev pub invariant-loop-terminal : goal.invariant-loop-terminal
-invariant-loop-terminal l = AreColumnsOf l.self (take l.terminal-index l.terminals) l.numbers.items

@@ -1,8 +1,0 @@
-use Rattle.std.proofs.Common.{◌≡◌, ◌++◌, map}
-use Rattle.lalrpop_lr1_parse.specs.Rows.{entry_view, shift_entry}
-use Rattle.lalrpop_lr1_parse.proofs.entries.add_shifts.Given as goal
-
-abbrev pub invariant-loop-terminal : goal.invariant-loop-terminal
-invariant-loop-terminal l =
-    map entry_view l.entries.items ++ map shift_entry l.terminal-iterator
-    ≡ map entry_view l.initial.entries.items ++ map shift_entry l.state.shifts

@@ -1,6 +1,0 @@
-use Rattle.std.proofs.Common.{◌≡◌, map, take}
-use Rattle.lalrpop_lr1_parse.proofs.numbering.targets_of.Given as goal
-
-abbrev pub invariant-loop-entry : goal.invariant-loop-entry
-invariant-loop-entry l =
-    l.targets.items ≡ map (λ e. e.target) (take l.entry-index l.entries)

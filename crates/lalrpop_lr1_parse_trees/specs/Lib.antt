@@ -1,2 +1,0 @@
-pub mod NamedTrees
-pub mod ParseTreeTexts

@@ -1,0 +1,34 @@
+pub mod EnteringLemmas
+pub mod EntryLemmas
+pub mod HeapLemmas
+pub mod MeasureLemmas
+pub mod NumberLemmas
+pub mod PathLemmas
+pub mod SearchLemmas
+pub mod StepLemmas
+mod ExamplesOfGraphPaths
+pub mod EdgeLemmas
+pub mod PathStepLemmas
+pub mod WalkLemmas
+pub mod ForestLemmas
+pub mod SymbolLemmas
+pub mod StateSearchLemmas
+pub mod TreeLemmas
+pub mod ReachedLemmas
+pub mod ExamplesOfStatePaths
+pub mod NodeLemmas
+pub mod CompletionSearchLemmas
+pub mod OutwardStepLemmas
+pub mod ListLemmas
+pub mod AddedStepLemmas
+pub mod StepEdgeLemmas
+pub mod NameNumberLemmas
+pub mod OutStepLemmas
+mod ExamplesOfOutSteps
+pub mod AlongLemmas
+pub mod EdgeStepLemmas
+pub mod ExamplesOfWaysFound
+pub mod FoundLemmas
+pub mod WantedLemmas
+pub mod WantedWayLemmas
+pub mod WayLemmas

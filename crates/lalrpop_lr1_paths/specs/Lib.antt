@@ -1,0 +1,14 @@
+pub mod GraphPaths
+pub mod Graphs
+pub mod PathSearches
+pub mod NumberEdges
+pub mod TurnedGraphs
+pub mod PathForests
+pub mod PathTables
+pub mod OutSteps
+pub mod ToldSteps
+pub mod EmptySteps
+pub mod OutGraphs
+pub mod OutSearches
+pub mod StepMoves
+pub mod WantedGoals

@@ -1,2 +1,0 @@
-pub mod RestForests
-pub mod BeginPlaces

@@ -1,2 +1,0 @@
-pub mod PassedOnLemmas
-pub mod ShownTreeLemmas

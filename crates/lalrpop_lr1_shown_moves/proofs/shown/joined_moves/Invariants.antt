@@ -1,6 +1,0 @@
-use Rattle.std.proofs.Common.{◌≡◌, ◌++◌}
-use Rattle.std.specs.Prelude.{drop}
-use Rattle.lalrpop_lr1_shown_moves.proofs.shown.joined_moves.Given as goal
-
-abbrev pub invariant-loop-tree_move : goal.invariant-loop-tree_move
-invariant-loop-tree_move l = l.all.items ++ drop l.tree_move-index l.front ≡ l.front

@@ -1,9 +1,0 @@
-pub mod EdgeLemmas
-pub mod StepLemmas
-pub mod WalkLemmas
-pub mod ForestLemmas
-pub mod SymbolLemmas
-pub mod SearchLemmas
-pub mod TreeLemmas
-pub mod ReachedLemmas
-pub mod ExamplesOfStatePaths

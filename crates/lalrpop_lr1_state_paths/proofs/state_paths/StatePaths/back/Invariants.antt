@@ -1,8 +1,0 @@
-use Rattle.std.proofs.Common.{◌≡◌, ℕ, ◌+◌}
-use Rattle.lalrpop_lr1_outward_laws.specs.PathTrees.{IsBack, LedBy}
-use Rattle.lalrpop_lr1_state_paths.specs.PathTables.{last_steps}
-use Rattle.lalrpop_lr1_state_paths.proofs.state_paths.StatePaths.back.Given as goal
-
-abbrev pub invariant-loop : goal.invariant-loop
-invariant-loop l = (j m : ℕ) → l.counter + j ≡ l.places → IsBack (LedBy (last_steps l.self)) l.places l.state m →
-    IsBack (LedBy (last_steps l.self)) j l.place m

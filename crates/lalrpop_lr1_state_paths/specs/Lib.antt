@@ -1,4 +1,0 @@
-pub mod NumberEdges
-pub mod TurnedGraphs
-pub mod PathForests
-pub mod PathTables

@@ -1,6 +1,0 @@
-use Rattle.std.proofs.Common.{◌≡◌, ℕ, length, []}
-use Rattle.lalrpop_lr1_turn.specs.Shifts.{items_of_group}
-use Rattle.lalrpop_lr1_turn.proofs.grouping.empty_groups.Given as goal
-
-abbrev pub invariant-loop : goal.invariant-loop
-invariant-loop g l = (length l.groups.items ≡ l.counter) × ((s : ℕ) → items_of_group l.groups.items s ≡ [])

@@ -1,8 +1,0 @@
-use Rattle.std.proofs.Common.{◌≡◌, ℕ, length, take}
-use Rattle.lalrpop_lr1_first.specs.FirstNumbers.{symbol_count}
-use Rattle.lalrpop_lr1_turn.specs.Shifts.{items_of_group, shifted_items}
-use Rattle.lalrpop_lr1_turn.proofs.grouping.group_items.Given as goal
-
-abbrev pub invariant-loop-item : goal.invariant-loop-item
-invariant-loop-item g l = (length l.groups.items ≡ symbol_count l.table)
-    × ((s : ℕ) → items_of_group l.groups.items s ≡ shifted_items l.table.places.items s (take l.item-index l.items))

@@ -1,7 +1,0 @@
-use Rattle.std.proofs.Common.{true}
-use Rattle.std.specs.Prelude.{drop}
-use Rattle.lalrpop_lr1_ways_out.specs.StepMoves.{AddsSoFar}
-use Rattle.lalrpop_lr1_ways_out.proofs.step_moves.push_anys.Given as goal
-
-abbrev pub invariant-loop-edge : goal.invariant-loop-edge
-invariant-loop-edge l = AddsSoFar l.ways true l.edges (drop l.edge-index l.edges) l.initial.moves.items l.moves.items

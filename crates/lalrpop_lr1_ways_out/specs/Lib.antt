@@ -1,4 +1,0 @@
-pub mod OutSearches
-pub mod PassedOn
-pub mod StepMoves
-pub mod WantedGoals

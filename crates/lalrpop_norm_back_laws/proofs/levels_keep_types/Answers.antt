@@ -1,5 +1,0 @@
-use Rattle.lalrpop_norm_back_laws.proofs.LevelTypeLemmas.{levels_keep}
-use Rattle.lalrpop_norm_back_laws.proofs.levels_keep_types.Goals as goal
-
-pub returns : goal.returns
-returns c = λ finds g f w x t i. levels_keep finds g f w x t i

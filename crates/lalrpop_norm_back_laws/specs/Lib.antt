@@ -1,3 +1,0 @@
-pub mod ChainLaws
-pub mod KeyTypes
-pub mod TypeLaws

@@ -1,5 +1,0 @@
-use Rattle.lalrpop_norm_entries.proofs.UniqueLemmas.{entries_unique, used_unique}
-use Rattle.lalrpop_norm_entries.proofs.laws.entries_are_unique.Goals as goal
-
-pub returns : goal.returns
-returns c = record { literals = used_unique; entries = entries_unique }

@@ -1,5 +1,0 @@
-use Rattle.lalrpop_norm_entries.proofs.UsedLemmas.{has_entry}
-use Rattle.lalrpop_norm_entries.proofs.laws.literals_have_entries.Goals as goal
-
-pub returns : goal.returns
-returns c = has_entry

@@ -1,6 +1,0 @@
-use Rattle.lalrpop_norm_fault_chain.proofs.StandingLemmas.{type_stands}
-use Rattle.lalrpop_norm_fault_chain.proofs.type_faults_stand.Goals as goal
-
-pub returns : goal.returns
-returns c = λ finds deep features limit w leveled expanded checked first error right chain t told.
-    type_stands finds deep features limit w leveled expanded chain first checked t error right told

@@ -1,4 +1,0 @@
-pub mod KeyNames
-pub mod NameLaws
-pub mod OrderedNames
-pub mod TextTimes

@@ -1,9 +1,0 @@
-pub mod MetKeyLemmas
-pub mod KeyStandingLemmas
-pub mod MadeKeyLemmas
-pub mod ReplacedKeyLemmas
-pub mod NamedKeyLemmas
-pub mod RenamedKeyLemmas
-pub mod LeveledKeyLemmas
-pub mod WrittenKeyLemmas
-pub mod ExamplesOfKeyPlaces

@@ -1,8 +1,0 @@
-use Rattle.lalrpop_norm_key_place_law.proofs.MadeKeyLemmas.{made_placed, placed_made}
-use Rattle.lalrpop_norm_key_place_law.proofs.keys_have_places.Goals as goal
-
-pub returns-clause-made : goal.returns-clause-made
-returns-clause-made c = λ g x p h. placed_made g x p h
-
-pub returns-clause-placed : goal.returns-clause-placed
-returns-clause-placed c = λ g x shape made. made_placed g x shape made

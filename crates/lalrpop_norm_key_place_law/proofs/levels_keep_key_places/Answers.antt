@@ -1,5 +1,0 @@
-use Rattle.lalrpop_norm_key_place_law.proofs.LeveledKeyLemmas.{leveled_key_place}
-use Rattle.lalrpop_norm_key_place_law.proofs.levels_keep_key_places.Goals as goal
-
-pub returns : goal.returns
-returns c = λ finds g f w y p shape h. leveled_key_place finds g f w y p shape h

@@ -1,3 +1,0 @@
-pub mod MetKeys
-pub mod KeyPlaces
-pub mod KeyPlaceLaws

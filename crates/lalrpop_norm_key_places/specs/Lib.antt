@@ -1,4 +1,0 @@
-pub mod FirstPlaces
-pub mod GrammarPlaces
-pub mod KeySpanLaws
-pub mod Views

@@ -1,5 +1,0 @@
-use Rattle.lalrpop_norm_key_symbols.proofs.NamingLemmas.{name_at_place}
-use Rattle.lalrpop_norm_key_rules.proofs.keys.name_at.Goals as goal
-
-pub returns : goal.returns
-returns c = name_at_place c.args.names.now c.args.place c.get.result c.get.ensures.lookup.1 c.get.ensures.lookup.2

@@ -1,3 +1,0 @@
-pub mod KeyedSymbols
-pub mod KeyNaming
-pub mod WrittenRules

@@ -1,9 +1,0 @@
-use Rattle.std.proofs.Common.{◌≡◌, ◌++◌, map, drop}
-use Rattle.lalrpop_grammar_closed.specs.Views.{closed_view, closeds}
-use Rattle.lalrpop_norm_expansion.specs.Depth.{calls_in_all}
-use Rattle.lalrpop_norm_key_table.proofs.standing.+calls.Given as goal
-
-abbrev pub invariant-note_calls_in-loop-symbol : goal.invariant-note_calls_in-loop-symbol
-invariant-note_calls_in-loop-symbol l =
-    map closed_view l.calls ++ calls_in_all (closeds (map closed_view (drop l.symbol-index l.symbols)))
-    ≡ map closed_view l.fn.calls ++ calls_in_all (closeds (map closed_view l.symbols))

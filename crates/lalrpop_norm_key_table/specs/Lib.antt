@@ -1,3 +1,0 @@
-pub mod KeyTexts
-pub mod Standing
-pub mod Tables

@@ -1,3 +1,0 @@
-pub mod FirstFaultLemmas
-pub mod RankedLemmas
-pub mod ValuePlaceLemmas

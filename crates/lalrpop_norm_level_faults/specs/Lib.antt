@@ -1,2 +1,0 @@
-pub mod LevelErrors
-pub mod LevelSearch

@@ -1,5 +1,0 @@
-use Rattle.lalrpop_norm_level_laws.proofs.PackedNameLemmas.{names_packed}
-use Rattle.lalrpop_norm_level_laws.proofs.levels_name_rules.Goals as goal
-
-pub returns : goal.returns
-returns c = λ finds g f w plain. names_packed finds g f w plain

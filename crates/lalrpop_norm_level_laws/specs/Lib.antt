@@ -1,4 +1,0 @@
-pub mod LeveledGrammar
-pub mod LevelNames
-pub mod LevelFaults
-pub mod LevelLaws

@@ -1,4 +1,0 @@
-pub mod LevelTables
-pub mod TakenTimes
-pub mod TakenViews
-pub mod GivenNames

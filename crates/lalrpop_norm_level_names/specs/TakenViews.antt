@@ -1,8 +1,0 @@
--- How often texts are taken, as definitions see it.
-use Rattle.std.specs.Prelude.{ℕ}
-use Rattle.lalrpop_grammar_symbols.specs.Symbols.{Text}
-use Rattle.lalrpop_norm_level_names.specs.TakenTimes.{times_in}
-use Rattle.lalrpop_norm_level_names.specs.declared.taken.TakenTexts.{TakenTexts}
-
-abbrev pub taken_times : TakenTexts → Text → ℕ
-taken_times taken = times_in taken.times

@@ -1,9 +1,0 @@
-pub mod RenamingLemmas
-pub mod RenameByNumberLemmas
-pub mod AlternativeLemmas
-pub mod BucketLemmas
-pub mod FallingLemmas
-pub mod RuleByNameLemmas
-pub mod PutLemmas
-pub mod LevelLawLemmas
-pub mod ExamplesOfNamedAlternatives

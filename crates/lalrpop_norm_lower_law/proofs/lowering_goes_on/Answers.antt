@@ -1,5 +1,0 @@
-use Rattle.lalrpop_norm_lower_law.proofs.LoweredLemmas.{lowered_from}
-use Rattle.lalrpop_norm_lower_law.proofs.lowering_goes_on.Goals as goal
-
-pub returns : goal.returns
-returns c = λ finds g types made l one m k. lowered_from finds g types made l one m k

@@ -1,3 +1,0 @@
-pub mod LoweredChains
-pub mod LoweredViews
-pub mod PassedOn

@@ -1,3 +1,0 @@
-pub mod NameFaults
-pub mod NameLaws
-pub mod Resolving

@@ -1,3 +1,0 @@
-pub mod FoundFaults
-pub mod Searches
-pub mod NameViews

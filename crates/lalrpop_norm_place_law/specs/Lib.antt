@@ -1,3 +1,0 @@
-pub mod CallPlaces
-pub mod WrittenPlaces
-pub mod PlaceLaws

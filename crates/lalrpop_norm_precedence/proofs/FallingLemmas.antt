@@ -1,0 +1,189 @@
+-- Levels in order: each is followed by the next tighter one, and the first is the loosest; for the rules of levels.
+use Rattle.std.proofs.Common.{◌≡◌, ℕ, ◌<◌, Bool, true, false, List, [], ◌∷◌, refl, ap, sym, ◌∙◌, cond, arith}
+use Rattle.std.proofs.lemmas.Bool.{eqb-true, eqb-false, ltb-true, ltb-false, lt-ltb}
+use Rattle.std.specs.Prelude.{Option, Some, None, filter, max, nat_lt, ◌==◌}
+use Rattle.lalrpop_grammar_language.specs.Enabled.{EnabledRule}
+use Rattle.lalrpop_grammar_language.specs.Levels.{greatest, larger, levels, loosest, tighter}
+use Rattle.lalrpop_norm_theory.specs.LeveledGrammar.{put_level, falling_levels, levels_in_order}
+
+-- the first number of a list, if it has one
+abbrev pub front : List ℕ → Option ℕ
+front [] = None
+front (n ∷ ns) = Some n
+
+-- the levels below another
+abbrev below : ℕ → List ℕ → List ℕ
+below j = filter (λ n. nat_lt n j)
+
+-- what falls
+
+abbrev AllBelow : ℕ → List ℕ → Type 0
+AllBelow m [] = Unit {0}
+AllBelow m (n ∷ ns) = (n < m) × AllBelow m ns
+
+abbrev Falls : List ℕ → Type 0
+Falls [] = Unit {0}
+Falls (n ∷ ns) = AllBelow n ns × Falls ns
+
+below-wider : (m k : ℕ) → k < m → (ns : List ℕ) → AllBelow k ns → AllBelow m ns
+below-wider m k h [] w = tt
+below-wider m k h (n ∷ ns) w =
+    let under = w.0 in let first : n < m = omega (arith, under, h) in (first, below-wider m k h ns w.1)
+
+below-put : (m n : ℕ) → n < m → (ns : List ℕ) → AllBelow m ns → AllBelow m (put_level n ns)
+below-put m n h [] w = (h, tt)
+below-put m n h (k ∷ ks) w = go (n == k) (nat_lt k n) (below-put m n h ks w.1)
+  where
+    go : (b c : Bool) → AllBelow m (put_level n ks) → AllBelow m (cond b (k ∷ ks) (cond c (n ∷ k ∷ ks) (k ∷ put_level n ks)))
+    go true c more = w
+    go false true more = (h, w)
+    go false false more = (w.0, more)
+
+falls-put : (n : ℕ) (ns : List ℕ) → Falls ns → Falls (put_level n ns)
+falls-put n [] w = (tt, tt)
+falls-put n (k ∷ ks) w = go (n == k) refl (nat_lt k n) refl (falls-put n ks w.1)
+  where
+    go : (b : Bool) → (n == k) ≡ b → (c : Bool) → nat_lt k n ≡ c → Falls (put_level n ks)
+        → Falls (cond b (k ∷ ks) (cond c (n ∷ k ∷ ks) (k ∷ put_level n ks)))
+    go true e c f more = w
+    go false e true f more = let under = ltb-true k n f in ((under, below-wider n k under ks w.0), w)
+    go false e false f more =
+        let over = ltb-false k n f in
+        let apart = eqb-false n k e in
+        let under : n < k = omega (arith, over, apart) in
+        (below-put k n under ks w.0, more)
+
+falling-falls : (ns : List ℕ) → Falls (falling_levels ns)
+falling-falls [] = tt
+falling-falls (n ∷ ns) = falls-put n (falling_levels ns) (falling-falls ns)
+
+all-kept : (m : ℕ) (ns : List ℕ) → AllBelow m ns → below m ns ≡ ns
+all-kept m [] w = refl
+all-kept m (n ∷ ns) w = go (nat_lt n m) refl (all-kept m ns w.1)
+  where
+    go : (b : Bool) → nat_lt n m ≡ b → below m ns ≡ ns → cond b (n ∷ below m ns) (below m ns) ≡ n ∷ ns
+    go true e more = ap (λ l. n ∷ l) more
+    go false e more = let over = ltb-false n m e in let under = w.0 in absurd (omega (arith, over, under))
+
+-- each of the levels is followed by those of all that are below it
+abbrev pub Follow : List ℕ → List ℕ → Type 0
+Follow all [] = Unit {0}
+Follow all (n ∷ ns) = (filter (λ m. nat_lt m n) all ≡ ns) × Follow all ns
+
+follow-more : (m : ℕ) (all ns : List ℕ) → AllBelow m ns → Follow all ns → Follow (m ∷ all) ns
+follow-more m all [] w h = tt
+follow-more m all (n ∷ ns) w h = (go (nat_lt m n) refl, follow-more m all ns w.1 h.1)
+  where
+    go : (b : Bool) → nat_lt m n ≡ b → cond b (m ∷ below n all) (below n all) ≡ ns
+    go true e = let over = ltb-true m n e in let under = w.0 in absurd (omega (arith, over, under))
+    go false e = h.0
+
+follow-falls : (ns : List ℕ) → Falls ns → Follow ns ns
+follow-falls [] w = tt
+follow-falls (n ∷ ns) w = (go (nat_lt n n) refl, follow-more n ns ns w.0 (follow-falls ns w.1))
+  where
+    go : (b : Bool) → nat_lt n n ≡ b → cond b (n ∷ below n ns) (below n ns) ≡ ns
+    go true e = let self = ltb-true n n e in absurd (omega (arith, self))
+    go false e = all-kept n ns w.0
+
+-- so it is with the levels in order
+pub levels-follow : (r : EnabledRule) → Follow (levels_in_order r) (levels_in_order r)
+levels-follow r = follow-falls (levels_in_order r) (falling-falls (levels r))
+
+-- the first is the greatest
+
+put-front : (n : ℕ) (ms : List ℕ) → front (put_level n ms) ≡ larger n (front ms)
+put-front n [] = refl
+put-front n (m ∷ ms) = go (n == m) refl (nat_lt m n) refl
+  where
+    go : (b : Bool) → (n == m) ≡ b → (c : Bool) → nat_lt m n ≡ c
+        → front (cond b (m ∷ ms) (cond c (n ∷ m ∷ ms) (m ∷ put_level n ms))) ≡ Some (max n m)
+    go true e c f = let h : n ≡ m = eqb-true n m e in ap Some (let k : m ≡ max n m = omega (arith, h) in k)
+    go false e true f = let h = ltb-true m n f in ap Some (let k : n ≡ max n m = omega (arith, h) in k)
+    go false e false f = let h = ltb-false m n f in ap Some (let k : m ≡ max n m = omega (arith, h) in k)
+
+falling-front : (ns : List ℕ) → front (falling_levels ns) ≡ greatest ns
+falling-front [] = refl
+falling-front (n ∷ ns) = put-front n (falling_levels ns) ∙ ap (larger n) (falling-front ns)
+
+-- the loosest level is the first
+pub loosest-first : (r : EnabledRule) → loosest r ≡ front (levels_in_order r)
+loosest-first r = sym (falling-front (levels r))
+
+-- those below another, in order
+
+below-yes : (j m : ℕ) (ms : List ℕ) → nat_lt m j ≡ true → below j (m ∷ ms) ≡ m ∷ below j ms
+below-yes j m ms e = ap (λ b. cond b (m ∷ below j ms) (below j ms)) e
+
+below-no : (j m : ℕ) (ms : List ℕ) → nat_lt m j ≡ false → below j (m ∷ ms) ≡ below j ms
+below-no j m ms e = ap (λ b. cond b (m ∷ below j ms) (below j ms)) e
+
+put-same : (n m : ℕ) (ms : List ℕ) → (n == m) ≡ true → put_level n (m ∷ ms) ≡ m ∷ ms
+put-same n m ms e = ap (λ b. cond b (m ∷ ms) (cond (nat_lt m n) (n ∷ m ∷ ms) (m ∷ put_level n ms))) e
+
+put-over : (n m : ℕ) (ms : List ℕ) → (n == m) ≡ false → nat_lt m n ≡ true → put_level n (m ∷ ms) ≡ n ∷ m ∷ ms
+put-over n m ms e f =
+    ap (λ b. cond b (m ∷ ms) (cond (nat_lt m n) (n ∷ m ∷ ms) (m ∷ put_level n ms))) e
+    ∙ ap (λ c. cond c (n ∷ m ∷ ms) (m ∷ put_level n ms)) f
+
+put-under : (n m : ℕ) (ms : List ℕ) → (n == m) ≡ false → nat_lt m n ≡ false → put_level n (m ∷ ms) ≡ m ∷ put_level n ms
+put-under n m ms e f =
+    ap (λ b. cond b (m ∷ ms) (cond (nat_lt m n) (n ∷ m ∷ ms) (m ∷ put_level n ms))) e
+    ∙ ap (λ c. cond c (n ∷ m ∷ ms) (m ∷ put_level n ms)) f
+
+put-kept : (j n : ℕ) → n < j → (ms : List ℕ) → below j (put_level n ms) ≡ put_level n (below j ms)
+put-kept j n h [] = below-yes j n [] (lt-ltb n j h)
+put-kept j n h (m ∷ ms) = go (n == m) refl (nat_lt m n) refl (put-kept j n h ms)
+  where
+    beside : (n == m) ≡ false → nat_lt m n ≡ false → (q : Bool) → nat_lt m j ≡ q
+        → below j (put_level n ms) ≡ put_level n (below j ms)
+        → below j (m ∷ put_level n ms) ≡ put_level n (below j (m ∷ ms))
+    beside e f true g more =
+        below-yes j m (put_level n ms) g ∙ ap (λ l. m ∷ l) more ∙ sym (put-under n m (below j ms) e f)
+        ∙ ap (put_level n) (sym (below-yes j m ms g))
+    beside e f false g more = below-no j m (put_level n ms) g ∙ more ∙ ap (put_level n) (sym (below-no j m ms g))
+
+    go : (b : Bool) → (n == m) ≡ b → (c : Bool) → nat_lt m n ≡ c → below j (put_level n ms) ≡ put_level n (below j ms)
+        → below j (put_level n (m ∷ ms)) ≡ put_level n (below j (m ∷ ms))
+    go true e c f more =
+        let same = eqb-true n m e in
+        let under : nat_lt m j ≡ true = lt-ltb m j (omega (arith, h, same)) in
+        ap (below j) (put-same n m ms e) ∙ below-yes j m ms under ∙ sym (put-same n m (below j ms) e)
+        ∙ ap (put_level n) (sym (below-yes j m ms under))
+    go false e true f more =
+        let over = ltb-true m n f in
+        let under : nat_lt m j ≡ true = lt-ltb m j (omega (arith, h, over)) in
+        ap (below j) (put-over n m ms e f) ∙ below-yes j n (m ∷ ms) (lt-ltb n j h) ∙ ap (λ l. n ∷ l) (below-yes j m ms under)
+        ∙ sym (put-over n m (below j ms) e f) ∙ ap (put_level n) (sym (below-yes j m ms under))
+    go false e false f more = ap (below j) (put-under n m ms e f) ∙ beside e f (nat_lt m j) refl more
+
+put-gone : (j n : ℕ) → nat_lt n j ≡ false → (ms : List ℕ) → below j (put_level n ms) ≡ below j ms
+put-gone j n h [] = below-no j n [] h
+put-gone j n h (m ∷ ms) = go (n == m) refl (nat_lt m n) refl (put-gone j n h ms)
+  where
+    beside : (q : Bool) → nat_lt m j ≡ q → below j (put_level n ms) ≡ below j ms
+        → below j (m ∷ put_level n ms) ≡ below j (m ∷ ms)
+    beside true g more = below-yes j m (put_level n ms) g ∙ ap (λ l. m ∷ l) more ∙ sym (below-yes j m ms g)
+    beside false g more = below-no j m (put_level n ms) g ∙ more ∙ sym (below-no j m ms g)
+
+    go : (b : Bool) → (n == m) ≡ b → (c : Bool) → nat_lt m n ≡ c → below j (put_level n ms) ≡ below j ms
+        → below j (put_level n (m ∷ ms)) ≡ below j (m ∷ ms)
+    go true e c f more = ap (below j) (put-same n m ms e)
+    go false e true f more = ap (below j) (put-over n m ms e f) ∙ below-no j n (m ∷ ms) h
+    go false e false f more = ap (below j) (put-under n m ms e f) ∙ beside (nat_lt m j) refl more
+
+falling-below : (j : ℕ) (ns : List ℕ) → below j (falling_levels ns) ≡ falling_levels (below j ns)
+falling-below j [] = refl
+falling-below j (n ∷ ns) = go (nat_lt n j) refl (falling-below j ns)
+  where
+    go : (b : Bool) → nat_lt n j ≡ b → below j (falling_levels ns) ≡ falling_levels (below j ns)
+        → below j (put_level n (falling_levels ns)) ≡ falling_levels (below j (n ∷ ns))
+    go true e more =
+        put-kept j n (ltb-true n j e) (falling_levels ns) ∙ ap (put_level n) more
+        ∙ ap falling_levels (sym (below-yes j n ns e))
+    go false e more = put-gone j n e (falling_levels ns) ∙ more ∙ ap falling_levels (sym (below-no j n ns e))
+
+-- the next tighter level is the first of those that follow
+pub tighter-first : (r : EnabledRule) (j : ℕ) (ns : List ℕ) → filter (λ m. nat_lt m j) (levels_in_order r) ≡ ns
+    → tighter r j ≡ front ns
+tighter-first r j ns e = sym (falling-front (below j (levels r))) ∙ ap front (sym (falling-below j (levels r)) ∙ e)

@@ -1,0 +1,23 @@
+pub mod OrderLemmas
+pub mod RankLevelLemmas
+pub mod NumberLemmas
+pub mod TakenLemmas
+pub mod GivenLemmas
+pub mod StandingLemmas
+pub mod ApartLemmas
+pub mod AllApartLemmas
+pub mod StepLemmas
+pub mod NamingLemmas
+mod ExamplesOfGivenNames
+pub mod FirstFaultLemmas
+pub mod RankedLemmas
+pub mod ValuePlaceLemmas
+pub mod RenamingLemmas
+pub mod RenameByNumberLemmas
+pub mod AlternativeLemmas
+pub mod BucketLemmas
+pub mod FallingLemmas
+pub mod RuleByNameLemmas
+pub mod PutLemmas
+pub mod LevelLawLemmas
+pub mod ExamplesOfNamedAlternatives

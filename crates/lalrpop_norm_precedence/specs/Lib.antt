@@ -1,0 +1,12 @@
+pub mod LevelTables
+pub mod TakenTimes
+pub mod TakenViews
+pub mod GivenNames
+pub mod LevelErrors
+pub mod LevelSearch
+pub mod Occurrences
+pub mod NamedAlternatives
+pub mod LevelBuckets
+pub mod RulesByNames
+pub mod PutItems
+pub mod LevelExpansions

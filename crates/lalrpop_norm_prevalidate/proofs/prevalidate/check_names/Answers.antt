@@ -1,0 +1,15 @@
+use Rattle.std.proofs.Common.{sym, ap, ◌∙◌}
+use Rattle.std.specs.Prelude.{option_map}
+use Rattle.lalrpop_grammar_symbols.specs.Views.{span_view}
+use Rattle.lalrpop_grammar.specs.Views.{grammar_view}
+use Rattle.lalrpop_norm_prevalidate.proofs.StandingLemmas.{reserved-stands, no-reserved-stands}
+use Rattle.lalrpop_norm_prevalidate.proofs.prevalidate.check_names.Goals as goal
+
+pub returns-in-None-clause-ok : goal.returns-in-None-clause-ok
+returns-in-None-clause-ok c =
+    no-reserved-stands (grammar_view c.args.grammar.now) (sym c.in_ok-found.ensures ∙ ap (option_map span_view) c.in-None.is)
+
+pub returns-in-Some-clause-err : goal.returns-in-Some-clause-err
+returns-in-Some-clause-err c =
+    reserved-stands (grammar_view c.args.grammar.now) (span_view c.in-Some.span)
+    (sym c.in_ok-found.ensures ∙ ap (option_map span_view) c.in-Some.is)

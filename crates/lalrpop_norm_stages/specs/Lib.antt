@@ -1,2 +1,0 @@
-pub mod PassedOn
-pub mod Stages

@@ -1,6 +1,0 @@
-//! The passes of the normalizer behind the one over macros, together: the token check, types and lowering.
-#![tactic(auto)]
-
-mod finishing;
-
-pub use finishing::finish_expanded;

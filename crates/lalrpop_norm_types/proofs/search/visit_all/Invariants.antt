@@ -1,5 +1,0 @@
-use Rattle.lalrpop_norm_types.specs.ProgramViews.{IsRightTable, grammar_of, rule_types}
-use Rattle.lalrpop_norm_types.proofs.search.visit_all.Given as goal
-
-abbrev pub invariant-loop-number : goal.invariant-loop-number
-invariant-loop-number l = IsRightTable (grammar_of l.names) (rule_types l.table)

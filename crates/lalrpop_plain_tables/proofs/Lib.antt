@@ -1,0 +1,5 @@
+pub mod ExamplesOfLines
+pub mod LineLemmas
+pub mod WordLemmas
+mod ParsableLemmas
+mod TerminalLemmas

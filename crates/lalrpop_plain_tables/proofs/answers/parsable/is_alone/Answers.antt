@@ -1,0 +1,5 @@
+use Rattle.lalrpop_plain_tables.proofs.ParsableLemmas.{alone_seen}
+use Rattle.lalrpop_plain_tables.proofs.answers.parsable.is_alone.Goals as goal
+
+pub returns : goal.returns
+returns c = λ h. alone_seen c.args.grammar.now c.args.start.now (c.start_is_alone.ensures.0 h)

@@ -1,0 +1,9 @@
+pub mod ErrorTexts
+pub mod Lines
+pub mod Words
+pub mod Counts
+pub mod CountTexts
+pub mod FaultTexts
+pub mod KnownTerminals
+pub mod Readings
+pub mod TokenAnswers

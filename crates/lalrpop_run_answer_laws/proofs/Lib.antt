@@ -1,6 +1,0 @@
-pub mod NamedLabelLemmas
-pub mod EntryLemmas
-pub mod NamedProductionLemmas
-pub mod InlinedExpansionLemmas
-pub mod NormalizedLemmas
-pub mod ExamplesOfNamedLabels

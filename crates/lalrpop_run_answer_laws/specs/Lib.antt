@@ -1,4 +1,0 @@
-pub mod NamedGrammars
-pub mod NamedLabels
-pub mod NormalizedExpansions
-pub mod PassedOn

@@ -1,4 +1,0 @@
-pub mod Expansions
-pub mod ExpansionTrees
-pub mod Barren
-pub mod Laws

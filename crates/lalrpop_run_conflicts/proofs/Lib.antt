@@ -1,2 +1,0 @@
-pub mod ConflictLineLemmas
-pub mod UnfoldedLemmas

@@ -1,8 +1,0 @@
-use Rattle.std.proofs.Common.{rules}
-use Rattle.std.proofs.Output.{has_written_append}
-use Rattle.lalrpop_run_conflicts.proofs.texts.write_conflicts.Goals as goal
-
-pub returns : goal.returns
-returns g c = λ plain ok.
-    let first = c.writeln.ensures.writes plain (search rules) in
-    has_written_append _ _ _ _ _ _ first (c.write_each.ensures first.plain ok)

@@ -1,2 +1,0 @@
-pub mod WrittenConflicts
-pub mod ConflictTexts

@@ -1,2 +1,0 @@
-pub mod FlatLabelLemmas
-pub mod LabelTableLemmas

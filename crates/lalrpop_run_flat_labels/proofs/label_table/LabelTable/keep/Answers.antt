@@ -1,6 +1,0 @@
-use Rattle.std.proofs.Common.{ap}
-use Rattle.lalrpop_run_flat_labels.specs.FlatLabels.{marks_in}
-use Rattle.lalrpop_run_flat_labels.proofs.label_table.LabelTable.keep.Goals as goal
-
-pub returns-in_ok-insert : goal.returns-in_ok-insert
-returns-in_ok-insert c = λ l. rw (ap marks_in c.in-Some.is) (c.in_ok-insert.ensures.updates.0 l)

@@ -1,2 +1,0 @@
-pub mod FlatLabels
-pub mod LabelTables

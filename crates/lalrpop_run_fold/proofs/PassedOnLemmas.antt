@@ -1,2 +1,0 @@
--- Lemmas of crates below, for crates above that do not name those crates themselves.
-pub use Rattle.lalrpop_run_prepare.proofs.TableLemmas.{has_its_actions}

@@ -1,3 +1,0 @@
-pub mod KeptTrees
-pub mod TreeSizes
-pub mod PartViews

@@ -1,0 +1,18 @@
+//! Tests of the layer from a prepared grammar to a text's tree that no table can hold: its calls, each where memory is there.
+
+#[cfg(test)]
+mod folding;
+#[cfg(test)]
+mod given;
+#[cfg(test)]
+mod grammars;
+#[cfg(test)]
+mod inlining;
+#[cfg(test)]
+mod labels;
+#[cfg(test)]
+mod parsing;
+#[cfg(test)]
+mod scanning;
+#[cfg(test)]
+mod trees;

@@ -1,0 +1,91 @@
+//! Certificates over other grammars, and from other starts.
+
+use crate::witnesses::given::{Question, ask, certificate_of, name_of, prepared_grammar};
+use crate::witnesses::grammars::{INLINED, OPERATORS};
+use lalrpop_run_parser::{Certificate, Prepared, check_conflict};
+use std::alloc::Global;
+use std::process::Abort;
+
+/// Whether the certificate is taken over the prepared grammar's productions, from the nonterminal of this name.
+fn is_taken_from(
+    rt: &impl Abort,
+    alloc: Global,
+    prepared: &Prepared,
+    name: &str,
+    certificate: &Certificate<'_>,
+) -> bool {
+    let start = name_of(rt, alloc, name);
+    check_conflict(alloc, prepared.expansion(), &start, certificate).expect(rt, "memory")
+}
+
+fn is_taken_from_the_start(
+    rt: &impl Abort,
+    alloc: Global,
+    prepared: &Prepared,
+    certificate: &Certificate<'_>,
+) {
+    let start = prepared.start_name().0.as_str();
+    assert!(rt; is_taken_from(rt, alloc, prepared, start, certificate));
+    assert!(rt; !is_taken_from(rt, alloc, prepared, "S", certificate));
+    assert!(rt; !is_taken_from(rt, alloc, prepared, "T", certificate));
+}
+
+fn has_one_start(rt: &impl Abort, alloc: Global, prepared: &Prepared) {
+    let certificate = certificate_of(rt, alloc, prepared);
+    is_taken_from_the_start(rt, alloc, prepared, &certificate);
+}
+
+struct TakesItsStart;
+
+impl Question for TakesItsStart {
+    fn ask<A: Abort>(rt: &A, alloc: Global, prepared: &Prepared) {
+        has_one_start(rt, alloc, prepared);
+    }
+}
+
+// `S` is there, but stands below the start.
+#[test]
+fn another_start_is_not_taken(rt: HostRuntime) {
+    ask::<TakesItsStart, HostRuntime>(&rt, rt.alloc(), INLINED, "S");
+}
+
+/// Whether the certificate is taken, from the nonterminal of this name, over the productions of the grammar that the JSON spells.
+fn is_taken_over_grammar(
+    rt: &impl Abort,
+    alloc: Global,
+    json: &str,
+    start: &str,
+    name: &str,
+    certificate: &Certificate<'_>,
+) -> bool {
+    let prepared = prepared_grammar(rt, alloc, json, start);
+    is_taken_from(rt, alloc, &prepared, name, certificate)
+}
+
+fn is_taken_over_equal_ones(
+    rt: &impl Abort,
+    alloc: Global,
+    name: &str,
+    certificate: &Certificate<'_>,
+) {
+    assert!(rt; is_taken_over_grammar(rt, alloc, INLINED, "S", name, certificate));
+    assert!(rt; !is_taken_over_grammar(rt, alloc, OPERATORS, "E", name, certificate));
+}
+
+fn asks_for_productions(rt: &impl Abort, alloc: Global, prepared: &Prepared) {
+    let certificate = certificate_of(rt, alloc, prepared);
+    is_taken_over_equal_ones(rt, alloc, prepared.start_name().0.as_str(), &certificate);
+}
+
+struct TakesEqualGrammars;
+
+impl Question for TakesEqualGrammars {
+    fn ask<A: Abort>(rt: &A, alloc: Global, prepared: &Prepared) {
+        asks_for_productions(rt, alloc, prepared);
+    }
+}
+
+#[test]
+fn a_grammar_of_equal_productions_takes_the_same_certificates(rt: HostRuntime) {
+    ask::<TakesEqualGrammars, HostRuntime>(&rt, rt.alloc(), INLINED, "S");
+}

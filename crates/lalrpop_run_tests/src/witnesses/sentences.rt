@@ -1,0 +1,87 @@
+//! The trees of certificates, as written trees.
+
+use crate::witnesses::given::{Question, ask, certificates_of, is_taken, stands_for};
+use crate::witnesses::grammars::{INLINED, OPERATORS};
+use lalrpop_grammar::WrittenTree;
+use lalrpop_judge::judge_tree;
+use lalrpop_lr1::ExpandedTree;
+use lalrpop_run_parser::folding::{fold, unfold};
+use lalrpop_run_parser::{Certificate, Prepared};
+use std::alloc::Global;
+use std::process::Abort;
+
+/// That the tree is folded, and is unfolded to itself.
+fn is_folded(rt: &impl Abort, alloc: Global, prepared: &Prepared, written: &WrittenTree) {
+    let folded = fold(alloc, prepared, written).expect(rt, "an admitted tree");
+    assert!(rt; stands_for(rt, alloc, prepared, &folded, written));
+}
+
+/// That the tree is admitted, is folded, and is unfolded to itself.
+fn folds_again(rt: &impl Abort, alloc: Global, prepared: &Prepared, written: &WrittenTree) {
+    let admitted = judge_tree(alloc, prepared.grammar(), &[], prepared.start(), written);
+    assert!(rt; admitted.expect(rt, "a judgement"));
+    is_folded(rt, alloc, prepared, written);
+}
+
+/// That the tree stands for a written tree that is admitted, and is folded again.
+fn is_written(rt: &impl Abort, alloc: Global, prepared: &Prepared, tree: &ExpandedTree<'_>) {
+    let written = unfold(alloc, prepared, tree).expect(rt, "memory");
+    folds_again(rt, alloc, prepared, &written);
+}
+
+/// That the certificate is taken, and each of its two trees stands for a written one.
+fn is_of_written_trees(
+    rt: &impl Abort,
+    alloc: Global,
+    prepared: &Prepared,
+    certificate: &Certificate<'_>,
+) {
+    assert!(rt; is_taken(rt, alloc, prepared, certificate));
+    is_written(rt, alloc, prepared, &certificate.tree1);
+    is_written(rt, alloc, prepared, &certificate.tree2);
+}
+
+/// That each of the certificates is of written trees.
+fn each_is_of_written_trees(
+    rt: &impl Abort,
+    alloc: Global,
+    prepared: &Prepared,
+    certificates: &[Certificate<'_>],
+) {
+    for certificate in certificates {
+        is_of_written_trees(rt, alloc, prepared, certificate);
+    }
+}
+
+/// That the grammar has so many certificates, each of written trees.
+fn are_of_written_trees(rt: &impl Abort, alloc: Global, prepared: &Prepared, count: usize) {
+    let certificates = certificates_of(rt, alloc, prepared);
+    assert_eq!(rt; certificates.len(), count);
+    each_is_of_written_trees(rt, alloc, prepared, certificates.as_slice());
+}
+
+struct AdmitsInlined;
+
+impl Question for AdmitsInlined {
+    fn ask<A: Abort>(rt: &A, alloc: Global, prepared: &Prepared) {
+        are_of_written_trees(rt, alloc, prepared, 1);
+    }
+}
+
+#[test]
+fn both_trees_of_inlined_alternatives_are_admitted(rt: HostRuntime) {
+    ask::<AdmitsInlined, HostRuntime>(&rt, rt.alloc(), INLINED, "S");
+}
+
+struct AdmitsOperators;
+
+impl Question for AdmitsOperators {
+    fn ask<A: Abort>(rt: &A, alloc: Global, prepared: &Prepared) {
+        are_of_written_trees(rt, alloc, prepared, 4);
+    }
+}
+
+#[test]
+fn both_trees_of_each_pair_of_operators_are_admitted(rt: HostRuntime) {
+    ask::<AdmitsOperators, HostRuntime>(&rt, rt.alloc(), OPERATORS, "E");
+}

@@ -1,4 +1,0 @@
-pub mod ExpandedForestLemmas
-pub mod AnswerLemmas
-pub mod ChoiceLemmas
-pub mod ExamplesOfAnswers

@@ -1,3 +1,0 @@
-pub mod TextAnswers
-pub mod AnswerLaws
-pub mod TreeChoices

@@ -1,0 +1,17 @@
+pub mod ReachLemmas
+pub mod StartSideLemmas
+pub mod InlinedTestLemmas
+pub mod ForestLemmas
+pub mod ForestCountLemmas
+pub mod TextLemmas
+pub mod WrittenForestLemmas
+pub mod ContainsLemmas
+pub mod BarrenLemmas
+pub mod YieldLemmas
+pub mod ExamplesOfExpansions
+pub mod ExamplesOfTrees
+pub mod ExamplesOfBarren
+pub mod ExpandedForestLemmas
+pub mod AnswerLemmas
+pub mod ChoiceLemmas
+pub mod ExamplesOfAnswers

@@ -1,3 +1,0 @@
-pub mod CarriedLemmas
-pub mod EntryLemmas
-pub mod TokenizerLemmas

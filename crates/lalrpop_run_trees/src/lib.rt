@@ -1,0 +1,6 @@
+//! Written trees of a parse, by the labels that actions tell; and written trees taken apart by these.
+#![tactic(auto)]
+
+pub mod flat_labels;
+pub mod tree_parts;
+pub mod written_trees;

@@ -1,9 +1,0 @@
-//! Certificates of the conflicts for which a prepared grammar has no parser.
-//!
-//! `Witnesses` in `specs/` says which they are.
-#![tactic(auto)]
-
-mod witnessing;
-
-pub use lalrpop_run_prepare::{Prepared, prepare};
-pub use witnessing::{witness, witnesses};

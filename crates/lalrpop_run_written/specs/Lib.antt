@@ -1,2 +1,0 @@
-pub mod ActionLabels
-pub mod LabelledTrees
