@@ -2,31 +2,33 @@
 
 mod answer;
 mod automata;
-mod case;
 mod grammars;
 mod pattern;
 
 use crate::calls::answer::answer_of;
-use crate::calls::case::Case;
-use crate::files::{TableCase, Tally, read_text, run_cases, tell};
+use crate::files::fields::Fields;
+use crate::files::{TableCase, Tally, compare, run_cases};
 use anyhow::{Context, Result};
+use serde_json::Value;
 use std::alloc::Global;
 use std::rt::Files;
 
-impl TableCase for Case {
-    fn is_right<R: Alloc<A = Global> + Print>(&self, rt: &R) -> Result<bool> {
-        let answer = answer_of(rt.alloc(), &self.call).context(format_args!("{}", self.name))?;
-        let right = answer == self.wanted;
-        if !right {
-            tell(rt, self.name.as_str(), &self.wanted, &answer)?;
-        }
-        Ok(right)
+/// What a case has: what it shows, in words and as a grammar in short for who reads it, the call, and what it has to answer.
+const KEYS: [&str; 4] = ["name", "shows", "call", "wanted"];
+
+/// Single calls.
+struct Calls;
+
+impl TableCase for Calls {
+    fn is_right<R: Alloc<A = Global> + Print>(rt: &R, case: &Value) -> Result<bool> {
+        let fields = Fields::of(case, &KEYS)?;
+        let name = fields.text("name")?;
+        let answer = answer_of(rt.alloc(), fields.value("call")?).context(format_args!("{name}"))?;
+        compare(rt, name, fields.value("wanted")?, &answer)
     }
 }
 
 /// How many cases of the file pass; each of the others is told.
 pub fn run_tally<R: Alloc<A = Global> + Files + Print>(rt: &R, file: &str) -> Result<Tally> {
-    let text = read_text(rt, file)?;
-    let tally = run_cases::<Case, R>(rt, file, text.as_str())?;
-    Ok(tally)
+    run_cases::<Calls, R>(rt, file)
 }

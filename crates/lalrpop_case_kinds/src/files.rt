@@ -1,7 +1,9 @@
-//! Files of cases: each case is read and asked whether it is right, and those that are and those that differ are counted.
+//! Files of cases: what a kind of cases has, what a case says, answers as values, and how many of a file's cases pass.
 
 mod cases;
+pub mod fields;
 mod tally;
+pub mod values;
 
-pub use cases::{TableCase, read_text, run_cases, tell};
+pub use cases::{TableCase, compare, run_cases, tell};
 pub use tally::Tally;

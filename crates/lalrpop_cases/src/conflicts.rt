@@ -11,22 +11,27 @@ mod witnessed;
 use crate::conflicts::case::Case;
 use crate::conflicts::count::conflict_count;
 use anyhow::Result;
-use lalrpop_case_kinds::files::{TableCase, Tally, read_text, run_cases};
+use lalrpop_case_kinds::files::{TableCase, Tally, run_cases};
+use serde_json::Value;
 use std::alloc::Global;
 use std::rt::Files;
 
-impl TableCase for Case {
-    fn is_right<R: Alloc<A = Global> + Print>(&self, rt: &R) -> Result<bool> {
-        let name = self.name.as_str();
-        match conflict_count(rt.alloc(), self) {
-            Ok(count) if count == self.wanted => return Ok(true),
-            Ok(count) => {
-                println!(rt;
-                    "{name} {}: wanted {}, got {count}",
-                    self.shows, self.wanted
-                )?;
-            }
-            Err(difference) => println!(rt; "{name} {}: {difference}", self.shows)?,
+/// Conflicts of grammars.
+struct Conflicts;
+
+impl TableCase for Conflicts {
+    fn is_right<R: Alloc<A = Global> + Print>(rt: &R, case: &Value) -> Result<bool> {
+        let case = Case::of(case)?;
+        let Case {
+            name,
+            shows,
+            wanted,
+            ..
+        } = case;
+        match conflict_count(rt.alloc(), &case) {
+            Ok(count) if count == wanted => return Ok(true),
+            Ok(count) => println!(rt; "{name} {shows}: wanted {wanted}, got {count}")?,
+            Err(difference) => println!(rt; "{name} {shows}: {difference}")?,
         }
         Ok(false)
     }
@@ -34,7 +39,5 @@ impl TableCase for Case {
 
 /// How many cases of the file pass; each of the others is told.
 pub(crate) fn run_tally<R: Alloc<A = Global> + Files + Print>(rt: &R, file: &str) -> Result<Tally> {
-    let text = read_text(rt, file)?;
-    let tally = run_cases::<Case, R>(rt, file, text.as_str())?;
-    Ok(tally)
+    run_cases::<Conflicts, R>(rt, file)
 }

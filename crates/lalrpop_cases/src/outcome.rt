@@ -1,8 +1,8 @@
 //! One run of the program over readers and a writer in memory.
 
-ghost use Rattle.std.specs.Prelude.{◌≡◌, ◌↔◌, [], IfSome, IsTrue, string_bytes};
+ghost use Rattle.std.specs.Prelude.{◌≡◌, ◌↔◌, [], IfOk, IfSome, IsTrue, string_bytes};
 
-use crate::case::Case;
+use crate::case::{Case, all_words};
 use crate::line::fit;
 use anyhow::Result;
 use lalrpop_grammar_streams::Watched;
@@ -29,25 +29,26 @@ pub(crate) struct Outcome {
 
 impl Outcome {
     /// Whether the case wants this text.
-    fn has_wanted_text(&self, case: &Case) -> bool
-        ensures { case.now.lines.items ≡ [] → (IsTrue result ↔ (string_bytes self.now.text ≡ string_bytes case.now.output)) }
+    fn has_wanted_text(&self, case: &Case<'_>) -> Result<bool>
+        ensures { IfOk result (λ right. case.now.lines.now ≡ []
+            → (IsTrue right ↔ (string_bytes self.now.text ≡ case.now.output.now))) }
     {
         if case.lines.is_empty() {
-            self.text.as_str() == case.output.as_str()
+            Ok(self.text.as_str() == case.output)
         } else {
-            fit(case.lines.as_slice(), self.text.as_str())
+            fit(case.lines, self.text.as_str())
         }
     }
 
     /// Whether the case wants this outcome of its run.
-    pub(crate) fn is_wanted(&self, case: &Case) -> bool
-        ensures { case.now.lines.items ≡ [] → (IsTrue result ↔ ((string_bytes self.now.text ≡ string_bytes case.now.output)
+    pub(crate) fn is_wanted(&self, case: &Case<'_>) -> Result<bool>
+        ensures { IfOk result (λ right. case.now.lines.now ≡ []
+            → (IsTrue right ↔ ((string_bytes self.now.text ≡ case.now.output.now)
             × (self.now.status ≡ case.now.status)
-            × (string_bytes self.now.fault ≡ string_bytes case.now.fault))) }
+            × (string_bytes self.now.fault ≡ case.now.fault.now)))) }
     {
-        self.has_wanted_text(case)
-            && self.status == case.status
-            && self.fault.as_str() == case.fault.as_str()
+        let right = self.has_wanted_text(case)?;
+        Ok(right && self.status == case.status && self.fault.as_str() == case.fault)
     }
 
     /// Whether the call over the values answers what the run does, where it was made.
@@ -65,9 +66,9 @@ impl Outcome {
 }
 
 /// The outcome of the case.
-pub(crate) fn outcome_of(alloc: Global, case: &Case) -> Result<Outcome> {
+pub(crate) fn outcome_of(alloc: Global, case: &Case<'_>) -> Result<Outcome> {
     let tree = case.tree_text(alloc)?;
-    let words = case.all_words(alloc, tree.as_deref())?;
+    let words = all_words(alloc, &*case.words, tree.as_deref())?;
     match options(alloc, words.as_slice()) {
         Ok(options) => outcome_under(alloc, &options, case),
         Err(OptionsError::Words(error)) => Ok(Outcome {
@@ -81,7 +82,7 @@ pub(crate) fn outcome_of(alloc: Global, case: &Case) -> Result<Outcome> {
 }
 
 /// The outcome of the options over the case's grammar and text.
-fn outcome_under(alloc: Global, options: &Options, case: &Case) -> Result<Outcome> {
+fn outcome_under(alloc: Global, options: &Options, case: &Case<'_>) -> Result<Outcome> {
     let grammar = case.grammar_bytes(alloc)?;
     let text = case.text_bytes(alloc, options.text.as_str())?;
     let mut written = Vec::new(alloc);

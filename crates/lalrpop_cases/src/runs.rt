@@ -3,16 +3,24 @@
 use crate::case::Case;
 use crate::outcome::{Outcome, outcome_of};
 use anyhow::{Context, Result};
-use lalrpop_case_kinds::files::{TableCase, Tally, read_text, run_cases};
+use lalrpop_case_kinds::files::{TableCase, Tally, run_cases};
+use serde_json::Value;
 use std::alloc::Global;
 use std::rt::Files;
 
-impl TableCase for Case {
-    fn is_right<R: Alloc<A = Global> + Print>(&self, rt: &R) -> Result<bool> {
-        let outcome = outcome_of(rt.alloc(), self).context(format_args!("the case {}", self.name))?;
-        let right = outcome.is_wanted(self) && outcome.is_confirmed();
+/// Runs of the program.
+struct Runs;
+
+impl TableCase for Runs {
+    fn is_right<R: Alloc<A = Global> + Print>(rt: &R, case: &Value) -> Result<bool> {
+        let case = Case::of(case)?;
+        let outcome = outcome_of(rt.alloc(), &case).context(format_args!(
+            "the case {}",
+            case.name
+        ))?;
+        let right = outcome.is_wanted(&case)? && outcome.is_confirmed();
         if !right {
-            tell(rt, self, &outcome)?;
+            tell(rt, &case, &outcome)?;
         }
         Ok(right)
     }
@@ -20,17 +28,15 @@ impl TableCase for Case {
 
 /// How many cases of the file pass; each of the others is told.
 pub(crate) fn run_tally<R: Alloc<A = Global> + Files + Print>(rt: &R, file: &str) -> Result<Tally> {
-    let text = read_text(rt, file)?;
-    let tally = run_cases::<Case, R>(rt, file, text.as_str())?;
-    Ok(tally)
+    run_cases::<Runs, R>(rt, file)
 }
 
 /// Tells what was wanted and what came.
-fn tell(rt: &impl Print, case: &Case, outcome: &Outcome) -> Result<()> {
+fn tell(rt: &impl Print, case: &Case<'_>, outcome: &Outcome) -> Result<()> {
     println!(rt; "{} {}", case.name, case.shows)?;
     println!(rt; "  wanted {:?} {} {}", case.output, case.status, case.fault)?;
-    for line in &case.lines {
-        println!(rt; "  line   {line:?}")?;
+    for line in case.lines {
+        println!(rt; "  line   {line}")?;
     }
     println!(rt;
         "  got    {:?} {} {}",

@@ -1,4 +1,4 @@
-//! The written grammar, its trees and tokens, and the streams that the program reads and writes.
+//! The written grammar, parse trees in terms of it, and tokens; re-exports symbols and streams.
 //!
 //! Values are plain data to a contract: an `Atom` is seen as its bytes, a `List` as the list of its elements, a
 //! `Boxed` as what is in the box. So `≡` on a symbol, a tree or a grammar means what it says.

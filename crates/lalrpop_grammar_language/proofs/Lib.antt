@@ -26,3 +26,4 @@ pub mod WrittenLemmas
 pub mod ExpandedWrittenLemmas
 pub mod ExamplesOfSteps
 pub mod ExamplesOfLabels
+pub mod AmongLemmas

@@ -6,7 +6,7 @@ use Rattle.lalrpop_grammar_language.specs.Labels.{GrammarSymbols, BaseProduction
 use Rattle.lalrpop_grammar_language.specs.Inlining.{Inlines, InlinesAll, IsNotInlined}
 use Rattle.lalrpop_grammar_language.specs.Steps.{NeverNamesItself, NamesInlinedFirst}
 
-among_parts : {A : Type 0} (xs ys : List A) (x : A) → Among (xs ++ ys) x → Among xs x ⊎ Among ys x
+pub among_parts : {A : Type 0} (xs ys : List A) (x : A) → Among (xs ++ ys) x → Among xs x ⊎ Among ys x
 among_parts [] ys x h = inr h
 among_parts (y ∷ xs) ys x (inl e) = inl (inl e)
 among_parts {A = A} (y ∷ xs) ys x (inr h) = go (among_parts xs ys x h)

@@ -8,12 +8,12 @@ use Rattle.lalrpop_grammar_language.specs.Inlining.{IsNotInlined, Inlines, Inlin
 use Rattle.lalrpop_grammar_language.specs.Steps.{RecordedSymbol, symbols_before, symbols_after, IsRecord, fill_label, fill_inlinings}
 use Rattle.lalrpop_grammar_language.specs.Steps.{OneMore, NeverNamesItself}
 
-among_left : {A : Type 0} (xs ys : List A) (x : A) → Among xs x → Among (xs ++ ys) x
+pub among_left : {A : Type 0} (xs ys : List A) (x : A) → Among xs x → Among (xs ++ ys) x
 among_left [] ys x h = absurd h
 among_left (y ∷ xs) ys x (inl e) = inl e
 among_left (y ∷ xs) ys x (inr h) = inr (among_left xs ys x h)
 
-among_right : {A : Type 0} (xs ys : List A) (x : A) → Among ys x → Among (xs ++ ys) x
+pub among_right : {A : Type 0} (xs ys : List A) (x : A) → Among ys x → Among (xs ++ ys) x
 among_right [] ys x h = h
 among_right (y ∷ xs) ys x h = inr (among_right xs ys x h)
 

@@ -1,10 +1,11 @@
 -- Inlining a tree keeps its tokens: for the laws on written trees.
-use Rattle.std.proofs.Common.{◌≡◌, List, [], ◌∷◌, ◌++◌, refl, ap, sym, ◌∙◌, Bool, true, false}
+use Rattle.std.proofs.Common.{◌≡◌, [], ◌∷◌, ◌++◌, refl, ap, sym, ◌∙◌, Bool, true, false}
 use Rattle.std.proofs.Common.{if◌then◌else◌, append_assoc}
 use Rattle.lalrpop_grammar_language.specs.Labels.{Label}
 use Rattle.lalrpop_grammar_language.specs.BaseTrees.{BaseTree, BaseTrees, base_tokens, all_base_tokens}
 use Rattle.lalrpop_grammar_language.specs.ExpandedTrees.{ExpandedTree, ExpandedTrees, join_expanded, expanded_tokens, all_expanded_tokens}
 use Rattle.lalrpop_grammar_language.specs.ExpandedTrees.{inlinings_of, expanded_below, expanded_child, expanded_tree}
+use Rattle.lalrpop_grammar_language.proofs.StepOnceLemmas.{append-none}
 
 tokens-join : {N C : Type 0} (xs ys : ExpandedTrees N C) →
     all_expanded_tokens (join_expanded xs ys) ≡ all_expanded_tokens xs ++ all_expanded_tokens ys
@@ -12,10 +13,6 @@ tokens-join ExpandedTrees.none ys = refl
 tokens-join (ExpandedTrees.more d xs) ys =
     ap (λ l. expanded_tokens d ++ l) (tokens-join xs ys)
     ∙ sym (append_assoc (expanded_tokens d) (all_expanded_tokens xs) (all_expanded_tokens ys))
-
-append-none : {A : Type 0} (xs : List A) → xs ++ [] ≡ xs
-append-none [] = refl
-append-none (x ∷ xs) = ap (λ l. x ∷ l) (append-none xs)
 
 mutual
   tokens_below : {N C : Type 0} (f : N → Bool) (ds : BaseTrees N C) → all_expanded_tokens (expanded_below f ds) ≡ all_base_tokens ds

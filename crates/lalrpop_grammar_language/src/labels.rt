@@ -4,7 +4,7 @@
 //! A production after inlining is told by the choices that it was made of, which no other production has, though its
 //! symbols may be those of another.
 //!
-//! The crate has no code but laws. The definitions stand in `specs/`: `Labels` (the label of a production after inlining,
+//! The module has no code but laws. The definitions stand in `specs/`: `Labels` (the label of a production after inlining,
 //! a tree of choices), `Inlining` (the productions after inlining), `BaseTrees` and `ExpandedTrees` (trees before and
 //! after it, a tree inlined, a tree taken apart), `Steps` (inlining one nonterminal, with its records), `WrittenTrees`
 //! (the written tree of an expanded tree) and `Laws` (what the laws say). All but `WrittenTrees` are over any

@@ -20,7 +20,7 @@ use Rattle.lalrpop_grammar_repr.specs.declared.production.Symbol.{Symbol}
 use Rattle.lalrpop_grammar_repr.specs.declared.production.Symbol.TheVariants as symbol
 use Rattle.lalrpop_grammar_repr.specs.declared.production.Production.{Production}
 
-same_literal : (a b : TerminalLiteral) → Decides ((literals.ghosts).eq a b) (a ≡ b)
+pub same_literal : (a b : TerminalLiteral) → Decides ((literals.ghosts).eq a b) (a ≡ b)
 same_literal (literal.Quoted s) (literal.Quoted t) =
     (λ e. ap literal.Quoted ((bytes_eq-Decides s t).0 e), λ e. (bytes_eq-Decides s t).1 (let same : s ≡ t = cc in same))
 same_literal (literal.Quoted s) (literal.Regex t) = (λ e. cc, λ e. cc)

@@ -12,6 +12,7 @@ use Rattle.lalrpop_grammar.specs.Views.{item_view}
 use Rattle.lalrpop_grammar.specs.declared.grammar.GrammarItem.{GrammarItem}
 use Rattle.lalrpop_grammar_language.specs.Enabled.{bares_of, has_text}
 use Rattle.lalrpop_grammar_rules.specs.RuleTable.{Names, bares_of_item, bares_of_items, knows}
+use Rattle.lalrpop_grammar_symbols.proofs.BoolLemmas.{same_bool}
 
 or_assoc : (a b c : Bool) → (a || (b || c)) ≡ ((a || b) || c)
 or_assoc true b c = refl
@@ -44,12 +45,6 @@ pub one_name_more : (before after : Names) (name : Text)
     → (n : Text) → knows after n ≡ (knows before n || bytes_eq name n)
 one_name_more before after name new n =
     ap is_some (new n) ∙ known-cond (bytes_eq name n) (get_by (λ k. bytes_eq n k.now) before)
-
-same_bool : (a b : Bool) → (a ≡ true → b ≡ true) → (b ≡ true → a ≡ true) → a ≡ b
-same_bool true true to from = refl
-same_bool true false to from = sym (to refl)
-same_bool false true to from = from refl
-same_bool false false to from = refl
 
 eqb-sym : (x y : ℕ) → (x == y) ≡ (y == x)
 eqb-sym x y = same_bool (x == y) (y == x) (λ e. eq-eqb y x (sym (eqb-true x y e))) (λ e. eq-eqb x y (sym (eqb-true y x e)))

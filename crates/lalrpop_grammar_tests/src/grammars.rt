@@ -1,5 +1,6 @@
 //! Grammars with each kind of part: copies and small questions.
 
+use crate::check::check;
 use lalrpop_grammar::{
     ActionKind, Atom, Attribute, Grammar, GrammarItem, InternToken, List, MatchContents,
     MatchEntry, MatchItem, MatchMapping, MatchToken, NonterminalString, Origin, Span,
@@ -48,7 +49,7 @@ fn equals_its_copy(rt: &impl Abort, alloc: Global, grammar: &Grammar) -> bool {
 #[test]
 fn a_copy_of_a_grammar_equals_it(rt: HostRuntime) {
     let grammar = full(&rt, rt.alloc());
-    assert!(rt; equals_its_copy(&rt, rt.alloc(), &grammar));
+    check(&rt, equals_its_copy(&rt, rt.alloc(), &grammar));
 }
 
 /// Whether a copy of the origin equals it.
@@ -83,13 +84,19 @@ fn a_copy_of_the_origin_of_an_alternative(rt: HostRuntime) {
     let args = List::new(rt.alloc());
     let place = 7;
     let origin = Origin::Alternative { rule, args, place };
-    assert!(rt; is_copied(&rt, rt.alloc(), &origin));
+    check(&rt, is_copied(&rt, rt.alloc(), &origin));
 }
 
 #[test]
 fn copies_of_the_actions_of_places(rt: HostRuntime) {
-    assert!(rt; ActionKind::Lookahead.try_clone().expect(&rt, "memory") == ActionKind::Lookahead);
-    assert!(rt; ActionKind::Lookbehind.try_clone().expect(&rt, "memory") == ActionKind::Lookbehind);
+    check(
+        &rt,
+        ActionKind::Lookahead.try_clone().expect(&rt, "memory") == ActionKind::Lookahead,
+    );
+    check(
+        &rt,
+        ActionKind::Lookbehind.try_clone().expect(&rt, "memory") == ActionKind::Lookbehind,
+    );
 }
 
 fn has_two_groups(grammar: &Grammar) -> bool {
@@ -127,9 +134,9 @@ fn has_type(grammar: &Grammar, name: &Atom, text: &str) -> bool {
 #[test]
 fn questions_of_a_grammar(rt: HostRuntime) {
     let grammar = full(&rt, rt.alloc());
-    assert!(rt; has_two_groups(&grammar));
-    assert!(rt; has_one_entry(&grammar));
-    assert!(rt; has_tokens_of_the_user(&grammar));
+    check(&rt, has_two_groups(&grammar));
+    check(&rt, has_one_entry(&grammar));
+    check(&rt, has_tokens_of_the_user(&grammar));
 }
 
 #[test]
@@ -137,8 +144,8 @@ fn types_of_an_extern_block(rt: HostRuntime) {
     let error = Atom::new(rt.alloc(), "Error").expect(&rt, "memory");
     let token = Atom::new(rt.alloc(), "Token").expect(&rt, "memory");
     let grammar = full(&rt, rt.alloc());
-    assert!(rt; has_type(&grammar, &error, "E"));
-    assert!(rt; !has_type(&grammar, &token, "E"));
+    check(&rt, has_type(&grammar, &error, "E"));
+    check(&rt, !has_type(&grammar, &token, "E"));
 }
 
 fn begins_with_a_public_macro(grammar: &Grammar) -> bool {
@@ -175,18 +182,24 @@ fn begins_with_a_documented_rule(grammar: &Grammar) -> bool {
 fn rules_of_a_grammar(rt: HostRuntime) {
     let grammar = full(&rt, rt.alloc());
     let mut rules = grammar.rules();
-    assert!(rt; matches!(rules.next(), Some(rule) if rule.name.0.as_str() == "N"));
-    assert!(rt; rules.next().is_none());
-    assert!(rt; rules.next().is_none());
+    check(
+        &rt,
+        matches!(rules.next(), Some(rule) if rule.name.0.as_str() == "N"),
+    );
+    check(&rt, rules.next().is_none());
+    check(&rt, rules.next().is_none());
 }
 
 #[test]
 fn questions_of_a_rule(rt: HostRuntime) {
     let grammar = full(&rt, rt.alloc());
-    assert!(rt; begins_with_a_public_macro(&grammar));
-    assert!(rt; begins_with_a_documented_rule(&grammar));
-    assert!(rt; !begins_with_text(grammar.attributes.as_slice(), "LALR", ""));
-    assert!(rt; Visibility::Pub.is_pub() && !Visibility::Priv.is_pub());
+    check(&rt, begins_with_a_public_macro(&grammar));
+    check(&rt, begins_with_a_documented_rule(&grammar));
+    check(
+        &rt,
+        !begins_with_text(grammar.attributes.as_slice(), "LALR", ""),
+    );
+    check(&rt, Visibility::Pub.is_pub() && !Visibility::Priv.is_pub());
 }
 
 /// Copies the groups of the grammar's match block behind those of another.
@@ -211,9 +224,9 @@ fn groups_of_a_match_block(rt: HostRuntime) {
     let items = List::new(alloc);
     let contents = MatchContents { items };
     let mut block = MatchToken::new(alloc, contents, Span(3, 4)).expect(&rt, "memory");
-    assert_eq!(rt; (block.contents.len(), block.span), (1, Span(3, 4)));
+    check(&rt, (block.contents.len(), block.span) == (1, Span(3, 4)));
     add_full_groups(&rt, alloc, &mut block);
-    assert_eq!(rt; block.contents.len(), 3);
+    check(&rt, block.contents.len() == 3);
 }
 
 fn begins_at(entries: &[MatchItem], span: Span) -> bool {
@@ -225,7 +238,10 @@ fn begins_at(entries: &[MatchItem], span: Span) -> bool {
 
 #[test]
 fn places_of_entries(rt: HostRuntime) {
-    assert!(rt; begins_at(&[MatchItem::CatchAll(Span(1, 2))], Span(1, 2)));
+    check(
+        &rt,
+        begins_at(&[MatchItem::CatchAll(Span(1, 2))], Span(1, 2)),
+    );
 }
 
 #[test]

@@ -1,5 +1,6 @@
 //! Leaves and tokens of trees.
 
+use crate::check::check;
 use lalrpop_grammar::{Atom, Leaf, ScanToken, Span, TerminalString, WrittenTree};
 use lalrpop_json_grammar::read_tree;
 use serde_json::Value;
@@ -33,11 +34,11 @@ fn is_leaf(leaf: Option<Leaf<'_>>, name: &str, text: &str, span: Span) -> bool {
 
 fn come_in_order(rt: &impl Abort, alloc: Global, tree: &WrittenTree) {
     let mut leaves = tree.leaves(alloc).expect(rt, "memory");
-    assert!(rt; is_leaf(leaves.next(), "A", "1", Span(0, 1)));
-    assert!(rt; is_leaf(leaves.next(), "B", "2", Span(2, 3)));
-    assert!(rt; is_leaf(leaves.next(), "A", "3", Span(5, 6)));
-    assert!(rt; leaves.next().is_none());
-    assert!(rt; leaves.next().is_none());
+    check(rt, is_leaf(leaves.next(), "A", "1", Span(0, 1)));
+    check(rt, is_leaf(leaves.next(), "B", "2", Span(2, 3)));
+    check(rt, is_leaf(leaves.next(), "A", "3", Span(5, 6)));
+    check(rt, leaves.next().is_none());
+    check(rt, leaves.next().is_none());
 }
 
 #[test]
@@ -57,9 +58,9 @@ fn second_token(rt: &impl Abort, alloc: Global) -> ScanToken<'static> {
 
 fn has_tokens(rt: &impl Abort, alloc: Global, tree: &WrittenTree) {
     let tokens = tree.tokens(alloc).expect(rt, "memory");
-    assert_eq!(rt; tokens.len(), 3);
-    assert!(rt; tokens[1] == second_token(rt, alloc));
-    assert_eq!(rt; tokens[2].text, "3");
+    check(rt, tokens.len() == 3);
+    check(rt, tokens[1] == second_token(rt, alloc));
+    check(rt, tokens[2].text == "3");
 }
 
 #[test]
@@ -78,9 +79,9 @@ fn equals_its_copy(rt: &impl Abort, alloc: Global, tree: &WrittenTree) -> bool {
 fn copies_of_trees_and_tokens(rt: HostRuntime) {
     let alloc = rt.alloc();
     let tree = nested_tree(&rt, alloc);
-    assert!(rt; equals_its_copy(&rt, alloc, &tree));
+    check(&rt, equals_its_copy(&rt, alloc, &tree));
     let token = second_token(&rt, alloc);
-    assert!(rt; token.try_clone().expect(&rt, "memory") == token);
+    check(&rt, token.try_clone().expect(&rt, "memory") == token);
 }
 
 #[test]
@@ -93,18 +94,20 @@ fn leaves_compare_by_content(rt: HostRuntime) {
         span: Span(0, 1),
     };
     let copy = leaf;
-    assert!(rt;
+    check(
+        &rt,
         copy == Leaf {
             terminal: &b,
             text: "1",
-            span: Span(0, 1)
-        }
+            span: Span(0, 1),
+        },
     );
-    assert!(rt;
+    check(
+        &rt,
         leaf != Leaf {
             terminal: &b,
             text: "1",
-            span: Span(0, 2)
-        }
+            span: Span(0, 2),
+        },
     );
 }

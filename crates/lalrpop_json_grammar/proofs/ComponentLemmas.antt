@@ -24,12 +24,9 @@ use Rattle.lalrpop_json_grammar.specs.Wanted.{Layout, Component, Wanted}
 use Rattle.lalrpop_json_grammar.proofs.OrderLemmas.{IsNotBefore}
 use Rattle.lalrpop_json_grammar.proofs.FieldLemmas.{Tells, TellsOf, tells_same}
 use Rattle.lalrpop_json_grammar.proofs.ObjectLemmas.{FormFault}
+use Rattle.lalrpop_grammar_symbols.proofs.BoolLemmas.{and_false}
 
 -- ---- a component by its form
-
-and_false : (b : Bool) → (b && false) ≡ false
-and_false true = refl
-and_false false = refl
 
 no_form : (o : Option Members) (f : Option Layout) (form : Layout) → f ≡ Some form → (is_some o && is_some f) ≡ false → o ≡ None
 no_form None f form told e = refl

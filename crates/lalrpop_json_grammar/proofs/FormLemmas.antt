@@ -1,5 +1,5 @@
 -- Which form of tree a symbol has, and what the text of a tree begins with; for prints_tell_trees_apart.
-use Rattle.std.proofs.Common.{◌≡◌, ℕ, List, [], ◌∷◌, Bool, true, false, refl, ap, sym, ◌∙◌, inl, inr, ◌⊎◌}
+use Rattle.std.proofs.Common.{◌≡◌, ℕ, List, [], ◌∷◌, true, false, refl, ap, sym, ◌∙◌, inl, inr, ◌⊎◌}
 use Rattle.std.specs.Prelude.{◌&&◌}
 use Rattle.lalrpop_grammar_symbols.specs.Symbols.{Text, Op, Closed}
 use Rattle.lalrpop_grammar.specs.Trees.{Token, Tree, Trees}
@@ -7,6 +7,7 @@ use Rattle.lalrpop_json_values.specs.Scalars.{is_name, begins_name}
 use Rattle.lalrpop_grammar_language.specs.Enabled.{EnabledGrammar}
 use Rattle.lalrpop_grammar_language.specs.Closing.{inner}
 use Rattle.lalrpop_grammar_language.specs.Admitting.{Admits, FitsRepeat}
+use Rattle.lalrpop_grammar_symbols.proofs.BoolLemmas.{and_both}
 
 -- the forms, counted
 abbrev pub tree_form : Tree → ℕ
@@ -64,10 +65,6 @@ pub record Begins (text : Text) : Type 0 where
   pub no_bracket : first ≡ 93 → ⊥
   pub no_parenthesis : first ≡ 41 → ⊥
 
-and_first : (a b : Bool) → (a && b) ≡ true → a ≡ true
-and_first true b e = refl
-and_first false b e = absurd (cc)
-
 -- a name begins with neither a closing bracket nor a closing parenthesis
 pub begins_name_of : (n : Text) → is_name n ≡ true → Begins n
 begins_name_of [] h = absurd (cc)
@@ -75,7 +72,7 @@ begins_name_of (c ∷ cs) h =
     record { first = c; rest = cs; text_is = refl; no_bracket = no_mark 93 refl; no_parenthesis = no_mark 41 refl }
   where
     letter : begins_name c ≡ true
-    letter = and_first (begins_name c) _ h
+    letter = (and_both (begins_name c) _ h).0
 
     no_mark : (d : ℕ) → begins_name d ≡ false → c ≡ d → ⊥
     no_mark d f e = let both : true ≡ false = sym letter ∙ ap begins_name e ∙ f in cc

@@ -1,5 +1,5 @@
 -- Reading order: one step further in, in byte order, and of texts that rise; for the laws of first faults.
-use Rattle.std.proofs.Common.{◌≡◌, ℕ, ◌<◌, List, [], ◌∷◌, Bool, true, false, refl, ap, sym}
+use Rattle.std.proofs.Common.{◌≡◌, ℕ, ◌<◌, List, [], ◌∷◌, Bool, true, refl, ap, sym}
 use Rattle.std.proofs.Common.{◌∙◌, inl, inr, ◌⊎◌}
 use Rattle.std.proofs.Common.{Ordering, Less, Equal, Greater}
 use Rattle.std.specs.Prelude.{◌&&◌}
@@ -16,6 +16,7 @@ use Rattle.lalrpop_json_values.specs.declared.key.Key.{Key}
 use Rattle.lalrpop_json_values.specs.Key.{key_text}
 use Rattle.lalrpop_json_grammar.specs.Faults.{IsAmong, inside}
 use Rattle.lalrpop_json_grammar.specs.Order.{FaultComesBefore, order_of_steps, text_order}
+use Rattle.lalrpop_grammar_symbols.proofs.BoolLemmas.{and_both}
 
 -- the second is the first fault, or comes after it
 abbrev pub IsNotBefore : Fault → Fault → Type 0
@@ -54,12 +55,7 @@ abbrev pub are_in_order : List Key → Bool
 are_in_order [] = true
 are_in_order (k ∷ ks) = is_before_all k ks && are_in_order ks
 
-both : (a b : Bool) → (a && b) ≡ true → (a ≡ true) × (b ≡ true)
-both true true e = (refl, refl)
-both true false e = absurd (cc)
-both false b e = absurd (cc)
-
-less_is : (o : Ordering) → is_lt o ≡ true → o ≡ Less
+pub less_is : (o : Ordering) → is_lt o ≡ true → o ≡ Less
 less_is Less e = refl
 less_is Equal e = absurd (cc)
 less_is Greater e = absurd (cc)
@@ -69,23 +65,23 @@ pub before_all : (k : Key) (ks : List Key) → is_before_all k ks ≡ true → (
     → text_order (key_text k) (key_text l) ≡ Less
 before_all k [] h l s = absurd s
 before_all k (m ∷ ms) h l (inl e) =
-    let first = both (is_lt (text_order (key_text k) (key_text m))) (is_before_all k ms) h in
+    let first = and_both (is_lt (text_order (key_text k) (key_text m))) (is_before_all k ms) h in
     rw e (less_is (text_order (key_text k) (key_text m)) first.0)
 before_all k (m ∷ ms) h l (inr s) =
-    let rest = both (is_lt (text_order (key_text k) (key_text m))) (is_before_all k ms) h in
+    let rest = and_both (is_lt (text_order (key_text k) (key_text m))) (is_before_all k ms) h in
     before_all k ms rest.1 l s
 
 -- a key that comes before each of some keys comes before each of them but the first
 pub before_tail : (k l : Key) (ks : List Key) → is_before_all k (l ∷ ks) ≡ true → is_before_all k ks ≡ true
-before_tail k l ks h = (both (is_lt (text_order (key_text k) (key_text l))) (is_before_all k ks) h).1
+before_tail k l ks h = (and_both (is_lt (text_order (key_text k) (key_text l))) (is_before_all k ks) h).1
 
 -- of keys in order the first comes before each of the others
 pub order_head : (k : Key) (ks : List Key) → are_in_order (k ∷ ks) ≡ true → is_before_all k ks ≡ true
-order_head k ks h = (both (is_before_all k ks) (are_in_order ks) h).0
+order_head k ks h = (and_both (is_before_all k ks) (are_in_order ks) h).0
 
 -- keys in order without the first are in order
 pub order_tail : (k : Key) (ks : List Key) → are_in_order (k ∷ ks) ≡ true → are_in_order ks ≡ true
-order_tail k ks h = (both (is_before_all k ks) (are_in_order ks) h).1
+order_tail k ks h = (and_both (is_before_all k ks) (are_in_order ks) h).1
 
 -- ---- texts that rise
 

@@ -12,6 +12,7 @@ use Rattle.lalrpop_json_values.specs.declared.fault.Step.TheVariants as step
 use Rattle.lalrpop_json_values.specs.Key.{key_text}
 use Rattle.lalrpop_json_grammar.specs.FaultLaws.{EarlierComesBeforeLater, NoneComesBeforeAnEarlier}
 use Rattle.lalrpop_json_grammar.specs.Order.{fault_before, is_behind, kind_before, order_of_steps, text_order}
+use Rattle.lalrpop_json_grammar.proofs.OrderLemmas.{less_is}
 
 -- ---- steps
 
@@ -48,11 +49,6 @@ less_once k l a b = by (text_order k l) (text_order l k) (nat_list_cmp_total.ant
     by Less Greater e a b = absurd (cc)
     by Equal r e a b = absurd (cc)
     by Greater r e a b = absurd (cc)
-
-less_is : (o : Ordering) → is_lt o ≡ true → o ≡ Less
-less_is Less e = refl
-less_is Equal e = absurd (cc)
-less_is Greater e = absurd (cc)
 
 less_through : (k l m : List ℕ) → is_lt (text_order k l) ≡ true → is_lt (text_order l m) ≡ true
     → is_lt (text_order k m) ≡ true

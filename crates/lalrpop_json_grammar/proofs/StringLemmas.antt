@@ -7,6 +7,7 @@ use Rattle.std.specs.Char.{digit_char, digit_value}
 use Rattle.std.proofs.lemmas.Str.{digit_value-digit_char}
 use borrow.Author.Tests.{ltb-true, ltb-false}
 use Rattle.json.specs.Print.{escape_letter, escape_byte, escape, quoted}
+use Rattle.lalrpop_json_grammar.proofs.NumberLemmas.{heads}
 
 -- the byte that has this short escape
 abbrev source : ℕ → ℕ
@@ -117,9 +118,6 @@ step x y u v (plain z e) (long j f) h =
 step x y u v (plain z e) (plain w f) h =
     let same : x ∷ u ≡ y ∷ v = sym (opened x _ u e) ∙ h ∙ opened y _ v f in
     (cc, cc)
-
-heads : (c d : ℕ) (u v : List ℕ) → c ∷ u ≡ d ∷ v → c ≡ d
-heads c d u v e = cc
 
 -- no byte is written with a quote first
 no_quote : (y : ℕ) (r w : List ℕ) → Kind y → 34 ∷ r ≡ escape_byte y ++ w → ⊥

@@ -1,6 +1,6 @@
 //! The items of a grammar as JSON values: rules, token blocks and `use` lines.
 //!
-//! What spells them, and which of them have a spelling, stands as definitions in the crate of their reader. Here each kind of
+//! What spells them, and which of them have a spelling, stands as definitions in `specs/`. Here each kind of
 //! part has a function that writes it, and one that tells whether it has a spelling.
 
 mod alternative;

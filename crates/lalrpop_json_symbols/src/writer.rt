@@ -1,6 +1,6 @@
 //! Symbols, types and attributes as JSON values.
 //!
-//! What spells them, and which of them have a spelling, stands as definitions in the crate of their reader. Here each kind of
+//! What spells them, and which of them have a spelling, stands as definitions in `specs/`. Here each kind of
 //! part has a function that writes it, and one that tells whether it has a spelling.
 
 mod attribute;

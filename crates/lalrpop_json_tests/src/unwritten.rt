@@ -1,5 +1,6 @@
 //! Grammars that no value spells.
 
+use crate::check::check;
 use lalrpop_grammar::{
     ActionKind, Alternative, Atom, Grammar, GrammarItem, InternToken, List, MatchContents,
     MatchItem, MatchMapping, MatchToken, NonterminalData, NonterminalString, Origin, Span, Symbol,
@@ -92,26 +93,29 @@ fn is_symbol_written(rt: &impl Abort, alloc: Global, kind: SymbolKind) -> bool {
 #[test]
 fn terminals_without_a_spelling(rt: HostRuntime) {
     let alloc = rt.alloc();
-    assert!(rt; is_symbol_written(&rt, alloc, SymbolKind::Error));
+    check(&rt, is_symbol_written(&rt, alloc, SymbolKind::Error));
     let bare = TerminalString::Bare(Atom::new(alloc, "NUM").expect(&rt, "memory"));
-    assert!(rt; !is_symbol_written(&rt, alloc, SymbolKind::Terminal(bare)));
+    check(
+        &rt,
+        !is_symbol_written(&rt, alloc, SymbolKind::Terminal(bare)),
+    );
     let recovery = SymbolKind::Terminal(TerminalString::Error);
-    assert!(rt; !is_symbol_written(&rt, alloc, recovery));
+    check(&rt, !is_symbol_written(&rt, alloc, recovery));
 }
 
 #[test]
 fn names_without_a_spelling(rt: HostRuntime) {
     let alloc = rt.alloc();
     let resolved = SymbolKind::Nonterminal(name(&rt, alloc, "S"));
-    assert!(rt; !is_symbol_written(&rt, alloc, resolved));
+    check(&rt, !is_symbol_written(&rt, alloc, resolved));
     let dashed = SymbolKind::AmbiguousId(Atom::new(alloc, "a-b").expect(&rt, "memory"));
-    assert!(rt; !is_symbol_written(&rt, alloc, dashed));
+    check(&rt, !is_symbol_written(&rt, alloc, dashed));
 }
 
 /// That a grammar whose rule `S` has this alternative isn't written.
 fn refuses(rt: &impl Abort, alloc: Global, only: Alternative) {
     let item = rule(rt, alloc, "S", only);
-    assert!(rt; !is_written(rt, alloc, item));
+    check(rt, !is_written(rt, alloc, item));
 }
 
 #[test]
@@ -168,7 +172,7 @@ fn names_of_rules_without_a_spelling(rt: HostRuntime) {
     for called in ["1S", "Other"] {
         let only = alternative(&rt, alloc, SymbolKind::Error);
         let item = rule(&rt, alloc, called, only);
-        assert!(rt; !is_written(&rt, alloc, item));
+        check(&rt, !is_written(&rt, alloc, item));
     }
 }
 
@@ -177,7 +181,7 @@ fn entries_of_a_tokenizer(rt: HostRuntime) {
     let item = GrammarItem::InternToken(InternToken {
         match_entries: List::new(rt.alloc()),
     });
-    assert!(rt; !is_written(&rt, rt.alloc(), item));
+    check(&rt, !is_written(&rt, rt.alloc(), item));
 }
 
 #[test]
@@ -188,7 +192,7 @@ fn an_entry_mapped_to_error_recovery(rt: HostRuntime) {
     let items = one(&rt, alloc, MatchItem::Mapped(literal, mapping, Span(0, 0)));
     let contents = MatchContents { items };
     let block = MatchToken::new(alloc, contents, Span(0, 0)).expect(&rt, "memory");
-    assert!(rt; !is_written(&rt, alloc, GrammarItem::MatchToken(block)));
+    check(&rt, !is_written(&rt, alloc, GrammarItem::MatchToken(block)));
 }
 
 /// Whether the grammar is written with this prefix.
@@ -199,11 +203,11 @@ fn is_spelled_with(rt: &impl Abort, alloc: Global, grammar: &mut Grammar, prefix
 
 /// That it is written with the shortest prefix alone, which is longer where two underscores occur in a text.
 fn wants_the_shortest(rt: &impl Abort, alloc: Global, grammar: &mut Grammar) {
-    assert!(rt; is_spelled(rt, alloc, grammar));
-    assert!(rt; !is_spelled_with(rt, alloc, grammar, "___"));
+    check(rt, is_spelled(rt, alloc, grammar));
+    check(rt, !is_spelled_with(rt, alloc, grammar, "___"));
     grammar.where_clauses = Atom::new(alloc, "T: a__B").expect(rt, "memory");
-    assert!(rt; is_spelled(rt, alloc, grammar));
-    assert!(rt; !is_spelled_with(rt, alloc, grammar, "__"));
+    check(rt, is_spelled(rt, alloc, grammar));
+    check(rt, !is_spelled_with(rt, alloc, grammar, "__"));
 }
 
 /// A grammar whose rule `S` has one symbol.

@@ -12,10 +12,7 @@ use Rattle.std.specs.Prelude.{encode_utf8_all}
 use lib.Utf8.{encode, next}
 use Rattle.json.specs.Print.{escape, escape_byte}
 use Rattle.lalrpop_json_values.specs.JsonText.{json_text, stands}
-
-both : (a b : Bool) → (a && b) ≡ true → (a ≡ true) × (b ≡ true)
-both true b h = (refl, h)
-both false b h = absurd (cc)
+use Rattle.lalrpop_grammar_symbols.proofs.BoolLemmas.{and_both}
 
 -- none of three
 none : (a b c : Bool) → not (a || b || c) ≡ true → (a ≡ false) × (b ≡ false) × (c ≡ false)
@@ -54,7 +51,7 @@ standing_byte c h =
 pub standing-escape : (s : List ℕ) → list_all stands s ≡ true → escape s ≡ s
 standing-escape [] h = refl
 standing-escape (c ∷ cs) h =
-    let parts = both (stands c) (list_all stands cs) h in
+    let parts = and_both (stands c) (list_all stands cs) h in
     rw (standing_byte c parts.0, standing-escape cs parts.1) refl
 
 -- in quotes it is the text as a JSON string

@@ -6,6 +6,7 @@
 
 mod fault;
 mod form;
+mod json_object;
 mod json_text;
 mod key;
 mod object;
@@ -17,6 +18,7 @@ mod word;
 
 pub use fault::{Fault, FaultKind, ReadError, Step};
 pub use form::{Form, form_by_key, form_of};
+pub use json_object::JsonObject;
 pub use json_text::JsonText;
 pub use key::Key;
 pub use object::{at_index, at_key, here, keys, member, outside};

@@ -1,8 +1,7 @@
 -- Admission from a start: for the judge.
-use Rattle.std.proofs.Common.{◌≡◌, ◌↔◌, ℕ, Bool, List, [], ◌∷◌, Option, IsTrue, refl, ap, ap₂, sym, subst, ◌∙◌}
+use Rattle.std.proofs.Common.{◌≡◌, ◌↔◌, ℕ, Bool, List, [], ◌∷◌, Option, IsTrue, ap, ap₂, sym, subst, ◌∙◌}
 use Rattle.std.proofs.Common.{map}
 use Rattle.lalrpop_grammar_symbols.specs.Symbols.{Text, Closed, Closeds}
-use Rattle.lalrpop_grammar_symbols.specs.declared.names.NonterminalString.{NonterminalString}
 use Rattle.lalrpop_grammar.specs.Trees.{Token, Tree, leaves}
 use Rattle.lalrpop_grammar.specs.WrittenGrammar.{Grammar}
 use Rattle.lalrpop_grammar_language.specs.Enabled.{EnabledGrammar, EnabledRule, enabled_grammar}
@@ -16,10 +15,7 @@ use Rattle.lalrpop_grammar_rules.specs.declared.table.Rules as table
 use Rattle.lalrpop_judge.specs.Admitted.{Admitted}
 use Rattle.lalrpop_judge.specs.Faults.{HasSearch, OnlyWhere}
 use Rattle.lalrpop_judge.specs.declared.error.JudgeError.{JudgeError}
-
-names_none : (ns : List NonterminalString) → map (λ n. n.0) ns ≡ [] → ns ≡ []
-names_none [] e = refl
-names_none (n ∷ ns) e = absurd (cc)
+use Rattle.lalrpop_grammar_rules.proofs.NameLemmas.{names_none}
 
 module _ (t : table.Rules) (n : Text) (r : kept.EnabledRule) (only : IsOnly t n r) (finds : Text → Text → Option Bool) (u : Tree) where
   abbrev g : EnabledGrammar

@@ -12,7 +12,7 @@ use Rattle.lalrpop_lr1_core.specs.Views.{production_view}
 use Rattle.lalrpop_judge.specs.Steps.{step_view}
 use Rattle.lalrpop_judge.specs.declared.certificates.step.Step.{Step}
 use Rattle.lalrpop_judge.specs.declared.certificates.step.Step.TheVariants as steps
-use Rattle.lalrpop_judge.proofs.MembershipLemmas.{same_production}
+use Rattle.lalrpop_lr1_core.proofs.ProductionViewLemmas.{same_production}
 
 -- two reductions are one where their productions are
 pub same_reductions : (a b : Step) (p q : Bor Production) (r : Bool) → a ≡ steps.Reduce p → b ≡ steps.Reduce q →

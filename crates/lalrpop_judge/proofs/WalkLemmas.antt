@@ -14,6 +14,7 @@ use Rattle.lalrpop_grammar_rules.specs.RuleTable.{rules_with}
 use Rattle.lalrpop_grammar_rules.specs.declared.table.Rules as table
 use Rattle.lalrpop_grammar_rules.specs.Views.{closeds}
 use Rattle.lalrpop_judge.specs.Admitted.{Admitted, AdmittedAll, AdmittedEach, IsRightSideAt, MayBe}
+use Rattle.lalrpop_grammar_rules.proofs.ArgumentLemmas.{closed_list-closeds}
 
 -- `false` is not true, so anything follows
 pub never : {A : Type 0} → IsTrue false → A
@@ -69,10 +70,6 @@ as-many Op.question ts empty e m = m
 pub trees-empty : (ts : List WrittenTree) → (trees (map tree_view ts) ≡ Trees.none) ↔ (length ts ≡ 0)
 trees-empty [] = (λ e. refl, λ e. refl)
 trees-empty (t ∷ ts) = (λ e. absurd (cc), λ e. absurd (omega arith))
-
-closed_list-closeds : (xs : List Closed) → closed_list (closeds xs) ≡ xs
-closed_list-closeds [] = refl
-closed_list-closeds (x ∷ xs) = ap (λ l. x ∷ l) (closed_list-closeds xs)
 
 call-same : (n m : Text) (xs ys : Closeds) (k l : Option ℕ) → Closed.call n xs k ≡ Closed.call m ys l → (n ≡ m) × (xs ≡ ys)
     × (k ≡ l)

@@ -18,7 +18,7 @@ use Rattle.lalrpop_lr1_theory.proofs.OrderLemmas.{get_image, image_get}
 use Rattle.lalrpop_lr1_build.specs.CollapseAnswers.{states_over}
 use Rattle.lalrpop_lr1_build.specs.Renumbering.{HaveTargetsWithin, renumber}
 use Rattle.lalrpop_lr1_build.proofs.RenumberedEdgeLemmas.{targets_at}
-use Rattle.lalrpop_lr1_build.proofs.ListLemmas.{long_map}
+use Rattle.lalrpop_lr1_first.proofs.TableLemmas.{long_map}
 use Rattle.lalrpop_lr1_build.proofs.ViewLemmas.{renumbered_seen}
 use Rattle.lalrpop_lr1_theory.specs.GotoOrders.{AreInGotoOrder, IsInFront}
 use Rattle.lalrpop_lr1_theory.specs.RenumberedStates.{AreRenumberedStates, IsRenumberedState}

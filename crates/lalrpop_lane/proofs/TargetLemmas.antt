@@ -23,7 +23,7 @@ use Rattle.lalrpop_lr1_theory.proofs.CollapsedCoverLemmas.{target_item}
 use Rattle.lalrpop_lr1_theory.proofs.OrderLemmas.{image_get, image_there}
 use Rattle.lalrpop_lr1_build.specs.CollapseAnswers.{AreCanonicalOf, states_over}
 use Rattle.lalrpop_lr1_build.specs.Renumbering.{HaveTargetsWithin}
-use Rattle.lalrpop_lr1_build.proofs.ListLemmas.{long_map}
+use Rattle.lalrpop_lr1_first.proofs.TableLemmas.{long_map}
 use Rattle.lalrpop_lane.specs.BuilderAnswers.{AreLalrWithout}
 
 -- states that cover the items have edges to states that are there

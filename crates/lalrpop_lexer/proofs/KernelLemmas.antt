@@ -22,11 +22,7 @@ use Rattle.lalrpop_lexer.specs.Subsets.{set_at}
 use Rattle.lalrpop_lexer.specs.Kernels.{HasOneKernelMore}
 use Rattle.lalrpop_lexer.specs.States.{HaveSameMembers, HasKernel, AreNumbered}
 use Rattle.lalrpop_lexer.proofs.StatesLemmas.{IsEpsilonClosure-along, equal_from, set_at-old, set_at-new}
-
-same_bool : (a b : Bool) → (a ≡ true → b ≡ true) → (b ≡ true → a ≡ true) → a ≡ b
-same_bool true b f g = sym (f refl)
-same_bool false true f g = g refl
-same_bool false false f g = refl
+use Rattle.lalrpop_lexer_pattern.proofs.SetLemmas.{same_tests}
 
 -- a list and the test of its members
 to_test : (xs : List ℕ) (x : ℕ) → Contains xs x → list_any (eqb x) xs ≡ true
@@ -46,7 +42,7 @@ same_ascending : (xs ys : List ℕ) → IsStrictlyIncreasing xs → IsStrictlyIn
 same_ascending xs ys a b h =
     btree_set_from_contains nat_cmp_total (record { keys = xs }) (record { keys = ys }) (sorted_from_strictly_increasing xs a)
     (sorted_from_strictly_increasing ys b)
-    (λ q. same_bool (list_any (eq_by_cmp nat_cmp q) xs) (list_any (eq_by_cmp nat_cmp q) ys) (λ e. over ys q ((h q).0 (back xs q e)))
+    (λ q. same_tests (list_any (eq_by_cmp nat_cmp q) xs) (list_any (eq_by_cmp nat_cmp q) ys) (λ e. over ys q ((h q).0 (back xs q e)))
     (λ e. over xs q ((h q).1 (back ys q e))))
     exact_unsigned
   where

@@ -10,7 +10,7 @@ use Rattle.lalrpop_lexer_pattern.proofs.SetLemmas.{range_from, range_at, in_rang
 use Rattle.lalrpop_lexer_pattern.proofs.SetLemmas.{in_ranges-above_max, in_ranges-ranges_of, ranges_of-rises, IsCanonical-from_rising}
 use Rattle.lalrpop_lexer_pattern.proofs.SetLemmas.{same_from, same_tests}
 
-InRanges-from : (rs : List Range) (c : ℕ) → in_ranges rs c ≡ true → InRanges rs c
+pub InRanges-from : (rs : List Range) (c : ℕ) → in_ranges rs c ≡ true → InRanges rs c
 InRanges-from [] c h = absurd (true≢false (sym h ∙ in_ranges-nil c))
 InRanges-from (r ∷ rs) c h = elim (or_cases (in_range r c) (in_ranges rs c) (sym (in_ranges-cons r rs c) ∙ h)) [
   | inl here ↦ elim (in_range_tells r c) [
@@ -22,7 +22,7 @@ InRanges-from (r ∷ rs) c h = elim (or_cases (in_range r c) (in_ranges rs c) (s
       (rest.0, (suc rest.1.0, omega (arith, rest.1.1), rest.1.2), rest.2, rest.3)
 ]
 
-in_ranges-from : (rs : List Range) (c : ℕ) → InRanges rs c → in_ranges rs c ≡ true
+pub in_ranges-from : (rs : List Range) (c : ℕ) → InRanges rs c → in_ranges rs c ≡ true
 in_ranges-from rs c m =
     let k = m.1.0 in
     let same : range_at rs k ≡ m.0 = get_or_default rs k (range_from 0 0) m.0 m.1.1 ∙ m.1.2 in

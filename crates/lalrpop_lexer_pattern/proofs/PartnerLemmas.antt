@@ -17,7 +17,7 @@ use Rattle.unicode.proofs.BoundLemmas.{pairs_rise, pairs_rise-fold_pairs}
 use Rattle.lalrpop_lexer_pattern.specs.declared.class.Range.{Range}
 use Rattle.lalrpop_lexer_pattern.specs.Sets.{in_range, in_ranges, IsRising}
 use Rattle.lalrpop_lexer_pattern.specs.Partners.{partners_of}
-use Rattle.lalrpop_lexer_pattern.proofs.SetLemmas.{range_from, range_at, in_range_tells, in_ranges-nil, in_ranges-cons}
+use Rattle.lalrpop_lexer_pattern.proofs.SetLemmas.{range_from, range_at, in_range_tells, in_ranges-nil, in_ranges-cons, in_range-one}
 use Rattle.lalrpop_lexer_pattern.proofs.SetLemmas.{in_ranges-append, rises_from-gap}
 use Rattle.lalrpop_lexer_pattern.proofs.FoldLemmas.{Leads, Gathers}
 
@@ -236,10 +236,6 @@ fewer_left rs i pairs rest rising hi w e =
           (filter-weaker after leads (λ p t. partner_behind (range_at rs k) (range_at rs i).end p.0 p.1 (omega arith) t) pairs)
           ∙ w.same k (omega arith) hk;
     })
-
--- a partner that a range doesn't hold is among those of the range
-in_range-one : (c x : ℕ) → in_range (range_from c c) x ≡ (x == c)
-in_range-one c x = grind (arith, nat_tests, in_range_tells (range_from c c) x)
 
 later : (p x : ℕ × ℕ) (ps : Pairs) → Contains ps x → Contains (p ∷ ps) x
 later p x ps (k, lt, at) = (suc k, suc-le-suc lt, at)

@@ -255,7 +255,7 @@ same_from n (x ∷ xs) (y ∷ ys) hx hy same =
     ap₂ ◌∷◌ (ap₂ range_from starts ends) (same_from (x.end + 2) xs ys tx ty rest)
 
 -- a number in front
-in_range-one : (c x : ℕ) → in_range (range_from c c) x ≡ (x == c)
+pub in_range-one : (c x : ℕ) → in_range (range_from c c) x ≡ (x == c)
 in_range-one c x = grind (arith, nat_tests, in_range_tells (range_from c c) x)
 
 in_range-longer : (b : Bool) (c e x s : ℕ) → s ≡ c + 1 → s ≤ e

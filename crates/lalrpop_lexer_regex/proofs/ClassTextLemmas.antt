@@ -4,15 +4,14 @@ use Rattle.std.proofs.Common.{nat_le, List, [], ◌∷◌, ◌++◌, length, Ok,
 use Rattle.std.proofs.Common.{true≢false, append_assoc, lit≤}
 use Rattle.std.proofs.lemmas.Bool.{cases_Bool, or_cases, cases_lt, both_ways, and_parts, not-true}
 use Rattle.std.proofs.lemmas.Bool.Decides.{nat_tests}
-use Rattle.std.proofs.lemmas.List.{get_or_default}
 use Rattle.lalrpop_lexer_pattern.specs.Ranges.{InRanges}
 use Rattle.lalrpop_lexer_pattern.specs.Matches.{Pattern}
 use Rattle.lalrpop_lexer_pattern.specs.Sets.{is_scalar, in_range, in_ranges, union_of, complement_of, IsRising}
 use Rattle.lalrpop_lexer_pattern.specs.declared.class.Range.{Range}
-use Rattle.lalrpop_lexer_pattern.proofs.SetLemmas.{range_from, range_at, in_range_tells, in_ranges-nil, in_ranges-cons, in_ranges-at}
+use Rattle.lalrpop_lexer_pattern.proofs.SetLemmas.{in_range_tells, in_ranges-nil, in_ranges-cons}
 use Rattle.lalrpop_lexer_pattern.proofs.SetLemmas.{in_ranges-above_max, in_ranges-ranges_of, ranges_of-rises, rises_from-nil}
 use Rattle.lalrpop_lexer_pattern.proofs.SetLemmas.{or_assoc, or-false}
-use Rattle.lalrpop_lexer_pattern.proofs.MemberLemmas.{members_of_a_test}
+use Rattle.lalrpop_lexer_pattern.proofs.MemberLemmas.{members_of_a_test, InRanges-from, in_ranges-from}
 use Rattle.lalrpop_lexer_regex.specs.ClassItems.{range_set}
 use Rattle.lalrpop_lexer_regex.specs.SetEscapes.{finished_set}
 use Rattle.lalrpop_lexer_regex.specs.Classes.{class_at, class_item_at, class_items_from}
@@ -23,28 +22,6 @@ use Rattle.lalrpop_lexer_regex.specs.Printable.{HaveScalarEnds}
 use Rattle.lalrpop_lexer_regex.specs.Complements.{ArePrinted, caret_text}
 use Rattle.lalrpop_lexer_regex.proofs.CharacterLemmas.{behind_backslash, range_behind, range_front, range_item, atom_read}
 use Rattle.lalrpop_lexer_regex.proofs.CharacterLemmas.{length-behind}
-
--- the test and the relation say the same
-InRanges-from : (rs : List Range) (c : ℕ) → in_ranges rs c ≡ true → InRanges rs c
-InRanges-from [] c h = absurd (true≢false (sym h ∙ in_ranges-nil c))
-InRanges-from (r ∷ rs) c h = elim (or_cases (in_range r c) (in_ranges rs c) (sym (in_ranges-cons r rs c) ∙ h)) [
-  | inl here ↦ elim (in_range_tells r c) [
-    | inl ok ↦ (r, (0, omega arith, refl), ok.1, ok.2)
-    | inr out ↦ absurd (both_ways _ out.0 here)
-  ]
-  | inr later ↦
-      let rest = InRanges-from rs c later in
-      (rest.0, (suc rest.1.0, omega (arith, rest.1.1), rest.1.2), rest.2, rest.3)
-]
-
-in_ranges-from : (rs : List Range) (c : ℕ) → InRanges rs c → in_ranges rs c ≡ true
-in_ranges-from rs c m =
-    let k = m.1.0 in
-    let same : range_at rs k ≡ m.0 = get_or_default rs k (range_from 0 0) m.0 m.1.1 ∙ m.1.2 in
-    in_ranges-at rs k c m.1.1 (ap (λ (r : Range). in_range r c) same ∙ elim (in_range_tells m.0 c) [
-      | inl ok ↦ ok.0
-      | inr out ↦ elim out.1 [ inl low ↦ absurd (omega (arith, m.2)) | inr high ↦ absurd (omega (arith, m.3)) ]
-    ])
 
 -- what is read of printed ranges, beside a set
 abbrev pub joined_set : List Range → List Range → List Range

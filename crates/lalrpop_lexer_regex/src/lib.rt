@@ -27,7 +27,7 @@
 //! - What a name of a set stands for is said by the crate `unicode`; `gc=` or `sc=` in front of it is left out.
 //!
 //! The definition of all this stands in `specs/`, from `Regex.antt` down; that of classes and of what a backslash begins
-//! in the crate `lalrpop_lexer_classes`, which reads them.
+//! in the module `classes`, which reads them.
 #![tactic(auto)]
 
 mod atom;

@@ -1,6 +1,6 @@
 //! Laws of reading patterns: printed patterns are read back, and complements are what is left.
 //!
-//! The crate has no code but laws. The definitions stand in `specs/`: `Printing` (the text that a pattern prints as),
+//! The module has no code but laws. The definitions stand in `specs/`: `Printing` (the text that a pattern prints as),
 //! `Printable` (of which patterns the first law speaks), `ReadBack` (what it says) and `Complements` (what the second one
 //! says).
 

@@ -1,5 +1,6 @@
 //! Automata, asked state by state.
 
+use crate::check::check;
 use lalrpop_lexer::dfa::{DfaStateIndex, Kind, NfaIndex, Precedence, build_dfa};
 use lalrpop_lexer::nfa::{
     ACCEPT, Edge, EdgeLabel, Edges, Nfa, NfaConstructionError, Noop, Other, REJECT, START, State,
@@ -25,17 +26,23 @@ fn regex(rt: &impl Abort, alloc: Global, text: &str) -> Regex {
 fn states_and_edges_of_one_character(rt: HostRuntime) {
     let alloc = rt.alloc();
     let nfa = Nfa::from_re(alloc, &literal(&rt, alloc, "a")).expect(&rt, "an automaton");
-    assert_eq!(rt; nfa.kind(START), StateKind::Neither);
-    assert!(rt; nfa.is_accepting_state(ACCEPT) && !nfa.is_accepting_state(START));
-    assert!(rt; nfa.is_rejecting_state(REJECT) && !nfa.is_rejecting_state(START));
-    assert_eq!(rt; nfa.edges::<Test>(START).count(), 0);
-    assert_eq!(rt; nfa.edges::<Other>(START).count(), 0);
+    check(&rt, nfa.kind(START) == StateKind::Neither);
+    check(
+        &rt,
+        nfa.is_accepting_state(ACCEPT) && !nfa.is_accepting_state(START),
+    );
+    check(
+        &rt,
+        nfa.is_rejecting_state(REJECT) && !nfa.is_rejecting_state(START),
+    );
+    check(&rt, nfa.edges::<Test>(START).count() == 0);
+    check(&rt, nfa.edges::<Other>(START).count() == 0);
     let first = nfa.edges::<Noop>(START).next().expect(&rt, "an edge");
-    assert!(rt; first.to.0 < nfa.state_count());
+    check(&rt, first.to.0 < nfa.state_count());
     let mut read = nfa.edges::<Test>(first.to);
     let edge = read.next().expect(&rt, "an edge that reads");
-    assert_eq!(rt; (edge.label, edge.to), (Test::char('a'), ACCEPT));
-    assert!(rt; read.next().is_none());
+    check(&rt, (edge.label, edge.to) == (Test::char('a'), ACCEPT));
+    check(&rt, read.next().is_none());
 }
 
 /// The list and the place of one kind are changed, and the others stay.
@@ -48,12 +55,12 @@ fn lists_and_places_of_one_kind(rt: HostRuntime) {
         to: ACCEPT,
     };
     Test::vec_mut(&mut edges).push(edge).expect(&rt, "memory");
-    assert_eq!(rt; Test::vec(&edges).len(), 1);
-    assert_eq!(rt; Noop::vec(&edges).len(), 0);
+    check(&rt, Test::vec(&edges).len() == 1);
+    check(&rt, Noop::vec(&edges).len() == 0);
     let mut state = State::new(StateKind::Neither);
     *Other::first_mut(&mut state) = 1;
-    assert_eq!(rt; *Other::first(&state), 1);
-    assert_eq!(rt; *Test::first(&state), 0);
+    check(&rt, *Other::first(&state) == 1);
+    check(&rt, *Test::first(&state) == 0);
 }
 
 /// How many states the automaton of the pattern has.
@@ -66,17 +73,17 @@ fn count_of(rt: &impl Abort, alloc: Global, pattern: &str) -> usize {
 #[test]
 fn repetitions_stay_small(rt: HostRuntime) {
     let alloc = rt.alloc();
-    assert_eq!(rt; count_of(&rt, alloc, "a++++++++++++++++"), 20);
+    check(&rt, count_of(&rt, alloc, "a++++++++++++++++") == 20);
     let counted = Nfa::from_re(alloc, &regex(&rt, alloc, "a{0,1000}")).expect(&rt, "an automaton");
     let mut set = StateSet::new(alloc, counted.state_count()).expect(&rt, "memory");
     let mut next = StateSet::new(alloc, set.limit()).expect(&rt, "memory");
     let fresh = set.insert(START.0).expect(&rt, "memory");
     let again = set.insert(START.0).expect(&rt, "memory");
-    assert!(rt; fresh && !again);
+    check(&rt, fresh && !again);
     counted.close(&mut set).expect(&rt, "memory");
-    assert_eq!(rt; set.members().len(), 4);
+    check(&rt, set.members().len() == 4);
     counted.step(&set, 97, &mut next).expect(&rt, "memory");
-    assert_eq!(rt; next.members().len(), 3);
+    check(&rt, next.members().len() == 3);
 }
 
 /// Two patterns at once: what `b` leads to from the start.
@@ -90,11 +97,14 @@ fn one_automaton_for_several(rt: HostRuntime) {
     let mut next = StateSet::new(alloc, nfa.state_count()).expect(&rt, "memory");
     set.insert(START.0).expect(&rt, "memory");
     nfa.close(&mut set).expect(&rt, "memory");
-    assert_eq!(rt; set.members().len(), 3);
+    check(&rt, set.members().len() == 3);
     nfa.step(&set, 98, &mut next).expect(&rt, "memory");
-    assert!(rt; next.contains(FIRST_ACCEPT + 1) && !next.contains(FIRST_ACCEPT));
+    check(
+        &rt,
+        next.contains(FIRST_ACCEPT + 1) && !next.contains(FIRST_ACCEPT),
+    );
     next.clear();
-    assert_eq!(rt; next.members().len(), 0);
+    check(&rt, next.members().len() == 0);
 }
 
 /// Whether the automaton of the pattern is refused for this.
@@ -108,24 +118,39 @@ fn is_refused(rt: &impl Abort, alloc: Global, pattern: &str, why: &NfaConstructi
 #[test]
 fn refused_patterns(rt: HostRuntime) {
     let alloc = rt.alloc();
-    assert!(rt; is_refused(&rt, alloc, "\\b", &NfaConstructionError::LookAround));
-    assert!(rt; is_refused(&rt, alloc, "a+?", &NfaConstructionError::NonGreedy));
-    assert!(rt; is_refused(&rt, alloc, "(?<n>a)", &NfaConstructionError::NamedCaptures));
+    check(
+        &rt,
+        is_refused(&rt, alloc, "\\b", &NfaConstructionError::LookAround),
+    );
+    check(
+        &rt,
+        is_refused(&rt, alloc, "a+?", &NfaConstructionError::NonGreedy),
+    );
+    check(
+        &rt,
+        is_refused(&rt, alloc, "(?<n>a)", &NfaConstructionError::NamedCaptures),
+    );
 }
 
 #[test]
 fn kinds_of_the_states_of_one_text(rt: HostRuntime) {
     let patterns = [literal(&rt, rt.alloc(), "ab")];
     let dfa = build_dfa(rt.alloc(), &patterns, &[Precedence(7)]).expect(&rt, "an automaton");
-    assert!(rt; dfa.state_count() == 3);
-    assert_eq!(rt; dfa.kind(DfaStateIndex(0)), Kind::Neither);
-    assert_eq!(rt; dfa.kind(DfaStateIndex(2)), Kind::Accepts(NfaIndex(0)));
+    check(&rt, dfa.state_count() == 3);
+    check(&rt, dfa.kind(DfaStateIndex(0)) == Kind::Neither);
+    check(
+        &rt,
+        dfa.kind(DfaStateIndex(2)) == Kind::Accepts(NfaIndex(0)),
+    );
 }
 
 #[test]
 fn no_pattern_is_rejected_at_once(rt: HostRuntime) {
     let dfa = build_dfa(rt.alloc(), &[], &[]).expect(&rt, "an automaton");
-    assert!(rt; dfa.state_count() == 1);
-    assert_eq!(rt; dfa.kind(DfaStateIndex(0)), Kind::Reject);
-    assert_eq!(rt; (DfaStateIndex(4).index(), NfaIndex(5).index()), (4, 5));
+    check(&rt, dfa.state_count() == 1);
+    check(&rt, dfa.kind(DfaStateIndex(0)) == Kind::Reject);
+    check(
+        &rt,
+        (DfaStateIndex(4).index(), NfaIndex(5).index()) == (4, 5),
+    );
 }

@@ -4,6 +4,8 @@
 #[cfg(test)]
 mod automata;
 #[cfg(test)]
+mod check;
+#[cfg(test)]
 mod patterns;
 #[cfg(test)]
 mod ranges;

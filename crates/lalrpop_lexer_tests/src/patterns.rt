@@ -1,5 +1,6 @@
 //! Patterns and sets of characters: copies, printed faults and laws.
 
+use crate::check::check;
 use lalrpop_lexer::re::{CharacterSet, Range, Regex};
 use lalrpop_lexer_pattern::sets_are_their_members;
 use lalrpop_lexer_regex::{RegexError, escapes_are_read_back, parse_regex};
@@ -18,21 +19,24 @@ fn a_copy_of_a_tree_is_the_same(rt: HostRuntime) {
     let alloc = rt.alloc();
     let tree = parse_regex(alloc, "(?<n>a){1,2}?^[b-c]|(b)*c\\.|(?i)").expect(&rt, "a pattern");
     let shown = format!(in alloc; "{tree:?}").expect(&rt, "memory");
-    assert_eq!(rt; copied_text(&rt, alloc, &tree).as_str(), shown.as_str());
+    check(
+        &rt,
+        copied_text(&rt, alloc, &tree).as_str() == shown.as_str(),
+    );
 }
 
 /// That copies of the set and of its class have these ranges.
 fn copies_have(rt: &impl Abort, alloc: Global, set: &CharacterSet, wanted: &[Range]) {
     let copy = set.try_clone(alloc).expect(rt, "memory").into_class();
-    assert_eq!(rt; copy.ranges.as_slice(), wanted);
+    check(rt, copy.ranges.as_slice() == wanted);
     let again = copy.try_clone(alloc).expect(rt, "memory");
-    assert_eq!(rt; again.ranges.as_slice(), wanted);
+    check(rt, again.ranges.as_slice() == wanted);
 }
 
 /// That all characters have these ranges.
 fn all_have(rt: &impl Abort, alloc: Global, wanted: &[Range]) {
     let all = CharacterSet::empty(alloc).complement().expect(rt, "memory");
-    assert_eq!(rt; all.ranges.as_slice(), wanted);
+    check(rt, all.ranges.as_slice() == wanted);
 }
 
 /// Ranges in no order, of which some touch and one is empty.
@@ -48,7 +52,7 @@ fn copies_of_sets_have_their_ranges(rt: HostRuntime) {
     .expect(&rt, "memory");
     let wanted = [Range { start: 1, end: 6 }, Range { start: 8, end: 9 }];
     let set = CharacterSet::from_ranges(ranges).expect(&rt, "memory");
-    assert!(rt; set.contains(6) && !set.contains(7));
+    check(&rt, set.contains(6) && !set.contains(7));
     copies_have(&rt, alloc, &set, &wanted);
     let wanted = [
         Range {
@@ -85,7 +89,7 @@ fn faults_are_printed(rt: HostRuntime) {
         (RegexError::Memory, "out of memory"),
     ] {
         let shown = format!(in rt.alloc(); "{error}").expect(&rt, "memory");
-        assert_eq!(rt; shown.as_str(), wanted);
+        check(&rt, shown.as_str() == wanted);
     }
 }
 

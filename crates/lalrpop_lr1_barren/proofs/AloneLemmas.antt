@@ -11,11 +11,11 @@ use Rattle.lalrpop_lr1_theory.specs.CheckedStates.{IsStartAlone}
 use Rattle.lalrpop_lr1_theory.specs.Productions as theory
 use Rattle.lalrpop_lr1_core.specs.Views.{production_symbol_view, production_view}
 use Rattle.lalrpop_lr1_core.proofs.MemberLemmas.{in_map}
-use Rattle.lalrpop_lr1_barren.proofs.NameLemmas.{in_flat}
+use Rattle.lalrpop_lr1_core.proofs.GraphLemmas.{in_flat}
 use Rattle.lalrpop_lr1_core.specs.TheoryGrammars.{productions_of_grammar}
 use Rattle.lalrpop_lr1_core.specs.TheoryGrammars.{theory_grammar}
 
-same_name : (x : Symbol) (n : NonterminalString) → production_symbol_view x ≡ theory.nonterminal n.0 → x ≡ symbols.Nonterminal n
+pub same_name : (x : Symbol) (n : NonterminalString) → production_symbol_view x ≡ theory.nonterminal n.0 → x ≡ symbols.Nonterminal n
 same_name (symbols.Nonterminal m) n e = let same : m.0 ≡ n.0 = cc in ap (λ t. symbols.Nonterminal (record { 0 = t })) same
 same_name (symbols.Terminal t) n e = let w : ⊥ = cc in absurd w
 

@@ -16,9 +16,7 @@ use Rattle.lalrpop_lr1_barren.proofs.ClauseLemmas.{marked_within}
 use Rattle.lalrpop_lr1_barren.specs.Clauses.{ClausesAreWithin, Follows, IsMarked, by_clause, clause_view, has_mark, marked}
 use Rattle.lalrpop_lr1_barren.specs.ClauseRules.{marked_rules, rule_of_clause, seed_rule}
 use Rattle.lalrpop_lr1_barren.specs.declared.reachable.clauses.Clause.{Clause}
-
-no_element : {X : Type 0} (y : X) → Contains [] y → ⊥
-no_element y c = omega (arith, c.1)
+use Rattle.lalrpop_lr1_theory.proofs.NameLemmas.{no_element}
 
 in_append : {X : Type 0} (xs ys : List X) (x : X) → Contains (xs ++ ys) x → Contains xs x ⊎ Contains ys x
 in_append [] ys x c = inr c

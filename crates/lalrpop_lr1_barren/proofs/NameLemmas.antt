@@ -5,7 +5,6 @@ use Rattle.std.proofs.Common.{◌-◌}
 use Rattle.std.proofs.Common.{refl, sym, ap, subst, inl, inr, ⊎_elim, arith, Contains, Option, Some, slice_get, nat_lt}
 use Rattle.std.specs.Prelude.{flat_map}
 use Rattle.std.proofs.lemmas.Bool.{lt-ltb, ltb-true}
-use Rattle.std.proofs.lemmas.List.Elements.{Contains-append_cases, Contains-append_left, Contains-append_right}
 use Rattle.lalrpop_grammar_symbols.specs.Symbols.{Text}
 use Rattle.lalrpop_grammar_symbols.specs.declared.names.NonterminalString.{NonterminalString}
 use Rattle.lalrpop_grammar_symbols.specs.declared.terminal.TerminalString.{TerminalString}
@@ -25,34 +24,11 @@ use Rattle.lalrpop_lr1_first.proofs.TableLemmas.{get_mapped, long_map, name_at, 
 use Rattle.lalrpop_lr1_barren.specs.Clauses.{Follows, IsMarked, by_clause, marked}
 use Rattle.lalrpop_lr1_barren.specs.NameMarks.{IsNumberOf}
 use Rattle.lalrpop_lr1_barren.specs.RuleClauses.{names_of_rule, reach_of_rule, tree_of_rule}
-
-no_element : {X : Type 0} (y : X) → Contains [] y → ⊥
-no_element y c = omega (arith, c.1)
+use Rattle.lalrpop_lr1_theory.proofs.NameLemmas.{no_element}
+use Rattle.lalrpop_lr1_core.proofs.GraphLemmas.{in_flat, flat_has}
 
 name_is : (A B : Text) → theory.nonterminal A ≡ theory.nonterminal B → A ≡ B
 name_is A B e = cc
-
--- what is in the joined lists is in the list that some element gives
-pub in_flat : {X Y : Type 0} (f : X → List Y) (xs : List X) (y : Y) → Contains (flat_map f xs) y →
-    (x : X) × Contains xs x × Contains (f x) y
-in_flat f [] y c = absurd (no_element y c)
-in_flat {X = X} f (z ∷ zs) y c = go (in_flat f zs y) (Contains-append_cases (f z) (flat_map f zs) y c)
-  where
-    go : (Contains (flat_map f zs) y → (x : X) × Contains zs x × Contains (f x) y) → Contains (f z) y ⊎ Contains (flat_map f zs) y
-        →
-        (x : X) × Contains (z ∷ zs) x × Contains (f x) y
-    go deeper (inl d) = (z, contains_here z zs, d)
-    go deeper (inr d) = let r : (x : X) × Contains zs x × Contains (f x) y = deeper d in (r.0, contains_later z r.0 zs r.1, r.2)
-
-flat_has : {X Y : Type 0} (f : X → List Y) (xs : List X) (x : X) (y : Y) → Contains xs x → Contains (f x) y →
-    Contains (flat_map f xs) y
-flat_has f [] x y c d = absurd (no_element x c)
-flat_has f (z ∷ zs) x y c d = go (flat_has f zs x y) (contains_split z x zs c)
-  where
-    go : (Contains zs x → Contains (f x) y → Contains (flat_map f zs) y) → (z ≡ x) ⊎ Contains zs x →
-        Contains (f z ++ flat_map f zs) y
-    go deeper (inl e) = Contains-append_left (f z) (flat_map f zs) y (subst (λ u. Contains (f u) y) (sym e) d)
-    go deeper (inr r) = Contains-append_right (f z) (flat_map f zs) y (deeper r d)
 
 module _ (at : ℕ → Option theory.Symbol) where
   -- a symbol that is spelled has a number, and a number is a symbol's

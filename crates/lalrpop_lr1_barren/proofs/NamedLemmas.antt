@@ -16,7 +16,8 @@ use Rattle.lalrpop_lr1_first.specs.NumberedGrammars.{IsNumberTable, table_names,
 use Rattle.lalrpop_lr1_first.specs.Tables.{symbol_or}
 use Rattle.lalrpop_lr1_first.specs.declared.numbered.Numbered.{Numbered}
 use Rattle.lalrpop_lr1_first.specs.declared.place.NumberedRule.{NumberedRule}
-use Rattle.lalrpop_lr1_first.proofs.ListLemmas.{cases_eq, get_slice, set_long}
+use Rattle.lalrpop_lr1_first.proofs.ListLemmas.{get_slice, set_long}
+use Rattle.lalrpop_sets.proofs.WordLemmas.{cases_eq}
 use Rattle.lalrpop_lr1_first.proofs.TableLemmas.{get_mapped, name_at}
 use Rattle.lalrpop_lr1_barren.specs.NameMarks.{IsNumberOf}
 use Rattle.lalrpop_lr1_barren.specs.NamedLists.{AreNamedLists, HoldsNamed, production_lists}

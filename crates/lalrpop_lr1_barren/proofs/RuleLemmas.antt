@@ -14,7 +14,7 @@ use Rattle.std.proofs.lemmas.Bool.{ltb-true}
 use Rattle.lalrpop_lr1_barren.specs.Clauses.{ClausesAreWithin, clause_view}
 use Rattle.lalrpop_lr1_barren.specs.RuleClauses.{names_of_rule, reach_of_rule, tree_of_rule}
 use Rattle.lalrpop_lr1_barren.specs.declared.reachable.clauses.Clause.{Clause}
-use Rattle.lalrpop_lr1_barren.proofs.NameLemmas.{in_flat}
+use Rattle.lalrpop_lr1_core.proofs.GraphLemmas.{in_flat}
 
 one_more : (p : ℕ → Bool) (s : ℕ) (rest : List ℕ) → filter p (s ∷ []) ++ filter p rest ≡ filter p (s ∷ rest)
 one_more p s rest = go (p s)

@@ -33,7 +33,7 @@ above_any Greater Greater e = omega arith
 above_any o Less e = let w : ⊥ = cc in absurd w
 above_any o Equal e = let w : ⊥ = cc in absurd w
 
-self_equal : (o : Ordering) → o ≡ ordering_reverse o → o ≡ Equal
+pub self_equal : (o : Ordering) → o ≡ ordering_reverse o → o ≡ Equal
 self_equal Less e = let w : ⊥ = cc in absurd w
 self_equal Equal e = refl
 self_equal Greater e = let w : ⊥ = cc in absurd w

@@ -19,7 +19,8 @@ use Rattle.lalrpop_sets.specs.Tokens.{eof_number}
 use Rattle.lalrpop_sets.specs.declared.nil.Nil.{Nil}
 use Rattle.lalrpop_lr1_first.specs.NumberedGrammars.{HasItsTerminals}
 use Rattle.lalrpop_lr1_first.specs.Tables.{IsTerminalSet}
-use Rattle.lalrpop_lr1_first.proofs.ListLemmas.{eqb_self, eqb_true, or_cases}
+use Rattle.lalrpop_lr1_first.proofs.ListLemmas.{eqb_true, or_cases}
+use Rattle.lalrpop_sets.proofs.WordLemmas.{eqb_self}
 use Rattle.lalrpop_lr1_first.proofs.TableLemmas.{end_is_none}
 use Rattle.lalrpop_lr1_build.specs.Nexts.{IsNextIn}
 use Rattle.lalrpop_lr1_build.specs.BuiltStates.{AreCanonicalWithout, AreLr0Without, HaveNoConflictBuilt, IsCanonicalFault, IsFaultBuilt}

@@ -44,7 +44,9 @@ use Rattle.lalrpop_lr1_core.specs.TheoryGrammars.{NameBefore, theory_grammar}
 use Rattle.lalrpop_lr1_build.specs.NumberedAutomata.{AreStartItems}
 use Rattle.lalrpop_lr1_build.specs.PublicStates.{ArePublicStates, IsPublicItem, IsWellNumbered, finished_entries, start_items}
 use Rattle.lalrpop_lr1_build.proofs.AutomatonLemmas.{marked_more}
-use Rattle.lalrpop_lr1_build.proofs.NumberedAutomatonLemmas.{get_some, kernel_at, no_element, some_element, symbol_behind_dot}
+use Rattle.lalrpop_lr1_build.proofs.NumberedAutomatonLemmas.{kernel_at, some_element, symbol_behind_dot}
+use Rattle.lalrpop_lr1_first.proofs.TableLemmas.{get_some}
+use Rattle.lalrpop_lr1_theory.proofs.NameLemmas.{no_element}
 use Rattle.lalrpop_lr1_build.proofs.OrderLemmas.{items_before, places_apart, symbols_before}
 use Rattle.lalrpop_lr1_build.proofs.PublicLemmas.{edges_same, public_constructed, seen_at, zip_at, zip_right}
 use Rattle.lalrpop_lr1_build.proofs.StartLemmas.{start_items_are, start_kernel_items}

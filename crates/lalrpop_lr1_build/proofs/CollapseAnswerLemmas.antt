@@ -30,7 +30,7 @@ use Rattle.lalrpop_lr1_core.proofs.NoConflictLemmas.{none_is_none}
 use Rattle.lalrpop_lr1_build.specs.BuiltStates.{ItemBefore}
 use Rattle.lalrpop_lr1_core.specs.TheoryGrammars.{theory_grammar}
 use Rattle.lalrpop_lr1_build.proofs.BuiltLemmas.{all_each}
-use Rattle.lalrpop_lr1_build.proofs.ProductionLemmas.{same_production}
+use Rattle.lalrpop_lr1_core.proofs.ProductionViewLemmas.{same_production}
 use Rattle.lalrpop_lr1_theory.specs.JoinedStates.{AreJoinedStates, AreNumbersAsSeen, HaveCoresInOrder, item_core}
 use Rattle.lalrpop_lr1_theory.proofs.CollapseLemmas.{collapsed_carried, collapsed_checked}
 use Rattle.lalrpop_lr1_theory.proofs.CollapsedCoverLemmas.{target_item}
@@ -41,7 +41,7 @@ use Rattle.lalrpop_lr1_build.specs.StateCores.{core_in_state}
 use Rattle.lalrpop_lr1_build.specs.JoinedStates.{AreJoinedByNumbers}
 use Rattle.lalrpop_lr1_build.specs.Renumbering.{HaveTargetsWithin}
 use Rattle.lalrpop_lr1_build.specs.CollapseAnswers.{AreCanonicalOf, AreCanonicalOfSome, AreCollapsedStates, AreLalrStates, states_over}
-use Rattle.lalrpop_lr1_build.proofs.ListLemmas.{long_map}
+use Rattle.lalrpop_lr1_first.proofs.TableLemmas.{long_map}
 use Rattle.lalrpop_lr1_build.proofs.ViewLemmas.{all_seen, lists_seen}
 
 abbrev compare : Production → Production → Ordering

@@ -13,7 +13,7 @@ use Rattle.lalrpop_lr1_theory.specs.States as states
 use Rattle.lalrpop_lr1_core.specs.Views.{lr_item_view, production_view}
 use Rattle.lalrpop_lr1_core.specs.declared.item.Item.{Item}
 use Rattle.lalrpop_grammar_repr.proofs.EqualLemmas.{both_parts, same_productions}
-use Rattle.lalrpop_lr1_build.proofs.ProductionLemmas.{same_production}
+use Rattle.lalrpop_lr1_core.proofs.ProductionViewLemmas.{same_production}
 use Rattle.lalrpop_lr1_theory.specs.JoinedStates.{item_core}
 use Rattle.lalrpop_lr1_build.specs.StateCores.{DottedProduction, items_core, listed_core, listed_dotted}
 

@@ -1,6 +1,6 @@
 -- States with the same items and lookaheads have one kernel: for states whose item sets differ.
 use Rattle.std.proofs.Common.{◌≡◌, ◌∙◌, ◌↔◌, ◌⊎◌, ◌+◌, ◌<◌, ◌≤◌, ℕ, suc, Bool, true}
-use Rattle.std.proofs.Common.{false, List, [], ◌∷◌, length, Some, None}
+use Rattle.std.proofs.Common.{List, [], ◌∷◌, length, Some, None}
 use Rattle.std.proofs.Common.{Contains, Option, slice_get, refl, sym, ap, subst, arith, inl, inr, ⊎_elim}
 use Rattle.std.proofs.lemmas.Bool.{cases_lt}
 use Rattle.std.proofs.lemmas.Option.{slice_get_within}
@@ -25,8 +25,10 @@ use Rattle.lalrpop_lr1_build.specs.declared.states.numbered_states.NumberedState
 use Rattle.lalrpop_lr1_build.proofs.ShiftLemmas.{item_moved, shifted_from}
 use Rattle.lalrpop_lr1_build.proofs.TurnLemmas.{kernel_of}
 use Rattle.lalrpop_lr1_build.specs.NumberedAutomata.{AreStartItems, HasNumberedItem, HasNumberedNext}
-use Rattle.lalrpop_lr1_build.proofs.NumberedAutomatonLemmas.{kernel_at, no_element, once_at, some_element}
+use Rattle.lalrpop_lr1_build.proofs.NumberedAutomatonLemmas.{kernel_at, once_at, some_element}
+use Rattle.lalrpop_lr1_theory.proofs.NameLemmas.{no_element}
 use Rattle.lalrpop_lr1_build.proofs.ProductionLemmas.{place_once}
+use Rattle.lalrpop_grammar_symbols.proofs.BoolLemmas.{same_bool}
 
 -- every element of a list in order is at least its bound
 least : {L : Type 0} (xs : List (ℕ × L)) (a : ℕ) (z : ℕ × L) → AscendsFrom a (places_of xs) → Contains xs z → a ≤ z.0
@@ -54,12 +56,6 @@ same_lists {L} (x ∷ xs) (y ∷ ys) a b h g same =
       λ c. ⊎_elim (λ e. absurd (let r = least ys (suc y.0) z g.1 c in let f : x.0 ≡ z.0 = ap (λ (v : ℕ × L). v.0) e in
           omega (arith, r, f, heads))) (λ d. d) (contains_split x z xs ((same z).1 (contains_later y z ys c))),
     )))
-
-same_tests : (a b : Bool) → (a ≡ true → b ≡ true) → (b ≡ true → a ≡ true) → a ≡ b
-same_tests true true f g = refl
-same_tests true false f g = sym (f refl)
-same_tests false true f g = g refl
-same_tests false false f g = refl
 
 module _ (firsts : Bool) (G : theory.Production → Type 0) (K : theory.Production → ℕ → Type 0)
     (U : theory.Production → ℕ → theory.Next → Type 0) where
@@ -156,7 +152,7 @@ module _ (table : Numbered) (is : IsNumberTable table) {L : Type 0} (marks : L �
     element_to : (z : ℕ × L) → Contains kernel z → Contains other z
     element_to z c =
         let h = place_to kernel items other others closure closing are are_other moved same_there nexts_there z.0 z.1 c in
-        let e : z.1 ≡ h.0 = one z.1 h.0 (are.ordered z.0 z.1 c) (are_other.ordered z.0 h.0 h.1) (λ k. same_tests _ _
+        let e : z.1 ≡ h.0 = one z.1 h.0 (are.ordered z.0 z.1 c) (are_other.ordered z.0 h.0 h.1) (λ k. same_bool _ _
         (mark_to kernel items other others closure closing are are_other moved same_there nexts_there z.0 z.1 h.0 c h.1 k)
         (mark_to other others kernel items closing closure are_other are moved_other same_back nexts_back z.0 h.0 z.1 h.1 c k)) in
         subst (λ l. Contains other (z.0, l)) (sym e) h.1
@@ -164,7 +160,7 @@ module _ (table : Numbered) (is : IsNumberTable table) {L : Type 0} (marks : L �
     element_from : (z : ℕ × L) → Contains other z → Contains kernel z
     element_from z c =
         let h = place_to other others kernel items closing closure are_other are moved_other same_back nexts_back z.0 z.1 c in
-        let e : z.1 ≡ h.0 = one z.1 h.0 (are_other.ordered z.0 z.1 c) (are.ordered z.0 h.0 h.1) (λ k. same_tests _ _
+        let e : z.1 ≡ h.0 = one z.1 h.0 (are_other.ordered z.0 z.1 c) (are.ordered z.0 h.0 h.1) (λ k. same_bool _ _
         (mark_to other others kernel items closing closure are_other are moved_other same_back nexts_back z.0 z.1 h.0 c h.1 k)
         (mark_to kernel items other others closure closing are are_other moved same_there nexts_there z.0 h.0 z.1 h.1 c k)) in
         subst (λ l. Contains kernel (z.0, l)) (sym e) h.1

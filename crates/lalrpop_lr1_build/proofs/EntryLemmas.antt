@@ -4,10 +4,8 @@ use Rattle.std.proofs.Common.{cond, List, [], ◌∷◌, ◌++◌, length, take}
 use Rattle.std.proofs.Common.{drop, get_or, Some, slice_get, refl, sym, ap, subst, arith, append-nil, eq-eqb, length-append, ⊎_elim}
 use Rattle.std.specs.Borrow.{Bor}
 use Rattle.std.specs.List.{AllZip}
-use Rattle.std.specs.Prelude.{flat_map}
 use Rattle.std.specs.Str.{bytes_eq}
-use Rattle.std.proofs.lemmas.List.Concat.{flat_map-append}
-use Rattle.std.proofs.lemmas.Option.{get_or_from_slice_get, slice_get_within}
+use Rattle.std.proofs.lemmas.Option.{slice_get_within}
 use Rattle.lalrpop_grammar_symbols.specs.declared.names.NonterminalString.{NonterminalString}
 use Rattle.lalrpop_grammar_repr.specs.declared.production.Production.{Production}
 use Rattle.lalrpop_lr1_core.specs.declared.item.Item.{Item}
@@ -16,16 +14,13 @@ use Rattle.lalrpop_sets.specs.Bits.{Ascends}
 use Rattle.lalrpop_lr1_first.specs.declared.numbered.Numbered.{Numbered}
 use Rattle.lalrpop_lr1_first.specs.declared.place.NumberedRule.{NumberedRule}
 use Rattle.lalrpop_lr1_first.proofs.AddLemmas.{taken_more}
-use Rattle.lalrpop_lr1_first.proofs.ListLemmas.{eqb_not}
+use Rattle.lalrpop_sets.proofs.WordLemmas.{eqb_not}
 use Rattle.lalrpop_lr1_build.specs.Kernels.{places_of}
 use Rattle.lalrpop_lr1_build.specs.declared.states.numbered_states.NumberedState.{NumberedState}
 use Rattle.lalrpop_lr1_build.proofs.StateEdgeLemmas.{get_parts}
 use Rattle.lalrpop_lr1_build.specs.PublicStates.{ArePublicStates, IsPublicState, finished_entries, start_items}
 use Rattle.lalrpop_lr1_build.proofs.MapEdgeLemmas.{front_ascends}
-
--- the first elements, one more
-pub take_get : {X : Type 0} (xs : List X) (i : ℕ) (x : X) → slice_get xs i ≡ Some x → take (i + 1) xs ≡ take i xs ++ x ∷ []
-take_get xs i x e = taken_more xs i x (slice_get_within xs i x e) (sym (get_or_from_slice_get xs i x x e))
+use Rattle.lalrpop_lr1_build.proofs.ListLemmas.{take_get}
 
 take_drop : {X : Type 0} (i : ℕ) (xs : List X) → take i xs ++ drop i xs ≡ xs
 take_drop zero xs = refl
@@ -67,13 +62,6 @@ zip_push R [] [] x y h e = (e, tt)
 zip_push R [] (z ∷ ys) x y h e = absurd h
 zip_push R (z ∷ xs) [] x y h e = absurd h
 zip_push R (z ∷ xs) (v ∷ ys) x y h e = (h.0, zip_push R xs ys x y h.1 e)
-
--- what each of the first elements gives, one more
-pub flat_more : {X Y : Type 0} (f : X → List Y) (xs : List X) (i : ℕ) (x : X) → i < length xs → x ≡ get_or xs i x →
-    flat_map f (take i xs) ++ f x ≡ flat_map f (take (i + 1) xs)
-flat_more f xs i x h e =
-    sym (ap (flat_map f) (taken_more xs i x h e) ∙ flat_map-append f (take i xs) (x ∷ [])
-    ∙ ap (λ ys. flat_map f (take i xs) ++ ys) (append-nil (f x)))
 
 -- one public state more
 pub public_more : {L : Type 0} (table : Numbered) (done : List (NumberedState L)) (public : List (State L)) (state : NumberedState L)

@@ -9,18 +9,19 @@ use Rattle.lalrpop_sets.specs.Tokens.{is_number}
 use Rattle.lalrpop_lr1_first.specs.declared.place.Place.{Place}
 use Rattle.lalrpop_lr1_first.specs.declared.place.Place.TheVariants as places
 use Rattle.lalrpop_lr1_first.proofs.AddLemmas.{taken_more}
-use Rattle.lalrpop_lr1_first.proofs.ListLemmas.{cases_eq, eqb_not}
+use Rattle.lalrpop_sets.proofs.WordLemmas.{cases_eq}
+use Rattle.lalrpop_sets.proofs.WordLemmas.{eqb_not}
 use Rattle.lalrpop_lr1_build.specs.Shifts.{items_in, items_of_group, shifted_items, shifted_over, symbol_behind, symbol_in}
 use Rattle.lalrpop_lr1_build.specs.declared.states.kernel.StateKernel.{StateKernel}
 use Rattle.lalrpop_lr1_build.proofs.StateEdgeLemmas.{get_parts}
 use Rattle.lalrpop_lr1_build.proofs.ShiftLemmas.{is_over}
 
-get_set_same : {X : Type 0} (xs : List X) (i : ℕ) (x : X) → i < length xs → slice_get (set xs i x) i ≡ Some x
+pub get_set_same : {X : Type 0} (xs : List X) (i : ℕ) (x : X) → i < length xs → slice_get (set xs i x) i ≡ Some x
 get_set_same [] i x h = absurd (omega arith)
 get_set_same (y ∷ xs) zero x h = refl
 get_set_same (y ∷ xs) (suc i) x h = get_set_same xs i x (omega arith)
 
-get_set_other : {X : Type 0} (xs : List X) (i j : ℕ) (x : X) → (i ≡ j → ⊥) → slice_get (set xs i x) j ≡ slice_get xs j
+pub get_set_other : {X : Type 0} (xs : List X) (i j : ℕ) (x : X) → (i ≡ j → ⊥) → slice_get (set xs i x) j ≡ slice_get xs j
 get_set_other [] i j x h = refl
 get_set_other (y ∷ xs) zero zero x h = absurd (h refl)
 get_set_other (y ∷ xs) zero (suc j) x h = refl

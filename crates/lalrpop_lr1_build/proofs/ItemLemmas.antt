@@ -12,7 +12,8 @@ use Rattle.lalrpop_lr1_theory.specs.JoinedStates.{AreNumbersAsSeen}
 use Rattle.lalrpop_lr1_theory.proofs.OrderLemmas.{image_get}
 use Rattle.lalrpop_lr1_build.specs.StateCores.{DottedProduction, core_in_state, dotted_production, items_core}
 use Rattle.lalrpop_lr1_build.specs.JoinedItems.{AreJoinedFrom, AreJoinedItems, HasInOne, IsJoinedItem, has_at}
-use Rattle.lalrpop_lr1_build.proofs.ListLemmas.{long_map, take_get, take_whole}
+use Rattle.lalrpop_lr1_build.proofs.ListLemmas.{take_get, take_whole}
+use Rattle.lalrpop_lr1_first.proofs.TableLemmas.{long_map}
 
 -- one joined item more
 pub joined_push : (ps qs us : List (Item (List ℕ))) (a b u : Item (List ℕ)) → AreJoinedItems ps qs us → IsJoinedItem a b u →

@@ -36,11 +36,6 @@ index_here [] i h = absurd (omega (arith, h))
 index_here (y ∷ xs) zero h = refl
 index_here (y ∷ xs) (suc i) h = index_here xs i (omega (arith, h))
 
--- a mapped list is as long as the list
-pub long_map : {X Y : Type 0} (f : X → Y) (xs : List X) → length (map f xs) ≡ length xs
-long_map f [] = refl
-long_map f (x ∷ xs) = ap suc (long_map f xs)
-
 -- a list with one put behind is mapped to its image with that one's image put behind
 pub map_last : {X Y : Type 0} (f : X → Y) (xs : List X) (x : X) → map f (xs ++ x ∷ []) ≡ map f xs ++ f x ∷ []
 map_last f [] x = refl

@@ -25,7 +25,7 @@ use Rattle.lalrpop_lr1_first.proofs.TableLemmas.{once}
 use Rattle.lalrpop_lr1_build.specs.Kernels.{places_of}
 use Rattle.lalrpop_lr1_build.proofs.StateEdgeLemmas.{edge_last, edge_parts}
 use Rattle.lalrpop_lr1_build.specs.PublicStates.{AreGotos, AreShifts}
-use Rattle.lalrpop_lr1_build.proofs.NumberedAutomatonLemmas.{no_element}
+use Rattle.lalrpop_lr1_theory.proofs.NameLemmas.{no_element}
 
 module _ {K X : Type 0} (R : K → K → Ordering) (exact : (x y : K) → R x y ≡ Equal → x ≡ y) (k : K) (v : X) where
   -- an entry with a new key joins the others

@@ -7,10 +7,7 @@ use Rattle.lalrpop_lr1_theory.proofs.ListLemmas.{contains_here, contains_split}
 use Rattle.lalrpop_sets.specs.Bits.{Ascends, AscendsFrom, has}
 use Rattle.lalrpop_lr1_build.specs.Kernels.{HaveOrderedLookaheads, places_of}
 use Rattle.lalrpop_lr1_build.specs.Merges.{AddsJoined, AreBefore, Merges, NoneBefore, TakesBefore}
-
--- nothing is an element of an empty list
-pub no_element : {X : Type 0} (y : X) → Contains [] y → ⊥
-no_element y c = omega (arith, c.1)
+use Rattle.lalrpop_lr1_theory.proofs.NameLemmas.{no_element}
 
 -- what ascends from a number on ascends from each smaller one on
 pub ascends_less : (a b : ℕ) (xs : List ℕ) → a ≤ b → AscendsFrom b xs → AscendsFrom a xs

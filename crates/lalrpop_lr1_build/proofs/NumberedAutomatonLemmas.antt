@@ -17,7 +17,7 @@ use Rattle.lalrpop_lr1_first.specs.ItemTables.{ListsItem, ListsNext}
 use Rattle.lalrpop_lr1_first.specs.NumberedGrammars.{HasItemAt, IsNumberTable, IsSeenIn, table_names, table_productions}
 use Rattle.lalrpop_lr1_first.specs.Tables.{symbol_of_number}
 use Rattle.lalrpop_lr1_first.specs.declared.numbered.Numbered.{Numbered}
-use Rattle.lalrpop_lr1_first.proofs.TableLemmas.{is_item_table, table_numbering}
+use Rattle.lalrpop_lr1_first.proofs.TableLemmas.{is_item_table, table_numbering, get_some}
 use Rattle.lalrpop_lr1_build.specs.Kernels.{IsClosureOf, places_of}
 use Rattle.lalrpop_lr1_build.specs.Shifts.{shifted_items, symbol_behind}
 use Rattle.lalrpop_lr1_build.specs.Turns.{AreNumberedStates, HasEdgeByNumber, shifted_kernel}
@@ -26,16 +26,7 @@ use Rattle.lalrpop_lr1_build.specs.declared.states.numbered_states.NumberedState
 use Rattle.lalrpop_lr1_build.proofs.ShiftLemmas.{item_moved, shifted_from, shifted_to, symbol_is, symbol_there}
 use Rattle.lalrpop_lr1_build.specs.NumberedAutomata.{AreStartItems, HasNumberedEdge, HasNumberedItem, HasNumberedNext}
 use Rattle.lalrpop_lr1_build.proofs.AutomatonLemmas.{closure_more, marked_more}
-
--- nothing is an element of an empty list
-pub no_element : {X : Type 0} (y : X) → Contains [] y → ⊥
-no_element y c = omega (arith, c.1)
-
--- a list has something at each place before its length
-pub get_some : {X : Type 0} (xs : List X) (r : ℕ) → r < length xs → (x : X) × (slice_get xs r ≡ Some x)
-get_some [] r h = absurd (omega arith)
-get_some (x ∷ xs) zero h = (x, refl)
-get_some (x ∷ xs) (suc r) h = get_some xs r (omega arith)
+use Rattle.lalrpop_lr1_theory.proofs.NameLemmas.{no_element}
 
 -- a place in order stands once
 above : {L : Type 0} (xs : List (ℕ × L)) (a i : ℕ) (l : L) → AscendsFrom a (places_of xs) → Contains xs (i, l) → a ≤ i

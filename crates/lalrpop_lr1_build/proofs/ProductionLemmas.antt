@@ -1,9 +1,8 @@
 -- Productions that are seen as one are one, so an item has one place: for states whose items stand once.
-use Rattle.std.proofs.Common.{◌≡◌, ◌∙◌, ℕ, zero, suc, List, [], ◌∷◌, Some, map, slice_get, refl, sym}
+use Rattle.std.proofs.Common.{◌≡◌, ◌∙◌, ℕ, zero, suc, List, [], ◌∷◌, Some, slice_get, refl, sym}
 use Rattle.std.proofs.Common.{ap, subst, arith}
 use Rattle.std.specs.Cmp.{nat_cmp_total}
 use Rattle.std.specs.Cmp.Lexicographic.{nat_list_cmp_total, slice_cmp}
-use Rattle.std.specs.List.{AllByRecursion}
 use Rattle.std.specs.List.Sorted.{IsStrictlySortedBy}
 use Rattle.std.specs.Ordering.{nat_cmp, ordering_reverse, ordering_then}
 use Rattle.std.specs.declared.cmp.Ordering.{Ordering}
@@ -22,44 +21,11 @@ use Rattle.lalrpop_grammar_repr.specs.declared.production.Symbol.{Symbol}
 use Rattle.lalrpop_grammar_repr.specs.declared.production.Symbol.TheVariants as symbol
 use Rattle.lalrpop_lr1_theory.specs.Productions as theory
 use Rattle.lalrpop_lr1_theory.proofs.StepLemmas.{some_same}
-use Rattle.lalrpop_lr1_core.specs.Views.{production_symbol_view, production_view}
-use Rattle.lalrpop_lr1_core.proofs.NoConflictLemmas.{same_terminal}
 use Rattle.lalrpop_lr1_first.specs.NumberedGrammars.{HasItemAt, IsNumberTable, table_productions}
 use Rattle.lalrpop_lr1_first.specs.declared.numbered.Numbered.{Numbered}
 use Rattle.lalrpop_lr1_first.specs.declared.place.NumberedRule.{NumberedRule}
-
-same_symbol : (x y : Symbol) → production_symbol_view x ≡ production_symbol_view y → x ≡ y
-same_symbol (symbol.Nonterminal m) (symbol.Nonterminal n) e =
-    let z : m.0 ≡ n.0 = nonterminals m.0 n.0 e in ap (λ t. symbol.Nonterminal (record { 0 = t })) z
-  where
-    nonterminals : (a b : List ℕ) → theory.nonterminal a ≡ theory.nonterminal b → a ≡ b
-    nonterminals a b e = cc
-same_symbol (symbol.Nonterminal m) (symbol.Terminal t) e = let z : ⊥ = cc in absurd z
-same_symbol (symbol.Terminal t) (symbol.Nonterminal m) e = let z : ⊥ = cc in absurd z
-same_symbol (symbol.Terminal t) (symbol.Terminal u) e = ap symbol.Terminal (same_terminal t u (cc))
-
-same_side : (xs ys : List Symbol) → map production_symbol_view xs ≡ map production_symbol_view ys → xs ≡ ys
-same_side [] [] e = refl
-same_side [] (y ∷ ys) e = let z : ⊥ = cc in absurd z
-same_side (x ∷ xs) [] e = let z : ⊥ = cc in absurd z
-same_side (x ∷ xs) (y ∷ ys) e =
-    let h : production_symbol_view x ≡ production_symbol_view y = cc in
-    let t : map production_symbol_view xs ≡ map production_symbol_view ys = cc in
-    ap (λ z. z ∷ xs) (same_symbol x y h) ∙ ap (λ zs. y ∷ zs) (same_side xs ys t)
-
-abbrev made : List ℕ → List Symbol → ℕ → ℕ → ℕ → Production
-made name side action from to =
-    record { nonterminal = record { 0 = name }; symbols = side; action = record { 0 = action }; span = record { 0 = from; 1 = to } }
-
--- productions that are seen as one are one
-pub same_production : (p q : Production) → production_view p ≡ production_view q → p ≡ q
-same_production p q e =
-    ap (λ x. made x p.symbols p.action.0 p.span.0 p.span.1) (ap (λ (v : theory.Production). v.left) e)
-    ∙ ap (λ x. made q.nonterminal.0 x p.action.0 p.span.0 p.span.1)
-    (same_side p.symbols q.symbols (ap (λ (v : theory.Production). v.right) e))
-    ∙ ap (λ x. made q.nonterminal.0 q.symbols x p.span.0 p.span.1) (ap (λ (v : theory.Production). v.action) e)
-    ∙ ap (λ x. made q.nonterminal.0 q.symbols q.action.0 x p.span.1) (ap (λ (v : theory.Production). v.from) e)
-    ∙ ap (λ x. made q.nonterminal.0 q.symbols q.action.0 q.span.0 x) (ap (λ (v : theory.Production). v.to) e)
+use Rattle.lalrpop_lr1_core.proofs.SortedLemmas.{all_at}
+use Rattle.lalrpop_lr1_core.proofs.ProductionViewLemmas.{same_production}
 
 itself : (o : Ordering) → o ≡ ordering_reverse o → o ≡ Equal
 itself Less e = let z : ⊥ = cc in absurd z
@@ -104,11 +70,6 @@ production_itself p =
 
 not_less : (p : Production) → (productions.ghosts).cmp p p ≡ Less → ⊥
 not_less p e = let z : Equal ≡ Less = sym (production_itself p) ∙ e in let w : ⊥ = cc in w
-
-all_at : {X : Type 0} (P : X → Type 0) (xs : List X) (i : ℕ) (x : X) → AllByRecursion P xs → slice_get xs i ≡ Some x → P x
-all_at P [] i x h e = let w : ⊥ = cc in absurd w
-all_at P (y ∷ xs) zero x h e = subst P (some_same y x e) h.0
-all_at P (y ∷ xs) (suc i) x h e = all_at P xs i x h.1 e
 
 once : (ps : List Production) → IsStrictlySortedBy (productions.ghosts).cmp ps → (i j : ℕ) (p : Production) →
     slice_get ps i ≡ Some p → slice_get ps j ≡ Some p → i ≡ j

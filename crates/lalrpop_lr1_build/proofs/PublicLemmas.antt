@@ -35,7 +35,9 @@ use Rattle.lalrpop_lr1_build.specs.NumberedAutomata.{AreStartItems, HasNumberedE
 use Rattle.lalrpop_lr1_build.specs.PublicStates.{ArePublicStates, IsPublicItem, IsPublicState, finished_entries}
 use Rattle.lalrpop_lr1_build.proofs.AutomatonLemmas.{automaton_same, walk_more}
 use Rattle.lalrpop_lr1_build.proofs.DistinctLemmas.{numbered_distinct}
-use Rattle.lalrpop_lr1_build.proofs.NumberedAutomatonLemmas.{get_some, kernel_at, no_element, numbered_automaton, walk_to}
+use Rattle.lalrpop_lr1_build.proofs.NumberedAutomatonLemmas.{kernel_at, numbered_automaton, walk_to}
+use Rattle.lalrpop_lr1_first.proofs.TableLemmas.{get_some}
+use Rattle.lalrpop_lr1_theory.proofs.NameLemmas.{no_element}
 use Rattle.lalrpop_lr1_build.proofs.ProductionLemmas.{place_once}
 
 -- lists whose elements are in a relation, place by place

@@ -7,10 +7,12 @@ use Rattle.std.specs.Cmp.Lexicographic.{pointwise}
 use Rattle.std.specs.Prelude.{◌&&◌, ◌==◌, if◌then◌else◌}
 use Rattle.lalrpop_lr1_theory.proofs.StepLemmas.{some_same}
 use Rattle.lalrpop_sets.specs.Queues.{number_in}
-use Rattle.lalrpop_lr1_first.proofs.ListLemmas.{and_both, both_and, eqb_self, eqb_true}
+use Rattle.lalrpop_lr1_first.proofs.ListLemmas.{both_and, eqb_true}
+use Rattle.lalrpop_grammar_symbols.proofs.BoolLemmas.{and_both}
+use Rattle.lalrpop_sets.proofs.WordLemmas.{eqb_self}
 use Rattle.lalrpop_lr1_build.specs.Edges.{AddsKernel}
 use Rattle.lalrpop_lr1_build.specs.declared.states.kernel.StateKernel.{StateKernel}
-use Rattle.lalrpop_lr1_build.proofs.StateEdgeLemmas.{get_last}
+use Rattle.lalrpop_lr1_theory.proofs.ListLemmas.{get_last}
 
 module _ {K : Type 0} (eq : K → K → Bool) (exact : (a b : K) → eq a b ≡ true → a ≡ b) (same : (a : K) → eq a a
     ≡ true) (k : K) where

@@ -1,6 +1,6 @@
 -- The numbers of productions at places, filled in from the back; and the item that they tell: for public states.
 use Rattle.std.proofs.Common.{◌≡◌, ◌∙◌, ◌+◌, ◌-◌, ◌<◌, ◌≤◌, ℕ, zero, suc, List, []}
-use Rattle.std.proofs.Common.{◌∷◌, ◌++◌, length, Some, None, Option}
+use Rattle.std.proofs.Common.{◌∷◌, ◌++◌, length, Some, None}
 use Rattle.std.proofs.Common.{slice_get, get_or, drop, map, set, refl, sym, ap, subst, arith, ⊎_elim}
 use Rattle.std.proofs.lemmas.Bool.{cases_lt}
 use Rattle.std.proofs.lemmas.Option.{slice_get_within}
@@ -9,14 +9,13 @@ use Rattle.lalrpop_lr1_theory.proofs.StepLemmas.{some_same}
 use Rattle.lalrpop_grammar_repr.specs.declared.production.Production.{Production}
 use Rattle.lalrpop_lr1_core.specs.Views.{production_symbol_view, production_view}
 use Rattle.lalrpop_lr1_first.specs.NumberedGrammars.{HasItemAt, IsNumberTable, table_names}
-use Rattle.lalrpop_lr1_first.specs.Numbers.{SpellsSymbols}
 use Rattle.lalrpop_lr1_first.specs.Tables.{end_until, laid_side, symbol_of_number}
 use Rattle.lalrpop_lr1_first.specs.declared.numbered.Numbered.{Numbered}
 use Rattle.lalrpop_lr1_first.specs.declared.place.NumberedRule.{NumberedRule}
 use Rattle.lalrpop_lr1_first.specs.declared.place.Place.{Place}
 use Rattle.lalrpop_lr1_first.specs.declared.place.Place.TheVariants as places
 use Rattle.lalrpop_lr1_first.proofs.ListLemmas.{read_slice}
-use Rattle.lalrpop_lr1_first.proofs.TableLemmas.{long_map}
+use Rattle.lalrpop_lr1_first.proofs.TableLemmas.{long_map, drop_both, spells_long}
 use Rattle.lalrpop_lr1_build.specs.PublicStates.{TellsRules, ending_number}
 
 drop_here : (all : List Place) (i : ℕ) (p : Place) → slice_get all i ≡ Some p → drop i all ≡ p ∷ drop (suc i) all
@@ -108,25 +107,12 @@ tells_read all place number numbers d n h t e =
     (tells_more all place number numbers (get_or all (place - 1) d) (place - 1) (omega arith)
     (read_slice all all (place - 1) d (omega (arith, t.within)) refl) t)
 
-drop_both : {X : Type 0} (n d : ℕ) (xs : List X) → drop (n + d) xs ≡ drop d (drop n xs)
-drop_both zero d xs = ap (λ k. drop k xs) (let e : zero + d ≡ d = omega arith in e)
-drop_both (suc n) zero [] = ap (λ k. drop k []) (let e : suc n + zero ≡ suc n = omega arith in e)
-drop_both (suc n) (suc d) [] = ap (λ k. drop k []) (let e : suc n + suc d ≡ suc (n + suc d) = omega arith in e)
-drop_both (suc n) d (x ∷ xs) = ap (λ k. drop k (x ∷ xs)) (let e : suc n + d ≡ suc (n + d) = omega arith in e) ∙ drop_both n d xs
-
 ends_at : (d : ℕ) (xs : List ℕ) (r : ℕ) (more : List Place) → d ≤ length xs → end_until (drop d (laid_side xs r ++ more))
     ≡ Some r
 ends_at zero [] r more h = refl
 ends_at zero (x ∷ xs) r more h = ends_at zero xs r more (omega arith)
 ends_at (suc d) [] r more h = absurd (omega arith)
 ends_at (suc d) (x ∷ xs) r more h = ends_at d xs r more (omega arith)
-
-spells_long : (at : ℕ → Option theory.Symbol) (xs : List ℕ) (ys : List theory.Symbol) → SpellsSymbols at xs ys → length xs
-    ≡ length ys
-spells_long at [] [] sp = refl
-spells_long at [] (y ∷ ys) sp = absurd sp
-spells_long at (x ∷ xs) [] sp = absurd sp
-spells_long at (x ∷ xs) (y ∷ ys) sp = ap suc (spells_long at xs ys sp.1)
 
 -- behind an item's place its production ends
 pub item_ends : (table : Numbered) → IsNumberTable table → (i : ℕ) (p : theory.Production) (d : ℕ) (h : HasItemAt table i p d) →

@@ -5,7 +5,7 @@ use Rattle.std.proofs.Common.{Contains, Option, Some, None, refl, sym, ap, subst
 use Rattle.std.specs.List.{cons_option}
 use Rattle.std.specs.Prelude.{if◌then◌else◌}
 use Rattle.lalrpop_lr1_theory.specs.Productions as theory
-use Rattle.lalrpop_lr1_theory.proofs.ListLemmas.{contains_here, contains_later, contains_split}
+use Rattle.lalrpop_lr1_theory.proofs.ListLemmas.{contains_here, contains_later, contains_split, none_some}
 use Rattle.lalrpop_lr1_core.specs.Views.{production_symbol_view}
 use Rattle.lalrpop_sets.specs.Bits.{AscendsFrom}
 use Rattle.lalrpop_sets.specs.Tokens.{is_number}
@@ -15,14 +15,13 @@ use Rattle.lalrpop_lr1_first.specs.Tables.{rest_of, symbol_of_number, symbols_un
 use Rattle.lalrpop_lr1_first.specs.declared.numbered.Numbered.{Numbered}
 use Rattle.lalrpop_lr1_first.specs.declared.place.Place.{Place}
 use Rattle.lalrpop_lr1_first.specs.declared.place.Place.TheVariants as places
-use Rattle.lalrpop_lr1_first.proofs.ListLemmas.{eqb_self, eqb_true}
+use Rattle.lalrpop_lr1_first.proofs.ListLemmas.{eqb_true}
+use Rattle.lalrpop_sets.proofs.WordLemmas.{eqb_self}
 use Rattle.lalrpop_lr1_first.proofs.TableLemmas.{is_item_table, long_map}
 use Rattle.lalrpop_lr1_build.specs.Kernels.{AreKernelItems, places_of}
 use Rattle.lalrpop_lr1_build.specs.Shifts.{shifted_items, shifted_over, symbol_behind}
-use Rattle.lalrpop_lr1_build.proofs.MergeLemmas.{ascends_less, no_element}
-
-none_some : {X : Type 0} (x : X) → None ≡ Some x → ⊥
-none_some x e = cc
+use Rattle.lalrpop_lr1_build.proofs.MergeLemmas.{ascends_less}
+use Rattle.lalrpop_lr1_theory.proofs.NameLemmas.{no_element}
 
 number_is : (o : Option ℕ) (s : ℕ) → is_number o s ≡ true → o ≡ Some s
 number_is None s e = let z : ⊥ = cc in absurd z

@@ -20,7 +20,7 @@ use Rattle.lalrpop_lr1_build.specs.Kernels.{AreKernelItems, places_of}
 use Rattle.lalrpop_lr1_build.specs.Nexts.{IsNextIn}
 use Rattle.lalrpop_lr1_build.specs.NumberedAutomata.{AreStartItems}
 use Rattle.lalrpop_lr1_build.specs.PublicStates.{start_items}
-use Rattle.lalrpop_lr1_build.proofs.NumberedAutomatonLemmas.{no_element}
+use Rattle.lalrpop_lr1_theory.proofs.NameLemmas.{no_element}
 use Rattle.std.proofs.lemmas.Slice.Eq.{bytes_eq-Decides}
 
 -- an item of the start's: its production and its rule stand at one place of their lists

@@ -1,23 +1,18 @@
 -- One edge after another, and what is then true of all of a state: for its edges.
 use Rattle.std.proofs.Common.{◌≡◌, ◌∙◌, ◌⊎◌, ◌+◌, ◌<◌, ◌≤◌, ℕ, zero, suc, List, [], ◌∷◌}
 use Rattle.std.proofs.Common.{◌++◌, length, Some, Contains, slice_get}
-use Rattle.std.proofs.Common.{refl, sym, ap, subst, arith, inl, inr, ⊎_elim, append-nil, append_assoc}
+use Rattle.std.proofs.Common.{sym, ap, subst, arith, inl, inr, ⊎_elim, append-nil, append_assoc}
 use Rattle.std.proofs.lemmas.Bool.{cases_lt}
 use Rattle.std.proofs.lemmas.List.{length-append}
 use Rattle.std.proofs.lemmas.List.Elements.{Contains-append_cases, Contains-append_left, Contains-append_right}
 use Rattle.std.proofs.lemmas.Option.{slice_get_within}
-use Rattle.lalrpop_lr1_theory.proofs.ListLemmas.{contains_here, contains_split, get_front, get_split}
+use Rattle.lalrpop_lr1_theory.proofs.ListLemmas.{contains_here, contains_split, get_front, get_split, get_last}
 use Rattle.lalrpop_lr1_theory.proofs.StepLemmas.{some_same}
 use Rattle.lalrpop_sets.specs.Bits.{AscendsFrom}
 use Rattle.lalrpop_lr1_build.specs.Edges.{AddsEdge, AddsKernel, AreDistinctKernels, EdgesLead}
 use Rattle.lalrpop_lr1_build.specs.Kernels.{places_of}
 use Rattle.lalrpop_lr1_build.specs.declared.states.kernel.StateKernel.{StateKernel}
-use Rattle.lalrpop_lr1_build.proofs.MergeLemmas.{no_element}
-
--- the last of a list
-pub get_last : {X : Type 0} (xs : List X) (x : X) → slice_get (xs ++ x ∷ []) (length xs) ≡ Some x
-get_last [] x = refl
-get_last (y ∷ xs) x = get_last xs x
+use Rattle.lalrpop_lr1_theory.proofs.NameLemmas.{no_element}
 
 -- what stands in a list with one more at its end stands in front, or is the last
 pub get_parts : {X : Type 0} (xs : List X) (x : X) (k : ℕ) (y : X) → slice_get (xs ++ x ∷ []) k ≡ Some y →

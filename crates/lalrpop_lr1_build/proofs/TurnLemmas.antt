@@ -14,13 +14,10 @@ use Rattle.lalrpop_lr1_build.specs.Shifts.{items_of_group, items_in, shifted_ite
 use Rattle.lalrpop_lr1_build.specs.Turns.{AreStatesOf, HasEdges, HasEdgeByNumber, IsTurn, shifted_kernel}
 use Rattle.lalrpop_lr1_build.specs.declared.states.kernel.StateKernel.{StateKernel}
 use Rattle.lalrpop_lr1_build.specs.declared.states.numbered_states.NumberedState.{NumberedState}
-use Rattle.lalrpop_lr1_build.proofs.StateEdgeLemmas.{get_last, get_parts}
+use Rattle.lalrpop_lr1_build.proofs.StateEdgeLemmas.{get_parts}
+use Rattle.lalrpop_lr1_theory.proofs.ListLemmas.{get_last}
 use Rattle.lalrpop_lr1_build.proofs.ShiftLemmas.{shifted_are}
-
-get_some : {X : Type 0} (xs : List X) (r : ℕ) → r < length xs → (x : X) × (slice_get xs r ≡ Some x)
-get_some [] r h = absurd (omega arith)
-get_some (x ∷ xs) zero h = (x, refl)
-get_some (x ∷ xs) (suc r) h = get_some xs r (omega arith)
+use Rattle.lalrpop_lr1_first.proofs.TableLemmas.{get_some}
 
 -- the kernel of items
 abbrev pub kernel_of : {L : Type 0} → List (ℕ × L) → StateKernel L

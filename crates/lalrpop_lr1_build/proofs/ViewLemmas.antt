@@ -28,7 +28,8 @@ use Rattle.lalrpop_lr1_build.specs.JoinedItems.{has_at, lookahead_of}
 use Rattle.lalrpop_lr1_build.specs.JoinedStates.{AreJoinedByNumbers, IsJoinedWith}
 use Rattle.lalrpop_lr1_build.specs.Renumbering.{HaveTargetsWithin, renumber}
 use Rattle.lalrpop_lr1_build.proofs.CoreLemmas.{core_view, cores_exact, dotted_view}
-use Rattle.lalrpop_lr1_build.proofs.ListLemmas.{index_here, long_map}
+use Rattle.lalrpop_lr1_build.proofs.ListLemmas.{index_here}
+use Rattle.lalrpop_lr1_first.proofs.TableLemmas.{long_map}
 
 -- edges by numbers are seen as edges by numbers
 module _ {K X : Type 0} (f : K → X) where

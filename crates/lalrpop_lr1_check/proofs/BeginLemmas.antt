@@ -1,10 +1,9 @@
 -- Names that follow by the clauses of beginnings are those that a closure brings: for marks of names.
 use Rattle.std.proofs.Common.{◌≡◌, ◌∙◌, ◌⊎◌, ◌↔◌, ℕ, ◌<◌, Bool, List, [], ◌∷◌, ◌++◌}
 use Rattle.std.proofs.Common.{refl, sym, ap, subst, get_or, length, slice_get}
-use Rattle.std.proofs.Common.{inl, inr, ⊎_elim, arith, Contains, Option, None, Some}
+use Rattle.std.proofs.Common.{⊎_elim, arith, Contains, Option, None, Some}
 use Rattle.std.specs.Prelude.{flat_map}
 use Rattle.std.proofs.lemmas.Option.{slice_get-get_or}
-use Rattle.std.proofs.lemmas.List.Elements.{Contains-append_left, Contains-append_right}
 use Rattle.lalrpop_grammar_symbols.specs.Symbols.{Text}
 use Rattle.lalrpop_lr1_theory.specs.Productions as theory
 use Rattle.lalrpop_lr1_theory.proofs.ListLemmas.{contains_here, contains_split, get_contains}
@@ -21,20 +20,10 @@ use Rattle.lalrpop_lr1_first.proofs.SeedLemmas.{name_is, name_there}
 use Rattle.lalrpop_lr1_first.proofs.TableLemmas.{table_numbering}
 use Rattle.lalrpop_lr1_barren.specs.Clauses.{Follows, IsMarked, by_clause, marked}
 use Rattle.lalrpop_lr1_barren.specs.NameMarks.{IsNumberOf}
-use Rattle.lalrpop_lr1_barren.proofs.NameLemmas.{in_flat, one_number, production_of, rule_there}
-use Rattle.lalrpop_lr1_check_lookaheads.proofs.GainLemmas.{no_element}
+use Rattle.lalrpop_lr1_barren.proofs.NameLemmas.{one_number, production_of, rule_there}
+use Rattle.lalrpop_lr1_core.proofs.GraphLemmas.{in_flat, flat_has}
+use Rattle.lalrpop_lr1_theory.proofs.NameLemmas.{no_element}
 use Rattle.lalrpop_lr1_check.specs.BeginClauses.{AreMarksOf, begin_of_rule, begin_to}
-
--- the joined lists have what each element's list has
-pub flat_has : {X Y : Type 0} (f : X → List Y) (xs : List X) (x : X) (y : Y) → Contains xs x → Contains (f x) y →
-    Contains (flat_map f xs) y
-flat_has f [] x y c d = absurd (no_element x c)
-flat_has f (z ∷ zs) x y c d = go (flat_has f zs x y) (contains_split z x zs c)
-  where
-    go : (Contains zs x → Contains (f x) y → Contains (flat_map f zs) y) → (z ≡ x) ⊎ Contains zs x →
-        Contains (f z ++ flat_map f zs) y
-    go deeper (inl e) = Contains-append_left (f z) (flat_map f zs) y (subst (λ u. Contains (f u) y) (sym e) d)
-    go deeper (inr r) = Contains-append_right (f z) (flat_map f zs) y (deeper r d)
 
 -- the clause from a number to another
 in_begin : (from : ℕ) (o : Option ℕ) (c : List ℕ × ℕ) → Contains (begin_to from o) c →

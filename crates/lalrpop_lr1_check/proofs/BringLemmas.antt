@@ -18,17 +18,17 @@ use Rattle.lalrpop_lr1_core.specs.declared.item.Item.{Item}
 use Rattle.lalrpop_lr1_core.specs.declared.state.State.{State}
 use Rattle.lalrpop_lr1_core.proofs.MemberLemmas.{in_map, map_has}
 use Rattle.lalrpop_lr1_core.proofs.NoConflictLemmas.{at_mapped, mapped_at}
-use Rattle.lalrpop_lr1_barren.proofs.NameLemmas.{in_flat}
+use Rattle.lalrpop_lr1_core.proofs.GraphLemmas.{in_flat}
 use Rattle.lalrpop_lr1_barren.specs.Clauses.{IsMarked}
-use Rattle.lalrpop_lr1_check_lookaheads.specs.CheckedTests.{BringsItems}
+use Rattle.lalrpop_lr1_check_lookaheads.specs.CheckedTests.{HasClosureItems}
 use Rattle.lalrpop_lr1_check_lookaheads.specs.ListTests.{HoldsAtEach}
-use Rattle.lalrpop_lr1_check_lookaheads.proofs.GainLemmas.{no_element}
-use Rattle.lalrpop_lr1_check.specs.BringTests.{BringsFromStart, BringsOwn, BringsOwnIfMarked, TargetsBringOwn}
-use Rattle.lalrpop_lr1_check.specs.BringTests.{items_in_state}
-use Rattle.lalrpop_lr1_check.specs.BringTests.{items_or_none}
+use Rattle.lalrpop_lr1_theory.proofs.NameLemmas.{no_element}
+use Rattle.lalrpop_lr1_check.specs.ClosureItemTests.{HasStartClosure, HasOwnClosure, HasOwnClosureIfMarked, TargetsBringOwn}
+use Rattle.lalrpop_lr1_check.specs.ClosureItemTests.{items_in_state}
+use Rattle.lalrpop_lr1_check.specs.ClosureItemTests.{items_or_none}
 use Rattle.lalrpop_lr1_check.specs.EdgeTargets.{goto_target, shift_target, targets_of_state}
 use Rattle.lalrpop_lr1_check.specs.NamesBehind.{HasSeenItem}
-use Rattle.lalrpop_lr1_check.proofs.BeginLemmas.{flat_has}
+use Rattle.lalrpop_lr1_core.proofs.GraphLemmas.{flat_has}
 
 -- names from a larger seed, and names that more items bring
 name_from_more : (G : theory.Production → Type 0) (Seed More : Text → Type 0) → ((A : Text) → Seed A → More A) → {A : Text} →
@@ -58,7 +58,7 @@ module _ {L : Type 0} where
   abbrev none : List (Item L)
   none = []
 
-  brings_none : (G : theory.Production → Type 0) → BringsOwn G none
+  brings_none : (G : theory.Production → Type 0) → HasOwnClosure G none
   brings_none G q = (
     λ h. absurd (no_element h.item h.listed),
     λ h. absurd (no_name_brought G (IsNameBehindDot (IsMovedItem (HasSeenItem none)))
@@ -164,16 +164,16 @@ module _ {L : Type 0} (look : L → states.LookaheadSet) (all : List (State L)) 
 
   module _ (G : theory.Production → Type 0) (S : Text) where
     -- the state's own list, whether or not the state is there
-    own_brings : (n : ℕ) → ((s : State L) → slice_get all n ≡ Some s → BringsOwn G s.items.vec) →
-        BringsOwn G (items_in_state all n)
+    own_brings : (n : ℕ) → ((s : State L) → slice_get all n ≡ Some s → HasOwnClosure G s.items.vec) →
+        HasOwnClosure G (items_in_state all n)
     own_brings n h = go (slice_get all n) refl
       where
-        go : (o : Option (State L)) → slice_get all n ≡ o → BringsOwn G (items_or_none o)
+        go : (o : Option (State L)) → slice_get all n ≡ o → HasOwnClosure G (items_or_none o)
         go None e = brings_none G
         go (Some s) e = h s e
 
     -- list by list, and so as it is seen
-    pub brings_seen : BringsFromStart G S (items_in_state all 0) → TargetsBringOwn G all → BringsItems G S Has Edge
+    pub brings_seen : HasStartClosure G S (items_in_state all 0) → TargetsBringOwn G all → HasClosureItems G S Has Edge
     brings_seen first own = record {
       unmoved_start = λ p i h.
           let o = has_own 0 p (suc i) h in
@@ -189,7 +189,7 @@ module _ {L : Type 0} (look : L → states.LookaheadSet) (all : List (State L)) 
     }
 
     -- as it is seen, and so list by list
-    pub seen_first : BringsItems G S Has Edge → BringsFromStart G S (items_in_state all 0)
+    pub seen_first : HasClosureItems G S Has Edge → HasStartClosure G S (items_in_state all 0)
     seen_first b = record {
       unmoved = λ k item e. unmoved item (get_contains (items_in_state all 0) k item e);
       brought = λ q. (λ h. (b.start_brings q).0 (own_has 0 q 0 h), λ h. has_own 0 q 0 ((b.start_brings q).1 h));
@@ -207,21 +207,21 @@ module _ {L : Type 0} (look : L → states.LookaheadSet) (all : List (State L)) 
               dot = e;
             })))
 
-    pub seen_targets : BringsItems G S Has Edge → TargetsBringOwn G all
+    pub seen_targets : HasClosureItems G S Has Edge → TargetsBringOwn G all
     seen_targets b m s at c =
         let t = target_edge m c in
         let told = b.moved_bring t.0 t.1 m t.2 in
-        let own : BringsOwn G (items_in_state all m) = λ q. (
+        let own : HasOwnClosure G (items_in_state all m) = λ q. (
           λ h. let r = (told q).0 (own_has m q 0 h) in (r.0, brought_more G (Has m) (Own m) (has_own m) q.left r.1),
           λ h. has_own m q 0 ((told q).1 (h.0, brought_more G (Own m) (Has m) (own_has m) q.left h.1)),
         ) in
-        subst (λ o. BringsOwn G (items_or_none o)) at own
+        subst (λ o. HasOwnClosure G (items_or_none o)) at own
 
 -- the test by marks of targets
 module _ {L : Type 0} (G : theory.Production → Type 0) (all : List (State L)) (targets : List Bool)
     (told : (m : ℕ) → IsMarked targets m ↔ ((m < length all) × Contains (flat_map targets_of_state all) m)) where
-  pub marked_bring : HoldsAtEach (BringsOwnIfMarked G targets) all → TargetsBringOwn G all
+  pub marked_bring : HoldsAtEach (HasOwnClosureIfMarked G targets) all → TargetsBringOwn G all
   marked_bring each n s at c = each n s at ((told n).1 (slice_get_within all n s at, c))
 
-  pub bring_marked : TargetsBringOwn G all → HoldsAtEach (BringsOwnIfMarked G targets) all
+  pub bring_marked : TargetsBringOwn G all → HoldsAtEach (HasOwnClosureIfMarked G targets) all
   bring_marked own n s at m = own n s at ((told n).0 m).1

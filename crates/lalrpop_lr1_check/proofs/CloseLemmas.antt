@@ -10,7 +10,8 @@ use Rattle.lalrpop_lr1_theory.proofs.ListLemmas.{contains_get, contains_here, ge
 use Rattle.lalrpop_lr1_theory.proofs.StepLemmas.{some_same}
 use Rattle.lalrpop_lr1_barren.specs.Clauses.{Follows, IsMarked, by_clause, marked}
 use Rattle.lalrpop_lr1_barren.proofs.ClauseLemmas.{marked_within, set_from, set_kept, set_long, set_there}
-use Rattle.lalrpop_lr1_check_lookaheads.proofs.GainLemmas.{no_element, taken_one}
+use Rattle.lalrpop_lr1_check_lookaheads.proofs.GainLemmas.{taken_one}
+use Rattle.lalrpop_lr1_theory.proofs.NameLemmas.{no_element}
 use Rattle.lalrpop_lr1_check_lookaheads.proofs.MoveLemmas.{get_long}
 use Rattle.lalrpop_lr1_check.specs.BeginLists.{AreClosingNames, ListsBegins, Queues}
 use Rattle.lalrpop_lr1_check.proofs.BeginLemmas.{only_one}

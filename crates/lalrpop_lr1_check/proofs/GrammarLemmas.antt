@@ -10,7 +10,7 @@ use Rattle.lalrpop_lr1_first.specs.NumberedGrammars.{IsSeenIn}
 use Rattle.lalrpop_lr1_theory.specs.CoverTests.{HasItemsOfNames}
 use Rattle.lalrpop_lr1_theory.specs.NameClosures.{BeginsWithName, IsNameFrom}
 use Rattle.lalrpop_lr1_theory.specs.NameClosures.{IsProductive, MentionsName}
-use Rattle.lalrpop_lr1_check_lookaheads.specs.CheckedTests.{BringsItems, ReachesProductive}
+use Rattle.lalrpop_lr1_check_lookaheads.specs.CheckedTests.{HasClosureItems, ReachesProductive}
 
 -- the same productions are seen as the same
 pub seen_same : (ps qs : List repr.Production) → HoldSame ps qs → (p : Production) → IsSeenIn ps p ↔ IsSeenIn qs p
@@ -73,7 +73,7 @@ module _ (G H : Production → Type 0) (same : (p : Production) → G p ↔ H p)
     )
 
     -- names bring the same items
-    pub brings_same : BringsItems G s Item Edge → BringsItems H s Item Edge
+    pub brings_same : HasClosureItems G s Item Edge → HasClosureItems H s Item Edge
     brings_same b = record {
       unmoved_start = b.unmoved_start;
       start_brings = from_names _ 0 b.start_brings;

@@ -9,8 +9,10 @@ use Rattle.lalrpop_lr1_theory.proofs.ListLemmas.{contains_here, contains_split}
 use Rattle.lalrpop_lr1_first.specs.FirstNumbers.{name_count}
 use Rattle.lalrpop_lr1_first.specs.declared.numbered.Numbered.{Numbered}
 use Rattle.lalrpop_lr1_first.specs.declared.place.NumberedRule.{NumberedRule}
-use Rattle.lalrpop_lr1_first.proofs.ListLemmas.{at_set_other, at_set_same, cases_eq, set_long}
-use Rattle.lalrpop_lr1_check_lookaheads.proofs.GainLemmas.{no_element, taken_one}
+use Rattle.lalrpop_lr1_first.proofs.ListLemmas.{at_set_other, at_set_same, set_long}
+use Rattle.lalrpop_sets.proofs.WordLemmas.{cases_eq}
+use Rattle.lalrpop_lr1_check_lookaheads.proofs.GainLemmas.{taken_one}
+use Rattle.lalrpop_lr1_theory.proofs.NameLemmas.{no_element}
 use Rattle.lalrpop_lr1_check.specs.BeginClauses.{begin_of_rule, begin_to}
 use Rattle.lalrpop_lr1_check.specs.BeginLists.{AddsBegins, AreBeginLists, ListsBegins}
 

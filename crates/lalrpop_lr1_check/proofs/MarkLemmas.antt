@@ -8,7 +8,8 @@ use Rattle.std.proofs.lemmas.List.Elements.{Contains-append_cases, Contains-appe
 use Rattle.lalrpop_lr1_theory.proofs.ListLemmas.{contains_here, contains_later, contains_split, get_contains}
 use Rattle.lalrpop_lr1_barren.specs.Clauses.{IsMarked, has_mark}
 use Rattle.lalrpop_lr1_barren.proofs.ClauseLemmas.{marked_within, set_from, set_kept, set_long, set_there}
-use Rattle.lalrpop_lr1_check_lookaheads.proofs.GainLemmas.{no_element, taken_one}
+use Rattle.lalrpop_lr1_check_lookaheads.proofs.GainLemmas.{taken_one}
+use Rattle.lalrpop_lr1_theory.proofs.NameLemmas.{no_element}
 use Rattle.lalrpop_lr1_check.specs.MarkGains.{GainsMarks, IsMarkOfSome, marks_with}
 
 -- marks of two lists of numbers, one behind the other

@@ -10,7 +10,7 @@ use Rattle.lalrpop_lr1_core.specs.declared.state.State.{State}
 use Rattle.lalrpop_lr1_first.specs.Listings.{HoldSame}
 use Rattle.lalrpop_lr1_core.specs.TheoryGrammars.{productions_of_grammar}
 use Rattle.lalrpop_lr1_first.specs.NumberedGrammars.{IsSeenIn}
-use Rattle.lalrpop_lr1_theory.specs.HandedNexts.{ReducesBeforeHanded}
+use Rattle.lalrpop_lr1_theory.specs.PropagatedNexts.{ReducesBeforeLookaheads}
 use Rattle.lalrpop_lr1_theory.proofs.NameLemmas.{none_barren_productive}
 use Rattle.lalrpop_lr1_check_lookaheads.proofs.PassLemmas.{checked_pass, pass_checked}
 use Rattle.lalrpop_lr1_core.specs.TheoryGrammars.{theory_grammar}
@@ -31,9 +31,9 @@ module _ (g : Grammar) (ts : TerminalSet) (s : Text) (all : List (State (List �
       let p = checked_pass (theory_grammar g) s (seen_states ts all) c in
       record { finished = p.finished; follows = p.follows }
 
-  pub checked_handed : Checked → ReducesBeforeHanded (IsSeenIn (productions_of_grammar g)) s (HasItem (seen_states ts all))
+  pub checked_propagated : Checked → ReducesBeforeLookaheads (IsSeenIn (productions_of_grammar g)) s (HasItem (seen_states ts all))
       (HasEdge (seen_states ts all)) (Reduces (seen_states ts all))
-  checked_handed c = (checked_pass (theory_grammar g) s (seen_states ts all) c).handed
+  checked_propagated c = (checked_pass (theory_grammar g) s (seen_states ts all) c).propagated
 
   module _ (ps : List Production) (same : HoldSame ps (productions_of_grammar g)) where
     pub checked_table : Checked → PassByTable (IsSeenIn ps) ts s all
@@ -49,16 +49,16 @@ module _ (g : Grammar) (ts : TerminalSet) (s : Text) (all : List (State (List �
         }
 
     pub passed_checked : PassReductions ts s all → PassAlongEdges ts all → PassByTable (IsSeenIn ps) ts s all →
-        ReducesBeforeHanded (IsSeenIn (productions_of_grammar g)) s (HasItem (seen_states ts all)) (HasEdge (seen_states ts all))
+        ReducesBeforeLookaheads (IsSeenIn (productions_of_grammar g)) s (HasItem (seen_states ts all)) (HasEdge (seen_states ts all))
         (Reduces (seen_states ts all)) → Checked
-    passed_checked reductions edges table handed =
+    passed_checked reductions edges table propagated =
         let to = seen_same ps (productions_of_grammar g) same in
         pass_checked (theory_grammar g) s (seen_states ts all) (record {
           follows = edges.follows;
           brings = brings_same (IsSeenIn ps) (IsSeenIn (productions_of_grammar g)) to s (HasItem (seen_states ts all))
               (HasEdge (seen_states ts all)) table.brings;
           finished = edges.finished;
-          handed = handed;
+          propagated = propagated;
           no_conflict = reductions.no_conflict;
           ends = reductions.ends;
           productive = reaches_same (IsSeenIn ps) (IsSeenIn (productions_of_grammar g)) to s

@@ -4,5 +4,5 @@ pub mod BeginLists
 pub mod EdgeTargets
 pub mod NamesBehind
 pub mod UnmovedItems
-pub mod BringTests
+pub mod ClosureItemTests
 pub mod StatesOver

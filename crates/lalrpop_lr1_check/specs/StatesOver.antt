@@ -8,8 +8,8 @@ use Rattle.lalrpop_lr1_theory.specs.States as states
 use Rattle.lalrpop_lr1_theory.specs.ValidItems.{NoneBarren}
 use Rattle.lalrpop_lr1_core.specs.Views.{lr_state_view, token_lookahead}
 use Rattle.lalrpop_lr1_core.specs.declared.state.State.{State}
-use Rattle.lalrpop_lr1_check_lookaheads.specs.HandFlows.{HaveKnownItems}
-use Rattle.lalrpop_lr1_check_lookaheads.specs.CheckedTests.{BringsItems}
+use Rattle.lalrpop_lr1_check_lookaheads.specs.LookaheadFlows.{HaveKnownItems}
+use Rattle.lalrpop_lr1_check_lookaheads.specs.CheckedTests.{HasClosureItems}
 use Rattle.lalrpop_lr1_check_lookaheads.specs.Moves.{FollowsEdges}
 use Rattle.lalrpop_lr1_check_lookaheads.specs.Reductions.{EndsAsSeen, FinishedAsSeen, OverTokens}
 
@@ -33,4 +33,4 @@ pub record PassAlongEdges (ts : TerminalSet) (all : List (State (List ℕ))) : T
 
 pub record PassByTable (G : theory.Production → Type 0) (ts : TerminalSet) (s : Text) (all : List (State (List ℕ))) : Type 0 where
   pub none_barren : NoneBarren G s
-  pub brings : BringsItems G s (states.HasItem (seen_states ts all)) (states.HasEdge (seen_states ts all))
+  pub brings : HasClosureItems G s (states.HasItem (seen_states ts all)) (states.HasEdge (seen_states ts all))

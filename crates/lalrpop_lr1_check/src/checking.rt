@@ -13,11 +13,11 @@ ghost use Rattle.lalrpop_lr1_check.specs.StatesOver.{
   PassReductions,
 };
 
-use crate::closure::brings_items;
+use crate::closure::has_closure_items;
 use lalrpop_grammar_repr::{Grammar, TerminalSet};
 use lalrpop_grammar_symbols::NonterminalString;
 use lalrpop_lr1_barren::reachable::none_is_barren;
-use lalrpop_lr1_check_lookaheads::lookaheads::reduces_before_handed;
+use lalrpop_lr1_check_lookaheads::lookaheads::reduces_before_lookaheads;
 use lalrpop_lr1_check_lookaheads::parts::{StateListing, end_rightly, have_no_conflict};
 use lalrpop_lr1_core::Lr1State;
 use lalrpop_lr1_first::Numbered;
@@ -72,7 +72,7 @@ fn pass_by_table(
     if !none {
         return Ok(false);
     }
-    let brings = brings_items(alloc, table, start, states)?;
+    let brings = has_closure_items(alloc, table, start, states)?;
     Ok(brings)
 }
 
@@ -110,6 +110,6 @@ pub fn check_states<'g>(
     if !by_table {
         return Ok(false);
     }
-    let handed = reduces_before_handed(alloc, grammar, &table, start, states)?;
-    Ok(handed)
+    let propagated = reduces_before_lookaheads(alloc, grammar, &table, start, states)?;
+    Ok(propagated)
 }

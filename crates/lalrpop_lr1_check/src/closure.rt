@@ -6,11 +6,11 @@
 //! states edges lead, and `UnmovedItems` which items with the dot in front a list has.
 
 mod begins;
-mod bringing;
 mod closing;
+mod closure_items;
 mod lookup;
 mod names_behind;
 mod targets;
 mod unmoved;
 
-pub use bringing::brings_items;
+pub use closure_items::has_closure_items;

@@ -13,13 +13,15 @@ use Rattle.lalrpop_sets.specs.Tokens.{has_number}
 use Rattle.lalrpop_lr1_theory.proofs.ListLemmas.{contains_here, contains_later, contains_split, get_contains}
 use Rattle.lalrpop_lr1_theory.proofs.StepLemmas.{some_same}
 use Rattle.lalrpop_lr1_core.specs.Conflicts.{ReductionEntry, ShiftEntry, in_both, later_pairs, pair_conflict, pairs_conflicts}
-use Rattle.lalrpop_lr1_core.specs.Conflicts.{sharing_conflict, shift_conflict, shift_conflicts, shift_record, token_conflicts}
+use Rattle.lalrpop_lr1_core.specs.Conflicts.{shift_conflict, shift_conflicts, shift_record, token_conflicts}
 use Rattle.lalrpop_lr1_core.specs.declared.state.State.{State}
 use Rattle.lalrpop_lr1_core.specs.declared.state_index.StateIndex.{StateIndex}
 use Rattle.lalrpop_lr1_core.proofs.ConflictLemmas.{has_in_both, no_pair}
 use Rattle.lalrpop_lr1_core.proofs.MemberLemmas.{each_empty, flat_empty, in_pairs, joined_empty, pair_there}
 use Rattle.lalrpop_lr1_check_lookaheads.specs.ApartSets.{ShareNone, AreReductionsApart, are_free, has_any, is_free}
-use Rattle.lalrpop_lr1_check_lookaheads.proofs.GainLemmas.{no_element, taken_one}
+use Rattle.lalrpop_lr1_check_lookaheads.proofs.GainLemmas.{taken_one}
+use Rattle.lalrpop_lr1_theory.proofs.NameLemmas.{no_element}
+use Rattle.lalrpop_lr1_core.proofs.NoConflictLemmas.{nothing_shared}
 
 -- one set more
 has_any-push : (rs : List ReductionEntry) (r : ReductionEntry) (k : ℕ) → has_any (rs ++ r ∷ []) k ≡ (has_any rs k || has r.0 k)
@@ -99,11 +101,6 @@ of_taken (s ∷ rs) (suc j) k e = go (has s.0 k) refl (of_taken rs j k)
     go false f rec =
         let r : HasBefore rs j k = rec (here_or_later (has s.0 k) (has_any (take j rs) k) e f) in
         record { place = suc r.place; entry = r.entry; before = omega (arith, r.before); at = r.at; number = r.number }
-
-nothing_shared : (state : StateIndex) (pair : ReductionEntry × ReductionEntry) (s : List ℕ) → sharing_conflict state pair s ≡ [] →
-    s ≡ []
-nothing_shared state pair [] e = refl
-nothing_shared state pair (k ∷ ks) e = let w : ⊥ = cc in absurd w
 
 none_of_both : (state : StateIndex) (r s : ReductionEntry) (k : ℕ) → pair_conflict state (r, s) ≡ [] → has r.0 k ≡ true →
     has s.0 k ≡ false

@@ -19,10 +19,11 @@ use Rattle.std.specs.Borrow.{Bor}
 use Rattle.lalrpop_lr1_core.proofs.MemberLemmas.{in_map, map_has}
 use Rattle.lalrpop_lr1_first.specs.Listings.{lent}
 use Rattle.lalrpop_lr1_first.specs.FirstSetsOf.{IsProductionOf}
-use Rattle.lalrpop_lr1_check_lookaheads.proofs.GainLemmas.{get_at, no_element, taken_one}
+use Rattle.lalrpop_lr1_check_lookaheads.proofs.GainLemmas.{get_at, taken_one}
+use Rattle.lalrpop_lr1_theory.proofs.NameLemmas.{no_element}
 use Rattle.lalrpop_lr1_check_lookaheads.specs.Brought.{AreClosingMarks, BeginBrings, BringsMark, ClosesMarks, IsBegunMark}
 use Rattle.lalrpop_lr1_check_lookaheads.specs.Brought.{IsFirstMark, OfSome, OfSomePlace}
-use Rattle.lalrpop_lr1_check_lookaheads.specs.HandSlots.{AreSlots, GainsSlotMarks, HasSlotMark, IsMarkIn, SlotKey, slot_key, slot_keys}
+use Rattle.lalrpop_lr1_check_lookaheads.specs.LookaheadSlots.{AreSlots, GainsSlotMarks, HasSlotMark, IsMarkIn, SlotKey, slot_key, slot_keys}
 use Rattle.lalrpop_lr1_check_lookaheads.specs.declared.lookaheads.slots.Slot.{Slot}
 use Rattle.lalrpop_lr1_check_lookaheads.specs.declared.lookaheads.slots.Slots.{Slots}
 use Rattle.lalrpop_lr1_check_lookaheads.proofs.SlotLemmas.{gains_as, gains_both, gains_nothing, key_of}
@@ -58,10 +59,10 @@ module _ (g : Grammar) (n : ℕ) (symbols rest : List theory.Symbol) (A : Text) 
   )
 
 -- no nonterminal, no mark
-pub brings_nothing : (g : Grammar) (n : ℕ) (symbols : List theory.Symbol) (old : Slots) → AreSlots old →
+pub has_empty_closure : (g : Grammar) (n : ℕ) (symbols : List theory.Symbol) (old : Slots) → AreSlots old →
     ((A : Text) (b : List theory.Symbol) → symbols ≡ theory.nonterminal A ∷ b → ⊥) →
     GainsSlotMarks old old (BringsMark g n symbols)
-brings_nothing g n symbols old are none =
+has_empty_closure g n symbols old are none =
     gains_as old old (λ key mark. ⊥) (BringsMark g n symbols)
     (λ key mark. (λ (z : ⊥). absurd z, λ b. none key.name b.rest b.before)) (gains_nothing old are)
 

@@ -1,4 +1,4 @@
--- What flows along edges, with the first set that holds the end alone: for what slots hand on.
+-- What flows along edges, with the first set that holds the end alone: for what slots propagate.
 use Rattle.std.proofs.Common.{◌≡◌, ◌∙◌, ◌↔◌, ℕ, zero, suc, ◌+◌, ◌<◌, ◌≤◌, true, false}
 use Rattle.std.proofs.Common.{◌||◌, ◌&&◌, List, [], ◌∷◌}
 use Rattle.std.proofs.Common.{Contains, Option, None, Some, length, map, refl, sym, ap, subst, ⊎_elim, arith}
@@ -13,11 +13,12 @@ use Rattle.lalrpop_lr1_first.specs.FlowEdges.{RestsAreWithin, edge_seen, edges_s
 use Rattle.lalrpop_lr1_first.specs.Flows.{EdgesAreWithin, FlowEdge, Flows, IsEdgeWithin, MarksAreWithin, all_marks, slot_marks}
 use Rattle.lalrpop_lr1_first.specs.Numbers.{set_of_number}
 use Rattle.lalrpop_lr1_first.specs.declared.flowing.Edge.{Edge}
-use Rattle.lalrpop_lr1_first.proofs.ListLemmas.{and_both, or_cases, or_right}
+use Rattle.lalrpop_lr1_first.proofs.ListLemmas.{or_cases, or_right}
+use Rattle.lalrpop_grammar_symbols.proofs.BoolLemmas.{and_both}
 use Rattle.lalrpop_lr1_check_lookaheads.proofs.MoveLemmas.{get_long}
-use Rattle.lalrpop_lr1_check_lookaheads.specs.HandFlows.{FlowsAlong}
-use Rattle.lalrpop_lr1_check_lookaheads.specs.HandReductions.{option_set}
-use Rattle.lalrpop_lr1_check_lookaheads.specs.HandSlots.{AreSlots, HasSlotMark, SlotKey, slot_keys, slot_sets}
+use Rattle.lalrpop_lr1_check_lookaheads.specs.LookaheadFlows.{FlowsAlong}
+use Rattle.lalrpop_lr1_check_lookaheads.specs.LookaheadReductions.{option_set}
+use Rattle.lalrpop_lr1_check_lookaheads.specs.LookaheadSlots.{AreSlots, HasSlotMark, SlotKey, slot_keys, slot_sets}
 use Rattle.lalrpop_lr1_check_lookaheads.specs.declared.lookaheads.slots.Slots.{Slots}
 
 -- each set with a mark more

@@ -1,5 +1,5 @@
 -- Items follow edges, as a listing of states tells it: for the test of states.
-use Rattle.std.proofs.Common.{◌≡◌, ◌∙◌, ℕ, suc, List, [], ◌∷◌, length, map, ap, refl}
+use Rattle.std.proofs.Common.{◌≡◌, ◌∙◌, ℕ, List, [], ◌∷◌, length, map}
 use Rattle.lalrpop_lr1_theory.specs.States as states
 use Rattle.lalrpop_lr1_core.specs.Views.{lr_state_view}
 use Rattle.lalrpop_lr1_check_lookaheads.specs.ListTests.{HoldsAtEach}
@@ -8,10 +8,7 @@ use Rattle.lalrpop_lr1_check_lookaheads.specs.Moves.{DoesMoveOn, FollowsEdges, K
 use Rattle.lalrpop_lr1_check_lookaheads.specs.SeenEdges.{noted_edge}
 use Rattle.lalrpop_lr1_check_lookaheads.specs.declared.parts.listing.StateListing.{StateListing}
 use Rattle.lalrpop_lr1_check_lookaheads.proofs.MoveLemmas.{back_seen, moves_seen, one_edge_any, seen_back, seen_moves}
-
-long_map : {X Y : Type 0} (f : X → Y) (xs : List X) → length (map f xs) ≡ length xs
-long_map f [] = refl
-long_map f (x ∷ xs) = ap suc (long_map f xs)
+use Rattle.lalrpop_lr1_first.proofs.TableLemmas.{long_map}
 
 module _ (look : List ℕ → states.LookaheadSet) (own : StateListing) (is : IsStateListing own) where
   abbrev Follows : Type 0

@@ -13,10 +13,9 @@ use Rattle.std.proofs.lemmas.List.Elements.{Contains-append_cases, Contains-appe
 use Rattle.lalrpop_lr1_theory.proofs.ListLemmas.{contains_here, contains_later, contains_split}
 use Rattle.lalrpop_lr1_theory.proofs.StepLemmas.{some_same}
 use Rattle.lalrpop_lr1_check_lookaheads.specs.ListTests.{GainsElements, HaveSameElements, HoldsAtEach, HoldsAtFirst, of_each_place}
-
--- nothing is an element of an empty list
-pub no_element : {X : Type 0} (y : X) → Contains [] y → ⊥
-no_element y c = omega (arith, c.1)
+use Rattle.lalrpop_lr1_theory.proofs.NameLemmas.{no_element}
+use Rattle.lalrpop_lr1_core.proofs.GraphLemmas.{in_flat, flat_has, in_places, places_have}
+use Rattle.lalrpop_lr1_core.proofs.EdgeLemmas.{enumerate-push}
 
 -- a list that stays as it is gains nothing
 pub gains_none : {X : Type 0} (a : List X) → GainsElements a a []
@@ -95,12 +94,6 @@ pub mapped_taken : {X Y : Type 0} (f : X → Y) (xs : List X) (i : ℕ) (x : X) 
     map f (take (i + 1) xs) ≡ map f (take i xs) ++ f x ∷ []
 mapped_taken f xs i x h e = ap (map f) (taken_one xs i x h e) ∙ mapped_one f (take i xs) x
 
-enumerate-push : {X : Type 0} (n : ℕ) (xs : List X) (x : X) →
-    enumerate_from n (xs ++ x ∷ []) ≡ enumerate_from n xs ++ (n + length xs, x) ∷ []
-enumerate-push n [] x = ap (λ m. (m, x) ∷ []) (omega arith)
-enumerate-push n (y ∷ ys) x =
-    ap (λ l. (n, y) ∷ l) (enumerate-push (n + 1) ys x ∙ ap (λ m. enumerate_from (n + 1) ys ++ (m, x) ∷ []) (omega arith))
-
 -- what comes of one place more
 pub each_place_more : {X Y : Type 0} (f : ℕ → X → List Y) (xs : List X) (i : ℕ) (x : X) → i < length xs → x ≡ get_or xs i x
     →
@@ -111,51 +104,6 @@ each_place_more {X} {Y} f xs i x h e =
     ap (of_each_place f) (taken_one xs i x h e) ∙ ap (flat_map g) (enumerate-push 0 (take i xs) x)
     ∙ flat_map-append g (enumerate_from 0 (take i xs)) ((0 + length (take i xs), x) ∷ [])
     ∙ ap (λ l. of_each_place f (take i xs) ++ l) (append-nil (f (0 + length (take i xs)) x) ∙ ap (λ m. f m x) place)
-
-in_flat : {X Y : Type 0} (f : X → List Y) (xs : List X) (y : Y) → Contains (flat_map f xs) y →
-    (x : X) × Contains xs x × Contains (f x) y
-in_flat f [] y c = absurd (no_element y c)
-in_flat {X = X} f (z ∷ zs) y c = go (in_flat f zs y) (Contains-append_cases (f z) (flat_map f zs) y c)
-  where
-    go : (Contains (flat_map f zs) y → (x : X) × Contains zs x × Contains (f x) y) →
-        Contains (f z) y ⊎ Contains (flat_map f zs) y →
-        (x : X) × Contains (z ∷ zs) x × Contains (f x) y
-    go deeper (inl d) = (z, contains_here z zs, d)
-    go deeper (inr d) = let r : (x : X) × Contains zs x × Contains (f x) y = deeper d in (r.0, contains_later z r.0 zs r.1, r.2)
-
-flat_has : {X Y : Type 0} (f : X → List Y) (xs : List X) (x : X) (y : Y) → Contains xs x → Contains (f x) y →
-    Contains (flat_map f xs) y
-flat_has f [] x y c d = absurd (no_element x c)
-flat_has f (z ∷ zs) x y c d = go (flat_has f zs x y) (contains_split z x zs c)
-  where
-    go : (Contains zs x → Contains (f x) y → Contains (flat_map f zs) y) → (z ≡ x) ⊎ Contains zs x →
-        Contains (f z ++ flat_map f zs) y
-    go deeper (inl e) = Contains-append_left (f z) (flat_map f zs) y (subst (λ u. Contains (f u) y) (sym e) d)
-    go deeper (inr r) = Contains-append_right (f z) (flat_map f zs) y (deeper r d)
-
-in_places : {X : Type 0} (n : ℕ) (xs : List X) (p : ℕ × X) → Contains (enumerate_from n xs) p →
-    (k : ℕ) × (p.0 ≡ n + k) × (slice_get xs k ≡ Some p.1)
-in_places n [] p c = absurd (no_element p c)
-in_places {X = X} n (x ∷ xs) p c = go (in_places (n + 1) xs p) (contains_split (n, x) p (enumerate_from (n + 1) xs) c)
-  where
-    go : (Contains (enumerate_from (n + 1) xs) p → (k : ℕ) × (p.0 ≡ n + 1 + k) × (slice_get xs k ≡ Some p.1)) →
-        ((n, x) ≡ p) ⊎ Contains (enumerate_from (n + 1) xs) p → (k : ℕ) × (p.0 ≡ n + k) × (slice_get (x ∷ xs) k ≡ Some p.1)
-    go deeper (inl e) = let first : n ≡ p.0 = ap (λ q. q.0) e in (0, omega arith, ap (λ q. Some q.1) e)
-    go deeper (inr d) =
-        let r : (k : ℕ) × (p.0 ≡ n + 1 + k) × (slice_get xs k ≡ Some p.1) = deeper d in (suc r.0, omega (arith, r.1), r.2)
-
-places_have : {X : Type 0} (n : ℕ) (xs : List X) (k : ℕ) (x : X) → slice_get xs k ≡ Some x →
-    Contains (enumerate_from n xs) (n + k, x)
-places_have n [] k x e = let w : ⊥ = cc in absurd w
-places_have n (y ∷ ys) zero x e =
-    let same : y ≡ x = cc in
-    let place : n ≡ n + 0 = omega arith in
-    subst (λ p. Contains ((n, y) ∷ enumerate_from (n + 1) ys) p) (ap (λ m. (m, y)) place ∙ ap (λ z. (n + 0, z)) same)
-    (contains_here (n, y) (enumerate_from (n + 1) ys))
-places_have n (y ∷ ys) (suc k) x e =
-    let place : n + 1 + k ≡ n + suc k = omega arith in
-    contains_later (n, y) (n + suc k, x) (enumerate_from (n + 1) ys)
-    (subst (λ m. Contains (enumerate_from (n + 1) ys) (m, x)) place (places_have (n + 1) ys k x e))
 
 -- what comes of the places comes of one of them
 pub of_a_place : {X Y : Type 0} (f : ℕ → X → List Y) (xs : List X) (y : Y) → Contains (of_each_place f xs) y →

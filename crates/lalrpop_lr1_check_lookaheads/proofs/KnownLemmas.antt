@@ -1,4 +1,4 @@
--- What items of states bring as the theory sees it, and that what can come first is numbered: for the test of what is handed.
+-- What items of states bring as the theory sees it, and that what can come first is numbered: for the test of what is propagated.
 use Rattle.std.proofs.Common.{◌≡◌, ◌∙◌, ℕ, zero, suc, ◌<◌, List, [], ◌∷◌, Contains}
 use Rattle.std.proofs.Common.{Option, None, Some, drop, map, refl, sym, ap, subst, ⊎_elim, slice_get}
 use Rattle.std.specs.Prelude.{option_map}
@@ -26,10 +26,10 @@ use Rattle.lalrpop_lr1_first.specs.Listings.{HoldSame}
 use Rattle.lalrpop_lr1_core.specs.TheoryGrammars.{productions_of_grammar}
 use Rattle.lalrpop_lr1_first.specs.NumberedGrammars.{HasItsTerminals}
 use Rattle.lalrpop_lr1_first.specs.Tables.{HasNumberedTerminal}
-use Rattle.lalrpop_lr1_check_lookaheads.proofs.GainLemmas.{no_element}
+use Rattle.lalrpop_lr1_theory.proofs.NameLemmas.{no_element}
 use Rattle.lalrpop_lr1_check_lookaheads.specs.Brought.{BringsMark, IsBegunMark}
-use Rattle.lalrpop_lr1_check_lookaheads.specs.HandFlows.{HaveKnownItems, ItemsBring}
-use Rattle.lalrpop_lr1_check_lookaheads.specs.HandSlots.{SlotKey}
+use Rattle.lalrpop_lr1_check_lookaheads.specs.LookaheadFlows.{HaveKnownItems, ItemsBring}
+use Rattle.lalrpop_lr1_check_lookaheads.specs.LookaheadSlots.{SlotKey}
 use Rattle.lalrpop_lr1_check_lookaheads.proofs.SlotLemmas.{key_of}
 
 pub contains_drop : {X : Type 0} (xs : List X) (i : ℕ) (x : X) → Contains (drop i xs) x → Contains xs x

@@ -13,10 +13,10 @@ pub mod WalkLemmas
 pub mod RestLemmas
 pub mod SlotLemmas
 pub mod BroughtLemmas
-pub mod HandEdgeLemmas
+pub mod PropagationEdgeLemmas
 pub mod ReduceLemmas
 pub mod NamedLemmas
 pub mod FlownLemmas
 pub mod SeedLemmas
 pub mod KnownLemmas
-pub mod HandedLemmas
+pub mod PropagatedLemmas

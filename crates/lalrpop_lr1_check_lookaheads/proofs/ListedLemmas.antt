@@ -76,7 +76,7 @@ module _ {L : Type 0} (n : ℕ) where
       moved_keys n (take (i + 1) items) ≡ moved_keys n (take i items) ++ moved_keys n (x ∷ [])
   moved_taken items i x h e = ap (moved_keys n) (taken_one items i x h e) ∙ moved_both (take i items) (x ∷ [])
 
-one_at : {X : Type 0} (x y : X) (j : ℕ) → slice_get (x ∷ []) j ≡ Some y → (j ≡ 0) × (x ≡ y)
+pub one_at : {X : Type 0} (x y : X) (j : ℕ) → slice_get (x ∷ []) j ≡ Some y → (j ≡ 0) × (x ≡ y)
 one_at x y zero e = (refl, some_same x y e)
 one_at x y (suc j) e = let z : ⊥ = cc in absurd z
 

@@ -6,9 +6,9 @@ use Rattle.std.specs.BTreeMap.{is_at}
 use Rattle.std.specs.List.{AllByRecursion}
 use Rattle.std.specs.List.Sorted.{IsStrictlySortedBy}
 use Rattle.std.specs.Map.{keys_of, lookup}
-use Rattle.std.specs.Ordering.{is_eq, ordering_reverse}
+use Rattle.std.specs.Ordering.{is_eq}
 use Rattle.std.specs.declared.cmp.Ordering.{Ordering}
-use Rattle.std.specs.declared.cmp.Ordering.TheVariants.{Equal, Greater, Less}
+use Rattle.std.specs.declared.cmp.Ordering.TheVariants.{Equal, Less}
 use Rattle.std.specs.Cmp.Lexicographic.{slice_cmp}
 use Rattle.std.specs.Ordering.{nat_cmp}
 use Rattle.std.proofs.lemmas.Cmp.{nat_list_cmp_total}
@@ -22,17 +22,9 @@ use Rattle.lalrpop_grammar_symbols.specs.declared.terminal.TerminalLiteral.TheVa
 use Rattle.lalrpop_grammar_symbols.specs.declared.terminal.TerminalString.{TerminalString}
 use Rattle.lalrpop_grammar_symbols.specs.declared.terminal.TerminalString.TheVariants as terminal
 use Rattle.lalrpop_lr1_theory.proofs.ListLemmas.{contains_here, contains_later, contains_split}
-use Rattle.lalrpop_lr1_check_lookaheads.proofs.GainLemmas.{no_element}
-
-is_equal : (o : Ordering) → is_eq o ≡ true → o ≡ Equal
-is_equal Less e = let z : ⊥ = cc in absurd z
-is_equal Equal e = refl
-is_equal Greater e = let z : ⊥ = cc in absurd z
-
-self_equal : (o : Ordering) → o ≡ ordering_reverse o → o ≡ Equal
-self_equal Less e = let z : ⊥ = cc in absurd z
-self_equal Equal e = refl
-self_equal Greater e = let z : ⊥ = cc in absurd z
+use Rattle.lalrpop_lr1_theory.proofs.NameLemmas.{no_element}
+use Rattle.lalrpop_lr1_barren.proofs.SearchLemmas.{self_equal}
+use Rattle.lalrpop_grammar_symbols.proofs.BoolLemmas.{is_equal}
 
 bytes_self : (s : List ℕ) → slice_cmp nat_cmp s s ≡ Equal
 bytes_self s = self_equal (slice_cmp nat_cmp s s) (nat_list_cmp_total.antisymm s s)

@@ -5,7 +5,7 @@ use Rattle.lalrpop_lr1_theory.specs.Productions.{Production}
 use Rattle.lalrpop_lr1_theory.specs.States.{State, HasEdge, HasItem, Reduces}
 use Rattle.lalrpop_lr1_theory.specs.CheckedStates.{AreCheckedStates}
 use Rattle.lalrpop_lr1_theory.proofs.TestCoverLemmas.{cover_tested}
-use Rattle.lalrpop_lr1_theory.proofs.HandedLemmas.{reduces_carried, reduces_handed}
+use Rattle.lalrpop_lr1_theory.proofs.PropagatedLemmas.{reduces_carried, reduces_propagated}
 use Rattle.lalrpop_lr1_theory.proofs.NameLemmas.{none_barren_productive}
 use Rattle.lalrpop_lr1_check_lookaheads.specs.CheckedTests.{PassChecks}
 
@@ -23,7 +23,7 @@ checked_pass grammar s states c =
       };
       brings = record { unmoved_start = t.unmoved_start; start_brings = t.start_brings; moved_bring = t.moved_bring };
       finished = c.finished;
-      handed = reduces_handed (Contains grammar) s (HasItem states) (HasEdge states) (Reduces states) c.carried;
+      propagated = reduces_propagated (Contains grammar) s (HasItem states) (HasEdge states) (Reduces states) c.carried;
       no_conflict = c.no_conflict;
       ends = record { at_end = c.at_end; no_error = c.no_error };
       productive = (none_barren_productive (Contains grammar) s).0 c.none_barren;
@@ -43,7 +43,7 @@ pass_checked grammar s states p = record {
     moved_bring = p.brings.moved_bring;
   });
   finished = p.finished;
-  carried = reduces_carried (Contains grammar) s (HasItem states) (HasEdge states) (Reduces states) p.handed;
+  carried = reduces_carried (Contains grammar) s (HasItem states) (HasEdge states) (Reduces states) p.propagated;
   no_conflict = p.no_conflict;
   at_end = p.ends.at_end;
   no_error = p.ends.no_error;

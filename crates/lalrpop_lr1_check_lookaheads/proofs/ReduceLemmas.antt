@@ -1,4 +1,4 @@
--- By what states reduce, reduction by reduction, and sets that are in others: for the test of what is handed.
+-- By what states reduce, reduction by reduction, and sets that are in others: for the test of what is propagated.
 use Rattle.std.proofs.Common.{◌≡◌, ◌∙◌, ◌↔◌, ◌⊎◌, ℕ, ◌+◌, ◌<◌, Bool, true, false}
 use Rattle.std.proofs.Common.{◌||◌, List, [], ◌∷◌, ◌++◌}
 use Rattle.std.proofs.Common.{Option, None, Some, length, take, map, refl, sym, ap, subst, inl, inr, ⊎_elim, arith, slice_get, get_or}
@@ -16,11 +16,12 @@ use Rattle.lalrpop_lr1_core.specs.Views.{lr_state_view, production_symbol_view}
 use Rattle.lalrpop_lr1_core.specs.declared.state.State.{State}
 use Rattle.lalrpop_sets.specs.Bits.{has}
 use Rattle.lalrpop_lr1_first.proofs.ListLemmas.{or_cases, or_right}
-use Rattle.lalrpop_lr1_theory.specs.HandedNexts.{LeadAlong}
+use Rattle.lalrpop_lr1_theory.specs.PropagatedNexts.{LeadAlong}
 use Rattle.lalrpop_lr1_check_lookaheads.specs.ListTests.{HoldsAtEach}
-use Rattle.lalrpop_lr1_check_lookaheads.proofs.GainLemmas.{no_element, taken_one}
-use Rattle.lalrpop_lr1_check_lookaheads.specs.HandReductions.{DoesSlotReduce, ReducesAfter, ReducesAsOwn, ReducesBy, reductions_in}
-use Rattle.lalrpop_lr1_check_lookaheads.specs.HandSlots.{SlotKey, slot_key, slot_keys}
+use Rattle.lalrpop_lr1_check_lookaheads.proofs.GainLemmas.{taken_one}
+use Rattle.lalrpop_lr1_theory.proofs.NameLemmas.{no_element}
+use Rattle.lalrpop_lr1_check_lookaheads.specs.LookaheadReductions.{DoesSlotReduce, ReducesAfter, ReducesAsOwn, ReducesBy, reductions_in}
+use Rattle.lalrpop_lr1_check_lookaheads.specs.LookaheadSlots.{SlotKey, slot_key, slot_keys}
 use Rattle.lalrpop_lr1_check_lookaheads.specs.declared.lookaheads.slots.Slot.{Slot}
 use Rattle.lalrpop_lr1_check_lookaheads.specs.declared.lookaheads.slots.Slots.{Slots}
 use Rattle.lalrpop_lr1_check_lookaheads.proofs.BroughtLemmas.{key_there, keys_past}

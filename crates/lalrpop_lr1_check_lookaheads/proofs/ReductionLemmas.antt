@@ -28,10 +28,7 @@ use Rattle.lalrpop_lr1_check_lookaheads.specs.ListTests.{HaveSameElements, Holds
 use Rattle.lalrpop_lr1_check_lookaheads.specs.ListedItems.{ItemKey, keys_of_states}
 use Rattle.lalrpop_lr1_check_lookaheads.specs.Reductions.{DoesEndRightly, EndsAsSeen, FinishedAsSeen, IsFinishedIn, OverTokens}
 use Rattle.lalrpop_lr1_check_lookaheads.proofs.MoveLemmas.{held_seen, seen_held}
-
-long_map : {X Y : Type 0} (f : X → Y) (xs : List X) → length (map f xs) ≡ length xs
-long_map f [] = refl
-long_map f (x ∷ xs) = ap suc (long_map f xs)
+use Rattle.lalrpop_lr1_first.proofs.TableLemmas.{long_map}
 
 none_past : {X : Type 0} (xs : List X) → slice_get xs (length xs) ≡ None
 none_past [] = refl

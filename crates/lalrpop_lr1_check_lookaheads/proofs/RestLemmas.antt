@@ -12,10 +12,7 @@ use Rattle.std.specs.Prelude.{option_map}
 use Rattle.lalrpop_sets.specs.Bits.{has}
 use Rattle.lalrpop_sets.specs.Tokens.{eof_number}
 use Rattle.lalrpop_lr1_first.specs.FirstSetsOf.{IsFirstSet, IsProductionOf}
-
-both_parts : (a b : Bool) → (a && b) ≡ true → (a ≡ true) × (b ≡ true)
-both_parts true b e = (refl, e)
-both_parts false b e = let z : ⊥ = cc in absurd z
+use Rattle.lalrpop_grammar_repr.proofs.EqualLemmas.{both_parts}
 
 not_true : (b : Bool) → not b ≡ true → b ≡ true → ⊥
 not_true true e f = cc

@@ -13,9 +13,9 @@ use Rattle.lalrpop_sets.specs.Tokens.{eof_number}
 use Rattle.lalrpop_lr1_first.specs.declared.flowing.Edge.{Edge}
 use Rattle.lalrpop_lr1_first.proofs.ListLemmas.{or_cases}
 use Rattle.lalrpop_lr1_check_lookaheads.specs.Brought.{ClosesMarks, IsBegunMark, IsFirstMark}
-use Rattle.lalrpop_lr1_check_lookaheads.specs.HandEdges.{AreHandEdges}
-use Rattle.lalrpop_lr1_check_lookaheads.specs.HandFlows.{AreSeeds, IsSlotEdge, ItemsBring}
-use Rattle.lalrpop_lr1_check_lookaheads.specs.HandSlots.{GainsSlotMarks, HasSlotMark, IsMarkIn, SlotKey, slot_keys, slot_sets}
+use Rattle.lalrpop_lr1_check_lookaheads.specs.PropagationEdges.{ArePropagationEdges}
+use Rattle.lalrpop_lr1_check_lookaheads.specs.LookaheadFlows.{AreSeeds, IsSlotEdge, ItemsBring}
+use Rattle.lalrpop_lr1_check_lookaheads.specs.LookaheadSlots.{GainsSlotMarks, HasSlotMark, IsMarkIn, SlotKey, slot_keys, slot_sets}
 use Rattle.lalrpop_lr1_check_lookaheads.specs.declared.lookaheads.slots.Slots.{Slots}
 use Rattle.lalrpop_lr1_check_lookaheads.proofs.SlotLemmas.{key_of}
 
@@ -69,22 +69,22 @@ begun_small g ps states _ _ (IsBegunMark.begun from key mark f (q, c, (name, b))
 -- the tokens of slots are those of the grammar
 pub tokens_small : (g : Grammar) (ps own : List Production) (s : Text) (look : List ℕ → LookaheadSet)
     (states : List (State (List ℕ))) (first slots : Slots) (edges : List Edge) (n : ℕ) →
-    AreSeeds g ps s states first → AreHandEdges g look states own first slots edges n → (key : SlotKey) (k : ℕ) →
+    AreSeeds g ps s states first → ArePropagationEdges g look states own first slots edges n → (key : SlotKey) (k : ℕ) →
     HasSlotMark slots key (Some k) → k ≤ eof_number g.terminals
-tokens_small g ps own s look states first slots edges n seeds handed key k h = ⊎_elim
+tokens_small g ps own s look states first slots edges n seeds propagated key k h = ⊎_elim
     (λ b. begun_small g ps states key (Some k) b)
     (λ (e, m). ⊎_elim
     (λ f. let z : eof_number g.terminals ≡ k = (Decides-eqb (eof_number g.terminals) k).0 f in omega (arith, z))
     (λ f. let w : ⊥ = cc in absurd w) (or_cases (nat_eq (eof_number g.terminals) k) false m))
-    ((seeds.marks key (Some k)).0 (handed.tokens key k h))
+    ((seeds.marks key (Some k)).0 (propagated.tokens key k h))
 
 -- the edges are between slots
 pub edges_between : (g : Grammar) (own : List Production) (look : List ℕ → LookaheadSet)
     (states : List (State (List ℕ))) (first slots : Slots) (edges : List Edge) (n : ℕ) →
-    AreHandEdges g look states own first slots edges n → (e : Edge) → Contains edges e → IsSlotEdge slots e
-edges_between g own look states first slots edges n handed e c =
-    let r = handed.sound e c in
-    let are : length (slot_sets slots) ≡ length (slot_keys slots) = handed.are in
+    ArePropagationEdges g look states own first slots edges n → (e : Edge) → Contains edges e → IsSlotEdge slots e
+edges_between g own look states first slots edges n propagated e c =
+    let r = propagated.sound e c in
+    let are : length (slot_sets slots) ≡ length (slot_keys slots) = propagated.are in
     let from : e.from ≡ r.0 = r.4.from_is in
     record {
       from = omega (arith, slice_get_within (slot_keys slots) r.0 r.1 r.3, from, are);

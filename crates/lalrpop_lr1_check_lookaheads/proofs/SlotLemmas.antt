@@ -1,4 +1,4 @@
--- What slots gain: by a slot that is put in, by tokens that are handed to one, and one after another.
+-- What slots gain: by a slot that is put in, by tokens that are propagated to one, and one after another.
 use Rattle.std.proofs.Common.{◌≡◌, ◌∙◌, ◌↔◌, ◌⊎◌, ℕ, zero, suc, ◌+◌, ◌<◌, Bool, true}
 use Rattle.std.proofs.Common.{false, ◌||◌, List, [], ◌∷◌, ◌++◌}
 use Rattle.std.proofs.Common.{Option, None, Some, length, map, refl, sym, ap, subst, inl, inr, ⊎_elim, arith, slice_get, nat_eq}
@@ -10,17 +10,19 @@ use Rattle.std.proofs.lemmas.Bool.Decides.{Decides-eqb}
 use Rattle.std.proofs.lemmas.Option.{slice_get_within}
 use Rattle.lalrpop_grammar_symbols.specs.Symbols.{Text}
 use Rattle.lalrpop_grammar_symbols.specs.declared.names.NonterminalString.{NonterminalString}
-use Rattle.lalrpop_lr1_theory.proofs.ListLemmas.{get_front, get_split}
+use Rattle.lalrpop_lr1_theory.proofs.ListLemmas.{get_front, get_split, get_last}
 use Rattle.lalrpop_lr1_theory.proofs.StepLemmas.{some_same}
 use Rattle.lalrpop_sets.specs.Bits.{has}
 use Rattle.lalrpop_lr1_first.specs.Numbers.{set_of_number}
-use Rattle.lalrpop_lr1_first.proofs.ListLemmas.{at_set_other, at_set_same, or_cases, or_left, or_right, cases_eq, set_long}
+use Rattle.lalrpop_lr1_first.proofs.ListLemmas.{at_set_other, at_set_same, or_cases, or_left, or_right, set_long}
+use Rattle.lalrpop_sets.proofs.WordLemmas.{cases_eq}
 use Rattle.lalrpop_grammar_repr.proofs.EqualLemmas.{both_parts, same_names}
-use Rattle.lalrpop_lr1_check_lookaheads.specs.HandSlots.{AreSlots, GainsSlotMarks, HasMarkAt, HasSlotMark, IsMarkIn}
-use Rattle.lalrpop_lr1_check_lookaheads.specs.HandSlots.{SlotKey, slot_key, slot_keys, slot_sets}
+use Rattle.lalrpop_lr1_check_lookaheads.specs.LookaheadSlots.{AreSlots, GainsSlotMarks, HasMarkAt, HasSlotMark, IsMarkIn}
+use Rattle.lalrpop_lr1_check_lookaheads.specs.LookaheadSlots.{SlotKey, slot_key, slot_keys, slot_sets}
 use Rattle.lalrpop_lr1_check_lookaheads.specs.contracts.lookaheads.slots.SlotPartialEq.TheImpl as slots_eq
 use Rattle.lalrpop_lr1_check_lookaheads.specs.declared.lookaheads.slots.Slot.{Slot}
 use Rattle.lalrpop_lr1_check_lookaheads.specs.declared.lookaheads.slots.Slots.{Slots}
+use Rattle.lalrpop_lr1_check_lookaheads.proofs.ListedLemmas.{one_at}
 
 -- the key of a slot from a state's number and a nonterminal's text
 abbrev pub key_of : ℕ → Text → SlotKey
@@ -52,14 +54,6 @@ at_last (x ∷ xs) y = at_last xs y
 one_more : {X : Type 0} (xs : List X) (x : X) → length (xs ++ x ∷ []) ≡ length xs + 1
 one_more [] x = omega arith
 one_more (y ∷ xs) x = omega (arith, one_more xs x)
-
-get_last : {X : Type 0} (xs : List X) (x : X) → slice_get (xs ++ x ∷ []) (length xs) ≡ Some x
-get_last [] x = refl
-get_last (y ∷ xs) x = get_last xs x
-
-one_at : {X : Type 0} (x y : X) (j : ℕ) → slice_get (x ∷ []) j ≡ Some y → (j ≡ 0) × (x ≡ y)
-one_at x y zero e = (refl, some_same x y e)
-one_at x y (suc j) e = let z : ⊥ = cc in absurd z
 
 no_mark : (mark : Option ℕ) (X : Type 0) → (mark ≡ None → X) → IsMarkIn [] mark → X
 no_mark None X h m = h refl
@@ -246,7 +240,7 @@ gains_old old new slot n are there inserted same at =
     (λ key mark. mark_kept (slot_keys old) (slot_sets old) (slot_key slot) key mark n
     (subst (λ l. slice_get l n ≡ Some (slot_key slot)) e at))
 
--- tokens are handed to the slot with this number
+-- tokens are propagated to the slot with this number
 pub gains_tokens : (old mid new : Slots) (own : SlotKey) (n : ℕ) (set_new tokens : List ℕ) →
     GainsSlotMarks old mid (λ key mark. (key ≡ own) × IsMarkIn [] mark) → slice_get (slot_keys mid) n ≡ Some own →
     slot_keys new ≡ slot_keys mid → slot_sets new ≡ set (slot_sets mid) n set_new →

@@ -16,7 +16,7 @@ use Rattle.lalrpop_lr1_theory.proofs.StepLemmas.{some_same}
 use Rattle.lalrpop_lr1_core.specs.Views.{lr_state_view, production_symbol_view}
 use Rattle.lalrpop_lr1_core.specs.declared.state.State.{State}
 use Rattle.lalrpop_lr1_first.proofs.TableLemmas.{long_map}
-use Rattle.lalrpop_lr1_theory.specs.HandedNexts.{LeadAlong}
+use Rattle.lalrpop_lr1_theory.specs.PropagatedNexts.{LeadAlong}
 use Rattle.lalrpop_lr1_check_lookaheads.specs.SeenEdges.{HasOrderedEdges, target_at}
 use Rattle.lalrpop_lr1_check_lookaheads.proofs.SeenLemmas.{seen_target, target_seen}
 

@@ -12,7 +12,7 @@ use Rattle.lalrpop_lr1_core.specs.Views.{next_of_number, production_symbol_view}
 use Rattle.lalrpop_lr1_core.specs.declared.item.Item.{Item}
 use Rattle.lalrpop_sets.specs.Tokens.{eof_number}
 use Rattle.lalrpop_lr1_first.specs.FirstSetsOf.{IsProductionOf}
-use Rattle.lalrpop_lr1_check_lookaheads.specs.HandSlots.{AreSlots, HasSlotMark, SlotKey, slot_keys}
+use Rattle.lalrpop_lr1_check_lookaheads.specs.LookaheadSlots.{AreSlots, HasSlotMark, SlotKey, slot_keys}
 use Rattle.lalrpop_lr1_check_lookaheads.specs.declared.lookaheads.slots.Slots.{Slots}
 
 -- the nonterminal behind the dot with what stands behind it, or none where none stands there
@@ -62,7 +62,7 @@ pub record ClosesMarks (g : Grammar) (productions : List Production) (old new : 
   pub marks : (key : SlotKey) (mark : Option ℕ) →
       HasSlotMark new key mark ↔ IsBegunMark g productions (HasSlotMark old) key mark
 
--- what is handed so far, where the first slots were closed
+-- what is propagated so far, where the first slots were closed
 pub record AreClosingMarks (g : Grammar) (productions : List Production) (old now : Slots) (count : ℕ) : Type 0 where
   pub are : AreSlots now
   pub has : (key : SlotKey) (mark : Option ℕ) → HasSlotMark old key mark → HasSlotMark now key mark

@@ -7,8 +7,8 @@ pub mod Moves
 pub mod Reductions
 pub mod Listings
 pub mod CheckedTests
-pub mod HandSlots
+pub mod LookaheadSlots
 pub mod Brought
-pub mod HandEdges
-pub mod HandReductions
-pub mod HandFlows
+pub mod PropagationEdges
+pub mod LookaheadReductions
+pub mod LookaheadFlows

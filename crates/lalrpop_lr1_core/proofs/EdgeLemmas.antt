@@ -12,8 +12,9 @@ use Rattle.lalrpop_lr1_core.specs.Edges.{HasGraphEdge, SymbolsLead, edge_of, edg
 use Rattle.lalrpop_lr1_core.specs.Steps.{EntersFrom, IsSourceBy}
 use Rattle.lalrpop_lr1_core.specs.declared.edge.Edge.{Edge}
 use Rattle.lalrpop_lr1_core.specs.declared.state.State.{State}
+use Rattle.lalrpop_lr1_theory.proofs.NameLemmas.{no_element}
 
-enumerate-push : {X : Type 0} (n : ℕ) (xs : List X) (x : X)
+pub enumerate-push : {X : Type 0} (n : ℕ) (xs : List X) (x : X)
     → enumerate_from n (xs ++ x ∷ []) ≡ enumerate_from n xs ++ (n + length xs, x) ∷ []
 enumerate-push n [] x = ap (λ m. (m, x) ∷ []) (omega arith)
 enumerate-push n (y ∷ ys) x =
@@ -100,9 +101,6 @@ sources_go_on targets x old new left rest whole e first made so n = (λ source. 
     back : Contains new n ⊎ IsSourceBy targets x rest n → IsSourceBy targets x whole n
     back (inl among) = known ((made n).0 among)
     back (inr among) = (so n).1 (inr (subst P (sym first) ((sources-first targets x e rest n).1 (inr among))))
-
-no_element : {X : Type 0} (y : X) → Contains [] y → ⊥
-no_element y c = omega (arith, c.1)
 
 -- once no edges are left to look at, the states found are all from which the symbol leads to a target
 pub sources_end : (targets : List ℕ) (x : Symbol) (old : List ℕ) (left whole : List Edge) → left ≡ []

@@ -19,12 +19,10 @@ use Rattle.lalrpop_lr1_core.specs.declared.state.State.{State}
 use Rattle.lalrpop_lr1_core.specs.declared.state_index.StateIndex.{StateIndex}
 use Rattle.lalrpop_lr1_core.proofs.MemberLemmas.{in_map, map_has}
 use Rattle.lalrpop_lr1_core.proofs.NoConflictLemmas.{at_mapped, mapped_at, same_terminal}
-
-no_element : {X : Type 0} (y : X) → Contains [] y → ⊥
-no_element y c = omega (arith, c.1)
+use Rattle.lalrpop_lr1_theory.proofs.NameLemmas.{no_element}
 
 -- what comes of a list comes of one of its elements
-in_flat : {X Y : Type 0} (f : X → List Y) (xs : List X) (y : Y) → Contains (flat_map f xs) y
+pub in_flat : {X Y : Type 0} (f : X → List Y) (xs : List X) (y : Y) → Contains (flat_map f xs) y
     → (x : X) × Contains xs x × Contains (f x) y
 in_flat f [] y c = absurd (no_element y c)
 in_flat {X = X} f (z ∷ zs) y c = go (in_flat f zs y) (Contains-append_cases (f z) (flat_map f zs) y c)
@@ -34,7 +32,7 @@ in_flat {X = X} f (z ∷ zs) y c = go (in_flat f zs y) (Contains-append_cases (f
     go deeper (inl d) = (z, contains_here z zs, d)
     go deeper (inr d) = let r : (x : X) × Contains zs x × Contains (f x) y = deeper d in (r.0, contains_later z r.0 zs r.1, r.2)
 
-flat_has : {X Y : Type 0} (f : X → List Y) (xs : List X) (x : X) (y : Y) → Contains xs x → Contains (f x) y
+pub flat_has : {X Y : Type 0} (f : X → List Y) (xs : List X) (x : X) (y : Y) → Contains xs x → Contains (f x) y
     → Contains (flat_map f xs) y
 flat_has f [] x y c d = absurd (no_element x c)
 flat_has f (z ∷ zs) x y c d = go (flat_has f zs x y) (contains_split z x zs c)
@@ -45,7 +43,7 @@ flat_has f (z ∷ zs) x y c d = go (flat_has f zs x y) (contains_split z x zs c)
     go deeper (inr r) = Contains-append_right (f z) (flat_map f zs) y (deeper r d)
 
 -- a list with places: each element at its place
-in_places : {X : Type 0} (n : ℕ) (xs : List X) (p : ℕ × X) → Contains (enumerate_from n xs) p
+pub in_places : {X : Type 0} (n : ℕ) (xs : List X) (p : ℕ × X) → Contains (enumerate_from n xs) p
     → (k : ℕ) × (p.0 ≡ n + k) × (slice_get xs k ≡ Some p.1)
 in_places n [] p c = absurd (no_element p c)
 in_places {X = X} n (x ∷ xs) p c = go (in_places (n + 1) xs p) (contains_split (n, x) p (enumerate_from (n + 1) xs) c)
@@ -57,7 +55,7 @@ in_places {X = X} n (x ∷ xs) p c = go (in_places (n + 1) xs p) (contains_split
     go deeper (inr d) =
         let r : (k : ℕ) × (p.0 ≡ n + 1 + k) × (slice_get xs k ≡ Some p.1) = deeper d in (suc r.0, omega (arith, r.1), r.2)
 
-places_have : {X : Type 0} (n : ℕ) (xs : List X) (k : ℕ) (x : X) → slice_get xs k ≡ Some x
+pub places_have : {X : Type 0} (n : ℕ) (xs : List X) (k : ℕ) (x : X) → slice_get xs k ≡ Some x
     → Contains (enumerate_from n xs) (n + k, x)
 places_have n [] k x e = let w : ⊥ = cc in absurd w
 places_have n (y ∷ ys) zero x e =

@@ -10,3 +10,4 @@ mod ExamplesOfConflicts
 mod ExamplesOfDots
 mod ExamplesOfEdges
 pub mod GraphLemmas
+pub mod ProductionViewLemmas

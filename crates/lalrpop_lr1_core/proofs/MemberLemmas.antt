@@ -13,9 +13,7 @@ use Rattle.std.proofs.lemmas.List.Elements.{Contains-append_cases, Contains-appe
 use Rattle.lalrpop_lr1_theory.proofs.ListLemmas.{contains_get, contains_here, contains_later, contains_split, get_contains}
 use Rattle.lalrpop_sets.proofs.WordLemmas.{cases_eq}
 use Rattle.lalrpop_lr1_core.specs.Conflicts.{later_pairs}
-
-no_element : {X : Type 0} (y : X) → Contains [] y → ⊥
-no_element y c = omega (arith, c.1)
+use Rattle.lalrpop_lr1_theory.proofs.NameLemmas.{no_element}
 
 -- each element of a mapped list is the image of an element of the list
 pub in_map : {X Y : Type 0} (f : X → Y) (xs : List X) (y : Y) → Contains (map f xs) y → (x : X) × Contains xs x × (f x ≡ y)
@@ -80,7 +78,7 @@ flat_empty f (z ∷ zs) x e c = go (flat_empty f zs x) (joined_empty (f z) (flat
     go deeper h (inl same) = ap f (sym same) ∙ h.0
     go deeper h (inr d) = deeper h.1 d
 
-some_is : {X : Type 0} (x y : X) → Some x ≡ Some y → x ≡ y
+pub some_is : {X : Type 0} (x y : X) → Some x ≡ Some y → x ≡ y
 some_is x y e = cc
 
 -- an element with one behind it is a pair

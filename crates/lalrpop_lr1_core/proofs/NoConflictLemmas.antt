@@ -29,7 +29,7 @@ use Rattle.lalrpop_lr1_core.specs.Views.{lr_state_view, next_of_number, reductio
 use Rattle.lalrpop_lr1_core.specs.declared.state.State.{State}
 use Rattle.lalrpop_lr1_core.specs.declared.state_index.StateIndex.{StateIndex}
 use Rattle.lalrpop_lr1_core.proofs.ConflictLemmas.{both_is, has_in_both}
-use Rattle.lalrpop_lr1_core.proofs.MemberLemmas.{each_empty, filter_has, flat_empty, in_filter, in_map, in_pairs, in_range}
+use Rattle.lalrpop_lr1_core.proofs.MemberLemmas.{each_empty, filter_has, flat_empty, in_filter, in_map, in_pairs, in_range, some_is}
 use Rattle.lalrpop_lr1_core.proofs.MemberLemmas.{joined_empty, map_has, pair_there, range_has}
 
 -- terminals that are seen as one are one
@@ -68,10 +68,7 @@ same_terminal terminals.Error (terminals.Literal b) e = absurd (no_error b (sym 
 same_terminal terminals.Error (terminals.Bare n) e = let w : ⊥ = cc in absurd w
 same_terminal terminals.Error terminals.Error e = refl
 
-some_is : {X : Type 0} (x y : X) → Some x ≡ Some y → x ≡ y
-some_is x y e = cc
-
-nothing_there : {X : Type 0} (xs : List X) (k : ℕ) → slice_get xs k ≡ None → length xs ≤ k
+pub nothing_there : {X : Type 0} (xs : List X) (k : ℕ) → slice_get xs k ≡ None → length xs ≤ k
 nothing_there [] k e = omega arith
 nothing_there (x ∷ xs) zero e = let w : ⊥ = cc in absurd w
 nothing_there (x ∷ xs) (suc k) e = omega (arith, nothing_there xs k e)
@@ -103,7 +100,7 @@ number_of_next ts s x c =
     (r.0, f.0, omega (arith, b.1), r.2)
 
 -- a pair without a conflict shares no number
-nothing_shared : (state : StateIndex) (pair : ReductionEntry × ReductionEntry) (s : List ℕ) → sharing_conflict state pair s ≡ []
+pub nothing_shared : (state : StateIndex) (pair : ReductionEntry × ReductionEntry) (s : List ℕ) → sharing_conflict state pair s ≡ []
     → s ≡ []
 nothing_shared state pair [] e = refl
 nothing_shared state pair (k ∷ ks) e = let w : ⊥ = cc in absurd w

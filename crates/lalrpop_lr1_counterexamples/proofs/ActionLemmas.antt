@@ -7,14 +7,14 @@ use Rattle.lalrpop_lr1_theory.specs.Productions as theory
 use Rattle.lalrpop_lr1_theory.specs.States.{HasItem, State}
 use Rattle.lalrpop_lr1_theory.specs.Trees.{Move, shift}
 use Rattle.lalrpop_lr1_core.specs.Views.{production_symbol_view, production_view}
-use Rattle.lalrpop_lr1_paths.specs.declared.completion_steps.out_graphs.OutGraphs.{OutGraphs}
-use Rattle.lalrpop_lr1_counterexamples.specs.ShiftPlaces.{IsShiftPlace}
-use Rattle.lalrpop_lr1_counterexamples.specs.declared.shift_positions.places.ShiftPlace.{ShiftPlace}
+use Rattle.lalrpop_lr1_paths.specs.declared.completion_steps.completion_graphs.CompletionGraphs.{CompletionGraphs}
+use Rattle.lalrpop_lr1_counterexamples.specs.ShiftPositions.{IsShiftPosition}
+use Rattle.lalrpop_lr1_counterexamples.specs.declared.shift_positions.positions.ShiftPosition.{ShiftPosition}
 use Rattle.lalrpop_lr1_counterexamples.specs.ShownMoves.{ShowsMove, ShowsShift}
 use Rattle.lalrpop_lr1_counterexamples.specs.ActionMoves.{ShowsShiftOf}
 
-module _ (g : Grammar) (s : Text) (states : List State) (ways : OutGraphs) (n : ℕ) (front : List Move) (t : Terminal) (place : ShiftPlace)
-    (is : IsShiftPlace states n t place) where
+module _ (g : Grammar) (s : Text) (states : List State) (ways : CompletionGraphs) (n : ℕ) (front : List Move) (t : Terminal) (place : ShiftPosition)
+    (is : IsShiftPosition states n t place) where
   abbrev Shows : Option (List Move) → Type 0
   Shows = ShowsShift g s states ways n (production_view place.production.now) place.index (map production_symbol_view place.rest.now) front
       (terminal_view place.terminal.now)

@@ -20,7 +20,7 @@ use Rattle.lalrpop_lr1_least_trees.specs.MoveViews.{tree_move_view}
 use Rattle.lalrpop_lr1_theory.specs.PathTrees.{IsStateOf, LedBy}
 use Rattle.lalrpop_lr1_theory.proofs.PathLemmas.{walk_by_edges}
 use Rattle.lalrpop_lr1_paths.specs.PathTables.{last_steps}
-use Rattle.lalrpop_lr1_paths.specs.declared.completion_steps.out_graphs.OutGraphs.{OutGraphs}
+use Rattle.lalrpop_lr1_paths.specs.declared.completion_steps.completion_graphs.CompletionGraphs.{CompletionGraphs}
 use Rattle.lalrpop_lr1_least_trees.proofs.MakingLemmas.{moves_lead}
 use Rattle.lalrpop_judge.specs.Certificates.{MakesMove, ShownConflict, number_move, reduce_by}
 use Rattle.lalrpop_lr1_counterexamples.specs.ShownLaws.{ShownMovesCanBeMade, ShownTreesMakeTheMove}
@@ -37,7 +37,7 @@ use Rattle.lalrpop_lr1_counterexamples.proofs.StartLemmas.{held_production}
 held_item : (states : List State) (n : ℕ) (p : Production) (i : ℕ) (x : Next) → HasLookahead states n p i x → HasItem states n p i
 held_item states n p i x h = record { state = h.state; lookahead = h.lookahead; at = h.at; held = h.held }
 
-module _ (g : Grammar) (s : Text) (states : List State) (ways : OutGraphs) (x : Next) (n : ℕ) (p : Production) where
+module _ (g : Grammar) (s : Text) (states : List State) (ways : CompletionGraphs) (x : Next) (n : ℕ) (p : Production) where
   -- a move that is shown, with the action's name
   record IsShownAction (front : List Move) (action : Action) (all : List Move) : Type 0 where
     move : Move
@@ -69,7 +69,7 @@ module _ (g : Grammar) (s : Text) (states : List State) (ways : OutGraphs) (x : 
       let same : p.action ≡ q.now.action.0 = cc in
       stands.1 (own p q_seen over (held_production g s states canonical n q_seen (length q_seen.right) item) same)
 
-module _ (g : Grammar) (s : Text) (states : List State) (ways : OutGraphs) (x : Next) (conflict : Conflict (List ℕ)) (it : ConflictMoves)
+module _ (g : Grammar) (s : Text) (states : List State) (ways : CompletionGraphs) (x : Next) (conflict : Conflict (List ℕ)) (it : ConflictMoves)
     (are : AreConflictMoves g s states ways conflict.state.0 x conflict it) (stands : IsStandingConflict states x conflict) where
   abbrev n : ℕ
   n = conflict.state.0

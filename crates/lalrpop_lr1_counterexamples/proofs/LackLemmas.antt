@@ -1,4 +1,4 @@
--- Canonical states have trees on each path and ways out behind each item, so nothing lacks that shows a conflict: for the law on that.
+-- Canonical states have trees on each path and completions behind each item, so nothing lacks that shows a conflict: for the law on that.
 use Rattle.std.proofs.Common.{◌≡◌, ℕ, suc, List, ◌∷◌, ◌++◌, drop, length, subst, inl, inr, Contains, None}
 use Rattle.lalrpop_grammar_symbols.specs.Symbols.{Terminal, Text}
 use Rattle.lalrpop_grammar_symbols.specs.Views.{terminal_view}
@@ -22,9 +22,9 @@ use Rattle.lalrpop_lr1_core.specs.declared.conflict.Conflict.{Conflict}
 use Rattle.lalrpop_lr1_core.specs.TheoryGrammars.{theory_grammar}
 use Rattle.lalrpop_lr1_theory.specs.PathTrees.{ArePaths, IsStateOf, LastSteps, LedBy}
 use Rattle.lalrpop_lr1_theory.proofs.PathLemmas.{walk_by_edges}
-use Rattle.lalrpop_lr1_theory.proofs.WayOutLemmas.{GoesOut, carried_out}
+use Rattle.lalrpop_lr1_theory.proofs.CompletionLemmas.{GoesOut, carried_out}
 use Rattle.lalrpop_lr1_paths.specs.PathTables.{last_steps}
-use Rattle.lalrpop_lr1_paths.specs.declared.completion_steps.out_graphs.OutGraphs.{OutGraphs}
+use Rattle.lalrpop_lr1_paths.specs.declared.completion_steps.completion_graphs.CompletionGraphs.{CompletionGraphs}
 use Rattle.lalrpop_lr1_counterexamples.specs.ShownMoves.{ShowsReduction}
 use Rattle.lalrpop_lr1_counterexamples.specs.ActionMoves.{ShowsAction, ShowsShiftOf}
 use Rattle.lalrpop_lr1_counterexamples.specs.ConflictMoves.{LacksConflictMoves}
@@ -102,7 +102,7 @@ module _ (grammar : List Production) (s : Text) (states : List State) (table : L
       (subst (AllReached (Contains grammar) s) (drop_on X b p.right i d)
       (reached_drop (Contains grammar) s (suc i) p.right (reached_right (Contains grammar) s p o.reached o.fits.0)))
 
-module _ (g : Grammar) (s : Text) (states : List State) (ways : OutGraphs) (nb : NoneBarren (Contains (theory_grammar g)) s)
+module _ (g : Grammar) (s : Text) (states : List State) (ways : CompletionGraphs) (nb : NoneBarren (Contains (theory_grammar g)) s)
     (can : AreCanonicalStates (theory_grammar g) s states) (paths : ArePaths states (last_steps ways.paths.now)) where
   -- nothing is missing that shows a reduction, or a shift, that a state allows
   reduction_leads : (n : ℕ) (p : Production) (front : List Move) (x : Next) → Finished (HasLookahead states) n p x →

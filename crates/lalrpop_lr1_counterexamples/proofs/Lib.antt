@@ -1,7 +1,7 @@
 pub mod NextLemmas
 pub mod ShownLemmas
 pub mod ShownTreeLemmas
-pub mod PlaceLemmas
+pub mod PositionLemmas
 pub mod ActionLemmas
 pub mod ConflictLemmas
 pub mod ToldLemmas

@@ -1,4 +1,4 @@
--- A move behind a forest on the path, with a way out behind it, goes on to a whole tree: for the answers of moves that show one.
+-- A move behind a forest on the path, with a completion behind it, goes on to a whole tree: for the answers of moves that show one.
 use Rattle.std.proofs.Common.{◌≡◌, ℕ, List, ◌∷◌, ◌++◌, drop, length, map, Some, None, refl, sym, ap}
 use Rattle.std.proofs.Common.{◌∙◌, subst, arith}
 use Rattle.std.proofs.lemmas.List.{drop_all, map-append}
@@ -8,22 +8,22 @@ use Rattle.lalrpop_lr1_theory.specs.Productions.{Next, Production, Symbol, termi
 use Rattle.lalrpop_lr1_theory.specs.States.{HasEdge, HasItem, State}
 use Rattle.lalrpop_lr1_theory.specs.Trees.{AreOver, Forest, Move, leaf, moves, none, reduce, roots, shift, yield}
 use Rattle.lalrpop_lr1_first.specs.FirstSetsOf.{IsProductionOf}
-use Rattle.lalrpop_lr1_theory.specs.OutwardMoves.{IsContinued, LeadsOut}
+use Rattle.lalrpop_lr1_theory.specs.CompletionMoves.{IsContinued, LeadsOut}
 use Rattle.lalrpop_lr1_theory.specs.PathTrees.{IsBack, IsStateOf, LedBy}
-use Rattle.lalrpop_lr1_theory.proofs.OutwardLemmas.{continued}
+use Rattle.lalrpop_lr1_theory.proofs.CompletionMoveLemmas.{continued}
 use Rattle.lalrpop_lr1_theory.proofs.PathLemmas.{back_there}
 use Rattle.lalrpop_lr1_least_trees.specs.RestForests.{AnyLeaves, AreRestMoves}
 use Rattle.lalrpop_lr1_least_trees.specs.MoveViews.{tree_move_view}
 use Rattle.lalrpop_lr1_least_trees.specs.declared.tree_move.TreeMove.{TreeMove}
 use Rattle.lalrpop_lr1_paths.specs.PathTables.{last_steps}
 use Rattle.lalrpop_lr1_paths.specs.declared.state_paths.state_paths.StatePaths.{StatePaths}
-use Rattle.lalrpop_lr1_paths.specs.declared.completion_steps.out_graphs.OutGraphs.{OutGraphs}
-use Rattle.lalrpop_lr1_paths.specs.OutSearches.{TellsWayOut}
+use Rattle.lalrpop_lr1_paths.specs.declared.completion_steps.completion_graphs.CompletionGraphs.{CompletionGraphs}
+use Rattle.lalrpop_lr1_paths.specs.CompletionSearches.{TellsCompletion}
 use Rattle.lalrpop_lr1_counterexamples.specs.ShownMoves.{AreSteppedStates, ComesNext, IsPathForest, LeadsNowhere, ShowsMove}
 use Rattle.lalrpop_lr1_counterexamples.specs.ShownMoves.{ShowsReduction, ShowsShift}
 
 -- the state that was told stands so many places back on the paths of the steps
-pub back_told : (ways : OutGraphs) (paths : StatePaths) (places i n before : ℕ) → ways.paths.now ≡ paths → places ≡ i →
+pub back_told : (ways : CompletionGraphs) (paths : StatePaths) (places i n before : ℕ) → ways.paths.now ≡ paths → places ≡ i →
     ((m : ℕ) → IsBack (LedBy (last_steps paths)) places n m → before ≡ m) →
     (m : ℕ) → IsBack (LedBy (last_steps ways.paths.now)) i n m → before ≡ m
 back_told ways paths places i n before one many told =
@@ -35,7 +35,7 @@ pub joined_seen : (front : List TreeMove) (m : TreeMove) (more all : List TreeMo
     map tree_move_view all ≡ map tree_move_view front ++ tree_move_view m ∷ map tree_move_view more
 joined_seen front m more all is = ap (map tree_move_view) is ∙ map-append tree_move_view front (m ∷ more)
 
-module _ (g : Grammar) (s : Text) (states : List State) (ways : OutGraphs) (are : AreSteppedStates g s states ways) (n : ℕ)
+module _ (g : Grammar) (s : Text) (states : List State) (ways : CompletionGraphs) (are : AreSteppedStates g s states ways) (n : ℕ)
     (p : Production) (i before : ℕ) (held : HasItem states n p i)
     (told : (m : ℕ) → IsBack (LedBy (last_steps ways.paths.now)) i n m → before ≡ m) (front : List Move) where
   -- with trees for what stands behind the item's dot
@@ -51,7 +51,7 @@ module _ (g : Grammar) (s : Text) (states : List State) (ways : OutGraphs) (are 
       (subst (λ m. LeadsOut (IsProductionOf g) s (HasItem states) Back m p.left ms w) (told there.0 there.1) leads)
 
   -- nothing leads out from the state before the item
-  nowhere : (Wanted : List Terminal → Type 0) → TellsWayOut g s states ways before p.left Wanted None →
+  nowhere : (Wanted : List Terminal → Type 0) → TellsCompletion g s states ways before p.left Wanted None →
       LeadsNowhere g s states ways n i p.left Wanted
   nowhere Wanted h m ms w back out =
       h ms w (subst (λ k. LeadsOut (IsProductionOf g) s (HasItem states) (LedBy (last_steps ways.paths.now)) k p.left ms w)
@@ -59,7 +59,7 @@ module _ (g : Grammar) (s : Text) (states : List State) (ways : OutGraphs) (are 
 
   -- the shift of a terminal before which the item's dot stands
   pub shift_shown : (t : Terminal) (rest : List Symbol) → drop i p.right ≡ terminal t ∷ rest → (inner out all : List Move) →
-      AreRestMoves (IsProductionOf g) rest AnyLeaves inner → TellsWayOut g s states ways before p.left AnyLeaves (Some out) →
+      AreRestMoves (IsProductionOf g) rest AnyLeaves inner → TellsCompletion g s states ways before p.left AnyLeaves (Some out) →
       all ≡ front ++ shift t ∷ (inner ++ reduce p ∷ out) → ShowsMove g s ways n front (shift t) (Some t) all
   shift_shown t rest e inner out all trees leads is =
       record {
@@ -75,16 +75,16 @@ module _ (g : Grammar) (s : Text) (states : List State) (ways : OutGraphs) (are 
         next = refl;
       }
 
-  pub shift_unshown : (t : Terminal) (rest : List Symbol) → TellsWayOut g s states ways before p.left AnyLeaves None →
+  pub shift_unshown : (t : Terminal) (rest : List Symbol) → TellsCompletion g s states ways before p.left AnyLeaves None →
       ShowsShift g s states ways n p i rest front t None
   shift_unshown t rest h some = nowhere AnyLeaves h
 
-module _ (g : Grammar) (s : Text) (states : List State) (ways : OutGraphs) (are : AreSteppedStates g s states ways) (n : ℕ)
+module _ (g : Grammar) (s : Text) (states : List State) (ways : CompletionGraphs) (are : AreSteppedStates g s states ways) (n : ℕ)
     (p : Production) (before : ℕ) (held : HasItem states n p (length p.right))
     (told : (m : ℕ) → IsBack (LedBy (last_steps ways.paths.now)) (length p.right) n m → before ≡ m) (front : List Move)
     (x : Next) where
   -- the reduction by the production
-  pub reduction_shown : (out all : List Move) → TellsWayOut g s states ways before p.left (ComesNext x) (Some out) →
+  pub reduction_shown : (out all : List Move) → TellsCompletion g s states ways before p.left (ComesNext x) (Some out) →
       all ≡ front ++ reduce p ∷ out → ShowsReduction g s states ways n p front x (Some all)
   reduction_shown out all leads is =
       record {
@@ -96,5 +96,5 @@ module _ (g : Grammar) (s : Text) (states : List State) (ways : OutGraphs) (are 
         next = leads.wanted;
       }
 
-  pub reduction_unshown : TellsWayOut g s states ways before p.left (ComesNext x) None → ShowsReduction g s states ways n p front x None
+  pub reduction_unshown : TellsCompletion g s states ways before p.left (ComesNext x) None → ShowsReduction g s states ways n p front x None
   reduction_unshown h = nowhere g s states ways are n p (length p.right) before held told front (ComesNext x) h

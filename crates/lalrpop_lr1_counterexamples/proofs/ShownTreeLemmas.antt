@@ -12,8 +12,8 @@ use Rattle.lalrpop_lr1_first.specs.FirstSetsOf.{IsProductionOf}
 use Rattle.lalrpop_judge.specs.Certificates.{AreCountedFrom, MakesMove, number_move}
 use Rattle.lalrpop_lr1_least_trees.specs.SpanNumbers.{AreMade, LeadSomewhere, LeadToOne, numbered_spans}
 use Rattle.lalrpop_lr1_least_trees.proofs.MakingLemmas.{moves_lead}
-use Rattle.lalrpop_lr1_theory.specs.OutwardMoves.{IsContinued}
-use Rattle.lalrpop_lr1_paths.specs.declared.completion_steps.out_graphs.OutGraphs.{OutGraphs}
+use Rattle.lalrpop_lr1_theory.specs.CompletionMoves.{IsContinued}
+use Rattle.lalrpop_lr1_paths.specs.declared.completion_steps.completion_graphs.CompletionGraphs.{CompletionGraphs}
 use Rattle.lalrpop_lr1_counterexamples.specs.ShownMoves.{IsPathForest, ShowsMove}
 
 numbered_counted : (n k : ℕ) → AreCountedFrom n (numbered_spans n k)
@@ -23,7 +23,7 @@ numbered_counted n (suc k) = (refl, numbered_counted (suc n) k)
 counted : (ts : SpannedForest) (ms : List Move) → AreMade ms 0 ts → AreCountedFrom 0 (leaf_spans ts)
 counted ts ms made = subst (AreCountedFrom 0) (sym made.spans) (numbered_counted 0 (length (leaf_spans ts)))
 
-module _ (g : Grammar) (s : Text) (ways : OutGraphs) (n : ℕ) (front : List Move) (m : Move) (x : Next) (all : List Move) (f : Forest)
+module _ (g : Grammar) (s : Text) (ways : CompletionGraphs) (n : ℕ) (front : List Move) (m : Move) (x : Next) (all : List Move) (f : Forest)
     (on : IsPathForest g ways n front f) (shows : ShowsMove g s ways n front m x all) where
   front_leads : MovesLead front none f
   front_leads = subst (λ ms. MovesLead ms none f) on.moves_are (moves_lead (IsProductionOf g) f on.over)

@@ -19,19 +19,7 @@ use Rattle.lalrpop_lr1_counterexamples.specs.ShownStates.{IsCertificateAt, IsLea
 use Rattle.lalrpop_lr1_counterexamples.specs.Slots.{AreEmptySlots, AreFilledBefore, AreFilledBelow, AreFilledSlots, AreFilling}
 use Rattle.lalrpop_lr1_counterexamples.specs.Slots.{AreLeastTokensOf, AreCertificateSlots, AreTakenOut, IsFilled, StayFilled}
 use Rattle.lalrpop_lr1_counterexamples.specs.declared.certificates.shown.ShownConflicts.{ShownConflicts}
-
--- what stands at the place that was written, and at the others
-get_set_same : {X : Type 0} (xs : List X) (i : ℕ) (x : X) → i < length xs → slice_get (set xs i x) i ≡ Some x
-get_set_same [] i x h = absurd (omega (arith, h))
-get_set_same (y ∷ xs) zero x h = refl
-get_set_same (y ∷ xs) (suc i) x h = get_set_same xs i x (omega (arith, h))
-
-get_set_other : {X : Type 0} (xs : List X) (i j : ℕ) (x : X) → (i ≡ j → ⊥) → slice_get (set xs i x) j ≡ slice_get xs j
-get_set_other [] i j x apart = refl
-get_set_other (y ∷ xs) zero zero x apart = absurd (apart refl)
-get_set_other (y ∷ xs) zero (suc j) x apart = refl
-get_set_other (y ∷ xs) (suc i) zero x apart = refl
-get_set_other (y ∷ xs) (suc i) (suc j) x apart = get_set_other xs i j x (λ e. apart (ap suc e))
+use Rattle.lalrpop_lr1_build.proofs.GroupLemmas.{get_set_other, get_set_same}
 
 -- two numbers are one, or not
 one_or_other : (i j : ℕ) → (P : Type 0) → (i ≡ j → P) → ((i ≡ j → ⊥) → P) → P

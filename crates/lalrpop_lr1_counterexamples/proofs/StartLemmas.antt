@@ -1,4 +1,4 @@
--- Canonical states are led to by symbols with numbers, and the start has a number and a state: for what ways out are made from.
+-- Canonical states are led to by symbols with numbers, and the start has a number and a state: for what completions are made from.
 use Rattle.std.proofs.Common.{◌≡◌, ◌∙◌, ◌<◌, ℕ, zero, suc, List, [], ◌∷◌, drop, length, Option, Some}
 use Rattle.std.proofs.Common.{Contains, refl, sym, ap, subst}
 use Rattle.std.proofs.lemmas.Option.{slice_get_within}
@@ -27,9 +27,9 @@ use Rattle.lalrpop_lr1_least_trees.specs.declared.least_trees.LeastTrees.{LeastT
 use Rattle.lalrpop_lr1_theory.specs.PathTrees.{ArePaths}
 use Rattle.lalrpop_lr1_paths.specs.PathTables.{AreReachedStates, last_steps}
 use Rattle.lalrpop_lr1_paths.specs.declared.state_paths.state_paths.StatePaths.{StatePaths}
-use Rattle.lalrpop_lr1_paths.specs.OutGraphs.{AreWaysOut}
+use Rattle.lalrpop_lr1_paths.specs.CompletionGraphs.{AreCompletions}
 use Rattle.lalrpop_lr1_paths.specs.ToldSteps.{HasNameNumber}
-use Rattle.lalrpop_lr1_paths.specs.declared.completion_steps.out_graphs.OutGraphs.{OutGraphs}
+use Rattle.lalrpop_lr1_paths.specs.declared.completion_steps.completion_graphs.CompletionGraphs.{CompletionGraphs}
 use Rattle.lalrpop_lr1_counterexamples.specs.ShownMoves.{AreSteppedStates}
 
 -- each of symbols that are spelled has a number
@@ -97,12 +97,12 @@ module _ (g : Grammar) (s : Text) (states : List State) (canonical : AreCanonica
           (r.0, (table_numbering table of.numbers).name_below r.0 s named, named)
 
       -- so paths lead to all states, and what leads out of them is known
-      pub stepped_states : (trees : LeastTrees) (paths : StatePaths) (ways other : OutGraphs) (start : NonterminalString) →
+      pub stepped_states : (trees : LeastTrees) (paths : StatePaths) (ways other : CompletionGraphs) (start : NonterminalString) →
           trees.table ≡ table →
           paths.trees.now ≡ trees → ways.paths.now ≡ paths → other ≡ ways → start.0 ≡ s →
           (AreReachedStates trees states → ArePaths states (last_steps paths)) →
           (IsNumberTableOf g paths.trees.now.table → IsCover (IsProductionOf g) s (HasItem states) (HasEdge states) →
-          ArePaths states (last_steps paths) → HasNameNumber paths start → AreWaysOut g s states ways) →
+          ArePaths states (last_steps paths) → HasNameNumber paths start → AreCompletions g s states ways) →
           AreSteppedStates g s states other
       stepped_states trees paths ways other start tables of_trees of_paths same named lead out =
           let its_table : paths.trees.now.table ≡ table = ap (λ t. t.table) of_trees ∙ tables in
@@ -114,7 +114,7 @@ module _ (g : Grammar) (s : Text) (states : List State) (canonical : AreCanonica
           subst (λ t. (k : ℕ) × (k < name_count t) × (symbols_by t k ≡ Some (nonterminal start.0))) (sym its_table)
           (subst (λ A. (k : ℕ) × (k < name_count table) × (symbols_by table k ≡ Some (nonterminal A))) (sym named) start_number) in
           subst (AreSteppedStates g s states) (sym same) (record {
-            ways_out = out (subst (IsNumberTableOf g) (sym its_table) of) cover led number;
+            completions = out (subst (IsNumberTableOf g) (sym its_table) of) cover led number;
             cover = cover;
             paths = subst (λ p. ArePaths states (last_steps p)) (sym of_paths) led;
           })

@@ -1,5 +1,5 @@
 -- Conflicts that are told of canonical states stand there, before the least token of their lookaheads: for the law on them.
-use Rattle.std.proofs.Common.{◌≡◌, ◌∙◌, ℕ, zero, suc, ◌+◌, ◌<◌, ◌≤◌, ◌⊎◌, inl, inr, ⊎_elim, Bool}
+use Rattle.std.proofs.Common.{◌≡◌, ◌∙◌, ℕ, zero, suc, ◌+◌, ◌<◌, ◌≤◌, ◌⊎◌, ⊎_elim, Bool}
 use Rattle.std.proofs.Common.{true, false, cond, eqb, List, [], ◌∷◌, length, map, filter, Option, Some, None}
 use Rattle.std.proofs.Common.{Contains, ap, sym, refl, subst, arith}
 use Rattle.std.specs.Prelude.{flat_map, option_map, slice_get, if◌then◌else◌}
@@ -18,7 +18,7 @@ use Rattle.lalrpop_lr1_theory.specs.CanonicalStates.{AreCanonicalStates}
 use Rattle.lalrpop_lr1_theory.specs.Productions as theory
 use Rattle.lalrpop_lr1_theory.specs.States as states
 use Rattle.lalrpop_lr1_theory.specs.States.{HasLookahead, finished_reductions}
-use Rattle.lalrpop_lr1_theory.proofs.ListLemmas.{contains_get, contains_here, contains_later, contains_split, get_contains}
+use Rattle.lalrpop_lr1_theory.proofs.ListLemmas.{contains_get, contains_split, get_contains}
 use Rattle.lalrpop_lr1_theory.proofs.ReductionLemmas.{reduces_finished}
 use Rattle.lalrpop_lr1_theory.proofs.StepLemmas.{some_same}
 use Rattle.lalrpop_sets.specs.Bits.{has}
@@ -41,20 +41,8 @@ use Rattle.lalrpop_lr1_first.specs.NumberedGrammars.{HasItsTerminals}
 use Rattle.lalrpop_lr1_build.specs.BuiltStates.{IsCanonicalFault}
 use Rattle.lalrpop_lr1_core.specs.TheoryGrammars.{theory_grammar}
 use Rattle.lalrpop_lr1_counterexamples.specs.StandingConflicts.{IsStandingConflict, IsToldConflict, next_of_token}
-
-no_element : {X : Type 0} (y : X) → Contains [] y → ⊥
-no_element y c = omega (arith, c.1)
-
--- what comes of a list comes of one of its elements
-in_flat : {X Y : Type 0} (f : X → List Y) (xs : List X) (y : Y) → Contains (flat_map f xs) y →
-    (x : X) × Contains xs x × Contains (f x) y
-in_flat f [] y c = absurd (no_element y c)
-in_flat {X} f (z ∷ zs) y c = go (in_flat f zs y) (Contains-append_cases (f z) (flat_map f zs) y c)
-  where
-    go : (Contains (flat_map f zs) y → (x : X) × Contains zs x × Contains (f x) y) →
-        Contains (f z) y ⊎ Contains (flat_map f zs) y → (x : X) × Contains (z ∷ zs) x × Contains (f x) y
-    go deeper (inl d) = (z, contains_here z zs, d)
-    go deeper (inr d) = let r = deeper d in (r.0, contains_later z r.0 zs r.1, r.2)
+use Rattle.lalrpop_lr1_theory.proofs.NameLemmas.{no_element}
+use Rattle.lalrpop_lr1_core.proofs.GraphLemmas.{in_flat}
 
 only_one : {X : Type 0} (x y : X) → Contains (x ∷ []) y → x ≡ y
 only_one x y c = ⊎_elim (λ e. e) (λ d. absurd (no_element y d)) (contains_split x y [] c)

@@ -11,7 +11,7 @@ use Rattle.lalrpop_lr1_core.specs.declared.conflict.Action.{Action}
 use Rattle.lalrpop_lr1_core.specs.declared.conflict.Action.TheVariants as actions
 use Rattle.lalrpop_lr1_first.specs.FirstSetsOf.{IsProductionOf}
 use Rattle.lalrpop_lr1_least_trees.specs.RestForests.{AnyLeaves, HasRest}
-use Rattle.lalrpop_lr1_paths.specs.declared.completion_steps.out_graphs.OutGraphs.{OutGraphs}
+use Rattle.lalrpop_lr1_paths.specs.declared.completion_steps.completion_graphs.CompletionGraphs.{CompletionGraphs}
 use Rattle.lalrpop_lr1_counterexamples.specs.ShownMoves.{LeadsNowhere, ShowsMove, ShowsReduction}
 
 -- no item's dot stands before the terminal
@@ -21,7 +21,7 @@ HasNoShiftItem states n t =
     drop i p.right ≡ theory.terminal t ∷ b → ⊥
 
 -- of some item whose dot does the rest has no trees, or nothing leads out behind it
-pub record HasLostShiftItem (g : Grammar) (s : Text) (states : List State) (ways : OutGraphs) (n : ℕ) (t : Terminal) : Type 0 where
+pub record HasLostShiftItem (g : Grammar) (s : Text) (states : List State) (ways : CompletionGraphs) (n : ℕ) (t : Terminal) : Type 0 where
   pub production : theory.Production
   pub dot : ℕ
   pub rest : List theory.Symbol
@@ -30,12 +30,12 @@ pub record HasLostShiftItem (g : Grammar) (s : Text) (states : List State) (ways
   pub lost : HasRest (IsProductionOf g) rest AnyLeaves → LeadsNowhere g s states ways n dot production.left AnyLeaves
 
 -- moves that show a shift of the terminal, or none where the state has no item for it, or one that leads nowhere
-abbrev pub ShowsShiftOf : Grammar → Text → List State → OutGraphs → ℕ → List Move → Terminal → Option (List Move) → Type 0
+abbrev pub ShowsShiftOf : Grammar → Text → List State → CompletionGraphs → ℕ → List Move → Terminal → Option (List Move) → Type 0
 ShowsShiftOf g s states ways n front t None = HasNoShiftItem states n t ⊎ HasLostShiftItem g s states ways n t
 ShowsShiftOf g s states ways n front t (Some all) = ShowsMove g s ways n front (shift t) (Some t) all
 
 -- Moves that show the action: a reduction by the production of an item of the state, before what comes next; or a shift.
-abbrev pub ShowsAction : Grammar → Text → List State → OutGraphs → ℕ → List Move → theory.Next → Action →
+abbrev pub ShowsAction : Grammar → Text → List State → CompletionGraphs → ℕ → List Move → theory.Next → Action →
     Option (List Move) → Type 0
 ShowsAction g s states ways n front x (actions.Reduce p) found =
     HasItem states n (production_view p.now) (length (production_view p.now).right) →

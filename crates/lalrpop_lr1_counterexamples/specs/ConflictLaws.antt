@@ -14,7 +14,7 @@ use Rattle.lalrpop_lr1_core.specs.declared.table_fault.TableFault.TheVariants as
 use Rattle.lalrpop_lr1_first.specs.NumberedGrammars.{HasItsTerminals}
 use Rattle.lalrpop_lr1_build.specs.BuiltStates.{IsCanonicalFault}
 use Rattle.lalrpop_lr1_core.specs.TheoryGrammars.{theory_grammar}
-use Rattle.lalrpop_lr1_paths.specs.declared.completion_steps.out_graphs.OutGraphs.{OutGraphs}
+use Rattle.lalrpop_lr1_paths.specs.declared.completion_steps.completion_graphs.CompletionGraphs.{CompletionGraphs}
 use Rattle.lalrpop_lr1_counterexamples.specs.ShownMoves.{AreSteppedStates}
 use Rattle.lalrpop_lr1_counterexamples.specs.ConflictMoves.{LacksConflictMoves}
 use Rattle.lalrpop_lr1_counterexamples.specs.StandingConflicts.{IsStandingConflict, IsToldConflict}
@@ -30,6 +30,6 @@ ToldConflictsStand =
 -- where nothing is barren, no moves are missing that show a conflict which stands in canonical states
 abbrev pub StandingConflictsHaveMoves : Type 0
 StandingConflictsHaveMoves =
-    (g : Grammar) (s : Text) (states : List State) (ways : OutGraphs) (x : theory.Next) (conflict : Conflict (List ℕ)) →
+    (g : Grammar) (s : Text) (states : List State) (ways : CompletionGraphs) (x : theory.Next) (conflict : Conflict (List ℕ)) →
     NoneBarren (Contains (theory_grammar g)) s → AreCanonicalStates (theory_grammar g) s states → AreSteppedStates g s states ways →
     IsStandingConflict states x conflict → LacksConflictMoves g s states ways conflict.state.0 x conflict → ⊥

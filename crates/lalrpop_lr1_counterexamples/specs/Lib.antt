@@ -1,6 +1,6 @@
 pub mod ShownMoves
 pub mod ShownLaws
-pub mod ShiftPlaces
+pub mod ShiftPositions
 pub mod ActionMoves
 pub mod ConflictMoves
 pub mod ConflictLaws

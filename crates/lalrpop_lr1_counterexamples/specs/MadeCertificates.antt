@@ -4,7 +4,7 @@ use Rattle.lalrpop_lr1_theory.specs.Productions.{Next}
 use Rattle.lalrpop_lr1_core.specs.declared.conflict.Conflict.{Conflict}
 use Rattle.lalrpop_lr1_least_trees.specs.MoveViews.{tree_move_view}
 use Rattle.lalrpop_lr1_least_trees.specs.SpanNumbers.{AreMade, LeadSomewhere, LeadToOne}
-use Rattle.lalrpop_lr1_paths.specs.declared.completion_steps.out_graphs.OutGraphs.{OutGraphs}
+use Rattle.lalrpop_lr1_paths.specs.declared.completion_steps.completion_graphs.CompletionGraphs.{CompletionGraphs}
 use Rattle.lalrpop_lr1_counterexamples.specs.ConflictMoves.{AreConflictMoves}
 use Rattle.lalrpop_lr1_counterexamples.specs.declared.conflict_moves.conflict.ConflictMoves.{ConflictMoves}
 use Rattle.lalrpop_judge.specs.Certificates.{ShownConflict, reduce_by}
@@ -28,6 +28,6 @@ pub record IsMadeCertificate (conflict : Conflict (List ℕ)) (x : Next) (it : C
   pub next : c.next ≡ x
 
 -- the moves show the conflict at the place
-abbrev pub AreMovesAt : ShownConflicts → OutGraphs → Next → ℕ → ConflictMoves → Type 0
+abbrev pub AreMovesAt : ShownConflicts → CompletionGraphs → Next → ℕ → ConflictMoves → Type 0
 AreMovesAt it ways x number moves = (conflict : Conflict (List ℕ)) → IsConflictAt it number conflict →
     AreConflictMoves it.grammar.now it.start.now.0 (states_of it) ways conflict.state.0 x conflict moves

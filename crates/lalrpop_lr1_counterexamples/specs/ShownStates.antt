@@ -11,7 +11,7 @@ use Rattle.lalrpop_lr1_core.specs.declared.conflict.Conflict.{Conflict}
 use Rattle.lalrpop_lr1_core.specs.declared.state.State.{State}
 use Rattle.lalrpop_lr1_first.specs.NumberedGrammars.{HasItsTerminals}
 use Rattle.lalrpop_lr1_core.specs.TheoryGrammars.{theory_grammar}
-use Rattle.lalrpop_lr1_paths.specs.declared.completion_steps.out_graphs.OutGraphs.{OutGraphs}
+use Rattle.lalrpop_lr1_paths.specs.declared.completion_steps.completion_graphs.CompletionGraphs.{CompletionGraphs}
 use Rattle.lalrpop_lr1_counterexamples.specs.ShownMoves.{AreSteppedStates}
 use Rattle.lalrpop_lr1_counterexamples.specs.StandingConflicts.{IsToldConflict}
 use Rattle.lalrpop_lr1_counterexamples.specs.ConflictCertificates.{HaveOwnActions, IsCertificateOf}
@@ -43,7 +43,7 @@ pub record AreShownConflicts (it : ShownConflicts) : Type 0 where
   pub told : AreToldConflicts it.grammar.now it.states.now it.conflicts.now
 
 -- these are the steps that lead out of the states
-abbrev pub AreStepsOut : ShownConflicts → OutGraphs → Type 0
+abbrev pub AreStepsOut : ShownConflicts → CompletionGraphs → Type 0
 AreStepsOut it ways = AreSteppedStates it.grammar.now it.start.now.0 (states_of it) ways
 
 -- the token is the least of the conflict's lookahead

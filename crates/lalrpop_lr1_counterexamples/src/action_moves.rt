@@ -5,5 +5,5 @@
 
 mod action;
 
-pub use crate::shown_moves::{AnyOut, NextOut, with_reduction};
+pub use crate::shown_moves::{AnyCompletion, NextCompletion, with_reduction};
 pub use action::action_moves;

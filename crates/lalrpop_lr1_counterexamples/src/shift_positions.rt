@@ -1,7 +1,7 @@
 //! Positions of shifts: by which item a state may shift a terminal, and what stands behind the terminal there.
 //!
-//! `ShiftPlaces` in `specs/` says what such a place is.
+//! `ShiftPositions` in `specs/` says what such a place is.
 
-mod places;
+mod positions;
 
-pub use places::{ShiftPlace, shift_place};
+pub use positions::{ShiftPosition, shift_position};

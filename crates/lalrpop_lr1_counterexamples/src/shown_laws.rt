@@ -15,6 +15,7 @@ pub fn shown_trees_make_the_move()
 {}
 
 pub use crate::shown_moves::{
-    AnyOut, EndOut, NextOut, OutGraphs, WantedOut, WantedSteps, rest_count,
+    AnyCompletion, CompletionGraphs, EndCompletion, NextCompletion, WantedCompletion, WantedSteps,
+    rest_count,
 };
 pub use lalrpop_lr1_least_trees::made_trees::{made_trees, only_tree};

@@ -3,7 +3,7 @@ use Rattle.std.proofs.Common.{◌≡◌, ◌∙◌, ◌↔◌, ◌⊎◌, ℕ, �
 use Rattle.std.proofs.Common.{◌||◌, ◌&&◌, eqb, List, [], ◌∷◌, length, get_or}
 use Rattle.std.proofs.Common.{refl, sym, ap, subst, arith, inl, inr, ⊎_elim, slice_get, Option, Some, None, Contains}
 use Rattle.std.specs.List.{cons_option}
-use Rattle.std.specs.Prelude.{filter_map, flat_map, option_map}
+use Rattle.std.specs.Prelude.{filter_map, option_map}
 use Rattle.std.proofs.lemmas.List.Elements.{Contains-append_cases, Contains-append_left, Contains-append_right}
 use Rattle.lalrpop_lr1_theory.specs.Productions as theory
 use Rattle.lalrpop_lr1_theory.proofs.ListLemmas.{contains_get, contains_here, contains_later, contains_split, get_contains}
@@ -27,14 +27,16 @@ use Rattle.lalrpop_lr1_first.specs.declared.place.NumberedRule.{NumberedRule}
 use Rattle.lalrpop_lr1_first.proofs.ClosureLemmas.{mark_at, mark_is_marked, place_is_marked, place_of}
 use Rattle.lalrpop_lr1_first.proofs.FirstNumberLemmas.{first_number, says_first}
 use Rattle.lalrpop_lr1_first.proofs.FlowLemmas.{at_all_marks}
-use Rattle.lalrpop_lr1_first.proofs.KnownLemmas.{flat_has}
-use Rattle.lalrpop_lr1_first.proofs.ListLemmas.{and_both, eqb_not, eqb_self, or_cases, or_left, or_right}
+use Rattle.lalrpop_lr1_core.proofs.GraphLemmas.{flat_has}
+use Rattle.lalrpop_lr1_first.proofs.ListLemmas.{or_cases, or_left, or_right}
+use Rattle.lalrpop_grammar_symbols.proofs.BoolLemmas.{and_both}
+use Rattle.lalrpop_sets.proofs.WordLemmas.{eqb_not}
+use Rattle.lalrpop_sets.proofs.WordLemmas.{eqb_self}
 use Rattle.lalrpop_lr1_first.proofs.SeedLemmas.{name_is, name_there, rest_within}
 use Rattle.lalrpop_lr1_first.proofs.SweepLemmas.{says_within}
 use Rattle.lalrpop_lr1_first.proofs.TableLemmas.{get_mapped, is_item_table, left_below, rules_are, table_numbering}
-
-no_element : {X : Type 0} (y : X) → Contains [] y → ⊥
-no_element y c = omega (arith, c.1)
+use Rattle.lalrpop_lr1_theory.proofs.NameLemmas.{no_element}
+use Rattle.lalrpop_lr1_core.proofs.GraphLemmas.{in_flat}
 
 in_filter_map : {X Y : Type 0} (f : X → Option Y) (xs : List X) (y : Y) → Contains (filter_map f xs) y →
     (x : X) × Contains xs x × (f x ≡ Some y)
@@ -64,15 +66,6 @@ filter_map_has {X} {Y} f (z ∷ xs) x y c e = go (f z) refl (filter_map_has f xs
         let both : Some w ≡ Some y = sym g ∙ ap f h ∙ e in let one : w ≡ y = cc in
         subst (Contains (w ∷ filter_map f xs)) one (contains_here w (filter_map f xs))
     go (Some w) g rec (inr h) = contains_later w y (filter_map f xs) (rec h e)
-
-in_flat : {X Y : Type 0} (f : X → List Y) (xs : List X) (y : Y) → Contains (flat_map f xs) y →
-    (x : X) × Contains xs x × Contains (f x) y
-in_flat f [] y c = absurd (no_element y c)
-in_flat {X} f (x ∷ xs) y c =
-    ⊎_elim (λ d. (x, contains_here x xs, d)) (λ d. later (in_flat f xs y d)) (Contains-append_cases (f x) (flat_map f xs) y c)
-  where
-    later : (z : X) × Contains xs z × Contains (f z) y → (z : X) × Contains (x ∷ xs) z × Contains (f z) y
-    later r = (r.0, contains_later x r.0 xs r.1, r.2)
 
 -- what comes is a number of a token
 pub comes_small : (firsts : Bool) (end : ℕ) (first own : List ℕ) (k : ℕ) → (has first k ≡ true → k ≤ end) →

@@ -13,7 +13,10 @@ use Rattle.lalrpop_lr1_first.specs.ItemTables.{AreEdgesOf, AreFirstsOf, AreSeede
 use Rattle.lalrpop_lr1_first.specs.ItemTables.{IsItemTable, ListsItem, ListsNext}
 use Rattle.lalrpop_lr1_first.specs.Numbers.{IsNumbering, SpellsSymbols}
 use Rattle.lalrpop_lr1_first.specs.declared.place.NumberedRule.{NumberedRule}
-use Rattle.lalrpop_lr1_first.proofs.ListLemmas.{and_both, both_and, eqb_not, eqb_self, or_cases, or_left, or_right}
+use Rattle.lalrpop_lr1_first.proofs.ListLemmas.{both_and, or_cases, or_left, or_right}
+use Rattle.lalrpop_grammar_symbols.proofs.BoolLemmas.{and_both}
+use Rattle.lalrpop_sets.proofs.WordLemmas.{eqb_not}
+use Rattle.lalrpop_sets.proofs.WordLemmas.{eqb_self}
 
 -- what is spelled with a first number begins with its symbol
 spelled_first : (symbol_at : ℕ → Option Symbol) (s : ℕ) (more : List ℕ) (ys : List Symbol) (x : Symbol) →

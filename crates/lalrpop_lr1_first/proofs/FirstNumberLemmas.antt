@@ -9,7 +9,10 @@ use Rattle.lalrpop_lr1_theory.proofs.FirstTableLemmas.{first_said, said_first}
 use Rattle.lalrpop_sets.specs.Bits.{has}
 use Rattle.lalrpop_lr1_first.specs.Numbers.{AreRulesOf, IsNumbering, RuleByNumbers, SpellsSymbols, says, set_of_number}
 use Rattle.lalrpop_lr1_first.specs.FirstSteps.{AreSound, HasNext, HaveTerminals}
-use Rattle.lalrpop_lr1_first.proofs.ListLemmas.{and_both, both_and, eqb_not, eqb_self, eqb_true, or_cases, or_left, or_right}
+use Rattle.lalrpop_lr1_first.proofs.ListLemmas.{both_and, eqb_true, or_cases, or_left, or_right}
+use Rattle.lalrpop_grammar_symbols.proofs.BoolLemmas.{and_both}
+use Rattle.lalrpop_sets.proofs.WordLemmas.{eqb_not}
+use Rattle.lalrpop_sets.proofs.WordLemmas.{eqb_self}
 
 module _ (symbol_at : ℕ → Option Symbol) (next_at : ℕ →
     Next) (end names : ℕ) (numbered : IsNumbering symbol_at next_at end names)

@@ -12,7 +12,11 @@ use Rattle.lalrpop_lr1_first.specs.Flows.{AreBelow, EdgesAreWithin, FlowEdge, Fl
 use Rattle.lalrpop_lr1_first.specs.Flows.{slot_marks, starts}
 use Rattle.lalrpop_lr1_first.specs.FlowSteps.{FlowsTo, HasFlowedAlong, IsFlowing, adds}
 use Rattle.lalrpop_lr1_first.specs.Walks.{place_in_walk}
-use Rattle.lalrpop_lr1_first.proofs.ListLemmas.{and_both, at_set_other, at_set_same, both_and, cases_eq, eqb_not, eqb_self, eqb_true}
+use Rattle.lalrpop_lr1_first.proofs.ListLemmas.{at_set_other, at_set_same, both_and, eqb_true}
+use Rattle.lalrpop_grammar_symbols.proofs.BoolLemmas.{and_both}
+use Rattle.lalrpop_sets.proofs.WordLemmas.{cases_eq}
+use Rattle.lalrpop_sets.proofs.WordLemmas.{eqb_not}
+use Rattle.lalrpop_sets.proofs.WordLemmas.{eqb_self}
 use Rattle.lalrpop_lr1_first.proofs.ListLemmas.{get_any}
 use Rattle.lalrpop_lr1_first.proofs.ListLemmas.{or_cases, or_left, or_right, set_itself}
 use Rattle.lalrpop_lr1_first.proofs.MissingLemmas.{missing_less, missing_set}

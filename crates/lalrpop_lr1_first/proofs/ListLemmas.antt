@@ -2,39 +2,16 @@
 use Rattle.std.proofs.Common.{◌≡◌, ◌∙◌, ℕ, zero, suc, ◌<◌, ◌≤◌, Bool, true, false, ◌||◌}
 use Rattle.std.proofs.Common.{◌&&◌, eqb, List, [], ◌∷◌}
 use Rattle.std.proofs.Common.{length, get_or, set, refl, sym, ap, arith, ◌⊎◌, inl, inr, slice_get, Some}
-use Rattle.std.proofs.lemmas.Bool.{cases_lt}
 use Rattle.lalrpop_lr1_first.specs.Numbers.{set_of_number}
-
--- each number tests as equal to itself
-pub eqb_self : (k : ℕ) → eqb k k ≡ true
-eqb_self k = grind arith
 
 -- numbers that test as equal are one
 pub eqb_true : (j k : ℕ) → eqb j k ≡ true → j ≡ k
 eqb_true j k h = grind arith
 
--- numbers that differ don't test as equal
-pub eqb_not : (j k : ℕ) → (j ≡ k → ⊥) → eqb j k ≡ false
-eqb_not j k h = grind arith
-
--- any two numbers are equal or they differ
-pub cases_eq : (j k : ℕ) → (j ≡ k) ⊎ (j ≡ k → ⊥)
-cases_eq j k = go (cases_lt j k) (cases_lt k j)
-  where
-    go : (j < k) ⊎ (k ≤ j) → (k < j) ⊎ (j ≤ k) → (j ≡ k) ⊎ (j ≡ k → ⊥)
-    go (inl a) b = inr (λ e. omega arith)
-    go (inr a) (inl b) = inr (λ e. omega arith)
-    go (inr a) (inr b) = inl (omega arith)
-
 -- where an `||` is true, one of its sides is
 pub or_cases : (a b : Bool) → (a || b) ≡ true → (a ≡ true) ⊎ (b ≡ true)
 or_cases true b h = inl refl
 or_cases false b h = inr h
-
--- where an `&&` is true, both of its sides are
-pub and_both : (a b : Bool) → (a && b) ≡ true → (a ≡ true) × (b ≡ true)
-and_both true b h = (refl, h)
-and_both false b h = let z : ⊥ = cc in absurd z
 
 -- where both sides are true, their `&&` is
 pub both_and : (a b : Bool) → a ≡ true → b ≡ true → (a && b) ≡ true
@@ -98,10 +75,6 @@ pub get_slice : {X : Type 0} (xs : List X) (i : ℕ) (x : X) → i < length xs �
 get_slice [] i x h e = absurd (omega arith)
 get_slice (y ∷ xs) zero x h e = ap Some (sym e)
 get_slice (y ∷ xs) (suc i) x h e = get_slice xs i x (omega arith) e
-
--- what two equal options hold is equal
-pub some_is : {X : Type 0} (x y : X) → Some x ≡ Some y → x ≡ y
-some_is x y e = cc
 
 -- an element that is read by a default stands in an equal list
 pub read_slice : {X : Type 0} (xs ys : List X) (i : ℕ) (d : X) → i < length xs → xs ≡ ys →

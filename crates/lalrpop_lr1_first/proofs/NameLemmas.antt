@@ -1,7 +1,6 @@
 -- Names with their places: what stands at a name, and names put in one by one. For the numbers of names.
 use Rattle.std.proofs.Common.{◌≡◌, ◌∙◌, ℕ, suc, ◌+◌, Bool, true, false, cond, List, [], ◌∷◌, ◌++◌}
 use Rattle.std.proofs.Common.{refl, ap, sym, arith, Some, Contains, ⊎_elim, slice_get}
-use Rattle.std.specs.Bool.{Decides}
 use Rattle.std.specs.List.Sorted.{IsStrictlySortedBy}
 use Rattle.std.specs.Borrow.{Bor}
 use Rattle.std.specs.List.{AllByRecursion}
@@ -13,20 +12,13 @@ use Rattle.std.specs.BTreeMap.{insert_entry}
 use Rattle.std.proofs.lemmas.Cmp.{nat_list_cmp_total}
 use Rattle.std.specs.Ordering.{ordering_reverse}
 use Rattle.std.proofs.Math.Seq.{append_snoc}
-use Rattle.std.proofs.lemmas.Map.Text.{is_eq-slice_cmp}
-use Rattle.std.proofs.lemmas.Slice.Eq.{bytes_eq-Decides}
 use Rattle.lalrpop_grammar_symbols.specs.contracts.names.NonterminalStringOrd.TheImpl as names
 use Rattle.lalrpop_grammar_symbols.specs.declared.names.NonterminalString.{NonterminalString}
 use Rattle.lalrpop_grammar_repr.specs.Maps.{at_name}
 use Rattle.lalrpop_lr1_theory.proofs.ListLemmas.{contains_split}
 use Rattle.lalrpop_lr1_first.specs.Listings.{lent}
 use Rattle.lalrpop_lr1_first.specs.Tables.{pairs_from}
-
-same_name : (a b : NonterminalString) → Decides (is_eq ((names.ghosts).cmp a b)) (a ≡ b)
-same_name a b = (
-  λ e. ap (λ t. record { 0 = t }) ((bytes_eq-Decides a.0 b.0).0 (sym (is_eq-slice_cmp a.0 b.0) ∙ e)),
-  λ e. is_eq-slice_cmp a.0 b.0 ∙ (bytes_eq-Decides a.0 b.0).1 (ap (λ n. n.0) e),
-)
+use Rattle.lalrpop_grammar_symbols.proofs.NameLemmas.{same_name}
 
 -- comparing two names the other way round gives the reverse order
 pub name_antisymm : (a b : NonterminalString) → (names.ghosts).cmp a b ≡ ordering_reverse ((names.ghosts).cmp b a)

@@ -30,8 +30,12 @@ use Rattle.lalrpop_lr1_first.specs.FirstSetsOf.{set_of_symbol}
 use Rattle.lalrpop_lr1_first.specs.Listings.{lent}
 use Rattle.lalrpop_lr1_first.specs.Numbers.{says_by, set_of_number}
 use Rattle.lalrpop_lr1_first.specs.Tables.{pairs_from}
-use Rattle.lalrpop_lr1_first.proofs.ListLemmas.{and_both, both_and, cases_eq, eqb_not, eqb_self, eqb_true, or_cases, or_left, or_right}
-use Rattle.lalrpop_lr1_first.proofs.ListLemmas.{some_is}
+use Rattle.lalrpop_lr1_first.proofs.ListLemmas.{both_and, eqb_true, or_cases, or_left, or_right}
+use Rattle.lalrpop_grammar_symbols.proofs.BoolLemmas.{and_both}
+use Rattle.lalrpop_sets.proofs.WordLemmas.{cases_eq}
+use Rattle.lalrpop_sets.proofs.WordLemmas.{eqb_not}
+use Rattle.lalrpop_sets.proofs.WordLemmas.{eqb_self}
+use Rattle.lalrpop_lr1_core.proofs.MemberLemmas.{some_is}
 use Rattle.lalrpop_lr1_first.proofs.TableLemmas.{end_is_none, same_next}
 
 -- more productions derive more

@@ -4,7 +4,7 @@ use Rattle.std.proofs.Common.{Option, Some, None}
 use Rattle.std.proofs.lemmas.List.Elements.{All-contains}
 use Rattle.std.specs.Prelude.{is_some}
 use Rattle.lalrpop_sets.specs.Bits.{has}
-use Rattle.lalrpop_lr1_first.specs.ClosureTables.{BringsNothing, SeedsAll, name_behind, started_items, started_with}
+use Rattle.lalrpop_lr1_first.specs.ClosureTables.{HasEmptyClosure, SeedsAll, name_behind, started_items, started_with}
 use Rattle.lalrpop_lr1_first.specs.FirstNumbers.{name_count, table_end}
 use Rattle.lalrpop_lr1_first.specs.Flows.{FlowEdge, Flows, all_marks, begins, brings, passes, slot_marks, starts}
 use Rattle.lalrpop_lr1_first.specs.Numbers.{set_of_number}
@@ -49,7 +49,7 @@ nothing_started L n (rule ∷ rules) =
     ∙ ap (λ (o : Option L). started_with rule.start o ++ started_items (empties L n) rules) (sym (empty_at L n rule.left))
 
 module _ {L : Type 0} (marks : L → List ℕ) (firsts : Bool) (table : Numbered) (rests : List (List ℕ)) (seed : List (ℕ × L))
-    (nothing : BringsNothing table seed) where
+    (nothing : HasEmptyClosure table seed) where
   abbrev end : ℕ
   end = table_end table
 

@@ -19,11 +19,11 @@ use Rattle.lalrpop_lr1_first.specs.declared.place.NumberedRule.{NumberedRule}
 use Rattle.lalrpop_lr1_first.specs.declared.place.Place.{Place}
 use Rattle.lalrpop_lr1_first.proofs.AddLemmas.{flat_more}
 use Rattle.lalrpop_lr1_first.proofs.FlowLemmas.{all_marks_set, at_all_marks, length_all_marks, marks_step, read_slot_marks}
-use Rattle.lalrpop_lr1_first.proofs.ListLemmas.{at_set_other, at_set_same, cases_eq, eqb_self, eqb_true, or_cases, or_left, or_right}
+use Rattle.lalrpop_lr1_first.proofs.ListLemmas.{at_set_other, at_set_same, eqb_true, or_cases, or_left, or_right}
+use Rattle.lalrpop_sets.proofs.WordLemmas.{cases_eq}
+use Rattle.lalrpop_sets.proofs.WordLemmas.{eqb_self}
 use Rattle.lalrpop_lr1_first.proofs.PlaceLemmas.{drop_past}
-
-no_element : {X : Type 0} (y : X) → Contains [] y → ⊥
-no_element y c = omega (arith, c.1)
+use Rattle.lalrpop_lr1_theory.proofs.NameLemmas.{no_element}
 
 -- one element more is taken
 pub taken_at : {X : Type 0} (xs : List X) (i : ℕ) (x : X) → slice_get xs i ≡ Some x → take (i + 1) xs ≡ take i xs ++ x ∷ []

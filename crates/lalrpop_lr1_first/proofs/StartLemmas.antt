@@ -10,7 +10,7 @@ use Rattle.lalrpop_lr1_first.specs.NumberedGrammars.{IsNumberTable, table_names}
 use Rattle.lalrpop_lr1_first.specs.Numbers.{set_of_number}
 use Rattle.lalrpop_lr1_first.specs.declared.numbered.Numbered.{Numbered}
 use Rattle.lalrpop_lr1_first.proofs.ListLemmas.{eqb_true}
-use Rattle.lalrpop_lr1_first.proofs.TableLemmas.{is_numbering}
+use Rattle.lalrpop_lr1_first.proofs.TableLemmas.{is_numbering, long_map, get_some}
 
 at_first : (xs ys : List (List ℕ)) (s : ℕ) → s < length xs → set_of_number (xs ++ ys) s ≡ set_of_number xs s
 at_first [] ys s h = absurd (omega arith)
@@ -33,20 +33,11 @@ long_both : {X : Type 0} (xs ys : List X) → length (xs ++ ys) ≡ length xs + 
 long_both [] ys = omega arith
 long_both (x ∷ xs) ys = omega (arith, long_both xs ys)
 
-long_map : {X Y : Type 0} (f : X → Y) (xs : List X) → length (map f xs) ≡ length xs
-long_map f [] = refl
-long_map f (x ∷ xs) = ap suc (long_map f xs)
-
 at_map : {X : Type 0} (f : X → List ℕ) (xs : List X) (j : ℕ) (x : X) → slice_get xs j ≡ Some x →
     set_of_number (map f xs) j ≡ f x
 at_map f [] j x e = let w : ⊥ = cc in absurd w
 at_map f (y ∷ xs) zero x e = let z : y ≡ x = cc in ap f z
 at_map f (y ∷ xs) (suc j) x e = at_map f xs j x e
-
-get_some : {X : Type 0} (xs : List X) (r : ℕ) → r < length xs → (x : X) × (slice_get xs r ≡ Some x)
-get_some [] r h = absurd (omega arith)
-get_some (x ∷ xs) zero h = (x, refl)
-get_some (x ∷ xs) (suc r) h = get_some xs r (omega arith)
 
 or_false : (j k : ℕ) → (eqb j k || false) ≡ eqb j k
 or_false j k = grind arith

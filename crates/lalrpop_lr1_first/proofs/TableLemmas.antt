@@ -2,7 +2,6 @@
 use Rattle.std.proofs.Common.{◌≡◌, ◌∙◌, ℕ, zero, suc, ◌+◌, ◌-◌, ◌<◌, ◌≤◌, List, []}
 use Rattle.std.proofs.Common.{◌∷◌, ◌++◌, length, map, drop, refl, ap, sym, subst, arith}
 use Rattle.std.proofs.Common.{Some, None, Option, Contains, slice_get}
-use Rattle.std.specs.List.{AllByRecursion}
 use Rattle.std.specs.List.Sorted.{IsStrictlySortedBy}
 use Rattle.std.specs.Ordering.{ordering_reverse}
 use Rattle.std.specs.Prelude.{option_map}
@@ -22,7 +21,7 @@ use Rattle.lalrpop_lr1_theory.proofs.ListLemmas.{contains_get, get_contains}
 use Rattle.lalrpop_sets.specs.Tokens.{eof_number}
 use Rattle.lalrpop_lr1_core.specs.Views.{next_of_number, production_symbol_view, production_view}
 use Rattle.lalrpop_lr1_core.proofs.MemberLemmas.{in_map, map_has}
-use Rattle.lalrpop_lr1_core.proofs.NoConflictLemmas.{at_mapped, same_terminal}
+use Rattle.lalrpop_lr1_core.proofs.NoConflictLemmas.{at_mapped, same_terminal, nothing_there}
 use Rattle.lalrpop_lr1_first.specs.FirstNumbers.{AreSymbolsBelow, name_count, rule_of, symbol_count, table_end, table_rules}
 use Rattle.lalrpop_lr1_first.specs.ItemTables.{IsItemTable, StartsItem}
 use Rattle.lalrpop_lr1_first.specs.NumberedGrammars.{HasItemAt, IsSeenIn, IsNumberTable, table_names, table_productions}
@@ -34,18 +33,9 @@ use Rattle.lalrpop_lr1_first.specs.declared.place.NumberedRule.{NumberedRule}
 use Rattle.lalrpop_lr1_first.specs.declared.place.Place.{Place}
 use Rattle.lalrpop_lr1_first.specs.declared.place.Place.TheVariants as places
 use Rattle.lalrpop_lr1_first.proofs.LayingLemmas.{drop_within, side_first}
-use Rattle.lalrpop_lr1_first.proofs.ListLemmas.{some_is}
+use Rattle.lalrpop_lr1_core.proofs.MemberLemmas.{some_is}
 use Rattle.lalrpop_lr1_first.proofs.NameLemmas.{name_antisymm}
-
-nothing_there : {X : Type 0} (xs : List X) (k : ℕ) → slice_get xs k ≡ None → length xs ≤ k
-nothing_there [] k e = omega arith
-nothing_there (x ∷ xs) zero e = let w : ⊥ = cc in absurd w
-nothing_there (x ∷ xs) (suc k) e = omega (arith, nothing_there xs k e)
-
-all_at : {X : Type 0} (P : X → Type 0) (xs : List X) (i : ℕ) (x : X) → AllByRecursion P xs → slice_get xs i ≡ Some x → P x
-all_at P [] i x h e = let w : ⊥ = cc in absurd w
-all_at P (y ∷ xs) zero x h e = subst P (some_is y x e) h.0
-all_at P (y ∷ xs) (suc i) x h e = all_at P xs i x h.1 e
+use Rattle.lalrpop_lr1_core.proofs.SortedLemmas.{all_at}
 
 -- what stands at two places of a list in order is one only where the places are one
 module _ {X : Type 0} (R : X → X → Ordering) (antisymm : (x y : X) → R x y ≡ ordering_reverse (R y x)) where
@@ -138,7 +128,7 @@ get_mapped f (y ∷ xs) zero x e = ap (λ o. option_map f o) e
 get_mapped f (y ∷ xs) (suc r) x e = get_mapped f xs r x e
 
 -- ---- places
-symbols_side : (xs : List ℕ) (r : ℕ) (more : List Place) → symbols_until (laid_side xs r ++ more) ≡ xs
+pub symbols_side : (xs : List ℕ) (r : ℕ) (more : List Place) → symbols_until (laid_side xs r ++ more) ≡ xs
 symbols_side [] r more = refl
 symbols_side (x ∷ xs) r more = ap (λ l. x ∷ l) (symbols_side xs r more)
 
@@ -152,13 +142,13 @@ drop_side zero xs r more h = refl
 drop_side (suc d) [] r more h = absurd (omega arith)
 drop_side (suc d) (x ∷ xs) r more h = drop_side d xs r more (omega arith)
 
-drop_both : {X : Type 0} (n d : ℕ) (xs : List X) → drop (n + d) xs ≡ drop d (drop n xs)
+pub drop_both : {X : Type 0} (n d : ℕ) (xs : List X) → drop (n + d) xs ≡ drop d (drop n xs)
 drop_both zero d xs = ap (λ k. drop k xs) (let e : zero + d ≡ d = omega arith in e)
 drop_both (suc n) zero [] = ap (λ k. drop k []) (let e : suc n + zero ≡ suc n = omega arith in e)
 drop_both (suc n) (suc d) [] = ap (λ k. drop k []) (let e : suc n + suc d ≡ suc (n + suc d) = omega arith in e)
 drop_both (suc n) d (x ∷ xs) = ap (λ k. drop k (x ∷ xs)) (let e : suc n + d ≡ suc (n + d) = omega arith in e) ∙ drop_both n d xs
 
-spells_long : (at : ℕ → Option theory.Symbol) (xs : List ℕ) (ys : List theory.Symbol) → SpellsSymbols at xs ys →
+pub spells_long : (at : ℕ → Option theory.Symbol) (xs : List ℕ) (ys : List theory.Symbol) → SpellsSymbols at xs ys →
     length xs ≡ length ys
 spells_long at [] [] sp = refl
 spells_long at [] (y ∷ ys) sp = absurd sp
@@ -187,7 +177,7 @@ until_next (places.Symbol x ∷ all) zero s more e = cc
 until_next (p ∷ all) (suc i) s more e =
     ap (λ k. symbols_until (drop k (p ∷ all))) (let z : suc i + 1 ≡ suc (i + 1) = omega arith in z) ∙ until_next all i s more e
 
-get_some : {X : Type 0} (xs : List X) (r : ℕ) → r < length xs → (x : X) × (slice_get xs r ≡ Some x)
+pub get_some : {X : Type 0} (xs : List X) (r : ℕ) → r < length xs → (x : X) × (slice_get xs r ≡ Some x)
 get_some [] r h = absurd (omega arith)
 get_some (x ∷ xs) zero h = (x, refl)
 get_some (x ∷ xs) (suc r) h = get_some xs r (omega arith)

@@ -4,17 +4,15 @@ use Rattle.std.proofs.Common.{refl, sym, ap}
 use Rattle.lalrpop_sets.specs.Bits.{has}
 use Rattle.lalrpop_lr1_first.specs.Numbers.{says_by}
 use Rattle.lalrpop_lr1_first.specs.FirstSteps.{IsGathered}
-use Rattle.lalrpop_lr1_first.proofs.ListLemmas.{eqb_self, eqb_true}
+use Rattle.lalrpop_lr1_first.proofs.ListLemmas.{eqb_true}
+use Rattle.lalrpop_sets.proofs.WordLemmas.{eqb_self}
+use Rattle.lalrpop_grammar_symbols.proofs.BoolLemmas.{or_false}
 
 one_step : (r s e x w : Bool) → (e ≡ true → r ≡ false) → (not e && (r || s)) || (w && x) ≡ r || ((not e && s) || (w && x))
 one_step true s true x w h = let z : true ≡ false = h refl in let y : ⊥ = cc in absurd y
 one_step true s false x w h = refl
 one_step false s true x w h = refl
 one_step false s false x w h = refl
-
-or_false : (b : Bool) → (b || false) ≡ b
-or_false true = refl
-or_false false = refl
 
 or_swap : (a b : Bool) → (a || b) ≡ (b || a)
 or_swap true true = refl

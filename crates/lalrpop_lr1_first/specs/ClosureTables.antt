@@ -29,8 +29,8 @@ abbrev pub name_behind : Numbered → ℕ → Option ℕ
 name_behind table place = name_first (name_count table) (rest_of table.places.items place)
 
 -- behind the dot of none of the items a nonterminal stands
-abbrev pub BringsNothing : {L : Type 0} → Numbered → List (ℕ × L) → Type 0
-BringsNothing table seed = All (λ item. name_behind table item.0 ≡ None) seed
+abbrev pub HasEmptyClosure : {L : Type 0} → Numbered → List (ℕ × L) → Type 0
+HasEmptyClosure table seed = All (λ item. name_behind table item.0 ≡ None) seed
 
 -- the edge of a rule, where its right side begins with a nonterminal
 abbrev pub rule_edge_to : NumberedRule → ℕ → Edge

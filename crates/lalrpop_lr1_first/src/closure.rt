@@ -5,7 +5,7 @@ ghost use Rattle.std.specs.Prelude.{Some, IfOk, IsTrue, OnOk, filter_map, length
 ghost use Rattle.lalrpop_sets.specs.Bits.{Ascends, has};
 ghost use Rattle.lalrpop_lr1_first.specs.ClosureTables.{
   AreItems,
-  BringsNothing,
+  HasEmptyClosure,
   ClosesSeed,
   HoldTokens,
   IsClosureTable,
@@ -89,7 +89,7 @@ impl<'g> Closures<'g> {
         ensures closes { IfOk result (λ brought. ClosesSeed L.marks L.firsts self.now.numbered seed.now brought.items) }
     {
         // most states of long chains of rules have nothing to bring, so they take no time by the number of names
-        if brings_nothing(&self.numbered, seed) {
+        if has_empty_closure(&self.numbered, seed) {
             return Ok(Vec::new(alloc));
         }
         let mut slots = empty_slots(alloc, self.numbered.names.len())?;
@@ -126,8 +126,8 @@ fn name_at(table: &Numbered<'_>, place: usize) -> Option<usize>
 }
 
 /// Whether no nonterminal stands behind the dot of any of the items.
-fn brings_nothing<L>(table: &Numbered<'_>, seed: &[(usize, L)]) -> bool
-    ensures { IsTrue result → BringsNothing table.now seed.now }
+fn has_empty_closure<L>(table: &Numbered<'_>, seed: &[(usize, L)]) -> bool
+    ensures { IsTrue result → HasEmptyClosure table.now seed.now }
 {
     for item in seed {
         if name_at(table, item.0).is_some() {

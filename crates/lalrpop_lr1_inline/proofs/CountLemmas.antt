@@ -19,7 +19,7 @@ use Rattle.lalrpop_lr1_inline.specs.InliningSteps.{productions_after, production
 use Rattle.lalrpop_lr1_inline.specs.InliningSteps.{records_after, records_in_place, records_of, side_of_record}
 use Rattle.lalrpop_lr1_inline.specs.NumberCounts.{InlinedCounts, becomes_many, choices_at, counts_of, handed_out, sum_of_entries}
 use Rattle.lalrpop_lr1_inline.specs.NumberCounts.{sum_of_sides}
-use Rattle.lalrpop_lr1_inline.proofs.AmongLemmas.{append-none}
+use Rattle.lalrpop_grammar_language.proofs.StepOnceLemmas.{append-none}
 use Rattle.lalrpop_lr1_inline.proofs.LimitLemmas.{choices_none}
 use Rattle.lalrpop_lr1_inline.proofs.MadeLemmas.{count_on}
 use Rattle.lalrpop_lr1_inline.proofs.PlaceLemmas.{places, record_places, records_many, same_any, same_choices}

@@ -24,9 +24,10 @@ use Rattle.lalrpop_lr1_inline.specs.InlinedGrammars.{IsInlinedGrammar}
 use Rattle.lalrpop_lr1_inline.specs.InlinedNames.{NonterminalEntries, name_of_text}
 use Rattle.lalrpop_lr1_inline.specs.InliningSteps.{productions_named}
 use Rattle.lalrpop_lr1_inline.specs.NamedProductions.{entry_by_labels, label_given, record_by_labels, side_by_names}
-use Rattle.lalrpop_lr1_inline.proofs.AmongLemmas.{among_right}
-use Rattle.lalrpop_lr1_inline.proofs.NamedLemmas.{same_name}
-use Rattle.lalrpop_lr1_inline.proofs.RecordLabelLemmas.{flat_map_among, map_among}
+use Rattle.lalrpop_grammar_language.proofs.StepLemmas.{among_right}
+use Rattle.lalrpop_grammar_symbols.proofs.NameLemmas.{same_name}
+use Rattle.lalrpop_grammar_language.proofs.AmongLemmas.{flat_map_among}
+use Rattle.lalrpop_grammar_language.proofs.AmongLemmas.{map_among}
 use Rattle.lalrpop_lr1_inline.proofs.StepsLemmas.{looked_by}
 use Rattle.lalrpop_lr1_inline.specs.InlinedLabels.{AreActionLabels, StandOnce, production_actions}
 use Rattle.lalrpop_lr1_inline.proofs.GivenLabelLemmas.{named_stands}

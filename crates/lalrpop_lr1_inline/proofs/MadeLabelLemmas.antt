@@ -22,7 +22,9 @@ use Rattle.lalrpop_lr1_inline.specs.InliningSteps.{production_of_record, product
 use Rattle.lalrpop_lr1_inline.specs.InliningSteps.{productions_of_records, records_after}
 use Rattle.lalrpop_lr1_inline.specs.InliningSteps.{records_in_place, records_of, side_of_record}
 use Rattle.lalrpop_lr1_inline.specs.NamedProductions.{record_by_labels}
-use Rattle.lalrpop_lr1_inline.proofs.AmongLemmas.{among_left, among_parts, among_right}
+use Rattle.lalrpop_grammar_language.proofs.StepLemmas.{among_right}
+use Rattle.lalrpop_grammar_language.proofs.StepLemmas.{among_left}
+use Rattle.lalrpop_grammar_language.proofs.OrderLemmas.{among_parts}
 use Rattle.lalrpop_lr1_inline.proofs.StepsLemmas.{looked_by}
 use Rattle.lalrpop_lr1_inline.proofs.KeptLemmas.{kept_record, label_kept, records_kept, side_kept}
 

@@ -9,7 +9,7 @@ use Rattle.lalrpop_lr1_inline.specs.InliningSteps.{AddsDefinitions, AreInlineDef
 use Rattle.lalrpop_lr1_inline.specs.InliningSteps.{productions_after, productions_in_place, productions_of_records, records_after}
 use Rattle.lalrpop_lr1_inline.specs.InliningSteps.{records_in_place}
 use Rattle.lalrpop_grammar_symbols.specs.Symbols.{Text}
-use Rattle.lalrpop_lr1_inline.proofs.AmongLemmas.{append-none}
+use Rattle.lalrpop_grammar_language.proofs.StepOnceLemmas.{append-none}
 
 abbrev Record : Type 0
 Record = List InlinedSymbol

@@ -1,7 +1,6 @@
 -- The inlined nonterminals in order of their names are just those that are inlined: for the tasks at the start.
 use Rattle.std.proofs.Common.{◌≡◌, [], ◌∷◌, refl, ap, sym, ◌∙◌, subst, inl, inr, true, false, cond}
 use Rattle.std.specs.Prelude.{Bool, Option, Some, None, map, filter}
-use Rattle.std.specs.Bool.{Decides}
 use Rattle.std.specs.List.{AllByRecursion}
 use Rattle.std.specs.List.Sorted.{IsStrictlySortedBy}
 use Rattle.std.specs.Map.{keys_of}
@@ -10,7 +9,6 @@ use Rattle.std.specs.declared.cmp.Ordering.TheVariants.{Less}
 use Rattle.lalrpop_grammar_symbols.specs.Symbols.{Text}
 use Rattle.lalrpop_grammar_symbols.specs.contracts.names.NonterminalStringOrd.TheImpl as names
 use Rattle.lalrpop_grammar_symbols.specs.declared.names.NonterminalString.{NonterminalString}
-use Rattle.lalrpop_grammar_symbols.proofs.ComparedLemmas.{same_text}
 use Rattle.lalrpop_grammar_language.specs.Among.{Among}
 use Rattle.lalrpop_grammar_language.proofs.PlaceLemmas.{among_filter, among_map}
 use Rattle.lalrpop_grammar_repr.specs.Maps.{at_name}
@@ -18,10 +16,7 @@ use Rattle.lalrpop_grammar_repr.specs.declared.production.NonterminalData.{Nonte
 use Rattle.lalrpop_lr1_inline.specs.InlinedNames.{NonterminalEntries, data_named, inlined_names, is_inlined_name, is_marked_data}
 use Rattle.lalrpop_lr1_inline.specs.InlinedNames.{is_marked_inline, name_of_text}
 use Rattle.lalrpop_lr1_inline.specs.InliningOrders.{HasAllInlined}
-
--- two names compare as equal just where they are the same
-pub same_name : (a b : NonterminalString) → Decides (is_eq ((names.ghosts).cmp a b)) (a ≡ b)
-same_name a b = (λ e. ap name_of_text ((same_text a.0 b.0).0 e), λ e. (same_text a.0 b.0).1 (ap (λ n. n.0) e))
+use Rattle.lalrpop_grammar_symbols.proofs.NameLemmas.{same_name}
 
 all_below : (k : NonterminalString) (g : NonterminalEntries) (e : NonterminalString × NonterminalData) →
     AllByRecursion (λ y. (names.ghosts).cmp k y ≡ Less) (keys_of g) → Among g e → (names.ghosts).cmp k e.0 ≡ Less

@@ -29,10 +29,13 @@ use Rattle.lalrpop_lr1_inline.specs.InliningOrders.{HasAllInlined, HasNamedFirst
 use Rattle.lalrpop_lr1_inline.specs.InliningSteps.{AreInlineSteps, all_records_after, productions_named}
 use Rattle.lalrpop_lr1_inline.specs.NamedProductions.{IsInlinedByName, ProducesByAction}
 use Rattle.lalrpop_lr1_inline.specs.NamedProductions.{record_by_labels, side_by_names, symbol_by_name}
-use Rattle.lalrpop_lr1_inline.proofs.AmongLemmas.{among_left, among_parts, among_right, append-none}
+use Rattle.lalrpop_grammar_language.proofs.StepOnceLemmas.{append-none}
+use Rattle.lalrpop_grammar_language.proofs.StepLemmas.{among_right}
+use Rattle.lalrpop_grammar_language.proofs.StepLemmas.{among_left}
+use Rattle.lalrpop_grammar_language.proofs.OrderLemmas.{among_parts}
 use Rattle.lalrpop_lr1_inline.proofs.NamedLemmas.{all_listed}
 use Rattle.lalrpop_lr1_inline.proofs.OrderLemmas.{order_all, order_named_first, order_once}
-use Rattle.lalrpop_lr1_inline.proofs.RecordLabelLemmas.{flat_map_among}
+use Rattle.lalrpop_grammar_language.proofs.AmongLemmas.{flat_map_among}
 use Rattle.lalrpop_lr1_inline.proofs.SourceLemmas.{around, filter_among}
 use Rattle.lalrpop_lr1_inline.specs.InlinedLabels.{AreActionLabels, AreInlinedProductions, StandOnce, production_actions}
 use Rattle.lalrpop_lr1_inline.proofs.GivenLabelLemmas.{given_labels}

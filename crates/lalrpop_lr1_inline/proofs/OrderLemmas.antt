@@ -8,7 +8,11 @@ use Rattle.lalrpop_lr1_inline.specs.InlinedNames.{NonterminalEntries, inlined_na
 use Rattle.lalrpop_lr1_inline.specs.InliningOrders.{HasAllInlined, HasNameOnce, HasNamedFirst, IsInliningOrder, IsOrderWalk, OrderWalk}
 use Rattle.lalrpop_lr1_inline.specs.InliningOrders.{order_of_walk}
 use Rattle.lalrpop_lr1_inline.specs.InlineFaults.{IsInlineChain, IsInlinedIntoItself}
-use Rattle.lalrpop_lr1_inline.proofs.AmongLemmas.{among_left, among_parts, among_reverse, among_right, append-none, reverse_among}
+use Rattle.lalrpop_lr1_inline.proofs.AmongLemmas.{among_reverse, reverse_among}
+use Rattle.lalrpop_grammar_language.proofs.StepOnceLemmas.{append-none}
+use Rattle.lalrpop_grammar_language.proofs.StepLemmas.{among_right}
+use Rattle.lalrpop_grammar_language.proofs.StepLemmas.{among_left}
+use Rattle.lalrpop_grammar_language.proofs.OrderLemmas.{among_parts}
 use Rattle.lalrpop_lr1_inline.proofs.SearchLemmas.{named_inlined}
 
 -- each name is new, and what it names stands before it

@@ -18,7 +18,7 @@ use Rattle.lalrpop_grammar_repr.specs.declared.production.Symbol.{Symbol}
 use Rattle.lalrpop_grammar_repr.specs.declared.production.Symbol.TheVariants as symbols
 use Rattle.lalrpop_lr1_inline.specs.InliningSteps.{is_place, record_entries, records_of, side_of_entry, side_of_record}
 use Rattle.lalrpop_lr1_inline.specs.NumberCounts.{choices_at}
-use Rattle.lalrpop_lr1_inline.proofs.AmongLemmas.{among_flat_map}
+use Rattle.lalrpop_grammar_language.proofs.AmongLemmas.{among_flat_map}
 
 -- how many places of the nonterminal there are
 abbrev pub places : Text → List Symbol → ℕ

@@ -1,7 +1,7 @@
 -- The records of a right side are just those of a step of inlining, by the labels of the actions: for the law on inlined grammars.
 use Rattle.std.proofs.Common.{◌≡◌, ◌≢◌, ℕ, List, [], ◌∷◌, ◌++◌, ◌∙◌, refl, ap, sym, subst, inl, inr}
 use Rattle.std.proofs.Common.{true, false, map}
-use Rattle.std.specs.Prelude.{Bool, flat_map, if◌then◌else◌}
+use Rattle.std.specs.Prelude.{Bool, if◌then◌else◌}
 use Rattle.std.specs.Str.{bytes_eq}
 use Rattle.std.proofs.lemmas.List.{map-append}
 use Rattle.std.proofs.lemmas.Slice.Eq.{bytes_eq-Decides}
@@ -20,20 +20,7 @@ use Rattle.lalrpop_grammar_language.specs.Inlining.{Inlines}
 use Rattle.lalrpop_grammar_language.specs.Steps.{IsRecord, RecordedSymbol, symbols_after, symbols_before}
 use Rattle.lalrpop_lr1_inline.specs.InliningSteps.{record_entries, records_of, side_of_entry, side_of_record}
 use Rattle.lalrpop_lr1_inline.specs.NamedProductions.{entry_by_labels, record_by_labels, side_by_names, symbol_by_name}
-use Rattle.lalrpop_lr1_inline.proofs.AmongLemmas.{among_flat_map, among_left, among_right}
-
--- what a function makes of something in a list stands in the mapped list
-pub map_among : {A B : Type 0} (f : A → B) (xs : List A) (x : A) → Among xs x → Among (map f xs) (f x)
-map_among f [] x h = absurd h
-map_among f (y ∷ xs) x (inl e) = inl (ap f e)
-map_among f (y ∷ xs) x (inr h) = inr (map_among f xs x h)
-
--- what stands in the list that one of some is mapped to stands in the lists of all, joined
-pub flat_map_among : {A B : Type 0} (f : A → List B) (xs : List A) (a : A) (b : B) → Among xs a → Among (f a) b →
-    Among (flat_map f xs) b
-flat_map_among f [] a b i j = absurd i
-flat_map_among f (x ∷ xs) a b (inl e) j = among_left (f x) (flat_map f xs) b (subst (λ y. Among (f y) b) (sym e) j)
-flat_map_among f (x ∷ xs) a b (inr i) j = among_right (f x) (flat_map f xs) b (flat_map_among f xs a b i j)
+use Rattle.lalrpop_grammar_language.proofs.AmongLemmas.{among_flat_map, map_among, flat_map_among}
 
 module _ (M : BaseProductions Text ℕ) (In : Text → Type 0) (n : Text) (ps : List Production) (lab : ℕ → Label Text ℕ) where
   -- an entry that a record may have for the symbol, whatever follows

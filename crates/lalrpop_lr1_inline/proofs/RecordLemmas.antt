@@ -8,7 +8,7 @@ use Rattle.lalrpop_grammar_repr.specs.declared.production.Production.{Production
 use Rattle.lalrpop_grammar_repr.specs.declared.production.Symbol.{Symbol}
 use Rattle.lalrpop_grammar_symbols.specs.Symbols.{Text}
 use Rattle.lalrpop_lr1_inline.specs.InliningSteps.{record_entries, longer_records, records_of}
-use Rattle.lalrpop_lr1_inline.proofs.AmongLemmas.{append-none}
+use Rattle.lalrpop_grammar_language.proofs.StepOnceLemmas.{append-none}
 
 abbrev Record : Type 0
 Record = List InlinedSymbol

@@ -24,7 +24,10 @@ use Rattle.lalrpop_lr1_inline.specs.InliningOrders.{IsInliningOrder}
 use Rattle.lalrpop_lr1_inline.specs.InlineFaults.{IsInlineChain, IsInlinedIntoItself}
 use Rattle.lalrpop_lr1_inline.specs.OrderSearches.{AreLinked, IsNamedByFirst, IsOrderSearch, LeadOn, OrderTask, names_open, tasks_at}
 use Rattle.lalrpop_lr1_inline.specs.OrderSearches.{task_view, tasks_to_come, tasks_to_enter, tasks_view}
-use Rattle.lalrpop_lr1_inline.proofs.AmongLemmas.{among_flat_map, among_reverse, append-none, found_text, has_text-append, not_found}
+use Rattle.lalrpop_lr1_inline.proofs.AmongLemmas.{among_reverse, has_text-append, not_found}
+use Rattle.lalrpop_grammar_language.proofs.AmongLemmas.{among_flat_map}
+use Rattle.lalrpop_grammar_language.proofs.AmongLemmas.{found_text}
+use Rattle.lalrpop_grammar_language.proofs.StepOnceLemmas.{append-none}
 use Rattle.lalrpop_lr1_inline.proofs.WalkLemmas.{lead_enter, lead_past, lead_walk}
 
 -- what a production names and is inlined is inlined

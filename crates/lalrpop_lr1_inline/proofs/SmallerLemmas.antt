@@ -22,7 +22,7 @@ use Rattle.lalrpop_lr1_inline.specs.InlinedNames.{NonterminalEntries}
 use Rattle.lalrpop_lr1_inline.specs.InliningSteps.{AreInlineDefinitions, AreInlineSteps, all_records_after, is_place, productions_named}
 use Rattle.lalrpop_lr1_inline.specs.InliningSteps.{record_entries, records_after, records_in_place, records_of}
 use Rattle.lalrpop_lr1_inline.proofs.AfterStepLemmas.{AreBelow}
-use Rattle.lalrpop_lr1_inline.proofs.AmongLemmas.{among_flat_map}
+use Rattle.lalrpop_grammar_language.proofs.AmongLemmas.{among_flat_map}
 use Rattle.lalrpop_lr1_inline.proofs.StepsLemmas.{known_on}
 use Rattle.lalrpop_lr1_inline.proofs.GivenLabelLemmas.{named_stands}
 use Rattle.lalrpop_lr1_inline.proofs.MadeLabelLemmas.{got_at}
@@ -113,10 +113,10 @@ MadeBelow k i = (i.action.0 < k) × RecordBelow k i.symbols
 further : (k j : ℕ) → k ≤ j → (i : InlineActionFnDefn) → MadeBelow k i → MadeBelow j i
 further k j l i h = (omega (arith, l, h.0), record_further k j l i.symbols h.1)
 
-inline_told : (a b : InlineActionFnDefn) → kinds.Inline a ≡ kinds.Inline b → a ≡ b
+pub inline_told : (a b : InlineActionFnDefn) → kinds.Inline a ≡ kinds.Inline b → a ≡ b
 inline_told a b e = cc
 
-some_told : (a b : ActionFnDefn) → Some a ≡ Some b → a ≡ b
+pub some_told : (a b : ActionFnDefn) → Some a ≡ Some b → a ≡ b
 some_told a b e = cc
 
 first_or_later : (a b : ℕ) → a ≤ b → (b ≡ a) ⊎ (a + 1 ≤ b)

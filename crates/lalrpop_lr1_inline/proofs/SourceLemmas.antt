@@ -14,10 +14,11 @@ use Rattle.lalrpop_lr1_inline.specs.InlinedNames.{inlined_named_by, is_inlined_n
 use Rattle.lalrpop_lr1_inline.specs.InliningOrders.{HasAllInlined, HasNamedFirst, HasNameOnce}
 use Rattle.lalrpop_lr1_inline.specs.InliningSteps.{numbers_after, productions_named}
 use Rattle.lalrpop_lr1_inline.specs.NumberCounts.{counts_of, handed_out, sum_of_entries, up_to_limit}
-use Rattle.lalrpop_lr1_inline.proofs.AmongLemmas.{among_left, among_right}
+use Rattle.lalrpop_grammar_language.proofs.StepLemmas.{among_right}
+use Rattle.lalrpop_grammar_language.proofs.StepLemmas.{among_left}
 use Rattle.lalrpop_lr1_inline.proofs.CountLemmas.{AreSources, numbers_are}
 use Rattle.lalrpop_lr1_inline.proofs.PlaceLemmas.{places}
-use Rattle.lalrpop_lr1_inline.proofs.RecordLabelLemmas.{flat_map_among}
+use Rattle.lalrpop_grammar_language.proofs.AmongLemmas.{flat_map_among}
 
 -- a list around one that is among it
 pub record IsAround (A : Type 0) (xs : List A) (x : A) : Type 0 where

@@ -23,8 +23,9 @@ use Rattle.lalrpop_lr1_inline.specs.InliningSteps.{production_of_record, product
 use Rattle.lalrpop_lr1_inline.specs.InliningSteps.{productions_of_records, record_entries, records_after}
 use Rattle.lalrpop_lr1_inline.specs.InliningSteps.{records_in_place, records_of, side_of_record}
 use Rattle.lalrpop_lr1_inline.specs.NamedProductions.{record_by_labels, side_by_names}
-use Rattle.lalrpop_lr1_inline.proofs.AmongLemmas.{among_flat_map}
-use Rattle.lalrpop_lr1_inline.proofs.RecordLabelLemmas.{IsLabelled, map_among, record_is, record_listed}
+use Rattle.lalrpop_grammar_language.proofs.AmongLemmas.{among_flat_map}
+use Rattle.lalrpop_lr1_inline.proofs.RecordLabelLemmas.{IsLabelled, record_is, record_listed}
+use Rattle.lalrpop_grammar_language.proofs.AmongLemmas.{map_among}
 use Rattle.lalrpop_lr1_inline.specs.InlinedLabels.{HasLabelled, StandOnce}
 use Rattle.lalrpop_lr1_inline.proofs.MadeLabelLemmas.{LabelsFrom, after_from, after_makes, labels_front, named_after, place_made}
 use Rattle.lalrpop_lr1_inline.proofs.MadeLabelLemmas.{IsMadeOf, rest_labels}

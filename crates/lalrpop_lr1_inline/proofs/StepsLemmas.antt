@@ -20,7 +20,7 @@ use Rattle.lalrpop_lr1_inline.specs.InliningSteps.{AreInlineDefinitions, AreInli
 use Rattle.lalrpop_lr1_inline.specs.InliningSteps.{IsInlineStep, all_records_after, entries_after}
 use Rattle.lalrpop_lr1_inline.specs.InliningSteps.{numbers_after, productions_named}
 use Rattle.lalrpop_lr1_inline.proofs.AfterStepLemmas.{AreBelow, entries_below, keys_after}
-use Rattle.lalrpop_lr1_inline.proofs.NamedLemmas.{same_name}
+use Rattle.lalrpop_grammar_symbols.proofs.NameLemmas.{same_name}
 
 abbrev Entry : Type 0
 Entry = NonterminalString × NonterminalData

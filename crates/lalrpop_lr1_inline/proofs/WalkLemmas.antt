@@ -6,7 +6,7 @@ use Rattle.lalrpop_grammar_language.specs.Among.{Among}
 use Rattle.lalrpop_lr1_inline.specs.InlinedNames.{NonterminalEntries, inlined_named_by}
 use Rattle.lalrpop_lr1_inline.specs.InliningOrders.{IsOrderWalk, OrderWalk, order_of_walk}
 use Rattle.lalrpop_lr1_inline.specs.OrderSearches.{LeadOn, OrderTask, tasks_to_enter}
-use Rattle.lalrpop_lr1_inline.proofs.AmongLemmas.{append-none}
+use Rattle.lalrpop_grammar_language.proofs.StepOnceLemmas.{append-none}
 
 -- a walk over the first name, and one over the others behind it
 pub record IsJoinedWalk (g : NonterminalEntries) (before : List Text) (ns : List Text) (order : List Text) : Type 0 where

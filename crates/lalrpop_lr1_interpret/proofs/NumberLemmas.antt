@@ -14,20 +14,12 @@ use Rattle.lalrpop_grammar_symbols.specs.contracts.names.NonterminalStringPartia
 use Rattle.lalrpop_grammar_symbols.specs.contracts.terminal.TerminalLiteralPartialEq.TheImpl as literals
 use Rattle.lalrpop_grammar_symbols.specs.contracts.terminal.TerminalStringPartialEq.TheImpl as terminals
 use Rattle.lalrpop_grammar_symbols.specs.declared.names.NonterminalString.{NonterminalString}
-use Rattle.lalrpop_grammar_symbols.specs.declared.terminal.TerminalLiteral.{TerminalLiteral}
 use Rattle.lalrpop_grammar_symbols.specs.declared.terminal.TerminalLiteral.TheVariants as literal
 use Rattle.lalrpop_grammar_symbols.specs.declared.terminal.TerminalString.{TerminalString}
 use Rattle.lalrpop_grammar_symbols.specs.declared.terminal.TerminalString.TheVariants as terminal
 use Rattle.lalrpop_lr1_theory.specs.Productions.{first}
 use Rattle.lalrpop_lr1_interpret.specs.Ends.{terminals_of}
-
-same_literal : (a b : TerminalLiteral) → Decides ((literals.ghosts).eq a b) (a ≡ b)
-same_literal (literal.Quoted s) (literal.Quoted t) =
-    (λ e. ap literal.Quoted ((bytes_eq-Decides s t).0 e), λ e. (bytes_eq-Decides s t).1 (let same : s ≡ t = cc in same))
-same_literal (literal.Quoted s) (literal.Regex t) = (λ e. cc, λ e. cc)
-same_literal (literal.Regex s) (literal.Quoted t) = (λ e. cc, λ e. cc)
-same_literal (literal.Regex s) (literal.Regex t) =
-    (λ e. ap literal.Regex ((bytes_eq-Decides s t).0 e), λ e. (bytes_eq-Decides s t).1 (let same : s ≡ t = cc in same))
+use Rattle.lalrpop_grammar_repr.proofs.EqualLemmas.{same_literal}
 
 -- terminals that compare as equal are one
 pub equal_terminals : (a b : TerminalString) → Decides ((terminals.ghosts).eq a b) (a ≡ b)

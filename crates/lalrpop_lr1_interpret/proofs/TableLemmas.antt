@@ -1,5 +1,5 @@
 -- A table that is made of the entries of states is one of these states: for the table of actions.
-use Rattle.std.proofs.Common.{◌≡◌, ◌∙◌, ℕ, zero, suc, ◌+◌, ◌-◌, ◌<◌, ◌≤◌, ◌⊎◌, inl, inr}
+use Rattle.std.proofs.Common.{◌≡◌, ◌∙◌, ℕ, zero, suc, ◌+◌, ◌-◌, ◌<◌, ◌≤◌, ◌⊎◌}
 use Rattle.std.proofs.Common.{⊎_elim, Bool, true, false, List, []}
 use Rattle.std.proofs.Common.{◌∷◌, ◌++◌, length, map, filter, take, drop, get_or, Option, Some, None, Contains, ap, sym}
 use Rattle.std.proofs.Common.{refl, subst}
@@ -18,7 +18,7 @@ use Rattle.lalrpop_grammar_symbols.specs.declared.terminal.TerminalString.{Termi
 use Rattle.lalrpop_grammar_repr.specs.declared.production.Production.{Production}
 use Rattle.lalrpop_grammar_repr.specs.declared.terminal_set.TerminalSet.{TerminalSet}
 use Rattle.lalrpop_lr1_theory.specs.Productions.{Next}
-use Rattle.lalrpop_lr1_theory.proofs.ListLemmas.{contains_get, contains_here, contains_later, contains_split, get_contains, get_front}
+use Rattle.lalrpop_lr1_theory.proofs.ListLemmas.{contains_get, contains_here, contains_split, get_contains, get_front}
 use Rattle.lalrpop_lr1_theory.proofs.ListLemmas.{get_split}
 use Rattle.lalrpop_lr1_theory.proofs.PlaceLemmas.{slice_get-append}
 use Rattle.lalrpop_lr1_theory.proofs.StepLemmas.{some_same}
@@ -40,6 +40,7 @@ use Rattle.lalrpop_lr1_interpret.specs.declared.parse.entries.Act.{Act}
 use Rattle.lalrpop_lr1_interpret.specs.declared.parse.entries.Act.TheVariants as acts
 use Rattle.lalrpop_lr1_interpret.specs.declared.parse.table_row.NumberedProduction.{NumberedProduction}
 use Rattle.lalrpop_lr1_interpret.specs.declared.parse.table_row.TableAction.{TableAction}
+use Rattle.lalrpop_lr1_core.proofs.GraphLemmas.{in_flat, flat_has}
 
 -- a list has something at each place before its length
 pub get_there : {X : Type 0} (xs : List X) (n : ℕ) → n < length xs → (x : X) × (slice_get xs n ≡ Some x)
@@ -205,25 +206,6 @@ productions_long names [] [] h = refl
 productions_long names [] (s ∷ rs) h = absurd h
 productions_long names (q ∷ ps) [] h = absurd h
 productions_long names (q ∷ ps) (s ∷ rs) h = ap suc (productions_long names ps rs h.2)
-
--- what comes of the elements of a list
-pub in_flat : {X Y : Type 0} (f : X → List Y) (xs : List X) (y : Y) → Contains (flat_map f xs) y →
-    (x : X) × Contains xs x × Contains (f x) y
-in_flat f [] y c = absurd (omega (arith, c.1))
-in_flat {X} f (z ∷ zs) y c = go (in_flat f zs y) (Contains-append_cases (f z) (flat_map f zs) y c)
-  where
-    go : (Contains (flat_map f zs) y → (x : X) × Contains zs x × Contains (f x) y) →
-        Contains (f z) y ⊎ Contains (flat_map f zs) y →
-        (x : X) × Contains (z ∷ zs) x × Contains (f x) y
-    go deeper (inl d) = (z, contains_here z zs, d)
-    go deeper (inr d) = let r = deeper d in (r.0, contains_later z r.0 zs r.1, r.2)
-
-pub flat_has : {X Y : Type 0} (f : X → List Y) (xs : List X) (x : X) (y : Y) → Contains xs x → Contains (f x) y →
-    Contains (flat_map f xs) y
-flat_has f [] x y c d = absurd (omega (arith, c.1))
-flat_has f (z ∷ zs) x y c d =
-    ⊎_elim (λ e. Contains-append_left (f z) (flat_map f zs) y (subst (λ w. Contains (f w) y) (sym e) d))
-    (λ r. Contains-append_right (f z) (flat_map f zs) y (flat_has f zs x y r d)) (contains_split z x zs c)
 
 nothing_past : {X : Type 0} (xs : List X) (k : ℕ) → slice_get xs k ≡ None → length xs ≤ k
 nothing_past [] k e = omega arith

@@ -1,6 +1,6 @@
 //! Interpreting states: the tree of terminals without productions, or the state in which they go wrong.
 //!
-//! The machine of the crate below runs the table of the states; its stack holds parse trees, or nothing. `Interpretations` in `specs/`
+//! The machine of `parse` runs the table of the states; its stack holds parse trees, or nothing. `Interpretations` in `specs/`
 //! says which answers are right.
 #![tactic(auto)]
 

@@ -1,5 +1,5 @@
 -- Trees over the productions have moves by derived rules: all of them, those without leaves, and those that begin with the terminal.
-use Rattle.std.proofs.Common.{◌≡◌, ◌∙◌, ℕ, zero, suc, ◌<◌, true, List, [], ◌∷◌, ◌++◌, length, map, take}
+use Rattle.std.proofs.Common.{◌≡◌, ◌∙◌, ℕ, suc, ◌<◌, true, List, [], ◌∷◌, ◌++◌, length, map, take}
 use Rattle.std.proofs.Common.{refl, sym, ap, subst, inl, inr, ⊎_elim, arith, Contains, Option, Some, slice_get}
 use Rattle.std.proofs.lemmas.Option.{slice_get_within}
 use Rattle.lalrpop_grammar_symbols.specs.Symbols.{Terminal}
@@ -17,11 +17,7 @@ use Rattle.lalrpop_lr1_least_trees.specs.BeginForests.{IsWanted}
 use Rattle.lalrpop_lr1_least_trees.specs.DerivedRules.{AreDerived, AreNames, HasDerived, MayBegin, begin_side, begin_symbol, empty_symbol}
 use Rattle.lalrpop_lr1_least_trees.specs.DerivedRules.{all_names, whole_symbol}
 use Rattle.lalrpop_lr1_least_trees.proofs.KindLemmas.{whole_name, whole_past}
-
-get_some : {X : Type 0} (xs : List X) (r : ℕ) → r < length xs → (x : X) × (slice_get xs r ≡ Some x)
-get_some [] r h = absurd (omega (arith, h))
-get_some (x ∷ xs) zero h = (x, refl)
-get_some (x ∷ xs) (suc r) h = get_some xs r (omega arith)
+use Rattle.lalrpop_lr1_first.proofs.TableLemmas.{get_some}
 
 empty_parts : {X : Type 0} (xs ys : List X) → xs ++ ys ≡ [] → (xs ≡ []) × (ys ≡ [])
 empty_parts [] ys e = (refl, e)

@@ -5,15 +5,12 @@ use Rattle.std.proofs.Common.{refl, sym, ap, arith, Option, Some, None, Contains
 use Rattle.std.specs.Prelude.{if◌then◌else◌, slice_index_or}
 use Rattle.std.specs.Option.{option_map}
 use Rattle.std.proofs.lemmas.Bool.{cases_lt, lt-ltb, ltb-true}
-use Rattle.lalrpop_lr1_theory.proofs.ListLemmas.{contains_here, contains_later, contains_split}
+use Rattle.lalrpop_lr1_theory.proofs.ListLemmas.{contains_here, contains_later, contains_split, none_some}
 use Rattle.lalrpop_lr1_theory.proofs.StepLemmas.{some_same}
 use Rattle.lalrpop_lr1_least_trees.specs.declared.least_counts.counts.LeastTree.{LeastTree}
 use Rattle.lalrpop_lr1_least_trees.specs.LeastTrees.{capped_count}
 use Rattle.lalrpop_lr1_least_trees.specs.Searches.{IsMore, add_counts, count_of, entry_count, node_count, sum_of, weight}
 use Rattle.lalrpop_lr1_least_trees.proofs.BuildLemmas.{IsSumOf, sum_parts}
-
-none_some : {X : Type 0} (x : X) → None ≡ Some x → ⊥
-none_some x e = cc
 
 -- a node's count has the sum of its children
 pub record IsNodeOf (f : ℕ → Option ℕ) (ss : List ℕ) (c : ℕ) : Type 0 where

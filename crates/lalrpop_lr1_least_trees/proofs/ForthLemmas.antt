@@ -1,5 +1,5 @@
 -- Moves by derived rules are those of trees over the productions: without leaves, or beginning with the terminal, as their symbols say.
-use Rattle.std.proofs.Common.{◌≡◌, ◌∙◌, ℕ, zero, suc, ◌+◌, ◌-◌, ◌<◌, ◌≤◌, true, List, []}
+use Rattle.std.proofs.Common.{◌≡◌, ◌∙◌, ℕ, ◌+◌, ◌-◌, ◌<◌, ◌≤◌, true, List, []}
 use Rattle.std.proofs.Common.{◌∷◌, ◌++◌, length, map}
 use Rattle.std.proofs.Common.{refl, sym, ap, subst, inl, inr, ⊎_elim, arith, Contains, Option, Some, slice_get}
 use Rattle.std.specs.Option.{option_and_then}
@@ -24,11 +24,7 @@ use Rattle.lalrpop_lr1_least_trees.specs.DerivedRules.{all_names, down, empty_sy
 use Rattle.lalrpop_lr1_least_trees.proofs.KindLemmas.{AllEmpty, Begins, all_empty, at_down, down_begin}
 use Rattle.lalrpop_lr1_least_trees.proofs.KindLemmas.{down_empty, down_name, down_past, side_begins, spells_begin, spells_empty}
 use Rattle.lalrpop_lr1_least_trees.proofs.KindLemmas.{spells_whole}
-
-get_some : {X : Type 0} (xs : List X) (r : ℕ) → r < length xs → (x : X) × (slice_get xs r ≡ Some x)
-get_some [] r h = absurd (omega (arith, h))
-get_some (x ∷ xs) zero h = (x, refl)
-get_some (x ∷ xs) (suc r) h = get_some xs r (omega arith)
+use Rattle.lalrpop_lr1_first.proofs.TableLemmas.{get_some}
 
 -- what comes first stays first before others
 pub first_front : (xs ys : List Terminal) (t : Terminal) → first xs ≡ Some t → first (xs ++ ys) ≡ Some t

@@ -1,6 +1,6 @@
 -- A grammar's table as rules that stand for productions, and what its least trees are: for the calls on them.
-use Rattle.std.proofs.Common.{◌≡◌, ◌∙◌, ℕ, List, [], ◌∷◌, ◌++◌, drop}
-use Rattle.std.proofs.Common.{refl, sym, ap, subst, arith, Option, Some}
+use Rattle.std.proofs.Common.{◌≡◌, ◌∙◌, ℕ, [], ◌∷◌, ◌++◌, drop}
+use Rattle.std.proofs.Common.{sym, ap, subst, arith, Option, Some}
 use Rattle.lalrpop_lr1_theory.specs.Productions as theory
 use Rattle.lalrpop_lr1_theory.proofs.StepLemmas.{some_same}
 use Rattle.lalrpop_lr1_core.specs.Views.{production_view}
@@ -8,18 +8,13 @@ use Rattle.lalrpop_lr1_core.proofs.NoConflictLemmas.{at_mapped}
 use Rattle.lalrpop_lr1_first.specs.FirstNumbers.{name_count}
 use Rattle.lalrpop_lr1_first.specs.NumberedGrammars.{IsNumberTable, table_productions}
 use Rattle.lalrpop_lr1_first.specs.Numbers.{SpellsSymbols}
-use Rattle.lalrpop_lr1_first.specs.Tables.{laid_side, symbols_until}
+use Rattle.lalrpop_lr1_first.specs.Tables.{symbols_until}
 use Rattle.lalrpop_lr1_first.specs.declared.numbered.Numbered.{Numbered}
 use Rattle.lalrpop_lr1_first.specs.declared.place.NumberedRule.{NumberedRule}
-use Rattle.lalrpop_lr1_first.specs.declared.place.Place.{Place}
-use Rattle.lalrpop_lr1_first.proofs.TableLemmas.{left_below, long_map, table_numbering}
+use Rattle.lalrpop_lr1_first.proofs.TableLemmas.{left_below, long_map, table_numbering, symbols_side}
 use Rattle.lalrpop_lr1_least_trees.specs.NumberedTrees.{NamesAreBelow, NumberRule}
 use Rattle.lalrpop_lr1_least_trees.specs.GrammarTrees.{number_rule, number_rules, productions_by, symbols_by}
 use Rattle.lalrpop_lr1_least_trees.proofs.SpellLemmas.{StandFor}
-
-symbols_side : (xs : List ℕ) (r : ℕ) (more : List Place) → symbols_until (laid_side xs r ++ more) ≡ xs
-symbols_side [] r more = refl
-symbols_side (x ∷ xs) r more = ap (λ l. x ∷ l) (symbols_side xs r more)
 
 module _ (table : Numbered) (is : IsNumberTable table) where
   abbrev at : ℕ → Option theory.Symbol

@@ -1,5 +1,5 @@
 -- What a table's entries say of trees over the grammar's productions: for the calls on least trees.
-use Rattle.std.proofs.Common.{◌≡◌, ◌∙◌, ◌⊎◌, ℕ, zero, suc, ◌-◌, ◌<◌, Bool, true, false, List, []}
+use Rattle.std.proofs.Common.{◌≡◌, ◌∙◌, ◌⊎◌, ℕ, ◌-◌, ◌<◌, Bool, true, false, List, []}
 use Rattle.std.proofs.Common.{◌∷◌, ◌++◌, length}
 use Rattle.std.proofs.Common.{refl, sym, ap, subst, inl, inr, arith, length-append, Contains, Option, Some, None, slice_get}
 use Rattle.std.specs.Prelude.{option_map}
@@ -22,7 +22,7 @@ use Rattle.lalrpop_lr1_first.specs.Tables.{pairs_from, symbol_or}
 use Rattle.lalrpop_lr1_first.specs.declared.numbered.Numbered.{Numbered}
 use Rattle.lalrpop_lr1_first.proofs.NameLemmas.{pairs_sound, pairs_total}
 use Rattle.lalrpop_lr1_first.proofs.TableFirstLemmas.{seen_same}
-use Rattle.lalrpop_lr1_first.proofs.TableLemmas.{name_at}
+use Rattle.lalrpop_lr1_first.proofs.TableLemmas.{name_at, get_some}
 use Rattle.lalrpop_lr1_least_trees.specs.LeastTrees.{BuildLeast, IsLeast, IsLeastTree}
 use Rattle.lalrpop_lr1_least_trees.specs.NumberedTrees.{Builds, nothing, reduces}
 use Rattle.lalrpop_lr1_least_trees.specs.declared.least_counts.counts.LeastTree.{LeastTree}
@@ -34,11 +34,6 @@ use Rattle.lalrpop_lr1_least_trees.specs.LeastForests.{IsTreeOfKind}
 use Rattle.lalrpop_lr1_least_trees.specs.MoveViews.{SpellsMoves}
 use Rattle.lalrpop_lr1_least_trees.proofs.GrammarLemmas.{stand_for}
 use Rattle.lalrpop_lr1_least_trees.proofs.SpellLemmas.{StandFor, built_long, builds_trees, spells_once, trees_built}
-
-get_some : {X : Type 0} (xs : List X) (r : ℕ) → r < length xs → (x : X) × (slice_get xs r ≡ Some x)
-get_some [] r h = absurd (omega (arith, h))
-get_some (x ∷ xs) zero h = (x, refl)
-get_some (x ∷ xs) (suc r) h = get_some xs r (omega arith)
 
 -- a tree with leaves or without
 module _ (G : theory.Production → Type 0) (A : Text) where

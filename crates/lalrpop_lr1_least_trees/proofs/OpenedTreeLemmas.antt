@@ -18,9 +18,7 @@ use Rattle.lalrpop_lr1_least_trees.specs.Searches.{add_counts, count_of, entry_c
 use Rattle.lalrpop_lr1_least_trees.proofs.BuildLemmas.{AreHad, IsSumOf, builds-append, builds-split, had_sum, sum_parts}
 use Rattle.lalrpop_lr1_least_trees.proofs.CountLemmas.{leaf_count, name_count, node_from}
 use Rattle.lalrpop_lr1_least_trees.proofs.SearchLemmas.{had}
-
-none_some : {X : Type 0} (x : X) → None ≡ Some x → ⊥
-none_some x e = cc
+use Rattle.lalrpop_lr1_theory.proofs.ListLemmas.{none_some}
 
 -- where nothing was popped, nothing is left
 pub none_case : (o : Option ℕ) (P : Type 0) (Q : ℕ → Type 0) → MatchOption o P Q → ((x : ℕ) → o ≡ Some x → ⊥) → P

@@ -8,7 +8,7 @@ use Rattle.std.proofs.lemmas.List.Elements.{Contains-append_cases}
 use Rattle.std.proofs.Common.{refl, sym, ap, subst, inl, inr, ⊎_elim, arith, length-append, Some, slice_get}
 use Rattle.std.proofs.lemmas.Bool.{cases_lt}
 use Rattle.std.proofs.lemmas.Option.{slice_get_within}
-use Rattle.lalrpop_lr1_theory.proofs.ListLemmas.{contains_here, contains_later, contains_split, get_front, get_split}
+use Rattle.lalrpop_lr1_theory.proofs.ListLemmas.{contains_here, contains_later, contains_split, get_front, get_split, get_last}
 use Rattle.lalrpop_lr1_theory.proofs.StepLemmas.{some_same}
 use Rattle.lalrpop_lr1_least_trees.specs.NumberedTrees.{NumberRule, rule_views}
 use Rattle.lalrpop_lr1_least_trees.proofs.RuleLemmas.{views_long}
@@ -18,10 +18,6 @@ use Rattle.lalrpop_lr1_least_trees.specs.DerivedRules.{AddsDerived, AreDerived, 
 use Rattle.lalrpop_lr1_least_trees.specs.DerivedRules.{IsBeginBelow, IsBeginOf, IsDerived, IsEmptyOf, IsDerivedPushed, IsWantedAt}
 use Rattle.lalrpop_lr1_least_trees.specs.DerivedRules.{IsWholeOf, MayBegin}
 use Rattle.lalrpop_lr1_least_trees.specs.DerivedRules.{begin_side, begin_symbol, empty_symbol, whole_symbol}
-
-get_last : {X : Type 0} (xs : List X) (x : X) → slice_get (xs ++ x ∷ []) (length xs) ≡ Some x
-get_last [] x = refl
-get_last (y ∷ xs) x = get_last xs x
 
 only_first : {X : Type 0} (x y : X) (j : ℕ) → slice_get (x ∷ []) j ≡ Some y → x ≡ y
 only_first x y zero e = some_same x y e

@@ -5,7 +5,7 @@ use Rattle.std.proofs.Common.{⊎_elim, length-append}
 use Rattle.std.specs.Prelude.{slice_index_or}
 use Rattle.std.proofs.lemmas.List.Elements.{Contains-append_cases, Contains-append_left, Contains-append_right}
 use Rattle.lalrpop_lr1_theory.proofs.ListLemmas.{contains_here, contains_later, contains_split}
-use Rattle.lalrpop_lr1_least_trees.specs.declared.least_counts.waiting.Waiting.{Waiting}
+use Rattle.lalrpop_lr1_least_trees.specs.declared.least_counts.waiting.Worklist.{Worklist}
 use Rattle.lalrpop_lr1_least_trees.specs.Searches.{IsPopped, IsPushed, IsQueue, IsRuleTaken}
 
 flags_long : (flags : List Bool) (r : ℕ) (b : Bool) → length (set flags r b) ≡ length flags
@@ -26,7 +26,7 @@ flag_from (x ∷ flags) (suc r) (suc q) b e =
 only_one : (r q : ℕ) → Contains (r ∷ []) q → r ≡ q
 only_one r q c = ⊎_elim (λ e. e) (λ d. absurd (omega (arith, d.1))) (contains_split r q [] c)
 
-module _ (r : ℕ) (old new : Waiting) (is : IsQueue (length old.waits.items) old) where
+module _ (r : ℕ) (old new : Worklist) (is : IsQueue (length old.waits.items) old) where
   pub pushed_new : r < length old.waits.items → new.rules.items ≡ old.rules.items ++ r ∷ [] →
       new.waits.items ≡ set old.waits.items r true → IsPushed r old new
   pushed_new within rules waits = record {
@@ -65,7 +65,7 @@ module _ (r : ℕ) (old new : Waiting) (is : IsQueue (length old.waits.items) ol
   }
 
 -- one that waits is there already
-pub pushed_old : (r : ℕ) (old : Waiting) → IsQueue (length old.waits.items) old → slice_index_or old.waits.items r false ≡ true →
+pub pushed_old : (r : ℕ) (old : Worklist) → IsQueue (length old.waits.items) old → slice_index_or old.waits.items r false ≡ true →
     IsPushed r old old
 pushed_old r old is flag = record { queue = is; kept = λ q c. c; added = is.flagged r flag; count = omega arith }
 
@@ -79,7 +79,7 @@ pub contains_read : (xs : List ℕ) (x : ℕ) (c : Contains xs x) → get_or xs 
 contains_read xs x c = get_any xs c.0 0 x c.1 ∙ c.2
 
 -- where none was taken, none waits
-pub none_taken : (taken : Option ℕ) (old new : Waiting) → IsPopped taken old new → ((r : ℕ) → taken ≡ Some r → ⊥) →
+pub none_taken : (taken : Option ℕ) (old new : Worklist) → IsPopped taken old new → ((r : ℕ) → taken ≡ Some r → ⊥) →
     old.rules.items ≡ []
 none_taken None old new popped none = popped
 none_taken (Some r) old new popped none = absurd (none r refl)

@@ -6,12 +6,12 @@ use Rattle.std.proofs.Common.{length-append}
 use Rattle.std.specs.Prelude.{if◌then◌else◌, slice_index_or}
 use Rattle.std.proofs.lemmas.Bool.{cases_lt}
 use Rattle.std.proofs.lemmas.Option.{get_or_from_slice_get, slice_get_within, slice_get-get_or}
-use Rattle.lalrpop_lr1_theory.proofs.ListLemmas.{contains_split}
+use Rattle.lalrpop_lr1_theory.proofs.ListLemmas.{contains_split, none_some}
 use Rattle.lalrpop_lr1_theory.proofs.StepLemmas.{some_same}
 use Rattle.lalrpop_lr1_least_trees.specs.declared.least_counts.counts.LeastTree.{LeastTree}
 use Rattle.lalrpop_lr1_least_trees.specs.declared.least_counts.rule.NumberMove.{NumberMove}
 use Rattle.lalrpop_lr1_least_trees.specs.declared.least_counts.rule.NumberMove.TheVariants.{Shift, Reduce}
-use Rattle.lalrpop_lr1_least_trees.specs.declared.least_counts.waiting.Waiting.{Waiting}
+use Rattle.lalrpop_lr1_least_trees.specs.declared.least_counts.waiting.Worklist.{Worklist}
 use Rattle.lalrpop_lr1_least_trees.specs.NumberedTrees.{Builds, NumberRule, nothing, reduces, shifts}
 use Rattle.lalrpop_lr1_least_trees.specs.LeastTrees.{AreLeast, IsBuilt, IsLeast, capped_count}
 use Rattle.lalrpop_lr1_least_trees.specs.Searches.{AreUses, IsFall, IsMet, IsMetBy, IsMore, IsQueue, IsTreeSearch, IsRuleTaken, IsTry}
@@ -20,18 +20,7 @@ use Rattle.lalrpop_lr1_least_trees.proofs.BuildLemmas.{AreHad, IsClosed, closed_
 use Rattle.lalrpop_lr1_least_trees.proofs.CountLemmas.{count_other, count_there, entry_other, entry_there, leaf_count, name_count}
 use Rattle.lalrpop_lr1_least_trees.proofs.MeasureLemmas.{falls, total}
 use Rattle.lalrpop_lr1_least_trees.proofs.CountLemmas.{node_from, node_other, node_parts, table_long, weight_falls}
-
-none_some : {X : Type 0} (x : X) → None ≡ Some x → ⊥
-none_some x e = cc
-
--- two numbers are equal or they aren't: for telling cases apart
-pub cases_eq : (j k : ℕ) → (j ≡ k) ⊎ (j ≡ k → ⊥)
-cases_eq j k = go (cases_lt j k) (cases_lt k j)
-  where
-    go : (j < k) ⊎ (k ≤ j) → (k < j) ⊎ (j ≤ k) → (j ≡ k) ⊎ (j ≡ k → ⊥)
-    go (inl a) b = inr (λ e. omega arith)
-    go (inr a) (inl b) = inr (λ e. omega arith)
-    go (inr a) (inr b) = inl (omega arith)
+use Rattle.lalrpop_sets.proofs.WordLemmas.{cases_eq}
 
 has_or_not : (xs : List ℕ) (x : ℕ) → Contains xs x ⊎ (Contains xs x → ⊥)
 has_or_not [] x = inr (λ c. omega (arith, c.1))
@@ -78,7 +67,7 @@ module _ (rules : List NumberRule) (names : ℕ) (leaves : Bool) where
         go (inr h) = leaf leaves refl h (sym (leaf_count leaves table s h) ∙ e)
 
   -- at the end no rule waits
-  pub search_ends : (table : List (Option LeastTree)) (waiting : Waiting) → IsTreeSearch rules names leaves table waiting →
+  pub search_ends : (table : List (Option LeastTree)) (waiting : Worklist) → IsTreeSearch rules names leaves table waiting →
       waiting.rules.items ≡ [] → AreLeast rules names leaves table
   search_ends table waiting search empty = record { count = search.count; least = λ s entry at. least s entry at }
     where
@@ -111,7 +100,7 @@ module _ (rules : List NumberRule) (names : ℕ) (leaves : Bool) where
       }
 
   -- at the start all rules wait
-  pub search_starts : (table : List (Option LeastTree)) (waiting : Waiting) → length table ≡ names →
+  pub search_starts : (table : List (Option LeastTree)) (waiting : Worklist) → length table ≡ names →
       ((s : ℕ) → slice_index_or table s None ≡ None) → IsQueue (length rules) waiting →
       ((r : ℕ) → r < length rules → Contains waiting.rules.items r) → IsTreeSearch rules names leaves table waiting
   search_starts table waiting count none queue all = record {
@@ -121,7 +110,7 @@ module _ (rules : List NumberRule) (names : ℕ) (leaves : Bool) where
     met = λ r rule at. inl (all r (slice_get_within rules r rule at));
   }
 
-  module _ (table new : List (Option LeastTree)) (waiting taken : Waiting) (r : ℕ) (rule : NumberRule)
+  module _ (table new : List (Option LeastTree)) (waiting taken : Worklist) (r : ℕ) (rule : NumberRule)
       (at : slice_get rules r ≡ Some rule) (search : IsTreeSearch rules names leaves table waiting) (take : IsRuleTaken r waiting taken)
     where
       abbrev f : ℕ → Option ℕ
@@ -131,7 +120,7 @@ module _ (rules : List NumberRule) (names : ℕ) (leaves : Bool) where
       same_rule q other e there = some_same rule other (sym at ∙ ap (slice_get rules) (sym e) ∙ there)
 
       -- a rule that gives nothing smaller
-      module _ (pushed : Waiting) (queued : IsQueue (length rules) pushed)
+      module _ (pushed : Worklist) (queued : IsQueue (length rules) pushed)
           (kept : (q : ℕ) → Contains taken.rules.items q → Contains pushed.rules.items q) where
         search_same : new ≡ table → IsMet f rule → IsTreeSearch rules names leaves new pushed
         search_same e own = subst (λ t. IsTreeSearch rules names leaves t pushed) (sym e) (record {
@@ -148,7 +137,7 @@ module _ (rules : List NumberRule) (names : ℕ) (leaves : Bool) where
 
       -- a rule that gives a smaller tree: the rules with its name on their right sides wait
       module _ (uses : List (List ℕ)) (are : AreUses rules names uses) (below : rule.left < names) (fall : IsFall leaves rule r table new)
-          (pushed : Waiting) (queued : IsQueue (length rules) pushed)
+          (pushed : Worklist) (queued : IsQueue (length rules) pushed)
           (kept : (q : ℕ) → Contains taken.rules.items q → Contains pushed.rules.items q)
           (added : (q : ℕ) → Contains (slice_index_or uses rule.left []) q → Contains pushed.rules.items q) where
         abbrev tree : LeastTree
@@ -255,7 +244,7 @@ module _ (rules : List NumberRule) (names : ℕ) (leaves : Bool) where
 
       -- any rule
       module _ (uses : List (List ℕ)) (are : AreUses rules names uses) (below : rule.left < names) (fell : Bool)
-          (try : IsTry leaves rule r table new fell) (pushed : Waiting) (queued : IsQueue (length rules) pushed)
+          (try : IsTry leaves rule r table new fell) (pushed : Worklist) (queued : IsQueue (length rules) pushed)
           (kept : (q : ℕ) → Contains taken.rules.items q → Contains pushed.rules.items q)
           (added : (q : ℕ) → Contains (rules_again uses rule.left fell) q → Contains pushed.rules.items q) where
         pub search_step : IsTreeSearch rules names leaves new pushed

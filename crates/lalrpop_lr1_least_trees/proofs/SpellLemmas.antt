@@ -15,11 +15,7 @@ use Rattle.lalrpop_lr1_least_trees.specs.declared.least_counts.rule.NumberMove.{
 use Rattle.lalrpop_lr1_least_trees.specs.declared.least_counts.rule.NumberMove.TheVariants as numbered
 use Rattle.lalrpop_lr1_least_trees.specs.NumberedTrees.{Builds, NumberRule, nothing, reduces, shifts}
 use Rattle.lalrpop_lr1_least_trees.specs.MoveViews.{IsNumberedMove, SpellsMoves}
-
-get_some : {X : Type 0} (xs : List X) (r : ℕ) → r < length xs → (x : X) × (slice_get xs r ≡ Some x)
-get_some [] r h = absurd (omega (arith, h))
-get_some (x ∷ xs) zero h = (x, refl)
-get_some (x ∷ xs) (suc r) h = get_some xs r (omega arith)
+use Rattle.lalrpop_lr1_first.proofs.TableLemmas.{get_some}
 
 -- the rules stand for the productions, each at its place; names are numbered below the count, each once, and terminals from it on
 pub record StandFor (at : ℕ → Option Symbol) (names : ℕ) (rules : List NumberRule) (productions : List Production) : Type 0 where

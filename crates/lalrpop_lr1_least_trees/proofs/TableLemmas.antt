@@ -17,6 +17,7 @@ use Rattle.lalrpop_lr1_first.specs.Tables.{symbol_or}
 use Rattle.lalrpop_lr1_first.specs.declared.numbered.Numbered.{Numbered}
 use Rattle.lalrpop_lr1_first.proofs.ListLemmas.{get_slice}
 use Rattle.lalrpop_lr1_first.proofs.TableLemmas.{long_map}
+use Rattle.lalrpop_lr1_core.proofs.NoConflictLemmas.{nothing_there}
 use Rattle.lalrpop_lr1_least_trees.specs.GrammarTrees.{symbols_by}
 
 -- a production that is read at a place stands there among the productions as they are seen
@@ -25,11 +26,6 @@ pub production_read : (ps : List (Bor Production)) (k : ℕ) (p : Bor Production
 production_read [] k p h e = absurd (omega arith)
 production_read (q ∷ ps) zero p h e = ap (λ (b : Bor Production). Some (production_view b.now)) (sym e)
 production_read (q ∷ ps) (suc k) p h e = production_read ps k p (omega arith) e
-
-nothing_there : {X : Type 0} (xs : List X) (k : ℕ) → slice_get xs k ≡ None → length xs ≤ k
-nothing_there [] k e = omega arith
-nothing_there (x ∷ xs) zero e = let w : ⊥ = cc in absurd w
-nothing_there (x ∷ xs) (suc k) e = omega (arith, nothing_there xs k e)
 
 module _ (table : Numbered) (s : ℕ) where
   names_long : length (table_names table) ≡ name_count table

@@ -6,7 +6,7 @@ use Rattle.std.specs.Global.{Global}
 use Rattle.std.specs.Prelude.{Vec, map}
 use Rattle.std.specs.Option.{option_map}
 use Rattle.lalrpop_lr1_least_trees.specs.declared.least_counts.counts.LeastTree.{LeastTree}
-use Rattle.lalrpop_lr1_least_trees.specs.declared.least_counts.waiting.Waiting.{Waiting}
+use Rattle.lalrpop_lr1_least_trees.specs.declared.least_counts.waiting.Worklist.{Worklist}
 use Rattle.lalrpop_lr1_least_trees.specs.LeastTrees.{IsBuilt, capped_count}
 use Rattle.lalrpop_lr1_least_trees.specs.NumberedTrees.{NumberRule}
 
@@ -61,26 +61,26 @@ pub record IsTry (leaves : Bool) (rule : NumberRule) (r : ℕ) (old new : List (
   pub met : fell ≡ false → IsMet (count_of leaves old) rule
 
 -- Of so many rules some wait, each that is flagged among them.
-pub record IsQueue (count : ℕ) (waiting : Waiting) : Type 0 where
+pub record IsQueue (count : ℕ) (waiting : Worklist) : Type 0 where
   pub long : length waiting.waits.items ≡ count
   pub within : (r : ℕ) → Contains waiting.rules.items r → r < count
   pub flagged : (r : ℕ) → slice_index_or waiting.waits.items r false ≡ true → Contains waiting.rules.items r
 
 -- a rule was added, and the others still wait
-pub record IsPushed (r : ℕ) (old new : Waiting) : Type 0 where
+pub record IsPushed (r : ℕ) (old new : Worklist) : Type 0 where
   pub queue : IsQueue (length old.waits.items) new
   pub kept : (q : ℕ) → Contains old.rules.items q → Contains new.rules.items q
   pub added : Contains new.rules.items r
   pub count : length new.rules.items ≤ suc (length old.rules.items)
 
 -- a rule was taken, and all others still wait; none where none did
-pub record IsRuleTaken (r : ℕ) (old new : Waiting) : Type 0 where
+pub record IsRuleTaken (r : ℕ) (old new : Worklist) : Type 0 where
   pub within : r < length old.waits.items
   pub queue : IsQueue (length old.waits.items) new
   pub kept : (q : ℕ) → Contains old.rules.items q → (q ≡ r) ⊎ Contains new.rules.items q
   pub fewer : suc (length new.rules.items) ≡ length old.rules.items
 
-abbrev pub IsPopped : Option ℕ → Waiting → Waiting → Type 0
+abbrev pub IsPopped : Option ℕ → Worklist → Worklist → Type 0
 IsPopped None old new = old.rules.items ≡ []
 IsPopped (Some r) old new = IsRuleTaken r old new
 
@@ -113,7 +113,7 @@ weight (None ∷ table) = 2 ^ 64 + weight table
 weight (Some tree ∷ table) = tree.count + weight table
 
 -- The search: each entry is some tree's, and a rule that doesn't wait gives no less than its name has.
-pub record IsTreeSearch (rules : List NumberRule) (names : ℕ) (leaves : Bool) (table : List (Option LeastTree)) (waiting : Waiting) :
+pub record IsTreeSearch (rules : List NumberRule) (names : ℕ) (leaves : Bool) (table : List (Option LeastTree)) (waiting : Worklist) :
     Type 0 where
   pub count : length table ≡ names
   pub built : (s : ℕ) (tree : LeastTree) → slice_get table s ≡ Some (Some tree) → IsBuilt rules names leaves s tree

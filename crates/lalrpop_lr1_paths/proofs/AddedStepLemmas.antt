@@ -15,10 +15,10 @@ use Rattle.lalrpop_lr1_core.specs.declared.state.State.{State}
 use Rattle.lalrpop_lr1_first.specs.FirstNumbers.{name_count}
 use Rattle.lalrpop_lr1_least_trees.specs.GrammarTrees.{symbols_by}
 use Rattle.lalrpop_lr1_paths.specs.declared.state_paths.state_paths.StatePaths.{StatePaths}
-use Rattle.lalrpop_lr1_paths.specs.OutSteps.{IsNodeIfSome, StepsAreBelow}
-use Rattle.lalrpop_lr1_paths.specs.ToldSteps.{AddsOutSteps, AreStepsOfStates, HasNameNumber, HasToldStep, IsBackBy, IsNodeBy}
-use Rattle.lalrpop_lr1_paths.specs.ToldSteps.{IsOutItem, IsStepOfStates, IsToldStep}
-use Rattle.lalrpop_lr1_paths.specs.declared.completion_steps.out_steps.OutStep.{OutStep}
+use Rattle.lalrpop_lr1_paths.specs.CompletionSteps.{IsNodeIfSome, StepsAreBelow}
+use Rattle.lalrpop_lr1_paths.specs.ToldSteps.{AddsCompletionSteps, AreStepsOfStates, HasNameNumber, HasToldStep, IsBackBy, IsNodeBy}
+use Rattle.lalrpop_lr1_paths.specs.ToldSteps.{IsCompletionItem, IsStepOfStates, IsToldStep}
+use Rattle.lalrpop_lr1_paths.specs.declared.completion_steps.steps_of_states.CompletionStep.{CompletionStep}
 use Rattle.lalrpop_lr1_paths.proofs.ListLemmas.{alone, at_end}
 
 -- the symbol behind a dot with those behind it
@@ -35,26 +35,26 @@ dot_parts item parts e = go (at_dot item) refl e
         (at ∙ ap (λ (q : Symbol × List Symbol). Some q.0) (sym same), ap (λ (q : Symbol × List Symbol). q.1) (sym same))
 
 -- one more step between nodes below the count
-pub below_more : (nodes : ℕ) (old new : List OutStep) (step : OutStep) → new ≡ old ++ step ∷ [] → step.from < nodes →
+pub below_more : (nodes : ℕ) (old new : List CompletionStep) (step : CompletionStep) → new ≡ old ++ step ∷ [] → step.from < nodes →
     step.to < nodes → StepsAreBelow nodes old → StepsAreBelow nodes new
 below_more nodes old new step e from to below k other f =
     ⊎_elim (λ h. below k other h)
-    (λ h. (omega (arith, from, ap (λ (s : OutStep). s.from) h.1), omega (arith, to, ap (λ (s : OutStep). s.to) h.1)))
+    (λ h. (omega (arith, from, ap (λ (s : CompletionStep). s.from) h.1), omega (arith, to, ap (λ (s : CompletionStep). s.to) h.1)))
     (before_or_end old step k other (subst (λ l. slice_get l k ≡ Some other) e f))
 
 module _ (G : theory.Production → Type 0) (it : StatePaths) (count : ℕ) {L : Type 0} where
-  abbrev Adds : ℕ → List (Item L) → List OutStep → List OutStep → Type 0
-  Adds = AddsOutSteps G it count
+  abbrev Adds : ℕ → List (Item L) → List CompletionStep → List CompletionStep → Type 0
+  Adds = AddsCompletionSteps G it count
 
   -- of items over which no step leads none is added
-  pub adds_none : (n : ℕ) (items : List (Item L)) (steps : List OutStep) →
-      ((item : Item L) (name : NonterminalString) (m : ℕ) → Contains items item → IsOutItem G it count n item name m → ⊥) →
+  pub adds_none : (n : ℕ) (items : List (Item L)) (steps : List CompletionStep) →
+      ((item : Item L) (name : NonterminalString) (m : ℕ) → Contains items item → IsCompletionItem G it count n item name m → ⊥) →
       Adds n items steps steps
   adds_none n items steps none =
       record { kept = λ k step e. e; sound = λ k step e. inl e; all = λ item name m c out. absurd (none item name m c out) }
 
   -- the step over an item
-  pub adds_one : (n : ℕ) (item : Item L) (old new : List OutStep) (step : OutStep) → new ≡ old ++ step ∷ [] →
+  pub adds_one : (n : ℕ) (item : Item L) (old new : List CompletionStep) (step : CompletionStep) → new ≡ old ++ step ∷ [] →
       IsToldStep G it count n (item ∷ []) step → Adds n (item ∷ []) old new
   adds_one n item old new step e told =
       record {
@@ -65,7 +65,7 @@ module _ (G : theory.Production → Type 0) (it : StatePaths) (count : ℕ) {L :
         all = λ other name m c out. has other name m (sym (alone item told.item told.has) ∙ alone item other c) out;
       }
     where
-      has : (other : Item L) (name : NonterminalString) (m : ℕ) → told.item ≡ other → IsOutItem G it count n other name m →
+      has : (other : Item L) (name : NonterminalString) (m : ℕ) → told.item ≡ other → IsCompletionItem G it count n other name m →
           HasToldStep G it count new n other name m
       has other name m same out =
           let dots : Some (symbols.Nonterminal told.name) ≡ Some (symbols.Nonterminal name) =
@@ -84,7 +84,7 @@ module _ (G : theory.Production → Type 0) (it : StatePaths) (count : ℕ) {L :
           }
 
   -- over an item before which so far back no state stands none leads
-  pub adds_past : (n : ℕ) (item : Item L) (steps : List OutStep) (before : ℕ) →
+  pub adds_past : (n : ℕ) (item : Item L) (steps : List CompletionStep) (before : ℕ) →
       ((m : ℕ) → IsBackBy it item.index n m → before ≡ m) →
       count ≤ before → Adds n (item ∷ []) steps steps
   adds_past n item steps before before_is past =
@@ -93,7 +93,7 @@ module _ (G : theory.Production → Type 0) (it : StatePaths) (count : ℕ) {L :
       omega (arith, before_is m back, out.below, past))
 
   -- nor over one whose production's nonterminal has no number
-  pub adds_unnumbered : (n : ℕ) (item : Item L) (steps : List OutStep) →
+  pub adds_unnumbered : (n : ℕ) (item : Item L) (steps : List CompletionStep) →
       IsNodeIfSome (symbols_by it.trees.now.table) (name_count it.trees.now.table) n item.production.now.nonterminal.0 None →
       Adds n (item ∷ []) steps steps
   adds_unnumbered n item steps none =
@@ -104,7 +104,7 @@ module _ (G : theory.Production → Type 0) (it : StatePaths) (count : ℕ) {L :
 
   -- the same step, over one of more items
   told_among : (n : ℕ) (items more : List (Item L)) → ((item : Item L) → Contains items item → Contains more item) →
-      (step : OutStep) → IsToldStep G it count n items step → IsToldStep G it count n more step
+      (step : CompletionStep) → IsToldStep G it count n items step → IsToldStep G it count n more step
   told_among n items more among step told =
       record {
         item = told.item;
@@ -122,7 +122,7 @@ module _ (G : theory.Production → Type 0) (it : StatePaths) (count : ℕ) {L :
       }
 
   -- a step stays where others are added
-  still_there : (old new : List OutStep) → ((k : ℕ) (step : OutStep) → slice_get old k ≡ Some step →
+  still_there : (old new : List CompletionStep) → ((k : ℕ) (step : CompletionStep) → slice_get old k ≡ Some step →
       slice_get new k ≡ Some step) →
       (n : ℕ) (item : Item L) (name : NonterminalString) (m : ℕ) → HasToldStep G it count old n item name m →
       HasToldStep G it count new n item name m
@@ -138,7 +138,7 @@ module _ (G : theory.Production → Type 0) (it : StatePaths) (count : ℕ) {L :
       }
 
   -- the steps over some items, then those over others
-  pub adds_more : (n : ℕ) (items more : List (Item L)) (old mid new : List OutStep) → Adds n items old mid → Adds n more mid new →
+  pub adds_more : (n : ℕ) (items more : List (Item L)) (old mid new : List CompletionStep) → Adds n items old mid → Adds n more mid new →
       Adds n (items ++ more) old new
   adds_more n items more old mid new first then =
       record {
@@ -153,10 +153,10 @@ module _ (G : theory.Production → Type 0) (it : StatePaths) (count : ℕ) {L :
       }
 
   -- the steps over the items of some states, then those over one more
-  abbrev Are : List (State L) → List OutStep → Type 0
+  abbrev Are : List (State L) → List CompletionStep → Type 0
   Are = AreStepsOfStates G it count
 
-  pub steps_of_more : (states : List (State L)) (state : State L) (old new : List OutStep) → Are states old →
+  pub steps_of_more : (states : List (State L)) (state : State L) (old new : List CompletionStep) → Are states old →
       Adds (length states) state.items.vec old new → Are (states ++ state ∷ []) new
   steps_of_more states state old new are adds =
       record {
@@ -168,15 +168,15 @@ module _ (G : theory.Production → Type 0) (it : StatePaths) (count : ℕ) {L :
             (λ h. last n other item name m h.0 h.1 c out) (before_or_end states state n other e);
       }
     where
-      before : (k : ℕ) (step : OutStep) → IsStepOfStates G it count states step →
+      before : (k : ℕ) (step : CompletionStep) → IsStepOfStates G it count states step →
           IsStepOfStates G it count (states ++ state ∷ []) step
       before k step is =
           record { number = is.number; state = is.state; at = get_front states (state ∷ []) is.number is.state is.at; is = is.is }
 
       last : (n : ℕ) (other : State L) (item : Item L) (name : NonterminalString) (m : ℕ) →
           n ≡ length states → state ≡ other →
-          Contains other.items.vec item → IsOutItem G it count n item name m → HasToldStep G it count new n item name m
+          Contains other.items.vec item → IsCompletionItem G it count n item name m → HasToldStep G it count new n item name m
       last n other item name m at same c out =
           let there : Contains state.items.vec item = subst (λ (s : State L). Contains s.items.vec item) (sym same) c in
           subst (λ k. HasToldStep G it count new k item name m) (sym at)
-          (adds.all item name m there (subst (λ k. IsOutItem G it count k item name m) at out))
+          (adds.all item name m there (subst (λ k. IsCompletionItem G it count k item name m) at out))

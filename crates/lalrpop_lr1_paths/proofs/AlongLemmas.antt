@@ -17,10 +17,10 @@ use Rattle.lalrpop_lr1_least_trees.specs.MoveViews.{tree_move_view}
 use Rattle.lalrpop_lr1_least_trees.specs.declared.tree_move.TreeMove.{TreeMove}
 use Rattle.lalrpop_lr1_least_trees.specs.RestForests.{LeavesOfKind}
 use Rattle.lalrpop_lr1_paths.specs.PathTables.{last_steps}
-use Rattle.lalrpop_lr1_paths.specs.OutGraphs.{AreWaysOut, ways_table}
-use Rattle.lalrpop_lr1_paths.specs.OutSteps.{IsOutStep, LeadsAsStep, step_production}
-use Rattle.lalrpop_lr1_paths.specs.declared.completion_steps.out_graphs.OutGraphs.{OutGraphs}
-use Rattle.lalrpop_lr1_paths.specs.declared.completion_steps.out_steps.OutStep.{OutStep}
+use Rattle.lalrpop_lr1_paths.specs.CompletionGraphs.{AreCompletions, ways_table}
+use Rattle.lalrpop_lr1_paths.specs.CompletionSteps.{IsCompletionStep, LeadsAsStep, step_production}
+use Rattle.lalrpop_lr1_paths.specs.declared.completion_steps.completion_graphs.CompletionGraphs.{CompletionGraphs}
+use Rattle.lalrpop_lr1_paths.specs.declared.completion_steps.steps_of_states.CompletionStep.{CompletionStep}
 use Rattle.lalrpop_lr1_paths.proofs.OutwardStepLemmas.{step_out}
 use Rattle.lalrpop_lr1_paths.specs.StepMoves.{AddsSoFar, AddsStep, AreStepMoves, ComesInAll, IsNodeIn, LeadsAlong, LeadsBy, LeadsSoFar}
 use Rattle.lalrpop_lr1_paths.specs.StepMoves.{step_edges}
@@ -34,7 +34,7 @@ comes_none : (kind : Bool) (w : List Terminal) → ComesInAll kind w w
 comes_none true w = tt
 comes_none false w = refl
 
-module _ (it : OutGraphs) (kind : Bool) where
+module _ (it : CompletionGraphs) (kind : Bool) where
   -- nothing was added yet
   pub nothing_added : (edges : List ℕ) (old : List TreeMove) → AddsSoFar it kind edges edges old old
   nothing_added edges old =
@@ -48,10 +48,10 @@ module _ (it : OutGraphs) (kind : Bool) where
         };
       }
 
-  module _ (g : Grammar) (s : Text) (states : List State) (are : AreWaysOut g s states it) where
+  module _ (g : Grammar) (s : Text) (states : List State) (are : AreCompletions g s states it) where
     -- the moves of one step more
-    more_along : (n : ℕ) (B : Text) (step : OutStep) (added : List TreeMove) →
-        IsOutStep (IsProductionOf g) states (last_steps it.paths.now) (symbols_by (ways_table it)) (name_count (ways_table it)) step →
+    more_along : (n : ℕ) (B : Text) (step : CompletionStep) (added : List TreeMove) →
+        IsCompletionStep (IsProductionOf g) states (last_steps it.paths.now) (symbols_by (ways_table it)) (name_count (ways_table it)) step →
         AreStepMoves g (LeavesOfKind kind) step added → (ms : List Move) → LeadsAlong g s states it kind n B step.from ms →
         LeadsAlong g s states it kind n B step.to (ms ++ map tree_move_view added)
     more_along n B step added is moves_of ms along =
@@ -78,10 +78,10 @@ module _ (it : OutGraphs) (kind : Bool) where
             ∙ ap (λ l. (a ++ l) ++ c) (sym e)
 
     -- one edge of the path further
-    next_along : (goals : List Goal) (n : ℕ) (B : Text) (e : ℕ) (left : List ℕ) (goal : ℕ) (step : OutStep)
+    next_along : (goals : List Goal) (n : ℕ) (B : Text) (e : ℕ) (left : List ℕ) (goal : ℕ) (step : CompletionStep)
         (added : List TreeMove) →
         ((edge : Edge) → slice_get (step_edges it kind) e ≡ Some edge → LeadsAsStep step edge) →
-        IsOutStep (IsProductionOf g) states (last_steps it.paths.now) (symbols_by (ways_table it)) (name_count (ways_table it)) step →
+        IsCompletionStep (IsProductionOf g) states (last_steps it.paths.now) (symbols_by (ways_table it)) (name_count (ways_table it)) step →
         AreStepMoves g (LeavesOfKind kind) step added → (ms : List Move) →
         LeadsSoFar g s states it kind goals n B (e ∷ left) goal ms →
         LeadsSoFar g s states it kind goals n B left goal (ms ++ map tree_move_view added)
@@ -100,10 +100,10 @@ module _ (it : OutGraphs) (kind : Bool) where
             }
 
   -- a step's moves were added
-  pub step_added : (edges left : List ℕ) (e : ℕ) (old middle new : List TreeMove) (step : OutStep) →
+  pub step_added : (edges left : List ℕ) (e : ℕ) (old middle new : List TreeMove) (step : CompletionStep) →
       ((edge : Edge) → slice_get (step_edges it kind) e ≡ Some edge → LeadsAsStep step edge) →
-      ((g : Grammar) (s : Text) (states : List State) → AreWaysOut g s states it →
-      IsOutStep (IsProductionOf g) states (last_steps it.paths.now) (symbols_by (ways_table it)) (name_count (ways_table it)) step) →
+      ((g : Grammar) (s : Text) (states : List State) → AreCompletions g s states it →
+      IsCompletionStep (IsProductionOf g) states (last_steps it.paths.now) (symbols_by (ways_table it)) (name_count (ways_table it)) step) →
       AddsSoFar it kind edges (e ∷ left) old middle → AddsStep (ways_table it) (LeavesOfKind kind) step middle new →
       AddsSoFar it kind edges left old new
   step_added edges left e old middle new step as_step is so adds =
@@ -124,7 +124,7 @@ module _ (it : OutGraphs) (kind : Bool) where
     pub along : LeadsAlong g s states it kind n B entry.node ms
 
   pub all_added : (edges : List ℕ) (old new : List TreeMove) (so : AddsSoFar it kind edges [] old new) → (g : Grammar) (s : Text)
-      (states : List State) → AreWaysOut g s states it → (goals : List Goal) (node goal : ℕ) →
+      (states : List State) → AreCompletions g s states it → (goals : List Goal) (node goal : ℕ) →
       IsPathTo (step_edges it kind) goals node edges goal → (n : ℕ) (B : Text) → IsNodeIn g s states it node n B →
       EndsAlong g s states goals n B goal (map tree_move_view so.added)
   all_added edges old new so g s states are goals node goal path n B at =

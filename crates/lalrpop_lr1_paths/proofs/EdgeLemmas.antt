@@ -1,7 +1,7 @@
 -- The edges by numbers are those of the states whose symbols have numbers: for paths over numbers.
 use Rattle.std.proofs.Common.{◌≡◌, ◌∙◌, ◌⊎◌, ℕ, ◌+◌, ◌-◌, ◌<◌, Bool, true, false}
 use Rattle.std.proofs.Common.{List, []}
-use Rattle.std.proofs.Common.{◌∷◌, ◌++◌, length, map, refl, sym, ap, subst, inl, inr, ⊎_elim, arith, Contains, Option, Some}
+use Rattle.std.proofs.Common.{◌∷◌, ◌++◌, length, map, refl, sym, ap, subst, ⊎_elim, arith, Contains, Option, Some}
 use Rattle.std.proofs.Common.{None}
 use Rattle.std.proofs.Common.{get_or, slice_get, take}
 use Rattle.std.specs.Prelude.{flat_map, nat_lt, if◌then◌else◌}
@@ -18,7 +18,7 @@ use Rattle.lalrpop_grammar_repr.specs.Maps.{at_name, at_terminal}
 use Rattle.lalrpop_grammar_repr.specs.declared.production.Symbol.{Symbol}
 use Rattle.lalrpop_grammar_repr.specs.declared.production.Symbol.TheVariants as symbols
 use Rattle.lalrpop_lr1_theory.specs.Productions as theory
-use Rattle.lalrpop_lr1_theory.proofs.ListLemmas.{contains_get, contains_here, contains_later, contains_split, get_contains}
+use Rattle.lalrpop_lr1_theory.proofs.ListLemmas.{contains_get, contains_here, contains_split, get_contains}
 use Rattle.lalrpop_lr1_theory.proofs.StepLemmas.{some_same}
 use Rattle.lalrpop_lr1_core.specs.Edges.{HasGraphEdge, edge_of, edges_of, goto_edge, shift_edge, state_edges}
 use Rattle.lalrpop_lr1_core.specs.Views.{production_symbol_view}
@@ -30,7 +30,7 @@ use Rattle.lalrpop_lr1_core.proofs.NoConflictLemmas.{same_terminal}
 use Rattle.lalrpop_lr1_first.specs.FirstNumbers.{name_count}
 use Rattle.lalrpop_lr1_first.specs.NumberedGrammars.{table_names}
 use Rattle.lalrpop_lr1_first.specs.Tables.{symbol_or}
-use Rattle.lalrpop_lr1_first.proofs.KnownLemmas.{flat_has}
+use Rattle.lalrpop_lr1_core.proofs.GraphLemmas.{flat_has}
 use Rattle.lalrpop_lr1_first.proofs.NameLemmas.{pairs_total}
 use Rattle.lalrpop_lr1_first.proofs.TableLemmas.{long_map, name_at, table_numbering}
 use Rattle.lalrpop_lr1_least_trees.specs.declared.least_trees.LeastTrees.{LeastTrees}
@@ -38,21 +38,8 @@ use Rattle.lalrpop_lr1_least_trees.specs.GrammarTrees.{AreLeastTrees, symbols_by
 use Rattle.lalrpop_lr1_least_trees.proofs.AnswerLemmas.{symbol_there}
 use Rattle.lalrpop_lr1_paths.specs.declared.state_paths.path_edges.NumberEdge.{NumberEdge}
 use Rattle.lalrpop_lr1_paths.specs.NumberEdges.{AreBetweenStates, edge_list, number_edges, number_of_symbol}
-
-no_element : {X : Type 0} (y : X) → Contains [] y → ⊥
-no_element y c = omega (arith, c.1)
-
--- what comes of a list comes of one of its elements
-in_flat : {X Y : Type 0} (f : X → List Y) (xs : List X) (y : Y) → Contains (flat_map f xs) y →
-    (x : X) × Contains xs x × Contains (f x) y
-in_flat f [] y c = absurd (no_element y c)
-in_flat {X = X} f (z ∷ zs) y c = go (in_flat f zs y) (Contains-append_cases (f z) (flat_map f zs) y c)
-  where
-    go : (Contains (flat_map f zs) y → (x : X) × Contains zs x × Contains (f x) y) →
-        Contains (f z) y ⊎ Contains (flat_map f zs) y →
-        (x : X) × Contains (z ∷ zs) x × Contains (f x) y
-    go deeper (inl d) = (z, contains_here z zs, d)
-    go deeper (inr d) = let r : (x : X) × Contains zs x × Contains (f x) y = deeper d in (r.0, contains_later z r.0 zs r.1, r.2)
+use Rattle.lalrpop_lr1_theory.proofs.NameLemmas.{no_element}
+use Rattle.lalrpop_lr1_core.proofs.GraphLemmas.{in_flat}
 
 -- edges lead from the states
 sources_from : {L : Type 0} (k : ℕ) (states : List (State L)) (e : Edge) →

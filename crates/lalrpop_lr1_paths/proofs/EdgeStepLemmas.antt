@@ -14,27 +14,27 @@ use Rattle.lalrpop_lr1_paths.specs.declared.graph_paths.graph.Edge.{Edge}
 use Rattle.lalrpop_lr1_least_trees.specs.declared.tree_move.TreeMove.{TreeMove}
 use Rattle.lalrpop_lr1_least_trees.specs.RestForests.{HasRest, LeavesOfKind}
 use Rattle.lalrpop_lr1_first.specs.FirstSetsOf.{IsProductionOf}
-use Rattle.lalrpop_lr1_paths.specs.OutGraphs.{AreOutGraphs, AreWaysOut, ways_table}
-use Rattle.lalrpop_lr1_paths.specs.OutSteps.{LeadsAsStep, step_rest}
-use Rattle.lalrpop_lr1_paths.specs.declared.completion_steps.out_graphs.OutGraphs.{OutGraphs}
-use Rattle.lalrpop_lr1_paths.specs.declared.completion_steps.out_steps.OutStep.{OutStep}
+use Rattle.lalrpop_lr1_paths.specs.CompletionGraphs.{AreCompletionGraphs, AreCompletions, ways_table}
+use Rattle.lalrpop_lr1_paths.specs.CompletionSteps.{LeadsAsStep, step_rest}
+use Rattle.lalrpop_lr1_paths.specs.declared.completion_steps.completion_graphs.CompletionGraphs.{CompletionGraphs}
+use Rattle.lalrpop_lr1_paths.specs.declared.completion_steps.steps_of_states.CompletionStep.{CompletionStep}
 use Rattle.lalrpop_lr1_paths.specs.StepMoves.{AddsSoFar, AddsStepIf, AreGraphEdges, step_edges}
 use Rattle.lalrpop_lr1_paths.proofs.AlongLemmas.{step_added}
 
-module _ (it : OutGraphs) (graphs : AreOutGraphs it) where
+module _ (it : CompletionGraphs) (graphs : AreCompletionGraphs it) where
   -- the step of an edge: of the graph of all steps its number is the edge's, of the other it is listed
-  pub record IsEdgeStep (kind : Bool) (e number : ℕ) (step : OutStep) : Type 0 where
+  pub record IsEdgeStep (kind : Bool) (e number : ℕ) (step : CompletionStep) : Type 0 where
     pub at_step : slice_get it.steps.items number ≡ Some step
     pub leads : (edge : Edge) → slice_get (step_edges it kind) e ≡ Some edge → LeadsAsStep step edge
-    pub rest : (g : Grammar) (s : Text) (states : List State) → AreWaysOut g s states it →
+    pub rest : (g : Grammar) (s : Text) (states : List State) → AreCompletions g s states it →
         HasRest (IsProductionOf g) (step_rest step) (LeavesOfKind kind)
 
   pub record HasEdgeStep (kind : Bool) (e number : ℕ) : Type 0 where
-    pub step : OutStep
+    pub step : CompletionStep
     pub is : IsEdgeStep kind e number step
     pub within : number < length it.steps.items
 
-  same_edge : (kind : Bool) (e : ℕ) (step : OutStep) (one : Edge) → slice_get (step_edges it kind) e ≡ Some one →
+  same_edge : (kind : Bool) (e : ℕ) (step : CompletionStep) (one : Edge) → slice_get (step_edges it kind) e ≡ Some one →
       LeadsAsStep step one → (edge : Edge) → slice_get (step_edges it kind) e ≡ Some edge → LeadsAsStep step edge
   same_edge kind e step one at leads edge h = subst (LeadsAsStep step) (some_same one edge (sym at ∙ h)) leads
 
@@ -79,15 +79,15 @@ module _ (it : OutGraphs) (graphs : AreOutGraphs it) where
         };
       }
 
-  module _ (kind : Bool) (e number : ℕ) (h : HasEdgeStep kind e number) (steps : List OutStep) (same : steps ≡ it.steps.items)
-      (step : OutStep) (read : slice_get steps number ≡ Some step) (table : Numbered) (table_same : table ≡ ways_table it) where
+  module _ (kind : Bool) (e number : ℕ) (h : HasEdgeStep kind e number) (steps : List CompletionStep) (same : steps ≡ it.steps.items)
+      (step : CompletionStep) (read : slice_get steps number ≡ Some step) (table : Numbered) (table_same : table ≡ ways_table it) where
     its_step : h.step ≡ step
     its_step =
         some_same h.step step (sym h.is.at_step ∙ ap (λ l. slice_get l number) (sym same) ∙ read)
 
     -- it has moves
     pub has_moves : (old new : List TreeMove) → AddsStepIf table (LeavesOfKind kind) step old new false → (g : Grammar) (s : Text)
-        (states : List State) → AreWaysOut g s states it → ⊥
+        (states : List State) → AreCompletions g s states it → ⊥
     has_moves old new none g s states are =
         let rest = subst (λ t. HasRest (IsProductionOf g) (step_rest t) (LeavesOfKind kind)) its_step (h.is.rest g s states are) in
         subst (λ t. AddsStepIf t (LeavesOfKind kind) step old new false) table_same none g are.of rest.trees rest.over rest.roots_are

@@ -8,7 +8,7 @@ use Rattle.lalrpop_lr1_paths.specs.declared.state_paths.path_edges.NumberEdge.{N
 use Rattle.lalrpop_lr1_paths.specs.NumberEdges.{edge_list}
 use Rattle.lalrpop_lr1_paths.specs.PathForests.{HaveForestMoves}
 use Rattle.lalrpop_lr1_paths.specs.PathTables.{last_edge_at}
-use Rattle.lalrpop_lr1_paths.specs.TurnedGraphs.{start_goals, turned_ends}
+use Rattle.lalrpop_lr1_paths.specs.ReversedGraphs.{start_goals, reversed_ends}
 
 abbrev plain : Production
 plain = production 0 (name 1) (terminal (quoted 7) ∷ [])
@@ -62,8 +62,8 @@ no_such_state = refl
 no_such_symbol : edge_list 3 0 None 2 ≡ []
 no_such_symbol = refl
 
-turned : turned_ends (by_numbers 0 1 2) ≡ (2, 0)
-turned = refl
+reversed : reversed_ends (by_numbers 0 1 2) ≡ (2, 0)
+reversed = refl
 
 -- the goal is state 0, where there are states
 goal_of_three : start_goals 3 ≡ record { node = 0; weight = 0 } ∷ []

@@ -1,4 +1,4 @@
--- Computed examples of what is told of ways out: in the three states of `__S = S; S = "a"` the way out behind `S` is told of any leaves and
+-- Computed examples of what is told of completions: in the three states of `__S = S; S = "a"` the completion behind `S` is told of any leaves and
 -- of none, none is told on which `"a"` comes, and wrong answers are refused.
 use Rattle.std.proofs.Common.{◌≡◌, ℕ, false, true, List, [], ◌∷◌, ◌++◌, Some, None, Option, refl, sym, ap}
 use Rattle.std.proofs.Common.{◌∙◌, arith, Contains}
@@ -11,9 +11,9 @@ use Rattle.lalrpop_lr1_theory.proofs.ExamplesOfStates.{StandsIn, a_done, a_first
 use Rattle.lalrpop_lr1_theory.proofs.ExamplesOfStates.{before_these, first_state, items_first, items_second, items_third}
 use Rattle.lalrpop_lr1_theory.proofs.ExamplesOfStates.{letter_a, letter_s, letter_start, one_letter, starts_s, three_states}
 use Rattle.lalrpop_lr1_theory.specs.PathTrees.{IsBack, LastStep, LastSteps, LedBy, further, here}
-use Rattle.lalrpop_lr1_theory.specs.OutwardMoves.{LeadsOut, arrives, steps}
+use Rattle.lalrpop_lr1_theory.specs.CompletionMoves.{LeadsOut, arrives, steps}
 use Rattle.lalrpop_lr1_least_trees.specs.RestForests.{AnyLeaves, BeginsWith, NoLeaves}
-use Rattle.lalrpop_lr1_paths.specs.OutSearches.{LeadOutIfSome}
+use Rattle.lalrpop_lr1_paths.specs.CompletionSearches.{LeadOutIfSome}
 use Rattle.lalrpop_lr1_paths.specs.StepMoves.{ComesInAll}
 
 abbrev from_first : Symbol → Option LastStep

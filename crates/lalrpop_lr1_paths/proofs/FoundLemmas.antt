@@ -14,11 +14,11 @@ use Rattle.lalrpop_lr1_least_trees.specs.MoveViews.{tree_move_view}
 use Rattle.lalrpop_lr1_least_trees.specs.declared.tree_move.TreeMove.{TreeMove}
 use Rattle.lalrpop_lr1_least_trees.specs.declared.tree_move.TreeMove.TheVariants.{Reduce}
 use Rattle.lalrpop_lr1_least_trees.specs.RestForests.{HaveRestMoves}
-use Rattle.lalrpop_lr1_paths.specs.OutSteps.{step_production, step_rest}
-use Rattle.lalrpop_lr1_paths.specs.declared.completion_steps.out_steps.OutStep.{OutStep}
+use Rattle.lalrpop_lr1_paths.specs.CompletionSteps.{step_production, step_rest}
+use Rattle.lalrpop_lr1_paths.specs.declared.completion_steps.steps_of_states.CompletionStep.{CompletionStep}
 use Rattle.lalrpop_lr1_paths.specs.StepMoves.{AddsFoundIf, AddsStepIf, with_reduction}
 
-module _ (table : Numbered) (Wanted : List Terminal → Type 0) (step : OutStep) where
+module _ (table : Numbered) (Wanted : List Terminal → Type 0) (step : CompletionStep) where
   abbrev Told : Option (Vec TreeMove Global) → Type 0
   Told found = (g : Grammar) → IsNumberTableOf g table →
       HaveRestMoves (IsProductionOf g) (step_rest step) Wanted (option_map (λ moves. map tree_move_view moves.items) found)

@@ -23,8 +23,8 @@ pub mod ListLemmas
 pub mod AddedStepLemmas
 pub mod StepEdgeLemmas
 pub mod NameNumberLemmas
-pub mod OutStepLemmas
-mod ExamplesOfOutSteps
+pub mod CompletionStepLemmas
+mod ExamplesOfCompletionSteps
 pub mod AlongLemmas
 pub mod EdgeStepLemmas
 pub mod ExamplesOfWaysFound

@@ -14,12 +14,12 @@ use Rattle.lalrpop_lr1_first.proofs.TableLemmas.{name_at, table_numbering}
 use Rattle.lalrpop_lr1_least_trees.specs.GrammarTrees.{AreLeastTrees, symbols_by}
 use Rattle.lalrpop_lr1_least_trees.specs.declared.least_trees.LeastTrees.{LeastTrees}
 use Rattle.lalrpop_lr1_least_trees.proofs.AnswerLemmas.{symbol_there}
-use Rattle.lalrpop_lr1_paths.specs.OutSteps.{IsOutNode}
+use Rattle.lalrpop_lr1_paths.specs.CompletionSteps.{IsCompletionNode}
 
 module _ (it : LeastTrees) (are : AreLeastTrees it) (n : NonterminalString) where
   -- a node is made of the number of a name
   pub node_there : (state node number : ℕ) → at_name n it.numbers ≡ Some number → node ≡ state * name_count it.table + number →
-      IsOutNode (symbols_by it.table) (name_count it.table) node state n.0
+      IsCompletionNode (symbols_by it.table) (name_count it.table) node state n.0
   node_there state node number e is =
       let named = symbol_there it are n true number e in
       record {
@@ -39,7 +39,7 @@ module _ (it : LeastTrees) (are : AreLeastTrees it) (n : NonterminalString) wher
       let z : ⊥ = cc in z
 
 -- a node of a state is below so many nodes as all states before a count have
-pub node_below : (symbol_at : ℕ → Option theory.Symbol) (names node n count : ℕ) (B : Text) → IsOutNode symbol_at names node n B →
+pub node_below : (symbol_at : ℕ → Option theory.Symbol) (names node n count : ℕ) (B : Text) → IsCompletionNode symbol_at names node n B →
     n < count → node < count * names
 node_below symbol_at names node n count B is below =
     let rows : suc n * names ≤ count * names = mul-le-mul_right names below in

@@ -1,19 +1,19 @@
--- A step leads out as the item does over which it is: for the moves of ways out.
+-- A step leads out as the item does over which it is: for the moves of completions.
 use Rattle.std.proofs.Common.{◌≡◌, ℕ, List, ◌∷◌, ◌++◌, Option, subst}
 use Rattle.lalrpop_grammar_symbols.specs.Symbols.{Terminal, Text}
 use Rattle.lalrpop_lr1_theory.specs.Productions as theory
 use Rattle.lalrpop_lr1_theory.specs.Trees.{AreOver, Forest, Move, moves, reduce, roots, yield}
 use Rattle.lalrpop_lr1_theory.specs.States.{HasItem, State}
-use Rattle.lalrpop_lr1_theory.specs.OutwardMoves.{LeadsOut, steps}
+use Rattle.lalrpop_lr1_theory.specs.CompletionMoves.{LeadsOut, steps}
 use Rattle.lalrpop_lr1_theory.specs.PathTrees.{LastSteps, LedBy}
-use Rattle.lalrpop_lr1_paths.specs.OutSteps.{IsOutNode, IsOutStep, step_production, step_rest}
-use Rattle.lalrpop_lr1_paths.specs.declared.completion_steps.out_steps.OutStep.{OutStep}
+use Rattle.lalrpop_lr1_paths.specs.CompletionSteps.{IsCompletionNode, IsCompletionStep, step_production, step_rest}
+use Rattle.lalrpop_lr1_paths.specs.declared.completion_steps.steps_of_states.CompletionStep.{CompletionStep}
 use Rattle.lalrpop_lr1_paths.proofs.NodeLemmas.{node_one}
 
 module _ (G : theory.Production → Type 0) (s : Text) (states : List State) (table : LastSteps) (symbol_at : ℕ → Option theory.Symbol)
     (names : ℕ) where
-  pub step_out : (step : OutStep) (is : IsOutStep G states table symbol_at names step) (n : ℕ) (B : Text) →
-      IsOutNode symbol_at names step.from n B → (us : Forest) → AreOver G us → roots us ≡ step_rest step → (ms : List Move)
+  pub step_out : (step : CompletionStep) (is : IsCompletionStep G states table symbol_at names step) (n : ℕ) (B : Text) →
+      IsCompletionNode symbol_at names step.from n B → (us : Forest) → AreOver G us → roots us ≡ step_rest step → (ms : List Move)
       (w : List Terminal) → LeadsOut G s (HasItem states) (LedBy table) is.before (step_production step).left ms w →
       LeadsOut G s (HasItem states) (LedBy table) n B (moves us ++ reduce (step_production step) ∷ ms) (yield us ++ w)
   step_out step is n B node us over us_roots ms w leads =

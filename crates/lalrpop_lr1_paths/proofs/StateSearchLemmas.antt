@@ -6,7 +6,7 @@ use Rattle.std.specs.Option.{option_and_then, unwrap_or}
 use Rattle.std.specs.Prelude.{if◌then◌else◌, nat_lt}
 use Rattle.std.proofs.lemmas.Bool.{cases_lt, lt-ltb, ltb-true}
 use Rattle.std.proofs.lemmas.Option.{slice_get_within}
-use Rattle.lalrpop_lr1_theory.proofs.ListLemmas.{get_front}
+use Rattle.lalrpop_lr1_theory.proofs.ListLemmas.{get_front, get_last}
 use Rattle.lalrpop_lr1_paths.specs.declared.graph_paths.graph.Edge as weighed
 use Rattle.lalrpop_lr1_paths.specs.declared.graph_paths.graph.Goal.{Goal}
 use Rattle.lalrpop_lr1_paths.specs.declared.graph_paths.path_table.PathStep.{PathStep}
@@ -19,7 +19,7 @@ use Rattle.lalrpop_lr1_paths.specs.PathSearches.{edge_of_step, found_first_edge,
 use Rattle.lalrpop_lr1_paths.proofs.PathLemmas.{first_edge_found, first_edge_none}
 use Rattle.lalrpop_lr1_paths.specs.declared.state_paths.path_edges.NumberEdge.{NumberEdge}
 use Rattle.lalrpop_lr1_paths.specs.NumberEdges.{AreBetweenStates}
-use Rattle.lalrpop_lr1_paths.specs.TurnedGraphs.{AreLastEdges, edge_ends, last_edge_of, start_goals, turned_ends}
+use Rattle.lalrpop_lr1_paths.specs.ReversedGraphs.{AreLastEdges, edge_ends, last_edge_of, start_goals, reversed_ends}
 
 -- a place of a list is one of another that is mapped to the same
 record IsTwin {X Y Z : Type 0} (f : X → Z) (g : Y → Z) (ys : List Y) (k : ℕ) (x : X) : Type 0 where
@@ -39,11 +39,11 @@ twin f g (a ∷ xs) (b ∷ ys) e (suc k) x h = let rest : map f xs ≡ map g ys 
     let t = twin f g xs ys rest k x h in record { other = t.other; at = t.at; same = t.same }
 
 -- the edges turned round lead between the nodes
-pub turned_below : (states : ℕ) (edges : List NumberEdge) (turned : List weighed.Edge) →
-    map edge_ends turned ≡ map turned_ends edges →
-    AreBetweenStates states edges → EdgesAreBelow states turned
-turned_below states edges turned e between = λ k edge at.
-    let t = twin edge_ends turned_ends turned edges e k edge at in
+pub reversed_below : (states : ℕ) (edges : List NumberEdge) (reversed : List weighed.Edge) →
+    map edge_ends reversed ≡ map reversed_ends edges →
+    AreBetweenStates states edges → EdgesAreBelow states reversed
+reversed_below states edges reversed e between = λ k edge at.
+    let t = twin edge_ends reversed_ends reversed edges e k edge at in
     let inside = between k t.other t.at in (
       subst (λ n. n < states) (sym (ap (λ (p : ℕ × ℕ). p.0) t.same)) inside.1,
       subst (λ n. n < states) (sym (ap (λ (p : ℕ × ℕ). p.1) t.same)) inside.0,
@@ -76,7 +76,7 @@ goal_there states h = go (nat_lt 0 states) refl
     go false e = let both : true ≡ false = sym (lt-ltb 0 states h) ∙ e in let w : ⊥ = cc in absurd w
 
 module _ (edges : List NumberEdge) (states : ℕ) (paths : GoalPaths) (search : AreGoalPaths paths)
-    (ends : map edge_ends (graph_edges paths.graph.now) ≡ map turned_ends edges) (goals : paths.goals.now ≡ start_goals states) where
+    (ends : map edge_ends (graph_edges paths.graph.now) ≡ map reversed_ends edges) (goals : paths.goals.now ≡ start_goals states) where
   abbrev numbers : ℕ → Option ℕ
   numbers = path_numbers paths.table
 
@@ -100,7 +100,7 @@ module _ (edges : List NumberEdge) (states : ℕ) (paths : GoalPaths) (search : 
       (edge : NumberEdge) → option_and_then (slice_get edges) (edge_of_step path_step) ≡ Some edge → IsSearchedEdge n edge
   over_edge n k is (AtGoal g) begins edge e = let w : ⊥ = cc in absurd w
   over_edge n k is (OverEdge number rest) begins edge e =
-      let t = twin edge_ends turned_ends (graph_edges paths.graph.now) edges ends number begins.edge begins.at in
+      let t = twin edge_ends reversed_ends (graph_edges paths.graph.now) edges ends number begins.edge begins.at in
       let one : t.other ≡ edge = let both : Some t.other ≡ Some edge = sym t.at ∙ e in cc in
       let from : begins.edge.from ≡ edge.target =
       ap (λ (p : ℕ × ℕ). p.0) t.same ∙ ap (λ (x : NumberEdge). x.target) one in
@@ -150,7 +150,7 @@ module _ (edges : List NumberEdge) (states : ℕ) (paths : GoalPaths) (search : 
   pub next_numbered : (e : ℕ) (edge : NumberEdge) → slice_get edges e ≡ Some edge → HasNumber numbers edge.source →
       HasNumber numbers edge.target
   next_numbered e edge at has =
-      let t = twin turned_ends edge_ends edges (graph_edges paths.graph.now) (sym ends) e edge at in
+      let t = twin reversed_ends edge_ends edges (graph_edges paths.graph.now) (sym ends) e edge at in
       subst (HasNumber numbers) (sym (ap (λ (p : ℕ × ℕ). p.0) t.same))
       (none_waits t.other.from (search.edges_met e t.other t.at
       (subst (HasNumber numbers) (ap (λ (p : ℕ × ℕ). p.1) t.same) has)))
@@ -171,7 +171,7 @@ module _ (edges : List NumberEdge) (states : ℕ) (paths : GoalPaths) (search : 
           (subst (λ (l : List Goal). slice_get l g ≡ Some begins.goal) goals begins.at)).1 in
           inl (sym begins.node ∙ zero_node)
       go (OverEdge number rest) begins e =
-          let t = twin edge_ends turned_ends (graph_edges paths.graph.now) edges ends number begins.edge begins.at in
+          let t = twin edge_ends reversed_ends (graph_edges paths.graph.now) edges ends number begins.edge begins.at in
           inr (t.other, ap (option_and_then (slice_get edges)) e ∙ t.at)
 
   -- the edges at the states
@@ -180,10 +180,6 @@ module _ (edges : List NumberEdge) (states : ℕ) (paths : GoalPaths) (search : 
   edge_at_state steps are n edge e =
       let within : n < states = omega (arith, slice_get_within steps n (Some edge) e, are.count) in
       let both : Some (last_edge_of edges paths n) ≡ Some (Some edge) = sym (are.each n within) ∙ e in cc
-
-get_last : {X : Type 0} (xs : List X) (x : X) → slice_get (xs ++ x ∷ []) (length xs) ≡ Some x
-get_last [] x = refl
-get_last (y ∷ xs) x = get_last xs x
 
 -- one edge more at the states
 pub last_edges_more : (edges : List NumberEdge) (paths : GoalPaths) (n : ℕ) (old new : List (Option NumberEdge)) →

@@ -11,15 +11,15 @@ use Rattle.lalrpop_lr1_theory.proofs.StepLemmas.{some_same}
 use Rattle.lalrpop_lr1_first.specs.FirstSetsOf.{IsProductionOf}
 use Rattle.lalrpop_lr1_first.specs.NumberedGrammars.{IsNumberTableOf}
 use Rattle.lalrpop_lr1_first.specs.declared.numbered.Numbered.{Numbered}
-use Rattle.lalrpop_lr1_first.proofs.ListLemmas.{cases_eq}
+use Rattle.lalrpop_sets.proofs.WordLemmas.{cases_eq}
 use Rattle.lalrpop_lr1_paths.specs.GraphPaths.{EdgesAreBelow}
 use Rattle.lalrpop_lr1_paths.specs.declared.graph_paths.graph.Edge.{Edge}
 use Rattle.lalrpop_lr1_least_trees.specs.RestForests.{HasRest, NoLeaves}
-use Rattle.lalrpop_lr1_paths.specs.OutSteps.{AreEmptyEdges, AreListedEdges, AreStepEdges, HasEdgeFor, IsListedEdge, IsStepEdge}
-use Rattle.lalrpop_lr1_paths.specs.OutSteps.{LeadsAsStep, StepsAreBelow, step_rest}
+use Rattle.lalrpop_lr1_paths.specs.CompletionSteps.{AreEmptyEdges, AreListedEdges, AreStepEdges, HasEdgeFor, IsListedEdge, IsStepEdge}
+use Rattle.lalrpop_lr1_paths.specs.CompletionSteps.{LeadsAsStep, StepsAreBelow, step_rest}
 use Rattle.lalrpop_lr1_paths.specs.EmptySteps.{ListsStep}
-use Rattle.lalrpop_lr1_paths.specs.declared.completion_steps.out_steps.OutStep.{OutStep}
-use Rattle.lalrpop_lr1_paths.specs.declared.completion_steps.out_graphs.ListedSteps.{ListedSteps}
+use Rattle.lalrpop_lr1_paths.specs.declared.completion_steps.steps_of_states.CompletionStep.{CompletionStep}
+use Rattle.lalrpop_lr1_paths.specs.declared.completion_steps.completion_graphs.ListedSteps.{ListedSteps}
 use Rattle.lalrpop_lr1_paths.proofs.ListLemmas.{at_end}
 
 -- no edges of no steps
@@ -28,7 +28,7 @@ no_step_edges =
     record { sound = λ e edge f. let z : ⊥ = cc in absurd z; all = λ k step f. let z : ⊥ = cc in absurd z }
 
 -- the edges of some steps, and that of one more
-pub step_edges_more : (steps : List OutStep) (edges : List Edge) (step : OutStep) (edge : Edge) → length edges ≡ length steps →
+pub step_edges_more : (steps : List CompletionStep) (edges : List Edge) (step : CompletionStep) (edge : Edge) → length edges ≡ length steps →
     AreStepEdges steps edges → LeadsAsStep step edge → AreStepEdges (steps ++ step ∷ []) (edges ++ edge ∷ [])
 step_edges_more steps edges step edge long are leads =
     record {
@@ -49,49 +49,49 @@ step_edges_more steps edges step edge long are leads =
           leads = subst (LeadsAsStep step) same leads;
         }
 
-    kept : (k : ℕ) (other : OutStep) → (there : Edge) × (slice_get edges k ≡ Some there) × LeadsAsStep other there →
+    kept : (k : ℕ) (other : CompletionStep) → (there : Edge) × (slice_get edges k ≡ Some there) × LeadsAsStep other there →
         (there : Edge) × (slice_get (edges ++ edge ∷ []) k ≡ Some there) × LeadsAsStep other there
     kept k other r = (r.0, get_front edges (edge ∷ []) k r.0 r.1, r.2)
 
-    new : (k : ℕ) (other : OutStep) → k ≡ length steps → step ≡ other →
+    new : (k : ℕ) (other : CompletionStep) → k ≡ length steps → step ≡ other →
         (there : Edge) × (slice_get (edges ++ edge ∷ []) k ≡ Some there) × LeadsAsStep other there
     new k other at same = (
       edge,
       subst (λ j. slice_get (edges ++ edge ∷ []) j ≡ Some edge) (long ∙ sym at) (at_end edges edge),
-      subst (λ (s : OutStep). LeadsAsStep s edge) same leads,
+      subst (λ (s : CompletionStep). LeadsAsStep s edge) same leads,
     )
 
 -- edges lead between nodes, as steps do
-leads_below : (nodes : ℕ) (step : OutStep) (edge : Edge) → LeadsAsStep step edge → (step.from < nodes) × (step.to < nodes) →
+leads_below : (nodes : ℕ) (step : CompletionStep) (edge : Edge) → LeadsAsStep step edge → (step.from < nodes) × (step.to < nodes) →
     (edge.from < nodes) × (edge.to < nodes)
 leads_below nodes step edge leads below = (omega (arith, leads.0, below.0), omega (arith, leads.1, below.1))
 
 -- where steps lead between nodes below a count, so do their edges
-pub step_edges_below : (nodes : ℕ) (steps : List OutStep) (edges : List Edge) → StepsAreBelow nodes steps →
+pub step_edges_below : (nodes : ℕ) (steps : List CompletionStep) (edges : List Edge) → StepsAreBelow nodes steps →
     AreStepEdges steps edges → EdgesAreBelow nodes edges
 step_edges_below nodes steps edges below are e edge f =
     let r = are.sound e edge f in leads_below nodes r.step edge r.leads (below e r.step r.at_step)
 
 -- where steps lead between nodes below a count, so do the edges of those that are listed
-pub listed_edges_below : (nodes : ℕ) (steps : List OutStep) (numbers : List ℕ) (edges : List Edge) → StepsAreBelow nodes steps →
+pub listed_edges_below : (nodes : ℕ) (steps : List CompletionStep) (numbers : List ℕ) (edges : List Edge) → StepsAreBelow nodes steps →
     AreListedEdges steps numbers edges → EdgesAreBelow nodes edges
 listed_edges_below nodes steps numbers edges below are e edge f =
     let r = (are e edge f).is in leads_below nodes r.step edge r.leads (below (are e edge f).number r.step r.at_step)
 
 -- there are as many numbers as edges, and each edge is for the step whose number is listed at its place
-pub record AreListedSteps (steps : List OutStep) (it : ListedSteps) : Type 0 where
+pub record AreListedSteps (steps : List CompletionStep) (it : ListedSteps) : Type 0 where
   pub long : length it.numbers.items ≡ length it.edges.items
   pub each : AreListedEdges steps it.numbers.items it.edges.items
 
 -- of the first steps, up to a number, those were listed behind whose nonterminals nothing may come
-pub record AreFirstEmpty (G : theory.Production → Type 0) (steps : List OutStep) (n : ℕ) (it : ListedSteps) : Type 0 where
-  pub sound : (e number : ℕ) (step : OutStep) → slice_get it.numbers.items e ≡ Some number →
+pub record AreFirstEmpty (G : theory.Production → Type 0) (steps : List CompletionStep) (n : ℕ) (it : ListedSteps) : Type 0 where
+  pub sound : (e number : ℕ) (step : CompletionStep) → slice_get it.numbers.items e ≡ Some number →
       slice_get steps number ≡ Some step →
       HasRest G (step_rest step) NoLeaves
-  pub all : (k : ℕ) (step : OutStep) → k < n → slice_get steps k ≡ Some step → HasRest G (step_rest step) NoLeaves →
+  pub all : (k : ℕ) (step : CompletionStep) → k < n → slice_get steps k ≡ Some step → HasRest G (step_rest step) NoLeaves →
       HasEdgeFor it.edges.items step
 
-module _ (table : Numbered) (steps : List OutStep) (n : ℕ) (step : OutStep) (at : slice_get steps n ≡ Some step)
+module _ (table : Numbered) (steps : List CompletionStep) (n : ℕ) (step : CompletionStep) (at : slice_get steps n ≡ Some step)
     (old new : ListedSteps) where
   -- one more step was listed or passed
   pub listed_more : ListsStep table step n old new → AreListedSteps steps old → AreListedSteps steps new
@@ -132,7 +132,7 @@ module _ (table : Numbered) (steps : List OutStep) (n : ℕ) (step : OutStep) (a
   module _ (g : Grammar) (of : IsNumberTableOf g table) where
     -- the steps before the number have edges, as far as nothing may come there
     abbrev HaveEdges : List Edge → ℕ → Type 0
-    HaveEdges edges m = (k : ℕ) (other : OutStep) → k < m → slice_get steps k ≡ Some other →
+    HaveEdges edges m = (k : ℕ) (other : CompletionStep) → k < m → slice_get steps k ≡ Some other →
         HasRest (IsProductionOf g) (step_rest other) NoLeaves → HasEdgeFor edges other
 
     one_more : (edges : List Edge) → HaveEdges edges n →
@@ -143,7 +143,7 @@ module _ (table : Numbered) (steps : List OutStep) (n : ℕ) (step : OutStep) (a
         same e =
             let one : step ≡ other = some_same step other (sym at ∙ ap (slice_get steps) (sym e) ∙ there) in
             subst (HasEdgeFor edges) one
-            (here (subst (λ (s : OutStep). HasRest (IsProductionOf g) (step_rest s) NoLeaves) (sym one) rest))
+            (here (subst (λ (s : CompletionStep). HasRest (IsProductionOf g) (step_rest s) NoLeaves) (sym one) rest))
 
         less : (k ≡ n → ⊥) → HasEdgeFor edges other
         less e = all k other (omega (arith, e, below)) there rest
@@ -174,7 +174,7 @@ module _ (table : Numbered) (steps : List OutStep) (n : ℕ) (step : OutStep) (a
             slice_get new.edges.items e ≡ Some edge
         edge_at e edge f = subst (λ l. slice_get l e ≡ Some edge) (sym listed.edges) f
 
-        kept : (other : OutStep) → HasEdgeFor old.edges.items other → HasEdgeFor new.edges.items other
+        kept : (other : CompletionStep) → HasEdgeFor old.edges.items other → HasEdgeFor new.edges.items other
         kept other has =
             record {
               number = has.number;
@@ -183,14 +183,14 @@ module _ (table : Numbered) (steps : List OutStep) (n : ℕ) (step : OutStep) (a
               leads = has.leads;
             }
 
-        last : (number : ℕ) (other : OutStep) → n ≡ number → slice_get steps number ≡ Some other →
+        last : (number : ℕ) (other : CompletionStep) → n ≡ number → slice_get steps number ≡ Some other →
             HasRest (IsProductionOf g) (step_rest other) NoLeaves
         last number other e there =
             let one : step ≡ other = some_same step other (sym at ∙ ap (slice_get steps) e ∙ there) in
-            subst (λ (s : OutStep). HasRest (IsProductionOf g) (step_rest s) NoLeaves) one (listed.empty g of)
+            subst (λ (s : CompletionStep). HasRest (IsProductionOf g) (step_rest s) NoLeaves) one (listed.empty g of)
 
 -- all steps were gone through
-pub all_empty : (G : theory.Production → Type 0) (steps : List OutStep) (n : ℕ) (it : ListedSteps) → length steps ≤ n →
+pub all_empty : (G : theory.Production → Type 0) (steps : List CompletionStep) (n : ℕ) (it : ListedSteps) → length steps ≤ n →
     AreFirstEmpty G steps n it → AreEmptyEdges G steps it.numbers.items it.edges.items
 all_empty G steps n it long are =
     record {

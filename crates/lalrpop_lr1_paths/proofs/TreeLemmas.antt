@@ -30,7 +30,7 @@ use Rattle.lalrpop_lr1_paths.specs.declared.state_paths.path_edges.NumberEdge.{N
 use Rattle.lalrpop_lr1_paths.specs.declared.state_paths.state_paths.StatePaths.{StatePaths}
 use Rattle.lalrpop_lr1_paths.specs.NumberEdges.{number_edges}
 use Rattle.lalrpop_lr1_paths.specs.PathTables.{AreReachedStates, AreStatePaths, last_edge_at, last_steps}
-use Rattle.lalrpop_lr1_paths.specs.TurnedGraphs.{AreLastEdges, edge_ends, last_edge_of, start_goals, turned_ends}
+use Rattle.lalrpop_lr1_paths.specs.ReversedGraphs.{AreLastEdges, edge_ends, last_edge_of, start_goals, reversed_ends}
 use Rattle.lalrpop_lr1_paths.proofs.EdgeLemmas.{IsNumberEdge, edges_within, number_edges_are}
 use Rattle.lalrpop_lr1_paths.proofs.StateSearchLemmas.{edge_at_state, first_numbered, first_or_edge, next_numbered, rank_falls, rank_of}
 use Rattle.lalrpop_lr1_paths.proofs.StateSearchLemmas.{searched_edge}
@@ -50,7 +50,7 @@ symbol_seen table s x e =
 
 module _ {L : Type 0} (it : StatePaths) (trees : AreLeastTrees it.trees.now) (all : List (State L)) (edges : List NumberEdge)
     (edges_are : edges ≡ flat_map (number_edges it.trees.now (length all)) (edges_of all)) (paths : GoalPaths)
-    (search : AreGoalPaths paths) (ends : map edge_ends (graph_edges paths.graph.now) ≡ map turned_ends edges)
+    (search : AreGoalPaths paths) (ends : map edge_ends (graph_edges paths.graph.now) ≡ map reversed_ends edges)
     (goals : paths.goals.now ≡ start_goals (length all)) (steps_are : AreLastEdges edges paths (length all) it.steps.items) where
   abbrev at : ℕ → Option theory.Symbol
   at = symbols_by it.trees.now.table

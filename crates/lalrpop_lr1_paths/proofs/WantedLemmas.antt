@@ -10,7 +10,6 @@ use Rattle.lalrpop_grammar_symbols.specs.Symbols.{Terminal}
 use Rattle.lalrpop_grammar_symbols.specs.Views.{terminal_view}
 use Rattle.lalrpop_grammar_symbols.specs.declared.terminal.TerminalString.{TerminalString}
 use Rattle.lalrpop_grammar_repr.specs.declared.grammar.Grammar.{Grammar}
-use Rattle.lalrpop_lr1_theory.proofs.PlaceLemmas.{slice_get-append}
 use Rattle.lalrpop_lr1_theory.proofs.StepLemmas.{some_same}
 use Rattle.lalrpop_lr1_first.specs.FirstSetsOf.{IsProductionOf}
 use Rattle.lalrpop_lr1_first.specs.NumberedGrammars.{IsNumberTableOf}
@@ -22,12 +21,13 @@ use Rattle.lalrpop_lr1_paths.specs.declared.graph_paths.graph.Goal.{Goal}
 use Rattle.lalrpop_lr1_least_trees.specs.GrammarTrees.{symbols_by}
 use Rattle.lalrpop_lr1_least_trees.specs.declared.least_trees.LeastTrees.{LeastTrees}
 use Rattle.lalrpop_lr1_least_trees.specs.RestForests.{BeginsWith, HasRest}
-use Rattle.lalrpop_lr1_paths.specs.OutSteps.{step_rest}
-use Rattle.lalrpop_lr1_paths.specs.declared.completion_steps.out_steps.OutStep.{OutStep}
-use Rattle.lalrpop_lr1_paths.specs.OutSearches.{AreWantedSteps, HasAnyPath, IsAnyOut, IsBeginGoal}
+use Rattle.lalrpop_lr1_paths.specs.CompletionSteps.{step_rest}
+use Rattle.lalrpop_lr1_paths.specs.declared.completion_steps.steps_of_states.CompletionStep.{CompletionStep}
+use Rattle.lalrpop_lr1_paths.specs.CompletionSearches.{AreWantedSteps, HasAnyPath, IsAnyCompletion, IsBeginGoal}
 use Rattle.lalrpop_lr1_paths.specs.WantedGoals.{AddsBegin, AreBeginGoals, AreGoalsOf}
-use Rattle.lalrpop_lr1_paths.specs.declared.completions.any_out.AnyOut.{AnyOut}
+use Rattle.lalrpop_lr1_paths.specs.declared.completions.any_completion.AnyCompletion.{AnyCompletion}
 use Rattle.lalrpop_lr1_paths.specs.declared.completions.wanted_steps.BeginGoals.{BeginGoals}
+use Rattle.lalrpop_lr1_theory.proofs.ListLemmas.{get_last}
 
 -- an element of a longer list: of the first part, or the last
 pub get_more : {X : Type 0} (xs : List X) (y : X) (k : ℕ) (x : X) → slice_get (xs ++ y ∷ []) k ≡ Some x →
@@ -47,10 +47,7 @@ get_kept [] ys k x e = let z : ⊥ = cc in absurd z
 get_kept (a ∷ xs) ys zero x e = e
 get_kept (a ∷ xs) ys (suc k) x e = get_kept xs ys k x e
 
-pub get_last : {X : Type 0} (xs : List X) (y : X) → slice_get (xs ++ y ∷ []) (length xs) ≡ Some y
-get_last xs y = slice_get-append xs (y ∷ []) 0 (length xs) (omega arith)
-
-module _ (any : AnyOut) (table : Numbered) (t : Terminal) (all : List OutStep) where
+module _ (any : AnyCompletion) (table : Numbered) (t : Terminal) (all : List CompletionStep) where
   pub no_goals : AreGoalsOf any table t all [] [] 0
   no_goals =
       record {
@@ -60,16 +57,16 @@ module _ (any : AnyOut) (table : Numbered) (t : Terminal) (all : List OutStep) w
         every = λ g of number step less at begins there. absurd (omega (arith, less));
       }
 
-  abbrev Every : Grammar → List Goal → ℕ → OutStep → Type 0
+  abbrev Every : Grammar → List Goal → ℕ → CompletionStep → Type 0
   Every g goals number step =
       HasRest (IsProductionOf g) (step_rest step) (BeginsWith t) → HasAnyPath any step.to →
       (k : ℕ) × (goal : Goal) × (slice_get goals k ≡ Some goal) × (goal.node ≡ step.from)
 
   -- one step was looked at
-  pub goal_turn : (i : ℕ) (step : OutStep) → slice_get all i ≡ Some step → (old new : BeginGoals) →
+  pub goal_reversed : (i : ℕ) (step : CompletionStep) → slice_get all i ≡ Some step → (old new : BeginGoals) →
       AreGoalsOf any table t all old.numbers.items old.goals.items i → AddsBegin any table t step i old new →
       AreGoalsOf any table t all new.numbers.items new.goals.items (i + 1)
-  goal_turn i step at old new are (inr passed) =
+  goal_reversed i step at old new are (inr passed) =
       subst (λ (f : BeginGoals). AreGoalsOf any table t all f.numbers.items f.goals.items (i + 1)) (sym passed.same)
       (record {
         long = are.long;
@@ -79,7 +76,7 @@ module _ (any : AnyOut) (table : Numbered) (t : Terminal) (all : List OutStep) w
             go g of number other less there begins onward (cases_lt number i);
       })
     where
-      go : (g : Grammar) → IsNumberTableOf g table → (number : ℕ) (other : OutStep) → number < i + 1 →
+      go : (g : Grammar) → IsNumberTableOf g table → (number : ℕ) (other : CompletionStep) → number < i + 1 →
           slice_get all number ≡ Some other →
           HasRest (IsProductionOf g) (step_rest other) (BeginsWith t) → HasAnyPath any other.to → (number < i) ⊎ (i ≤ number) →
           (k : ℕ) × (goal : Goal) × (slice_get old.goals.items k ≡ Some goal) × (goal.node ≡ other.from)
@@ -87,9 +84,9 @@ module _ (any : AnyOut) (table : Numbered) (t : Terminal) (all : List OutStep) w
       go g of number other less there begins onward (inr h) =
           let same : number ≡ i = omega (arith, less, h) in
           let one : other ≡ step = some_same other step (sym there ∙ ap (slice_get all) same ∙ at) in
-          absurd (passed.never g of (subst (λ (s : OutStep). HasAnyPath any s.to) one onward) begins.trees begins.over
+          absurd (passed.never g of (subst (λ (s : CompletionStep). HasAnyPath any s.to) one onward) begins.trees begins.over
           (begins.roots_are ∙ ap step_rest one) begins.wanted)
-  goal_turn i step at old new are (inl added) =
+  goal_reversed i step at old new are (inl added) =
       record {
         long = ap length added.numbers ∙ length-append old.numbers.items (i ∷ []) ∙ ap (λ n. n + 1) are.long
             ∙ sym (length-append old.goals.items (added.goal ∷ [])) ∙ sym (ap length added.goals);
@@ -129,7 +126,7 @@ module _ (any : AnyOut) (table : Numbered) (t : Terminal) (all : List OutStep) w
             onward = added.onward;
           }
 
-      begun : (g : Grammar) → IsNumberTableOf g table → (k number : ℕ) (other : OutStep) → slice_get all number ≡ Some other →
+      begun : (g : Grammar) → IsNumberTableOf g table → (k number : ℕ) (other : CompletionStep) → slice_get all number ≡ Some other →
           (slice_get old.numbers.items k ≡ Some number) ⊎ ((k ≡ length old.numbers.items) × (i ≡ number)) →
           HasRest (IsProductionOf g) (step_rest other) (BeginsWith t)
       begun g of k number other there (inl h) = are.begins g of k number other h there
@@ -137,7 +134,7 @@ module _ (any : AnyOut) (table : Numbered) (t : Terminal) (all : List OutStep) w
           let one : step ≡ other = some_same step other (sym at ∙ ap (slice_get all) h.1 ∙ there) in
           subst (λ s. HasRest (IsProductionOf g) (step_rest s) (BeginsWith t)) one (added.begins g of)
 
-      go : (g : Grammar) → IsNumberTableOf g table → (number : ℕ) (other : OutStep) → number < i + 1 →
+      go : (g : Grammar) → IsNumberTableOf g table → (number : ℕ) (other : CompletionStep) → number < i + 1 →
           slice_get all number ≡ Some other →
           HasRest (IsProductionOf g) (step_rest other) (BeginsWith t) → HasAnyPath any other.to → (number < i) ⊎ (i ≤ number) →
           (k : ℕ) × (goal : Goal) × (slice_get new.goals.items k ≡ Some goal) × (goal.node ≡ other.from)
@@ -154,12 +151,12 @@ module _ (any : AnyOut) (table : Numbered) (t : Terminal) (all : List OutStep) w
             length old.goals.items,
             added.goal,
             subst (λ l. slice_get l (length old.goals.items) ≡ Some added.goal) (sym added.goals) (get_last old.goals.items added.goal),
-            added.node ∙ ap (λ (s : OutStep). s.from) one,
+            added.node ∙ ap (λ (s : CompletionStep). s.from) one,
           )
 
 -- what is made of them
-pub steps_made : (any : Bor AnyOut) (terminal : TerminalString) (begins : BeginTrees) (found : BeginGoals) (trees : LeastTrees) →
-    IsAnyOut any.now → AreBeginTrees begins → begins.trees.now ≡ trees → trees ≡ any.now.ways.now.paths.now.trees.now →
+pub steps_made : (any : Bor AnyCompletion) (terminal : TerminalString) (begins : BeginTrees) (found : BeginGoals) (trees : LeastTrees) →
+    IsAnyCompletion any.now → AreBeginTrees begins → begins.trees.now ≡ trees → trees ≡ any.now.ways.now.paths.now.trees.now →
     IsWanted (symbols_by trees.table) (terminal_view terminal) begins.wanted →
     AreBeginGoals any.now begins.trees.now.table (terminal_view terminal) found →
     AreWantedSteps (record { any = any; terminal = terminal; begins = begins; numbers = found.numbers; goals = found.goals })

@@ -1,4 +1,4 @@
--- Ways out on which a terminal comes next, from the steps with whose trees it does: for the answers of the calls.
+-- Completions on which a terminal comes next, from the steps with whose trees it does: for the answers of the calls.
 use Rattle.std.proofs.Common.{◌≡◌, ◌∙◌, ℕ, ◌<◌, Bool, true, false, List, [], ◌∷◌, ◌++◌, map, Some}
 use Rattle.std.proofs.Common.{length, sym, ap, subst, append_assoc, arith}
 use Rattle.std.specs.Prelude.{slice_get}
@@ -23,21 +23,21 @@ use Rattle.lalrpop_lr1_paths.specs.declared.graph_paths.paths.GoalPath.{GoalPath
 use Rattle.lalrpop_lr1_least_trees.specs.GrammarTrees.{symbols_by}
 use Rattle.lalrpop_lr1_least_trees.specs.MoveViews.{tree_move_view}
 use Rattle.lalrpop_lr1_least_trees.specs.declared.tree_move.TreeMove.{TreeMove}
-use Rattle.lalrpop_lr1_theory.specs.OutwardMoves.{arrives}
+use Rattle.lalrpop_lr1_theory.specs.CompletionMoves.{arrives}
 use Rattle.lalrpop_lr1_least_trees.specs.RestForests.{AnyLeaves, BeginsWith, HasRest}
 use Rattle.lalrpop_lr1_paths.specs.PathTables.{last_steps}
-use Rattle.lalrpop_lr1_paths.specs.OutGraphs.{AreOutGraphs, AreWaysOut, ways_table}
-use Rattle.lalrpop_lr1_paths.specs.OutSteps.{IsOutNode, IsOutStep, step_production, step_rest}
-use Rattle.lalrpop_lr1_paths.specs.declared.completion_steps.out_graphs.OutGraphs.{OutGraphs}
-use Rattle.lalrpop_lr1_paths.specs.declared.completion_steps.out_steps.OutStep.{OutStep}
+use Rattle.lalrpop_lr1_paths.specs.CompletionGraphs.{AreCompletionGraphs, AreCompletions, ways_table}
+use Rattle.lalrpop_lr1_paths.specs.CompletionSteps.{IsCompletionNode, IsCompletionStep, step_production, step_rest}
+use Rattle.lalrpop_lr1_paths.specs.declared.completion_steps.completion_graphs.CompletionGraphs.{CompletionGraphs}
+use Rattle.lalrpop_lr1_paths.specs.declared.completion_steps.steps_of_states.CompletionStep.{CompletionStep}
 use Rattle.lalrpop_lr1_paths.proofs.NodeLemmas.{node_one}
 use Rattle.lalrpop_lr1_paths.proofs.OutwardStepLemmas.{step_out}
 use Rattle.lalrpop_lr1_paths.proofs.CompletionSearchLemmas.{wanted_path}
-use Rattle.lalrpop_lr1_paths.specs.OutSearches.{AreWantedSteps, HasAnyPath, IsAnyOut, IsPathFrom, IsWantedOut}
+use Rattle.lalrpop_lr1_paths.specs.CompletionSearches.{AreWantedSteps, HasAnyPath, IsAnyCompletion, IsPathFrom, IsWantedCompletion}
 use Rattle.lalrpop_lr1_paths.specs.StepMoves.{AddsSoFar, AddsStep, AddsStepIf, AddsWay, AddsWayIf, IsNodeIn, LeadsBy}
 use Rattle.lalrpop_lr1_paths.specs.StepMoves.{step_edges}
-use Rattle.lalrpop_lr1_paths.specs.declared.completions.any_out.AnyOut.{AnyOut}
-use Rattle.lalrpop_lr1_paths.specs.declared.completions.wanted_out.WantedOut.{WantedOut}
+use Rattle.lalrpop_lr1_paths.specs.declared.completions.any_completion.AnyCompletion.{AnyCompletion}
+use Rattle.lalrpop_lr1_paths.specs.declared.completions.wanted_completion.WantedCompletion.{WantedCompletion}
 use Rattle.lalrpop_lr1_paths.specs.declared.completions.wanted_steps.WantedSteps.{WantedSteps}
 use Rattle.lalrpop_lr1_paths.proofs.AlongLemmas.{all_added}
 use Rattle.lalrpop_lr1_paths.proofs.WayLemmas.{any_there, number_once}
@@ -47,14 +47,14 @@ begins_on : (t : Terminal) (a w : List Terminal) → first a ≡ Some t → firs
 begins_on t [] w e = let z : ⊥ = cc in absurd z
 begins_on t (u ∷ a) w e = e
 
--- a path of the search for any ways out is one in the graph of all steps, and back
-pub path_of : (it : AnyOut) → IsAnyOut it → (node : ℕ) → HasAnyPath it node →
+-- a path of the search for any completions is one in the graph of all steps, and back
+pub path_of : (it : AnyCompletion) → IsAnyCompletion it → (node : ℕ) → HasAnyPath it node →
     HasPathToGoal (step_edges it.ways.now true) it.ways.now.goals.items node
 path_of it is node h =
     subst (λ l. HasPathToGoal l it.ways.now.goals.items node) (ap graph_edges is.graph)
     (subst (λ l. HasPathToGoal (graph_edges it.found.graph.now) l node) is.goals h)
 
-pub path_back : (it : AnyOut) → IsAnyOut it → (node : ℕ) →
+pub path_back : (it : AnyCompletion) → IsAnyCompletion it → (node : ℕ) →
     HasPathToGoal (step_edges it.ways.now true) it.ways.now.goals.items node →
     HasAnyPath it node
 path_back it is node h =
@@ -62,7 +62,7 @@ path_back it is node h =
     (subst (λ l. HasPathToGoal l it.ways.now.goals.items node) (sym (ap graph_edges is.graph)) h)
 
 -- where there is a path moves lead out
-module _ (it : OutGraphs) (graphs : AreOutGraphs it) (g : Grammar) (s : Text) (states : List State) (are : AreWaysOut g s states it)
+module _ (it : CompletionGraphs) (graphs : AreCompletionGraphs it) (g : Grammar) (s : Text) (states : List State) (are : AreCompletions g s states it)
   where
     pub path_leads : (node : ℕ) (es : List ℕ) (goal : ℕ) → IsPathTo (step_edges it true) it.goals.items node es goal →
         (n : ℕ) (B : Text) →
@@ -94,15 +94,15 @@ path_goal : (edges : List Edge) (goals : List Goal) (node : ℕ) (es : List ℕ)
 path_goal edges goals node es goal (ends k l entry at here) = (entry, at)
 path_goal edges goals node es goal (goes_on k e edge rest l at from path) = path_goal edges goals edge.to rest l path
 
--- a path of the search for ways out on which the terminal comes is one in the graph of empty steps
-pub wanted_from : (out : WantedOut) → IsWantedOut out → (node : ℕ) (path : GoalPath) → IsPathFrom out.found node path →
+-- a path of the search for completions on which the terminal comes is one in the graph of empty steps
+pub wanted_from : (out : WantedCompletion) → IsWantedCompletion out → (node : ℕ) (path : GoalPath) → IsPathFrom out.found node path →
     IsPathTo (step_edges out.steps.now.any.now.ways.now false) out.steps.now.goals.items node path.edges.items path.goal
 wanted_from out is node path h =
     subst (λ l. IsPathTo l out.steps.now.goals.items node path.edges.items path.goal) (ap graph_edges is.graph)
     (subst (λ l. IsPathTo (graph_edges out.found.graph.now) l node path.edges.items path.goal) is.goals h)
 
 module _ (it : WantedSteps) (are : AreWantedSteps it) where
-  abbrev ways : OutGraphs
+  abbrev ways : CompletionGraphs
   ways = it.any.now.ways.now
 
   abbrev t : Terminal
@@ -119,7 +119,7 @@ module _ (it : WantedSteps) (are : AreWantedSteps it) where
   -- the step at the goal where a path ends
   pub record IsGoalStep (goal : ℕ) : Type 0 where
     pub number : ℕ
-    pub step : OutStep
+    pub step : CompletionStep
     pub listed : slice_get it.numbers.items goal ≡ Some number
     pub at_step : slice_get ways.steps.items number ≡ Some step
     pub within : number < length ways.steps.items
@@ -146,8 +146,8 @@ module _ (it : WantedSteps) (are : AreWantedSteps it) where
   path_step node es goal path = let e = path_goal (step_edges ways false) it.goals.items node es goal path in goal_step goal e.0 e.1
 
   -- it is the one that is read
-  pub step_is : (goal : ℕ) (h : IsGoalStep goal) (numbers : List ℕ) (steps : List OutStep) → numbers ≡ it.numbers.items →
-      steps ≡ ways.steps.items → (number : ℕ) (step : OutStep) → slice_get numbers goal ≡ Some number →
+  pub step_is : (goal : ℕ) (h : IsGoalStep goal) (numbers : List ℕ) (steps : List CompletionStep) → numbers ≡ it.numbers.items →
+      steps ≡ ways.steps.items → (number : ℕ) (step : CompletionStep) → slice_get numbers goal ≡ Some number →
       slice_get steps number ≡ Some step → h.step ≡ step
   step_is goal h numbers steps numbers_are steps_are number step at at_step =
       let same : h.number ≡ number =
@@ -160,34 +160,34 @@ module _ (it : WantedSteps) (are : AreWantedSteps it) where
   number_is goal h numbers numbers_are number at =
       some_same h.number number (sym h.listed ∙ ap (λ l. slice_get l goal) (sym numbers_are) ∙ at)
 
-  module _ (goal : ℕ) (h : IsGoalStep goal) (step : OutStep) (same : h.step ≡ step) where
+  module _ (goal : ℕ) (h : IsGoalStep goal) (step : CompletionStep) (same : h.step ≡ step) where
     abbrev table : Numbered
     table = it.begins.trees.now.table
 
     table_same : table ≡ ways_table ways
     table_same = ap (λ t. t.table) are.trees
 
-    of_table : (g : Grammar) (s : Text) (states : List State) → AreWaysOut g s states ways → IsNumberTableOf g table
+    of_table : (g : Grammar) (s : Text) (states : List State) → AreCompletions g s states ways → IsNumberTableOf g table
     of_table g s states w = subst (IsNumberTableOf g) (sym table_same) w.of
 
     -- it has moves
     pub begin_there : (old new : List TreeMove) → AddsStepIf table (BeginsWith t) step old new false → (g : Grammar) (s : Text)
-        (states : List State) → AreWaysOut g s states ways → ⊥
+        (states : List State) → AreCompletions g s states ways → ⊥
     begin_there old new none g s states w =
         let rest = subst (λ x. HasRest (IsProductionOf g) (step_rest x) (BeginsWith t)) same
         (are.begin g w.of goal h.number h.step h.listed h.at_step) in
         none g (of_table g s states w) rest.trees rest.over rest.roots_are rest.wanted
 
-    its : (g : Grammar) (s : Text) (states : List State) → AreWaysOut g s states ways →
-        IsOutStep (IsProductionOf g) states (last_steps ways.paths.now) (symbols_by (ways_table ways)) (name_count (ways_table ways)) step
+    its : (g : Grammar) (s : Text) (states : List State) → AreCompletions g s states ways →
+        IsCompletionStep (IsProductionOf g) states (last_steps ways.paths.now) (symbols_by (ways_table ways)) (name_count (ways_table ways)) step
     its g s states w = w.steps.sound h.number step (subst (λ x. slice_get ways.steps.items h.number ≡ Some x) same h.at_step)
 
     -- from its end a way leads on
     pub onward_there : (old new : List TreeMove) → AddsWayIf ways step.to AnyLeaves old new false → (g : Grammar) (s : Text)
-        (states : List State) → AreWaysOut g s states ways → ⊥
+        (states : List State) → AreCompletions g s states ways → ⊥
     onward_there old new none g s states w =
         let is = its g s states w in
-        let onward = subst (λ (x : OutStep). HasAnyPath it.any.now x.to) same h.onward in
+        let onward = subst (λ (x : CompletionStep). HasAnyPath it.any.now x.to) same h.onward in
         let path = path_of it.any.now are.any step.to onward in
         let out = path_leads ways are.any.graphs g s states w step.to path.edges_of path.goal path.is is.before (step_production step).left
         is.to in
@@ -206,13 +206,13 @@ module _ (it : WantedSteps) (are : AreWantedSteps it) where
                 ∙ append_assoc old (so.added ++ adds.added) way.added;
             leads = λ g s states w n B at.
                 let e = all_added ways false es old middle so g s states w it.goals.items node goal path n B at in
-                let from : e.entry.node ≡ step.from = h.node e.entry e.at ∙ ap (λ (x : OutStep). x.from) same in
+                let from : e.entry.node ≡ step.from = h.node e.entry e.at ∙ ap (λ (x : CompletionStep). x.from) same in
                 let is = its g s states w in
                 let ms = adds.moves g (of_table g s states w) in
                 let on = way.leads g s states w is.before (step_production step).left is.to in
                 let inner = step_out (IsProductionOf g) s states (last_steps ways.paths.now) (symbols_by (ways_table ways))
                 (name_count (ways_table ways)) step is e.along.state e.along.name
-                (subst (λ k. IsOutNode (symbols_by (ways_table ways)) (name_count (ways_table ways)) k e.along.state e.along.name) from
+                (subst (λ k. IsCompletionNode (symbols_by (ways_table ways)) (name_count (ways_table ways)) k e.along.state e.along.name) from
                 e.along.node) ms.rest.trees ms.rest.over ms.rest.roots_are (map tree_move_view way.added) on.left on.leads in
                 let whole = e.along.leads (moves ms.rest.trees ++ reduce (step_production step) ∷ map tree_move_view way.added)
                 (yield ms.rest.trees ++ on.left) inner in
@@ -233,7 +233,7 @@ module _ (it : WantedSteps) (are : AreWantedSteps it) where
               ∙ ap (λ l. l ++ map tree_move_view c) (sym (map-append tree_move_view a b))
               ∙ sym (map-append tree_move_view (a ++ b) c)
 
-      -- they are added, or there is no way out
+      -- they are added, or there is no completion
       pub told_by : (old middle more new : List TreeMove) → AddsSoFar ways false es [] old middle →
           AddsStep table (BeginsWith t) step middle more → (yes : Bool) → AddsWayIf ways step.to AnyLeaves more new yes →
           AddsWayIf ways node (BeginsWith t) old new yes
@@ -242,7 +242,7 @@ module _ (it : WantedSteps) (are : AreWantedSteps it) where
           onward_there more new none g s states w
 
   -- where moves lead out on which the terminal comes next there is a path
-  pub wanted_there : (g : Grammar) (s : Text) (states : List State) → AreWaysOut g s states ways → (n : ℕ) (B : Text) (ms : List Move)
+  pub wanted_there : (g : Grammar) (s : Text) (states : List State) → AreCompletions g s states ways → (n : ℕ) (B : Text) (ms : List Move)
       (w : List Terminal) → LeadsBy g s states ways n B ms w → BeginsWith t w → (node : ℕ) → IsNodeIn g s states ways node n B →
       HasPathToGoal (step_edges ways false) it.goals.items node
   wanted_there g s states w n B ms left out begins node at =
@@ -250,9 +250,9 @@ module _ (it : WantedSteps) (are : AreWantedSteps it) where
       ways.steps.items w.steps (number_once ways g s states w) ways.empties.items (step_edges ways false) w.empty t it.goals.items goals n B
       ms left out begins node at
     where
-      goals : (k : ℕ) (step : OutStep) → slice_get ways.steps.items k ≡ Some step →
+      goals : (k : ℕ) (step : CompletionStep) → slice_get ways.steps.items k ≡ Some step →
           HasRest (IsProductionOf g) (step_rest step) (BeginsWith t) → (m : ℕ) (ns : List Move) (v : List Terminal) →
-          IsOutNode (symbols_by (ways_table ways)) (name_count (ways_table ways)) step.to m (step_production step).left →
+          IsCompletionNode (symbols_by (ways_table ways)) (name_count (ways_table ways)) step.to m (step_production step).left →
           LeadsBy g s states ways m (step_production step).left ns v →
           (e : ℕ) × (goal : Goal) × (slice_get it.goals.items e ≡ Some goal) × (goal.node ≡ step.from)
       goals k step at rest m ns v to leads =

@@ -1,4 +1,4 @@
--- What is told of ways out from what the searches found: for the answers of the calls.
+-- What is told of completions from what the searches found: for the answers of the calls.
 use Rattle.std.proofs.Common.{◌≡◌, ◌∙◌, ℕ, Bool, true, false, List, [], map, Option, Some, None, sym, ap, subst}
 use Rattle.std.proofs.Common.{append-nil, arith, inl, inr, ◌⊎◌, Contains}
 use Rattle.std.specs.Prelude.{slice_get}
@@ -18,16 +18,16 @@ use Rattle.lalrpop_lr1_paths.specs.declared.graph_paths.paths.GoalPath.{GoalPath
 use Rattle.lalrpop_lr1_least_trees.specs.GrammarTrees.{symbols_by}
 use Rattle.lalrpop_lr1_least_trees.specs.MoveViews.{tree_move_view}
 use Rattle.lalrpop_lr1_least_trees.specs.declared.tree_move.TreeMove.{TreeMove}
-use Rattle.lalrpop_lr1_theory.specs.OutwardMoves.{arrives, steps}
+use Rattle.lalrpop_lr1_theory.specs.CompletionMoves.{arrives, steps}
 use Rattle.lalrpop_lr1_least_trees.specs.RestForests.{LeavesOfKind}
 use Rattle.lalrpop_lr1_paths.specs.PathTables.{last_steps}
 use Rattle.lalrpop_lr1_paths.specs.declared.state_paths.state_paths.StatePaths.{StatePaths}
-use Rattle.lalrpop_lr1_paths.specs.OutGraphs.{AreOutGraphs, AreWaysOut, ways_table}
-use Rattle.lalrpop_lr1_paths.specs.OutSteps.{IsNodeIfSome}
-use Rattle.lalrpop_lr1_paths.specs.declared.completion_steps.out_graphs.OutGraphs.{OutGraphs}
+use Rattle.lalrpop_lr1_paths.specs.CompletionGraphs.{AreCompletionGraphs, AreCompletions, ways_table}
+use Rattle.lalrpop_lr1_paths.specs.CompletionSteps.{IsNodeIfSome}
+use Rattle.lalrpop_lr1_paths.specs.declared.completion_steps.completion_graphs.CompletionGraphs.{CompletionGraphs}
 use Rattle.lalrpop_lr1_paths.proofs.NodeLemmas.{node_one}
 use Rattle.lalrpop_lr1_paths.proofs.CompletionSearchLemmas.{EndsAtStart, any_path, empty_path}
-use Rattle.lalrpop_lr1_paths.specs.OutSearches.{TellsWayOut}
+use Rattle.lalrpop_lr1_paths.specs.CompletionSearches.{TellsCompletion}
 use Rattle.lalrpop_lr1_paths.specs.StepMoves.{AddsSoFar, AddsWay, AddsWayIf, AddsAlongIf, AreGraphEdges, ComesInAll, IsNodeIn}
 use Rattle.lalrpop_lr1_paths.specs.StepMoves.{LeadsBy, step_edges}
 use Rattle.lalrpop_lr1_paths.proofs.AlongLemmas.{all_added}
@@ -58,15 +58,15 @@ kind_of_all true all h = tt
 kind_of_all false all h = h
 
 -- a node has one number
-pub number_once : (it : OutGraphs) (g : Grammar) (s : Text) (states : List State) → AreWaysOut g s states it →
+pub number_once : (it : CompletionGraphs) (g : Grammar) (s : Text) (states : List State) → AreCompletions g s states it →
     (i j : ℕ) (A : Text) →
     symbols_by (ways_table it) i ≡ Some (theory.nonterminal A) →
     symbols_by (ways_table it) j ≡ Some (theory.nonterminal A) → i ≡ j
 number_once it g s states are i j A a b = (table_numbering (ways_table it) are.of.numbers).name_once i j A a b
 
-module _ (it : OutGraphs) (kind : Bool) (node : ℕ) (es : List ℕ) (goal : ℕ)
+module _ (it : CompletionGraphs) (kind : Bool) (node : ℕ) (es : List ℕ) (goal : ℕ)
     (path : IsPathTo (step_edges it kind) it.goals.items node es goal) where
-  -- a way out was added, where all its steps were
+  -- a completion was added, where all its steps were
   pub way_added : (old new : List TreeMove) → AddsSoFar it kind es [] old new → AddsWay it node (LeavesOfKind kind) old new
   way_added old new so =
       record {
@@ -93,7 +93,7 @@ module _ (it : OutGraphs) (kind : Bool) (node : ℕ) (es : List ℕ) (goal : ℕ
   way_added_if old new true h = way_added old new h
   way_added_if old new false h = λ g s states are n B at ms w out wanted. h g s states are
 
-module _ (it : OutGraphs) (graphs : AreOutGraphs it) (g : Grammar) (s : Text) (states : List State) (are : AreWaysOut g s states it)
+module _ (it : CompletionGraphs) (graphs : AreCompletionGraphs it) (g : Grammar) (s : Text) (states : List State) (are : AreCompletions g s states it)
   where
     end_at_start : EndsAtStart (IsProductionOf g) s states (last_steps it.paths.now) (symbols_by (ways_table it))
         (name_count (ways_table it)) it.steps.items are.steps (number_once it g s states are) it.goals.items
@@ -132,7 +132,7 @@ module _ (it : OutGraphs) (graphs : AreOutGraphs it) (g : Grammar) (s : Text) (s
         none h.from.number h.from.below h.from.named
 
 -- the node that was found, by the paths of the graphs
-pub node_by : (it : OutGraphs) (paths : StatePaths) → paths ≡ it.paths.now →
+pub node_by : (it : CompletionGraphs) (paths : StatePaths) → paths ≡ it.paths.now →
     (n : ℕ) (B : Text) (found other : Option ℕ) → found ≡ other →
     IsNodeIfSome (symbols_by paths.trees.now.table) (name_count paths.trees.now.table) n B found →
     IsNodeIfSome (symbols_by (ways_table it)) (name_count (ways_table it)) n B other
@@ -141,12 +141,12 @@ node_by it paths same n B found other e h =
     (subst (λ (q : StatePaths). IsNodeIfSome (symbols_by q.trees.now.table) (name_count q.trees.now.table) n B found) same h)
 
 -- the answer where a way was added to no moves
-pub told_way : (it : OutGraphs) (node : ℕ) (Wanted : List Terminal → Type 0) (new : List TreeMove) → AddsWay it node Wanted [] new →
-    (g : Grammar) (s : Text) (states : List State) → AreWaysOut g s states it → (n : ℕ) (B : Text) →
+pub told_way : (it : CompletionGraphs) (node : ℕ) (Wanted : List Terminal → Type 0) (new : List TreeMove) → AddsWay it node Wanted [] new →
+    (g : Grammar) (s : Text) (states : List State) → AreCompletions g s states it → (n : ℕ) (B : Text) →
     IsNodeIn g s states it node n B →
-    TellsWayOut g s states it n B Wanted (Some (map tree_move_view new))
+    TellsCompletion g s states it n B Wanted (Some (map tree_move_view new))
 told_way it node Wanted new way g s states are n B at =
-    subst (λ l. TellsWayOut g s states it n B Wanted (Some (map tree_move_view l))) (sym way.is) (way.leads g s states are n B at)
+    subst (λ l. TellsCompletion g s states it n B Wanted (Some (map tree_move_view l))) (sym way.is) (way.leads g s states are n B at)
 
 -- the path that a search found, in the graph and with the goals that were given
 pub path_in : (edges given : List Edge) (goals given_goals : List Goal) → edges ≡ given → goals ≡ given_goals → (node : ℕ)

@@ -6,12 +6,12 @@ use Rattle.lalrpop_lr1_first.specs.NumberedGrammars.{IsNumberTableOf}
 use Rattle.lalrpop_lr1_first.specs.declared.numbered.Numbered.{Numbered}
 use Rattle.lalrpop_lr1_paths.specs.declared.graph_paths.graph.Edge.{Edge}
 use Rattle.lalrpop_lr1_least_trees.specs.RestForests.{HasNoRest, HasRest, NoLeaves}
-use Rattle.lalrpop_lr1_paths.specs.OutSteps.{LeadsAsStep, step_rest}
-use Rattle.lalrpop_lr1_paths.specs.declared.completion_steps.out_steps.OutStep.{OutStep}
-use Rattle.lalrpop_lr1_paths.specs.declared.completion_steps.out_graphs.ListedSteps.{ListedSteps}
+use Rattle.lalrpop_lr1_paths.specs.CompletionSteps.{LeadsAsStep, step_rest}
+use Rattle.lalrpop_lr1_paths.specs.declared.completion_steps.steps_of_states.CompletionStep.{CompletionStep}
+use Rattle.lalrpop_lr1_paths.specs.declared.completion_steps.completion_graphs.ListedSteps.{ListedSteps}
 
 -- the step was listed, since nothing may come behind its nonterminal
-pub record IsListed (table : Numbered) (step : OutStep) (number : ℕ) (old new : ListedSteps) : Type 0 where
+pub record IsListed (table : Numbered) (step : CompletionStep) (number : ℕ) (old new : ListedSteps) : Type 0 where
   pub edge : Edge
   pub numbers : new.numbers.items ≡ old.numbers.items ++ number ∷ []
   pub edges : new.edges.items ≡ old.edges.items ++ edge ∷ []
@@ -19,9 +19,9 @@ pub record IsListed (table : Numbered) (step : OutStep) (number : ℕ) (old new 
   pub empty : (g : Grammar) → IsNumberTableOf g table → HasRest (IsProductionOf g) (step_rest step) NoLeaves
 
 -- it was passed, since something comes there
-pub record IsPassed (table : Numbered) (step : OutStep) (old new : ListedSteps) : Type 0 where
+pub record IsPassed (table : Numbered) (step : CompletionStep) (old new : ListedSteps) : Type 0 where
   pub same : new ≡ old
   pub never : (g : Grammar) → IsNumberTableOf g table → HasNoRest (IsProductionOf g) (step_rest step) NoLeaves
 
-abbrev pub ListsStep : Numbered → OutStep → ℕ → ListedSteps → ListedSteps → Type 0
+abbrev pub ListsStep : Numbered → CompletionStep → ℕ → ListedSteps → ListedSteps → Type 0
 ListsStep table step number old new = IsListed table step number old new ⊎ IsPassed table step old new

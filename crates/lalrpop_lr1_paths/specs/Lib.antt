@@ -2,13 +2,13 @@ pub mod GraphPaths
 pub mod Graphs
 pub mod PathSearches
 pub mod NumberEdges
-pub mod TurnedGraphs
+pub mod ReversedGraphs
 pub mod PathForests
 pub mod PathTables
-pub mod OutSteps
+pub mod CompletionSteps
 pub mod ToldSteps
 pub mod EmptySteps
-pub mod OutGraphs
-pub mod OutSearches
+pub mod CompletionGraphs
+pub mod CompletionSearches
 pub mod StepMoves
 pub mod WantedGoals

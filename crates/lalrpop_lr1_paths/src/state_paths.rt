@@ -5,7 +5,7 @@
 
 mod path_edges;
 mod path_moves;
+mod reversed;
 mod state_paths;
-mod turned;
 
 pub use state_paths::StatePaths;

@@ -4,6 +4,8 @@
 #[cfg(test)]
 mod columns;
 #[cfg(test)]
+mod completions;
+#[cfg(test)]
 mod constructions;
 #[cfg(test)]
 mod given;
@@ -11,5 +13,3 @@ mod given;
 mod kernels;
 #[cfg(test)]
 mod moves;
-#[cfg(test)]
-mod ways_out;

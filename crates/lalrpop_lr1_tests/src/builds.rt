@@ -2,6 +2,7 @@
 
 ghost use Rattle.lalrpop_lr1_first.specs.NumberedGrammars.{HasItsTerminals};
 
+use crate::check::check;
 use crate::grammars::{grammar_of, name_of};
 use lalrpop_grammar_repr::{Grammar, Map};
 use lalrpop_grammar_symbols::{NonterminalString, TerminalString};
@@ -80,10 +81,22 @@ fn lalr_text(rt: &impl Abort, alloc: Global, grammar: &Grammar, method: Method) 
 fn by_either_method(rt: &impl Abort, alloc: Global, grammar: &Grammar)
     requires { HasItsTerminals grammar.now }
 {
-    assert!(rt; lr1_text(rt, alloc, grammar, Method::Canonical).as_str() == CANONICAL);
-    assert!(rt; lr1_text(rt, alloc, grammar, LANES).as_str() == CANONICAL);
-    assert!(rt; lalr_text(rt, alloc, grammar, Method::Canonical).as_str() == COLLAPSED);
-    assert!(rt; lalr_text(rt, alloc, grammar, LANES).as_str() == CANONICAL);
+    check(
+        rt,
+        lr1_text(rt, alloc, grammar, Method::Canonical).as_str() == CANONICAL,
+    );
+    check(
+        rt,
+        lr1_text(rt, alloc, grammar, LANES).as_str() == CANONICAL,
+    );
+    check(
+        rt,
+        lalr_text(rt, alloc, grammar, Method::Canonical).as_str() == COLLAPSED,
+    );
+    check(
+        rt,
+        lalr_text(rt, alloc, grammar, LANES).as_str() == CANONICAL,
+    );
 }
 
 #[test]
@@ -104,8 +117,14 @@ fn text_in_order(rt: &impl Abort, alloc: Global, grammar: &Grammar, method: Meth
 fn in_order(rt: &impl Abort, alloc: Global, grammar: &Grammar, canonical: &str)
     requires { HasItsTerminals grammar.now }
 {
-    assert!(rt; text_in_order(rt, alloc, grammar, Method::Canonical).as_str() == canonical);
-    assert!(rt; text_in_order(rt, alloc, grammar, LANES).as_str() == CANONICAL_IN_ORDER);
+    check(
+        rt,
+        text_in_order(rt, alloc, grammar, Method::Canonical).as_str() == canonical,
+    );
+    check(
+        rt,
+        text_in_order(rt, alloc, grammar, LANES).as_str() == CANONICAL_IN_ORDER,
+    );
 }
 
 #[test]
@@ -113,7 +132,7 @@ fn states_with_gotos_come_first(rt: HostRuntime) {
     let mut grammar = grammar_of(&rt, rt.alloc(), PAIRS);
     in_order(&rt, rt.alloc(), &grammar, CANONICAL_IN_ORDER);
     grammar.algorithm.lalr = true;
-    assert!(rt; has_its_terminals(&grammar));
+    check(&rt, has_its_terminals(&grammar));
     in_order(&rt, rt.alloc(), &grammar, COLLAPSED_IN_ORDER);
 }
 
@@ -122,7 +141,7 @@ fn counts_without(rt: &impl Abort, alloc: Global, grammar: &Grammar, start: &Non
 {
     let start = start.try_clone().expect(rt, "memory");
     let states = build_lr0_states(alloc, grammar, start).expect(rt, "states");
-    assert_eq!(rt; states.len(), 7);
+    check(rt, states.len() == 7);
 }
 
 fn checks_canonical(rt: &impl Abort, alloc: Global, grammar: &Grammar, start: &NonterminalString)
@@ -130,8 +149,11 @@ fn checks_canonical(rt: &impl Abort, alloc: Global, grammar: &Grammar, start: &N
 {
     let named = start.try_clone().expect(rt, "memory");
     let states = build_lr1_states_canonical(alloc, grammar, named).expect(rt, "states");
-    assert_eq!(rt; states.len(), 10);
-    assert!(rt; check_states(alloc, grammar, start, states.as_slice()).expect(rt, "memory"));
+    check(rt, states.len() == 10);
+    check(
+        rt,
+        check_states(alloc, grammar, start, states.as_slice()).expect(rt, "memory"),
+    );
 }
 
 fn checks_collapsed(rt: &impl Abort, alloc: Global, grammar: &Grammar, start: &NonterminalString)
@@ -140,8 +162,11 @@ fn checks_collapsed(rt: &impl Abort, alloc: Global, grammar: &Grammar, start: &N
     let named = start.try_clone().expect(rt, "memory");
     let method = Method::Canonical;
     let states = build_lalr_states(alloc, grammar, named, method).expect(rt, "states");
-    assert_eq!(rt; states.len(), 7);
-    assert!(rt; check_states(alloc, grammar, start, states.as_slice()).expect(rt, "memory"));
+    check(rt, states.len() == 7);
+    check(
+        rt,
+        check_states(alloc, grammar, start, states.as_slice()).expect(rt, "memory"),
+    );
 }
 
 /// That LR(0), canonical and collapsed states have no conflict, and the last two may be parsed with.

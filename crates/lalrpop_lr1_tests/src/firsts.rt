@@ -2,6 +2,7 @@
 
 ghost use Rattle.lalrpop_lr1_first.specs.NumberedGrammars.{HasItsTerminals};
 
+use crate::check::check;
 use crate::grammars::{grammar_of, name_of, token_of};
 use lalrpop_grammar_repr::{Grammar, Symbol, TerminalSet};
 use lalrpop_lr1_first::FirstSets;
@@ -57,10 +58,19 @@ fn text_before_x(
 
 fn answers(rt: &impl Abort, alloc: Global, firsts: &FirstSets, terminals: &TerminalSet) {
     let row = first_text(rt, alloc, firsts, terminals, &["B", "X"]);
-    assert!(rt; row.as_str() == "[\"D\", \"E\"]");
-    assert!(rt; first_text(rt, alloc, firsts, terminals, &[]).as_str() == "[Eof]");
-    assert!(rt; text_before_x(rt, alloc, firsts, terminals, &[]).as_str() == "[\"x\"]");
-    assert!(rt; text_before_x(rt, alloc, firsts, terminals, &["B"]).as_str() == "[\"D\", \"x\"]");
+    check(rt, row.as_str() == "[\"D\", \"E\"]");
+    check(
+        rt,
+        first_text(rt, alloc, firsts, terminals, &[]).as_str() == "[Eof]",
+    );
+    check(
+        rt,
+        text_before_x(rt, alloc, firsts, terminals, &[]).as_str() == "[\"x\"]",
+    );
+    check(
+        rt,
+        text_before_x(rt, alloc, firsts, terminals, &["B"]).as_str() == "[\"D\", \"x\"]",
+    );
 }
 
 fn answers_of_sets_and_copy(rt: &impl Abort, alloc: Global, grammar: &Grammar)

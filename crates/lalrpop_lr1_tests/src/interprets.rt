@@ -7,6 +7,7 @@ ghost use Rattle.lalrpop_lr1_first.specs.NumberedGrammars.{HasItsTerminals};
 ghost use Rattle.lalrpop_lr1_core.specs.TheoryGrammars.{theory_grammar};
 ghost use Rattle.lalrpop_lr1_interpret.specs.Parses.{AreParsable};
 
+use crate::check::check;
 use crate::grammars::{grammar_of, name_of};
 use lalrpop_grammar_repr::{Grammar, TerminalSet};
 use lalrpop_grammar_symbols::NonterminalString;
@@ -117,46 +118,52 @@ const TREE: &str =
 fn trees(rt: &impl Abort, alloc: Global, states: &[Lr1State<'_>], terminals: &TerminalSet)
     requires { AreParsable terminals.now states.now }
 {
-    assert!(rt;
+    check(
+        rt,
         tree_text(alloc, states, terminals, "N - ( N - N )")
             .expect(rt, "memory")
             .as_str()
-            == TREE
+            == TREE,
     );
-    assert!(rt;
+    check(
+        rt,
         tree_text(alloc, states, terminals, "N N")
             .expect(rt, "memory")
             .as_str()
-            == "4 \"N\""
+            == "4 \"N\"",
     );
-    assert!(rt;
+    check(
+        rt,
         tree_text(alloc, states, terminals, "")
             .expect(rt, "memory")
             .as_str()
-            == "0 Eof"
+            == "0 Eof",
     );
 }
 
 fn stacks(rt: &impl Abort, alloc: Global, states: &[Lr1State<'_>], terminals: &TerminalSet)
     requires { AreParsable terminals.now states.now }
 {
-    assert!(rt;
+    check(
+        rt,
         stack_text(alloc, states, terminals, "N")
             .expect(rt, "memory")
             .as_str()
-            == "[S0, S4]"
+            == "[S0, S4]",
     );
-    assert!(rt;
+    check(
+        rt,
         stack_text(alloc, states, terminals, "")
             .expect(rt, "memory")
             .as_str()
-            == "[S0]"
+            == "[S0]",
     );
-    assert!(rt;
+    check(
+        rt,
         stack_text(alloc, states, terminals, "N N")
             .expect(rt, "memory")
             .as_str()
-            == "4 \"N\""
+            == "4 \"N\"",
     );
 }
 

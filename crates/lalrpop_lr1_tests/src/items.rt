@@ -1,5 +1,6 @@
 //! Items: their questions and texts.
 
+use crate::check::check;
 use crate::grammars::{grammar_of, name_of, production_at, token_of};
 use lalrpop_grammar_repr::{Grammar, Production};
 use lalrpop_lr1_core::{Item, StateIndex};
@@ -16,11 +17,20 @@ fn shifts(rt: &impl Abort, alloc: Global, production: &Production, name: &str) -
 
 fn answers(rt: &impl Abort, alloc: Global, production: &Production) {
     let front = Item::lr0(production, 0);
-    assert!(rt; front.can_shift() && !front.can_reduce() && front.prefix().is_empty());
-    assert!(rt; shifts(rt, alloc, production, "E") && !shifts(rt, alloc, production, "T"));
+    check(
+        rt,
+        front.can_shift() && !front.can_reduce() && front.prefix().is_empty(),
+    );
+    check(
+        rt,
+        shifts(rt, alloc, production, "E") && !shifts(rt, alloc, production, "T"),
+    );
     let end = Item::lr0(production, 3);
-    assert!(rt; end.can_reduce() && !end.can_shift());
-    assert!(rt; end.shift_symbol().is_none() && end.shifted_item().expect(rt, "memory").is_none());
+    check(rt, end.can_reduce() && !end.can_shift());
+    check(
+        rt,
+        end.shift_symbol().is_none() && end.shifted_item().expect(rt, "memory").is_none(),
+    );
 }
 
 #[test]
@@ -51,10 +61,16 @@ fn dot_behind(rt: &impl Abort, production: &Production, dot: usize) -> Option<us
 }
 
 fn moves(rt: &impl Abort, production: &Production) {
-    assert!(rt; behind_dot(production, 0) == Some(2) && behind_dot(production, 3).is_none());
-    assert!(rt; dot_behind(rt, production, 2) == Some(3));
+    check(
+        rt,
+        behind_dot(production, 0) == Some(2) && behind_dot(production, 3).is_none(),
+    );
+    check(rt, dot_behind(rt, production, 2) == Some(3));
     let sets = Item::lr0(production, 1).symbol_sets();
-    assert!(rt; sets.prefix.len() == 1 && sets.cursor.is_some() && sets.suffix.len() == 1);
+    check(
+        rt,
+        sets.prefix.len() == 1 && sets.cursor.is_some() && sets.suffix.len() == 1,
+    );
 }
 
 #[test]
@@ -99,15 +115,18 @@ fn is_copied(rt: &impl Abort, item: &Item<'_, TokenSet>) -> bool {
 
 fn prints_before_n(rt: &impl Abort, alloc: Global, grammar: &Grammar, empty: &Production) {
     let ahead = item_before_n(rt, alloc, grammar, empty);
-    assert!(rt; is_printed(rt, alloc, &ahead, "T = (*) {1}"));
-    assert!(rt; ahead.to_lr0() == Item::lr0(empty, 0) && is_copied(rt, &ahead));
+    check(rt, is_printed(rt, alloc, &ahead, "T = (*) {1}"));
+    check(
+        rt,
+        ahead.to_lr0() == Item::lr0(empty, 0) && is_copied(rt, &ahead),
+    );
 }
 
 fn prints(rt: &impl Abort, alloc: Global, grammar: &Grammar) {
     let sum = production_at(rt, alloc, grammar, "E", 0);
-    assert!(rt; is_text(rt, alloc, sum, 1, "E = E (*) \"+\" T"));
+    check(rt, is_text(rt, alloc, sum, 1, "E = E (*) \"+\" T"));
     let empty = production_at(rt, alloc, grammar, "T", 1);
-    assert!(rt; is_text(rt, alloc, empty, 0, "T = (*)"));
+    check(rt, is_text(rt, alloc, empty, 0, "T = (*)"));
     prints_before_n(rt, alloc, grammar, empty);
 }
 
@@ -121,5 +140,5 @@ fn texts_of_items(rt: HostRuntime) {
 fn texts_of_numbers_of_states(rt: HostRuntime) {
     let alloc = rt.alloc();
     let text = format!(in alloc; "{} {:?}", StateIndex(7), StateIndex(7)).expect(&rt, "memory");
-    assert!(rt; text.as_str() == "7 S7");
+    check(&rt, text.as_str() == "7 S7");
 }

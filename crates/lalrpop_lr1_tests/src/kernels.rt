@@ -1,5 +1,6 @@
 //! Kernels in order of first sight.
 
+use crate::check::check;
 use lalrpop_grammar_symbols::List;
 use lalrpop_lr1_build::states::StateKernel;
 use lalrpop_lr1_core::StateIndex;
@@ -28,15 +29,30 @@ impl Kernel for Letter {
 #[test]
 fn equal_kernels_have_one_number(rt: HostRuntime) {
     let mut kernels = KernelSet::new(rt.alloc());
-    assert!(rt; kernels.add_state(Letter('a')).expect(&rt, "memory") == StateIndex(0));
-    assert!(rt; kernels.add_state(Letter('b')).expect(&rt, "memory") == StateIndex(1));
-    assert!(rt; kernels.add_state(Letter('a')).expect(&rt, "memory") == StateIndex(0));
-    assert!(rt; kernels.next() == Some(Letter('a')));
-    assert!(rt; kernels.add_state(Letter('a')).expect(&rt, "memory") == StateIndex(0));
-    assert!(rt; kernels.add_state(Letter('c')).expect(&rt, "memory") == StateIndex(2));
-    assert!(rt; kernels.next() == Some(Letter('b')));
-    assert!(rt; kernels.next() == Some(Letter('c')));
-    assert!(rt; kernels.next().is_none());
+    check(
+        &rt,
+        kernels.add_state(Letter('a')).expect(&rt, "memory") == StateIndex(0),
+    );
+    check(
+        &rt,
+        kernels.add_state(Letter('b')).expect(&rt, "memory") == StateIndex(1),
+    );
+    check(
+        &rt,
+        kernels.add_state(Letter('a')).expect(&rt, "memory") == StateIndex(0),
+    );
+    check(&rt, kernels.next() == Some(Letter('a')));
+    check(
+        &rt,
+        kernels.add_state(Letter('a')).expect(&rt, "memory") == StateIndex(0),
+    );
+    check(
+        &rt,
+        kernels.add_state(Letter('c')).expect(&rt, "memory") == StateIndex(2),
+    );
+    check(&rt, kernels.next() == Some(Letter('b')));
+    check(&rt, kernels.next() == Some(Letter('c')));
+    check(&rt, kernels.next().is_none());
 }
 
 /// The kernel of the items at these places, without lookaheads.
@@ -53,5 +69,5 @@ fn a_kernel_of_items_and_its_copy(rt: HostRuntime) {
     let alloc = rt.alloc();
     let kernel = kernel_of(&rt, alloc, &[2, 5]);
     let copy = kernel.try_clone(alloc).expect(&rt, "memory");
-    assert!(rt; copy == kernel && copy != kernel_of(&rt, alloc, &[2]));
+    check(&rt, copy == kernel && copy != kernel_of(&rt, alloc, &[2]));
 }

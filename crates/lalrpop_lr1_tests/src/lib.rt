@@ -6,6 +6,8 @@ pub mod builder;
 #[cfg(test)]
 mod builds;
 #[cfg(test)]
+mod check;
+#[cfg(test)]
 mod firsts;
 #[cfg(test)]
 mod grammars;

@@ -1,28 +1,29 @@
 //! Maps to collections.
 
+use crate::check::check;
 use lalrpop_sets::{Collection, Multimap, Nil};
 use std::collections::BTreeSet;
 
 #[test]
 fn a_push_says_whether_a_set_grew(rt: HostRuntime) {
     let mut map: Multimap<u32, BTreeSet<char>> = Multimap::new(rt.alloc());
-    assert!(rt; map.is_empty());
-    assert!(rt; map.push(0, 'a').expect(&rt, "memory"));
-    assert!(rt; map.push(0, 'b').expect(&rt, "memory"));
-    assert!(rt; !map.push(0, 'b').expect(&rt, "memory"));
-    assert!(rt; map.push(1, 'a').expect(&rt, "memory"));
-    assert!(rt; !map.is_empty());
-    assert!(rt; map.get(&0).map(|set| set.len()) == Some(2));
-    assert!(rt; map.get(&2).is_none());
+    check(&rt, map.is_empty());
+    check(&rt, map.push(0, 'a').expect(&rt, "memory"));
+    check(&rt, map.push(0, 'b').expect(&rt, "memory"));
+    check(&rt, !map.push(0, 'b').expect(&rt, "memory"));
+    check(&rt, map.push(1, 'a').expect(&rt, "memory"));
+    check(&rt, !map.is_empty());
+    check(&rt, map.get(&0).map(|set| set.len()) == Some(2));
+    check(&rt, map.get(&2).is_none());
 }
 
 #[test]
 fn a_push_says_whether_a_key_came(rt: HostRuntime) {
     let mut map: Multimap<u32, ()> = Multimap::new(rt.alloc());
-    assert!(rt; map.push(0, ()).expect(&rt, "memory"));
-    assert!(rt; !map.push(0, ()).expect(&rt, "memory"));
-    assert!(rt; map.push(1, ()).expect(&rt, "memory"));
-    assert!(rt; !map.push(0, ()).expect(&rt, "memory"));
+    check(&rt, map.push(0, ()).expect(&rt, "memory"));
+    check(&rt, !map.push(0, ()).expect(&rt, "memory"));
+    check(&rt, map.push(1, ()).expect(&rt, "memory"));
+    check(&rt, !map.push(0, ()).expect(&rt, "memory"));
 }
 
 #[test]
@@ -38,21 +39,27 @@ fn entries_stand_in_order_of_their_keys(rt: HostRuntime) {
     for (key, _) in map.iter() {
         keys.push(*key).expect(&rt, "memory");
     }
-    assert!(rt; keys.as_slice() == [1, 3].as_slice());
+    check(&rt, keys.as_slice() == [1, 3].as_slice());
     let mut lengths = Vec::new(rt.alloc());
     for (_, list) in map {
         lengths.push(list.len()).expect(&rt, "memory");
     }
-    assert!(rt; lengths.as_slice() == [1, 2].as_slice());
+    check(&rt, lengths.as_slice() == [1, 2].as_slice());
 }
 
 #[test]
 fn what_a_collection_says_of_a_push(rt: HostRuntime) {
     let mut list: Vec<u32> = Collection::empty(rt.alloc());
-    assert!(rt; Collection::push(&mut list, 1).expect(&rt, "memory"));
-    assert!(rt; Collection::push(&mut list, 1).expect(&rt, "memory"));
+    check(&rt, Collection::push(&mut list, 1).expect(&rt, "memory"));
+    check(&rt, Collection::push(&mut list, 1).expect(&rt, "memory"));
     let mut nothing: Nil = Collection::empty(rt.alloc());
-    assert!(rt; !Collection::push(&mut nothing, Nil).expect(&rt, "memory"));
+    check(
+        &rt,
+        !Collection::push(&mut nothing, Nil).expect(&rt, "memory"),
+    );
     let mut maps: Multimap<u32, Vec<u32>> = Collection::empty(rt.alloc());
-    assert!(rt; Collection::push(&mut maps, (1, 2)).expect(&rt, "memory"));
+    check(
+        &rt,
+        Collection::push(&mut maps, (1, 2)).expect(&rt, "memory"),
+    );
 }

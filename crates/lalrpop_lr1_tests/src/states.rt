@@ -1,5 +1,6 @@
 //! States: their conflicts, their questions, and the graph of several.
 
+use crate::check::check;
 use crate::grammars::{grammar_of, name_of, production_at, terminal_of, terminal_symbol, token_of};
 use lalrpop_grammar_repr::{Grammar, Map, Production, TerminalSet};
 use lalrpop_grammar_symbols::{List, NonterminalString};
@@ -151,7 +152,7 @@ const CONFLICTS: &str = "2 A [\"y\"] \"y\" 5; 2 B [\"y\"] \"y\" 5; 2 A [\"y\"] B
 fn conflicts_of_three(rt: &impl Abort, alloc: Global, grammar: &Grammar) {
     let state = three_reductions(rt, alloc, grammar);
     let text = conflict_texts(rt, alloc, &state, &grammar.terminals);
-    assert!(rt; text.as_str() == CONFLICTS);
+    check(rt, text.as_str() == CONFLICTS);
 }
 
 #[test]
@@ -178,8 +179,8 @@ fn copies_of_conflicts(
     terminals: &TerminalSet,
 ) {
     let conflicts = Lookahead::conflicts(alloc, terminals, state).expect(rt, "memory");
-    assert_eq!(rt; conflicts.len(), 4);
-    assert!(rt; equal_copies(rt, conflicts.as_slice()));
+    check(rt, conflicts.len() == 4);
+    check(rt, equal_copies(rt, conflicts.as_slice()));
 }
 
 /// The item of A with its dot at the end, before x and the end.
@@ -218,9 +219,15 @@ fn equals(
     state: &Lr1State<'_>,
     terminals: &TerminalSet,
 ) {
-    assert!(rt; conflict_texts(rt, alloc, copy, terminals).as_str() == CONFLICTS);
-    assert!(rt; copy.items == state.items && copy.items.vec.len() == 1);
-    assert!(rt; copy.gotos.get(&name_of(rt, alloc, "A")) == Some(&StateIndex(6)));
+    check(
+        rt,
+        conflict_texts(rt, alloc, copy, terminals).as_str() == CONFLICTS,
+    );
+    check(rt, copy.items == state.items && copy.items.vec.len() == 1);
+    check(
+        rt,
+        copy.gotos.get(&name_of(rt, alloc, "A")) == Some(&StateIndex(6)),
+    );
 }
 
 fn copies(rt: &impl Abort, alloc: Global, state: &Lr1State<'_>, terminals: &TerminalSet) {
@@ -254,7 +261,7 @@ fn three_without<'g>(rt: &impl Abort, alloc: Global, grammar: &'g Grammar) -> Bo
 fn conflicts_without(rt: &impl Abort, alloc: Global, grammar: &Grammar) {
     let state = three_without(rt, alloc, grammar);
     let conflicts = Lookahead::conflicts(alloc, &grammar.terminals, &*state).expect(rt, "memory");
-    assert!(rt; conflicts.len() == 5);
+    check(rt, conflicts.len() == 5);
 }
 
 #[test]
@@ -276,9 +283,18 @@ fn reduced_before<'g>(
 fn reduces(rt: &impl Abort, alloc: Global, grammar: &Grammar) {
     let state = three_reductions(rt, alloc, grammar);
     let terminals = &grammar.terminals;
-    assert!(rt; reduced_before(&state, &Token::Eof, terminals) == Some("C"));
-    assert!(rt; reduced_before(&state, &token_of(rt, alloc, "y"), terminals) == Some("A"));
-    assert!(rt; reduced_before(&state, &token_of(rt, alloc, "a"), terminals).is_none());
+    check(
+        rt,
+        reduced_before(&state, &Token::Eof, terminals) == Some("C"),
+    );
+    check(
+        rt,
+        reduced_before(&state, &token_of(rt, alloc, "y"), terminals) == Some("A"),
+    );
+    check(
+        rt,
+        reduced_before(&state, &token_of(rt, alloc, "a"), terminals).is_none(),
+    );
 }
 
 #[test]
@@ -312,10 +328,19 @@ fn middle_state<'g>(rt: &impl Abort, alloc: Global, grammar: &'g Grammar) -> Lr0
 }
 
 fn answers(rt: &impl Abort, alloc: Global, state: &Lr0State<'_>) {
-    assert!(rt; state.max_prefix().len() == 1 && state.will_pop().len() == 1);
-    assert!(rt; state.will_push().len() == 1);
-    assert!(rt; state.will_produce().map(|name| name.0.as_str()) == Some("S"));
-    assert!(rt; state.try_clone(alloc).expect(rt, "memory").items == state.items);
+    check(
+        rt,
+        state.max_prefix().len() == 1 && state.will_pop().len() == 1,
+    );
+    check(rt, state.will_push().len() == 1);
+    check(
+        rt,
+        state.will_produce().map(|name| name.0.as_str()) == Some("S"),
+    );
+    check(
+        rt,
+        state.try_clone(alloc).expect(rt, "memory").items == state.items,
+    );
 }
 
 #[test]
@@ -385,12 +410,19 @@ fn ways_back(
 fn ways_back_in_a_graph(rt: HostRuntime) {
     let alloc = rt.alloc();
     let graph = graph_of(&rt, alloc);
-    assert!(rt;
-        ways_back(&rt, alloc, &graph, 1, &["c", "d"]).as_slice() == [StateIndex(0)].as_slice()
+    check(
+        &rt,
+        ways_back(&rt, alloc, &graph, 1, &["c", "d"]).as_slice() == [StateIndex(0)].as_slice(),
     );
     let both = ways_back(&rt, alloc, &graph, 1, &["d"]);
-    assert!(rt; both.as_slice() == [StateIndex(0), StateIndex(2)].as_slice());
-    assert!(rt; ways_back(&rt, alloc, &graph, 1, &[]).as_slice() == [StateIndex(1)].as_slice());
+    check(
+        &rt,
+        both.as_slice() == [StateIndex(0), StateIndex(2)].as_slice(),
+    );
+    check(
+        &rt,
+        ways_back(&rt, alloc, &graph, 1, &[]).as_slice() == [StateIndex(1)].as_slice(),
+    );
 }
 
 #[test]
@@ -398,8 +430,14 @@ fn states_behind_a_state(rt: HostRuntime) {
     let alloc = rt.alloc();
     let graph = graph_of(&rt, alloc);
     let mut after = graph.successors(StateIndex(0));
-    assert!(rt; after.next() == Some(StateIndex(2)) && after.next() == Some(StateIndex(1)));
-    assert!(rt; after.next() == Some(StateIndex(0)) && after.next().is_none());
+    check(
+        &rt,
+        after.next() == Some(StateIndex(2)) && after.next() == Some(StateIndex(1)),
+    );
+    check(
+        &rt,
+        after.next() == Some(StateIndex(0)) && after.next().is_none(),
+    );
 }
 
 #[test]
@@ -408,6 +446,9 @@ fn states_before_a_state(rt: HostRuntime) {
     let graph = graph_of(&rt, alloc);
     let d = terminal_symbol(&rt, alloc, "d");
     let mut before = graph.predecessors(StateIndex(1), &d);
-    assert!(rt; before.next() == Some(StateIndex(2)) && before.next() == Some(StateIndex(0)));
-    assert!(rt; before.next().is_none());
+    check(
+        &rt,
+        before.next() == Some(StateIndex(2)) && before.next() == Some(StateIndex(0)),
+    );
+    check(&rt, before.next().is_none());
 }

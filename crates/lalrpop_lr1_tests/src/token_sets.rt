@@ -1,5 +1,6 @@
 //! Sets of tokens.
 
+use crate::check::check;
 use crate::grammars::{grammar_of, terminal_of, token_of};
 use lalrpop_grammar_repr::TerminalSet;
 use lalrpop_sets::{Collection, Token, TokenRef, TokenSet};
@@ -55,18 +56,24 @@ fn comes(
 
 fn puts_in(rt: &impl Abort, alloc: Global, terminals: &TerminalSet) {
     let mut set = TokenSet::new(alloc, terminals).expect(rt, "memory");
-    assert!(rt; set.len() == 0);
-    assert!(rt; comes(rt, alloc, &mut set, terminals, "b"));
-    assert!(rt; !comes(rt, alloc, &mut set, terminals, "b"));
-    assert!(rt; !comes(rt, alloc, &mut set, terminals, "x"));
-    assert!(rt; set.insert(&Token::Error, terminals).expect(rt, "memory"));
-    assert!(rt; set.insert_eof(terminals).expect(rt, "memory"));
-    assert!(rt; set.len() == 3);
-    assert!(rt; has(rt, alloc, &set, terminals, "b") && set.contains_eof(terminals));
-    assert!(rt; !has(rt, alloc, &set, terminals, "a"));
-    assert!(rt; set.take_eof(terminals));
-    assert!(rt; !set.take_eof(terminals));
-    assert!(rt; set.len() == 2);
+    check(rt, set.len() == 0);
+    check(rt, comes(rt, alloc, &mut set, terminals, "b"));
+    check(rt, !comes(rt, alloc, &mut set, terminals, "b"));
+    check(rt, !comes(rt, alloc, &mut set, terminals, "x"));
+    check(
+        rt,
+        set.insert(&Token::Error, terminals).expect(rt, "memory"),
+    );
+    check(rt, set.insert_eof(terminals).expect(rt, "memory"));
+    check(rt, set.len() == 3);
+    check(
+        rt,
+        has(rt, alloc, &set, terminals, "b") && set.contains_eof(terminals),
+    );
+    check(rt, !has(rt, alloc, &set, terminals, "a"));
+    check(rt, set.take_eof(terminals));
+    check(rt, !set.take_eof(terminals));
+    check(rt, set.len() == 2);
 }
 
 #[test]
@@ -77,9 +84,12 @@ fn what_is_put_in_is_there(rt: HostRuntime) {
 
 fn makes_sets(rt: &impl Abort, alloc: Global, terminals: &TerminalSet) {
     let all = TokenSet::all(alloc, terminals).expect(rt, "memory");
-    assert!(rt; is_shown(rt, alloc, &all, terminals, "[\"a\", \"b\", \"c\", Eof]"));
+    check(
+        rt,
+        is_shown(rt, alloc, &all, terminals, "[\"a\", \"b\", \"c\", Eof]"),
+    );
     let text = format!(in alloc; "{all:?}").expect(rt, "memory");
-    assert!(rt; text.as_str() == "{0, 1, 2, 3}");
+    check(rt, text.as_str() == "{0, 1, 2, 3}");
 }
 
 #[test]
@@ -102,10 +112,10 @@ fn is_alone(
 }
 
 fn makes_alone(rt: &impl Abort, alloc: Global, terminals: &TerminalSet) {
-    assert!(rt; is_alone(rt, alloc, &Token::Eof, terminals, "[Eof]"));
-    assert!(rt; is_alone(rt, alloc, &Token::Error, terminals, "[Error]"));
+    check(rt, is_alone(rt, alloc, &Token::Eof, terminals, "[Eof]"));
+    check(rt, is_alone(rt, alloc, &Token::Error, terminals, "[Error]"));
     let end = TokenSet::eof(alloc, terminals).expect(rt, "memory");
-    assert!(rt; is_shown(rt, alloc, &end, terminals, "[Eof]"));
+    check(rt, is_shown(rt, alloc, &end, terminals, "[Eof]"));
 }
 
 #[test]
@@ -117,12 +127,18 @@ fn one_token_alone(rt: HostRuntime) {
 fn shares(rt: &impl Abort, alloc: Global, terminals: &TerminalSet) {
     let mut left = set_of(rt, alloc, &["a", "b"], terminals);
     let right = set_of(rt, alloc, &["b", "c"], terminals);
-    assert!(rt; left.is_intersecting(&right) && !left.is_disjoint(&right));
+    check(
+        rt,
+        left.is_intersecting(&right) && !left.is_disjoint(&right),
+    );
     let shared = left.intersection(alloc, &right).expect(rt, "memory");
-    assert!(rt; is_shown(rt, alloc, &shared, terminals, "[\"b\"]"));
-    assert!(rt; left.union_with(&right).expect(rt, "memory"));
-    assert!(rt; !left.union_with(&right).expect(rt, "memory"));
-    assert!(rt; is_shown(rt, alloc, &left, terminals, "[\"a\", \"b\", \"c\"]"));
+    check(rt, is_shown(rt, alloc, &shared, terminals, "[\"b\"]"));
+    check(rt, left.union_with(&right).expect(rt, "memory"));
+    check(rt, !left.union_with(&right).expect(rt, "memory"));
+    check(
+        rt,
+        is_shown(rt, alloc, &left, terminals, "[\"a\", \"b\", \"c\"]"),
+    );
 }
 
 #[test]
@@ -143,10 +159,10 @@ fn equals_its_copy(rt: &impl Abort, set: &TokenSet, terminals: &TerminalSet) -> 
 fn compares(rt: &impl Abort, alloc: Global, terminals: &TerminalSet) {
     let a = set_of(rt, alloc, &["a", "c"], terminals);
     let b = set_of(rt, alloc, &["b"], terminals);
-    assert!(rt; a < b && equals_its_copy(rt, &a, terminals));
+    check(rt, a < b && equals_its_copy(rt, &a, terminals));
     let mut both: TokenSet = Collection::empty(alloc);
-    assert!(rt; both < a);
-    assert!(rt; Collection::push(&mut both, b).expect(rt, "memory"));
+    check(rt, both < a);
+    check(rt, Collection::push(&mut both, b).expect(rt, "memory"));
 }
 
 #[test]
@@ -168,7 +184,10 @@ fn iterates(rt: &impl Abort, alloc: Global, terminals: &TerminalSet) {
     let mut set = set_of(rt, alloc, &["c"], terminals);
     set.insert_eof(terminals).expect(rt, "memory");
     set.insert(&Token::Error, terminals).expect(rt, "memory");
-    assert!(rt; texts(rt, alloc, &set, terminals).as_str() == " \"c\" Eof Error");
+    check(
+        rt,
+        texts(rt, alloc, &set, terminals).as_str() == " \"c\" Eof Error",
+    );
 }
 
 #[test]
@@ -181,8 +200,8 @@ fn tokens_come_in_order(rt: HostRuntime) {
 fn a_token_and_its_copy(rt: HostRuntime) {
     let alloc = rt.alloc();
     let c = Token::Terminal(terminal_of(&rt, alloc, "c"));
-    assert!(rt; *c.unwrap_terminal() == terminal_of(&rt, alloc, "c"));
-    assert!(rt; c.try_clone().expect(&rt, "memory") == c);
+    check(&rt, *c.unwrap_terminal() == terminal_of(&rt, alloc, "c"));
+    check(&rt, c.try_clone().expect(&rt, "memory") == c);
     let text = format!(in alloc; "{c:?} {:?}", TokenRef::Eof).expect(&rt, "memory");
-    assert!(rt; text.as_str() == "\"c\" Eof");
+    check(&rt, text.as_str() == "\"c\" Eof");
 }

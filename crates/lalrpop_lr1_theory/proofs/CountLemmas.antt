@@ -18,6 +18,7 @@ use Rattle.lalrpop_lr1_theory.proofs.PlaceLemmas.{slice_get-append}
 use Rattle.lalrpop_lr1_theory.proofs.StepLemmas.{some_same}
 use Rattle.lalrpop_lr1_theory.proofs.ValidItemLemmas.{carried_from_valid}
 use Rattle.lalrpop_lr1_theory.proofs.WalkLemmas.{carried_there}
+use Rattle.lalrpop_lr1_theory.proofs.Lr0CoreLemmas.{state_at}
 
 -- one list of symbols for each of the first k states, each leading to its state
 record Prefixes (states : List State) (k : ℕ) : Type 0 where
@@ -25,11 +26,6 @@ record Prefixes (states : List State) (k : ℕ) : Type 0 where
   count : length lists ≡ k
   lead : (j : ℕ) (g : List Symbol) → slice_get lists j ≡ Some g → Walk (HasEdge states) g j
   each : (j : ℕ) → j < k → (g : List Symbol) × (slice_get lists j ≡ Some g)
-
-state_at : (states : List State) (k : ℕ) → k < length states → (state : State) × (slice_get states k ≡ Some state)
-state_at [] k h = absurd (omega (arith, h))
-state_at (x ∷ states) zero h = (x, refl)
-state_at (x ∷ states) (suc k) h = state_at states k (omega (arith, h))
 
 module _ (grammar : List Production) (s : Text) (states : List State) (can : AreCanonicalStates grammar s states) where
   prefixes : (k : ℕ) → k ≤ length states → Prefixes states k

@@ -26,7 +26,7 @@ pub mod ExamplesOfConflicts
 pub mod ExamplesOfCanonicalStates
 pub mod NameLemmas
 pub mod TestCoverLemmas
-pub mod HandedLemmas
+pub mod PropagatedLemmas
 pub mod ChoiceLemmas
 pub mod Lr0CoreLemmas
 pub mod CollapsedCoverLemmas
@@ -39,6 +39,6 @@ pub mod OrderLemmas
 pub mod NumberLemmas
 pub mod RenumberLemmas
 pub mod PathLemmas
-pub mod OutwardLemmas
-pub mod WayOutLemmas
-pub mod ExamplesOfWaysOut
+pub mod CompletionMoveLemmas
+pub mod CompletionLemmas
+pub mod ExamplesOfCompletions

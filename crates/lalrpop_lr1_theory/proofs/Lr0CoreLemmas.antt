@@ -27,7 +27,7 @@ never_before G K U never p i m (starts b q t f d u h o) x e = cc
 never_before G K U never p i m (passes {p = q} {i = j} b q' y d u h o) x e = never_before G K U never q j (Some y) d y refl
 
 -- there is a state at each place
-state_at : (states : List State) (k : ℕ) → k < length states → (state : State) × (slice_get states k ≡ Some state)
+pub state_at : (states : List State) (k : ℕ) → k < length states → (state : State) × (slice_get states k ≡ Some state)
 state_at [] k h = absurd (omega (arith, h))
 state_at (x ∷ states) zero h = (x, refl)
 state_at (x ∷ states) (suc k) h = state_at states k (omega (arith, h))

@@ -1,5 +1,5 @@
 -- Names that a closure brings, that a start reaches, and that have trees: for the laws on checked states.
-use Rattle.std.proofs.Common.{◌≡◌, ◌↔◌, ◌⊎◌, ℕ, zero, suc, List, [], ◌∷◌, ◌++◌, drop, refl, sym}
+use Rattle.std.proofs.Common.{◌≡◌, ◌↔◌, ◌⊎◌, ℕ, List, [], ◌∷◌, ◌++◌, drop, refl, sym}
 use Rattle.std.proofs.Common.{ap, ◌∙◌, subst, inl, inr}
 use Rattle.std.proofs.Common.{arith, Contains, ⊎_elim}
 use Rattle.lalrpop_grammar_symbols.specs.Symbols.{Text}
@@ -7,12 +7,11 @@ use Rattle.lalrpop_lr1_theory.specs.Productions.{Production, Symbol, nonterminal
 use Rattle.lalrpop_lr1_theory.specs.Trees.{AreOver, Forest, IsTreeOf, leaf, node, none, roots}
 use Rattle.lalrpop_lr1_theory.specs.ValidItems.{NoneBarren, Reaches, itself, onward}
 use Rattle.lalrpop_lr1_theory.specs.Automata.{Closure, closed, in_kernel}
-use Rattle.lalrpop_lr1_theory.proofs.FirstLemmas.{roots_split}
 use Rattle.lalrpop_lr1_theory.proofs.ListLemmas.{contains_here, contains_later, contains_split}
-use Rattle.lalrpop_lr1_theory.specs.NameClosures.{BeginsWithName, IsNameBehindDot, IsNameBrought, IsNameFrom, IsNameReached}
-use Rattle.lalrpop_lr1_theory.specs.NameClosures.{IsProductive, MentionsName, by_production, seeded, stepped}
+use Rattle.lalrpop_lr1_theory.specs.NameClosures.{IsNameBrought, IsNameFrom, IsNameReached}
+use Rattle.lalrpop_lr1_theory.specs.NameClosures.{IsProductive, by_production, seeded, stepped}
 
-no_element : {X : Type 0} (y : X) → Contains [] y → ⊥
+pub no_element : {X : Type 0} (y : X) → Contains [] y → ⊥
 no_element y c = omega (arith, c.1)
 
 -- what holds of a seed and is kept by the steps holds of the names

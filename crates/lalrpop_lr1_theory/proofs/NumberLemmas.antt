@@ -7,7 +7,7 @@ use Rattle.std.proofs.lemmas.Option.{slice_get_within}
 use Rattle.std.specs.Bool.{Decides}
 use Rattle.std.specs.List.{list_any}
 use Rattle.std.specs.Prelude.{if◌then◌else◌, slice_get}
-use Rattle.lalrpop_lr1_theory.proofs.ListLemmas.{get_front, get_split}
+use Rattle.lalrpop_lr1_theory.proofs.ListLemmas.{get_front, get_split, get_last}
 use Rattle.lalrpop_lr1_theory.proofs.StepLemmas.{some_same}
 use Rattle.lalrpop_lr1_theory.specs.CollapsedStates.{HasNumberBefore}
 use Rattle.lalrpop_lr1_theory.specs.JoinedStates.{AreNumbersAsSeen}
@@ -25,10 +25,6 @@ get_end {X} xs x y k e = go (get_split xs (x ∷ []) k y e)
         (slice_get xs k ≡ Some y) ⊎ ((x ≡ y) × (k ≡ length xs))
     go (inl h) = inl h
     go (inr h) = inr (last h.0 h.1 h.2)
-
-get_last : {X : Type 0} (xs : List X) (x : X) → slice_get (xs ++ x ∷ []) (length xs) ≡ Some x
-get_last [] x = refl
-get_last (y ∷ xs) x = get_last xs x
 
 -- numbers were given to the lists so far, one for each of the keys, which are the lists that differ
 pub record IsNumbering {X : Type 0} (lists keys : List X) (numbers : List ℕ) : Type 0 where

@@ -9,9 +9,7 @@ use Rattle.lalrpop_lr1_theory.specs.CanonicalStates.{HaveItemsAscending}
 use Rattle.lalrpop_lr1_theory.proofs.CheckedLemmas.{same_state}
 use Rattle.lalrpop_lr1_theory.proofs.ListLemmas.{contains_get, contains_here, contains_later, contains_split}
 use Rattle.lalrpop_lr1_theory.specs.JoinedStates.{HaveCoresInOrder, item_core, state_core}
-
-no_element : {X : Type 0} (y : X) → Contains [] y → ⊥
-no_element y c = omega (arith, c.1)
+use Rattle.lalrpop_lr1_theory.proofs.NameLemmas.{no_element}
 
 -- elements of a list of images, and images of its elements
 pub image_of : {X Y : Type 0} (f : X → Y) (xs : List X) (y : Y) → Contains (map f xs) y → (x : X) × Contains xs x × (f x ≡ y)

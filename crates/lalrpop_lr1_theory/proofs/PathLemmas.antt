@@ -1,4 +1,4 @@
--- What stands on the path to a state, and what stands before an item's symbols there: for the laws on ways out.
+-- What stands on the path to a state, and what stands before an item's symbols there: for the laws on completions.
 use Rattle.std.proofs.Common.{◌≡◌, ℕ, zero, suc, List, [], ◌∷◌, ◌++◌, drop, take, refl, sym, ap, ◌∙◌}
 use Rattle.std.proofs.Common.{subst, append_assoc, append-nil, arith}
 use Rattle.lalrpop_grammar_symbols.specs.Symbols.{Text}

@@ -7,7 +7,7 @@ use Rattle.lalrpop_lr1_theory.specs.Automata.{IsCover}
 use Rattle.lalrpop_lr1_theory.specs.States.{State, HasItem, HasEdge, Reduces}
 use Rattle.lalrpop_lr1_theory.specs.NameClosures.{IsNameReached, IsProductive}
 use Rattle.lalrpop_lr1_theory.specs.CoverTests.{PassesCoverTests}
-use Rattle.lalrpop_lr1_theory.specs.HandedNexts.{ReducesBeforeCarried, ReducesBeforeHanded}
+use Rattle.lalrpop_lr1_theory.specs.PropagatedNexts.{ReducesBeforeCarried, ReducesBeforeLookaheads}
 
 -- states cover the items exactly where they pass the tests
 abbrev pub CoversAreTested : Type 0
@@ -16,12 +16,12 @@ CoversAreTested =
     IsCover (Contains grammar) s (HasItem states) (HasEdge states)
     ↔ PassesCoverTests (Contains grammar) s (HasItem states) (HasEdge states)
 
--- states reduce before all that is carried exactly where they do before all that is handed
-abbrev pub CarriedAreHanded : Type 0
-CarriedAreHanded =
+-- states reduce before all that is carried exactly where they do before all that is propagated
+abbrev pub CarriedArePropagated : Type 0
+CarriedArePropagated =
     (grammar : List Production) (s : Text) (states : List State) →
     ReducesBeforeCarried (Contains grammar) s (HasItem states) (HasEdge states) (Reduces states)
-    ↔ ReducesBeforeHanded (Contains grammar) s (HasItem states) (HasEdge states) (Reduces states)
+    ↔ ReducesBeforeLookaheads (Contains grammar) s (HasItem states) (HasEdge states) (Reduces states)
 
 -- nothing that the start reaches is barren exactly where each name that it reaches is productive
 abbrev pub NoneBarrenIsProductive : Type 0

@@ -13,7 +13,7 @@ pub mod CanonicalStates
 pub mod Laws
 pub mod NameClosures
 pub mod CoverTests
-pub mod HandedNexts
+pub mod PropagatedNexts
 pub mod CheckLaws
 pub mod ValidCores
 pub mod Lr0Laws
@@ -25,5 +25,5 @@ pub mod RenumberedStates
 pub mod GotoOrders
 pub mod OrderLaws
 pub mod PathTrees
-pub mod OutwardMoves
-pub mod OutwardLaws
+pub mod CompletionMoves
+pub mod CompletionLaws

@@ -1,6 +1,6 @@
-//! Canonical states that are put together by their items without lookaheads: what the collapse of states rests on.
+//! Laws of the collapse: canonical states merged by their cores, that is by their items without lookaheads.
 //!
-//! The crate has no code but laws. `CollapsedStates` in `specs/` says which states are put together and what becomes of them,
+//! The module has no code but laws. `CollapsedStates` in `specs/` says which states are put together and what becomes of them,
 //! `SameStates` when states are the same up to their numbers, and `CollapseLaws` what the laws say.
 
 ghost use Rattle.lalrpop_lr1_theory.specs.CollapseLaws.{CollapsedAreCarried, CollapsedAreChecked, CollapsedAreLr0, JoinedAreCollapsed};

@@ -1,6 +1,6 @@
-//! States in another order: what they rest on that put states into another order.
+//! Laws of states under other numbers: checked states stay checked in another order.
 //!
-//! The crate has no code but a law. `RenumberedStates` in `specs/` says when states are others by other numbers, `GotoOrders` in which
+//! The module has no code but a law. `RenumberedStates` in `specs/` says when states are others by other numbers, `GotoOrders` in which
 //! order those with gotos come first, and `OrderLaws` what the law says.
 
 ghost use Rattle.lalrpop_lr1_theory.specs.OrderLaws.{RenumberedAreChecked};

@@ -11,9 +11,9 @@
 
 pub mod check_laws;
 pub mod collapse_laws;
+pub mod completion_laws;
 pub mod lane_laws;
 pub mod lr0_laws;
-pub mod outward_laws;
 
 ghost use Rattle.lalrpop_lr1_theory.specs.Laws.{MovesRebuild, MovesDetermine, ForestsFollow, ValidAreCarried, FirstTablesAreExact, CarriedAlongSymbols, CanonicalAreValid, CanonicalAreCounted, ConflictsAreTwoMoves, CanonicalAreChecked, Lr1IsNoConflict, ConflictsHaveForests, CanonicalMovesFollow, CheckedAreLr1, OneTree, EndsAreRight, RunsAreOne};
 

@@ -1,6 +1,6 @@
-//! States without lookaheads and the items that are valid on symbols: what is known of LR(0) states.
+//! Laws of LR(0) states: the items that are valid on symbols, whatever may follow.
 //!
-//! The crate has no code but laws. `ValidCores` in `specs/` says which items are valid on a list of symbols whatever may follow
+//! The module has no code but laws. `ValidCores` in `specs/` says which items are valid on a list of symbols whatever may follow
 //! them, and how many sets of them there are, and `Lr0Laws` what the laws say.
 
 ghost use Rattle.lalrpop_lr1_theory.specs.Lr0Laws.{Lr0AreCounted, Lr0AreValid};

@@ -1,5 +1,5 @@
 -- The labels of the written grammar's expansion and the actions of the lowered one are as many; for the normalizer.
-use Rattle.std.proofs.Common.{◌≡◌, ℕ, zero, suc, ◌+◌, ◌<◌, ◌≤◌, List, [], ◌∷◌, ◌++◌, refl, ap}
+use Rattle.std.proofs.Common.{◌≡◌, ℕ, suc, ◌+◌, ◌<◌, ◌≤◌, List, [], ◌∷◌, ◌++◌, refl, ap}
 use Rattle.std.proofs.Common.{ap₂, sym, ◌∙◌, subst, inl, inr, arith}
 use Rattle.std.proofs.Common.{Bool}
 use Rattle.std.proofs.lemmas.List.{length-append, length-map}
@@ -7,7 +7,7 @@ use Rattle.std.specs.Prelude.{Option, Some, ◌^◌, flat_map, length, map, slic
 use Rattle.lalrpop_grammar_symbols.specs.Symbols.{Text, Closed}
 use Rattle.lalrpop_grammar.specs.WrittenGrammar.{Grammar, Origin, Rule, rules_of}
 use Rattle.lalrpop_grammar_language.specs.Among.{Among}
-use Rattle.lalrpop_grammar_language.specs.Enabled.{Choice, EnabledGrammar, enabled_grammar}
+use Rattle.lalrpop_grammar_language.specs.Enabled.{EnabledGrammar, enabled_grammar}
 use Rattle.lalrpop_grammar_language.specs.Expansion.{InExpansion, IsWrittenProduction, Nonterminal, Produces, WrittenLabel}
 use Rattle.lalrpop_grammar_language.proofs.PlaceLemmas.{among_map}
 use Rattle.lalrpop_grammar_repr.specs.declared.norm_error.NormErrorKind.TheVariants as kinds
@@ -17,19 +17,18 @@ use Rattle.lalrpop_norm_theory.specs.Premises.{IsExpanded}
 use Rattle.lalrpop_norm_theory.specs.Productions.{IsOriginBefore}
 use Rattle.lalrpop_norm_theory.specs.Rows.{AreExpansionRows, Row}
 use Rattle.lalrpop_norm_theory.specs.Same.{SameExpansion, rename_side}
-use Rattle.lalrpop_norm_theory.proofs.AmongLemmas.{map_among}
+use Rattle.lalrpop_grammar_language.proofs.AmongLemmas.{map_among}
 use Rattle.lalrpop_norm_theory.proofs.NumberingLemmas.{not_before_itself}
 use Rattle.lalrpop_norm_prevalidate.specs.Faults.{HasNoCheckFault}
 use Rattle.lalrpop_norm_keys.specs.Tables.{HasEachOnce}
 use Rattle.lalrpop_norm_token_check.specs.Checked.{IsTokenChecked}
 use Rattle.lalrpop_norm_token_check.specs.Places.{FirstPlaces}
-use Rattle.lalrpop_norm_lower.specs.Lowered.{AreChoicesInOrder}
 use Rattle.lalrpop_norm_lower.specs.LoweredLists.{count_actions, count_alternatives, rules_with_starts}
 use Rattle.lalrpop_norm_lower.specs.LoweredSymbols.{lowered_name}
 use Rattle.lalrpop_norm_lower.proofs.EarlierLemmas.{among_at}
 use Rattle.lalrpop_norm_lower.proofs.ExpansionRowLemmas.{alternative_row, are_expansion_rows, lowered_rows, rule_rows, start_row}
 use Rattle.lalrpop_norm_chain.specs.Chains.{IsMacroChain}
-use Rattle.lalrpop_norm_chain.specs.PremiseLaws.{AreInOrder, HasFreePrefix, HasRulesInOrder}
+use Rattle.lalrpop_norm_chain.specs.PremiseLaws.{HasFreePrefix, HasRulesInOrder}
 use Rattle.lalrpop_norm_chain.proofs.ChainLemmas.{between_behind}
 use Rattle.lalrpop_norm_chain.proofs.FrontLemmas.{prefix_leveled, same_expanded, to}
 use Rattle.lalrpop_norm_chain.proofs.KeyPrefixLemmas.{keys_free}
@@ -37,6 +36,7 @@ use Rattle.lalrpop_norm_chain.proofs.OrderLemmas.{keys_ordered, leveled_ordered}
 use Rattle.lalrpop_norm_chain.proofs.PrefixLemmas.{leveled_free}
 use Rattle.lalrpop_norm.specs.Normalizing.{HasTooManyLabels, IsLabelOf}
 use Rattle.lalrpop_norm.proofs.CountLemmas.{once_before, once_behind, once_within}
+use Rattle.lalrpop_norm_chain.proofs.PremiseLemmas.{choices_in_order}
 
 -- rows of an expansion
 
@@ -150,10 +150,6 @@ module _ (g h : EnabledGrammar) (to : Nonterminal → Nonterminal) (same : SameE
             (same.produces a.head a.choice is.1 is.0 is.2)))
 
 -- the passes up to tokens
-
-choices_in_order : (cs : List Choice) → AreInOrder cs → AreChoicesInOrder cs
-choices_in_order [] h = tt
-choices_in_order (c ∷ cs) h = (h.0, choices_in_order cs h.1)
 
 module _ (finds : Text → Text → Option Bool) (features : List Text) (w leveled expanded checked : Grammar)
     (c : IsMacroChain finds features w leveled expanded) (checks : HasNoCheckFault w) (first : FirstPlaces)

@@ -13,7 +13,7 @@ use Rattle.lalrpop_grammar.specs.Views.{type_view, tys}
 use Rattle.lalrpop_grammar_language.specs.Among.{Among}
 use Rattle.lalrpop_json_symbols.specs.Readable.{IsReadableSymbol, AreReadableSymbols, IsReadableType, AreReadableTypes}
 use Rattle.lalrpop_norm_theory.specs.Premises.{IsReadForm, symbols_of_type, symbols_of_types}
-use Rattle.lalrpop_norm_theory.proofs.AmongLemmas.{among_parts}
+use Rattle.lalrpop_grammar_language.proofs.OrderLemmas.{among_parts}
 use Rattle.lalrpop_norm.proofs.NameLemmas.{name_read}
 use Rattle.lalrpop_norm.proofs.ViewLemmas.{view-id, view-literal, view-group, view-macro, view-repeat, view-choose}
 use Rattle.lalrpop_norm.proofs.ViewLemmas.{view-name, view-lookahead, view-lookbehind, view-error, view-tuple}

@@ -1,10 +1,10 @@
 -- What a pass tells stands in the written grammar, and where none tells a fault none stands; for the normalizer.
-use Rattle.std.proofs.Common.{◌≡◌, ℕ, List, [], ◌∷◌, ◌++◌, refl, ap, sym, ◌∙◌, subst, Bool, true, false}
-use Rattle.std.proofs.Common.{inl, inr, ◌⊎◌}
+use Rattle.std.proofs.Common.{◌≡◌, ℕ, List, [], ◌∷◌, ◌++◌, ap, sym, ◌∙◌, subst, Bool}
+use Rattle.std.proofs.Common.{◌⊎◌}
 use Rattle.std.specs.Prelude.{Option, map}
 use Rattle.lalrpop_grammar_symbols.specs.Symbols.{Text, TextSpan, Terminal}
 use Rattle.lalrpop_grammar_symbols.specs.Views.{span_view}
-use Rattle.lalrpop_grammar.specs.WrittenGrammar.{Grammar, InternEntry, Rule, WrittenItem, rules_of}
+use Rattle.lalrpop_grammar.specs.WrittenGrammar.{Grammar, Rule, rules_of}
 use Rattle.lalrpop_grammar_language.specs.Among.{Among}
 use Rattle.lalrpop_grammar_language.specs.Enabled.{EnabledGrammar}
 use Rattle.lalrpop_grammar_repr.specs.declared.norm_error.NormError.{NormError}
@@ -27,7 +27,7 @@ use Rattle.lalrpop_norm_lower.specs.LowerFaults.{HasFewActions, IsLowerFault}
 use Rattle.lalrpop_norm.specs.Stages.{HasNoLaterFault, IsLaterFault}
 use Rattle.lalrpop_norm_chain.specs.PremiseLaws.{resolved_part}
 use Rattle.lalrpop_norm_chain.specs.Chains.{IsMacroChain}
-use Rattle.lalrpop_norm_chain.proofs.ChainLemmas.{between_behind}
+use Rattle.lalrpop_norm_chain.proofs.ChainLemmas.{between_behind, rules_behind}
 use Rattle.lalrpop_norm_chain.proofs.FrontLemmas.{span_is}
 use Rattle.lalrpop_norm_chain.specs.FaultLaws.{IsLevelChain}
 use Rattle.lalrpop_norm_chain.specs.StandingFaults.{IsRightToLevels, IsRightToMacros, IsRightToNames, IsRightToTokens}
@@ -39,16 +39,6 @@ use Rattle.lalrpop_norm_macros.specs.MacroPass.{HasNoMacroFault, IsMacroFault, I
 use Rattle.lalrpop_norm.specs.Normalizing.{HasNoWrittenFault, IsRightToTypes, IsWrittenFault, TellsOfWritten}
 use Rattle.lalrpop_norm.proofs.LabelLemmas.{few_labels, many_labels}
 use Rattle.lalrpop_norm.proofs.TypedLemmas.{all_typed, none_disagree}
-
--- a tokenizer is no rule
-rules_behind : (items : List WrittenItem) (es : List InternEntry)
-    → rules_of (items ++ WrittenItem.intern_token es ∷ []) ≡ rules_of items
-rules_behind [] es = refl
-rules_behind (WrittenItem.nonterminal r ∷ items) es = ap (λ l. r ∷ l) (rules_behind items es)
-rules_behind (WrittenItem.match_token groups place ∷ items) es = rules_behind items es
-rules_behind (WrittenItem.extern_token block ∷ items) es = rules_behind items es
-rules_behind (WrittenItem.intern_token entries ∷ items) es = rules_behind items es
-rules_behind (WrittenItem.import text ∷ items) es = rules_behind items es
 
 no_among : {A : Type 0} (l : List A) (a : A) → l ≡ [] → Among l a → ⊥
 no_among l a e i = subst (λ m. Among m a) e i

@@ -13,7 +13,7 @@ use Rattle.lalrpop_grammar_language.proofs.PlaceLemmas.{among_map}
 use Rattle.lalrpop_norm_theory.specs.Between.{choice_without_cfg, grammar_between, rule_between, rule_without_cfg, with_origins}
 use Rattle.lalrpop_norm_theory.specs.Between.{without_disabled}
 use Rattle.lalrpop_norm_theory.specs.Premises.{IsReadGrammar}
-use Rattle.lalrpop_norm_theory.proofs.AmongLemmas.{map_among}
+use Rattle.lalrpop_grammar_language.proofs.AmongLemmas.{map_among}
 use Rattle.lalrpop_norm_theory.proofs.BetweenLemmas.{rules_left}
 use Rattle.lalrpop_norm_theory.proofs.ExpansionListLemmas.{rule_there}
 use Rattle.lalrpop_norm_theory.specs.KeyRules.{AreInstanceChoices, AreKeyChoices, AreTwoChoices, IsOneChoice}

@@ -11,7 +11,7 @@ use Rattle.lalrpop_grammar_language.specs.Levels.{tighter, ranked_choices}
 use Rattle.lalrpop_grammar_language.proofs.PlaceLemmas.{among_filter, among_map}
 use Rattle.lalrpop_norm_theory.specs.Between.{rule_between, is_cfg, without_cfg, alternative_without_cfg, enabled_part}
 use Rattle.lalrpop_norm_theory.specs.Between.{without_disabled}
-use Rattle.lalrpop_norm_theory.proofs.AmongLemmas.{among_parts}
+use Rattle.lalrpop_grammar_language.proofs.OrderLemmas.{among_parts}
 use Rattle.lalrpop_norm_theory.specs.Resolving.{defined_names, resolved_alternative, resolved_rule, resolved_grammar}
 use Rattle.lalrpop_norm_theory.specs.LeveledGrammar.{ranked_alternatives, has_rank_level, says_rank, leveled_alternative}
 use Rattle.lalrpop_norm_theory.specs.LeveledGrammar.{level_alternatives, pass_downs, leveled_grammar}

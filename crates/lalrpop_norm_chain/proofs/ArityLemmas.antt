@@ -15,7 +15,12 @@ use Rattle.lalrpop_grammar_language.specs.Expansion.{HasLevel}
 use Rattle.lalrpop_grammar_language.proofs.PlaceLemmas.{among_filter, among_map}
 use Rattle.lalrpop_norm_theory.specs.Between.{with_origins, rule_between, grammar_between}
 use Rattle.lalrpop_norm_theory.specs.Premises.{IsResolvedIn}
-use Rattle.lalrpop_norm_theory.proofs.AmongLemmas.{map_among, flat_map_among, among_flat_map, among_left, among_right, among_parts}
+use Rattle.lalrpop_grammar_language.proofs.AmongLemmas.{flat_map_among}
+use Rattle.lalrpop_grammar_language.proofs.AmongLemmas.{map_among}
+use Rattle.lalrpop_grammar_language.proofs.AmongLemmas.{among_flat_map}
+use Rattle.lalrpop_grammar_language.proofs.StepLemmas.{among_right}
+use Rattle.lalrpop_grammar_language.proofs.StepLemmas.{among_left}
+use Rattle.lalrpop_grammar_language.proofs.OrderLemmas.{among_parts}
 use Rattle.lalrpop_norm_theory.specs.LevelRules.{occurrence_name, rename_occurrences, rename_all_occurrences}
 use Rattle.lalrpop_norm_theory.specs.LevelRules.{rename_listed_occurrences}
 use Rattle.lalrpop_norm_theory.specs.Resolving.{NameUse, use_of_name, resolved_name, defined_names, name_resolution}
@@ -39,7 +44,8 @@ use Rattle.lalrpop_norm_chain.proofs.SubsymbolLemmas.{listed_subsymbols_resolved
 use Rattle.lalrpop_norm_theory.proofs.LevelLemmas.{keeps}
 use Rattle.lalrpop_norm_chain.proofs.FlatListLemmas.{flat_of_map, flat_same, flat_join}
 use Rattle.lalrpop_norm_chain.proofs.RightRankLemmas.{right_rank}
-use Rattle.lalrpop_norm_chain.proofs.MadeConditionLemmas.{name_change, spelled_so, changed}
+use Rattle.lalrpop_norm_chain.proofs.MadeConditionLemmas.{spelled_so, changed}
+use Rattle.lalrpop_norm_theory.proofs.ResolvingLemmas.{name_change}
 
 -- resolving
 

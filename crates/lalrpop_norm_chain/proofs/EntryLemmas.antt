@@ -22,7 +22,9 @@ use Rattle.lalrpop_grammar_language.proofs.PlaceLemmas.{among_map}
 use Rattle.lalrpop_grammar_repr.specs.Algorithms.{has_lalr, is_lalr}
 use Rattle.lalrpop_grammar_repr.specs.Maps.{at_name}
 use Rattle.lalrpop_grammar.specs.declared.types.attribute.Attribute.{Attribute}
-use Rattle.lalrpop_norm_theory.proofs.AmongLemmas.{among_flat_map, flat_map_among, map_among}
+use Rattle.lalrpop_grammar_language.proofs.AmongLemmas.{flat_map_among}
+use Rattle.lalrpop_grammar_language.proofs.AmongLemmas.{map_among}
+use Rattle.lalrpop_grammar_language.proofs.AmongLemmas.{among_flat_map}
 use Rattle.lalrpop_norm_tyinfer.specs.TerminalTypes.{terminal_of_mapping, terminals_of_item, terminals_of_items}
 use Rattle.lalrpop_norm_tyinfer.specs.TypeFaults.{nonterminal_of}
 use Rattle.lalrpop_norm_lower.specs.Lowered.{entries_or_none}

@@ -19,7 +19,7 @@ use Rattle.lalrpop_grammar_language.specs.Levels.{loosest}
 use Rattle.lalrpop_grammar_language.specs.Expansion.{GrammarSymbol, Nonterminal, InExpansion, RightSide, WrittenLabel}
 use Rattle.lalrpop_grammar_language.proofs.WrittenTreeLemmas.{here, lit, alt, rule_of, grammar, finds, of_macro, macro_of, on_K}
 use Rattle.lalrpop_norm_theory.proofs.ExpansionListLemmas.{is_all, reached-in, all-of}
-use Rattle.lalrpop_norm_theory.proofs.AmongLemmas.{flat_map_among}
+use Rattle.lalrpop_grammar_language.proofs.AmongLemmas.{flat_map_among}
 use Rattle.lalrpop_grammar_repr.specs.Maps.{at_name, at_terminal}
 use Rattle.lalrpop_grammar.specs.TypeReprs.{named_type}
 use Rattle.lalrpop_grammar.specs.declared.types.type_repr.TypeRepr.{TypeRepr}

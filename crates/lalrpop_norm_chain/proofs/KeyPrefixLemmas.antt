@@ -14,7 +14,7 @@ use Rattle.lalrpop_norm_theory.specs.Keys.{closed_text, closed_texts, before_til
 use Rattle.lalrpop_norm_theory.specs.Premises.{IsExpanded}
 use Rattle.lalrpop_norm_theory.proofs.ExpansionListLemmas.{rule_there}
 use Rattle.lalrpop_norm_theory.specs.KeyRules.{IsKey, IsMappedTerminal, IsWrittenFor, AreWrittenFor, AreKeyChoices, IsMacroExpansion}
-use Rattle.lalrpop_norm_theory.proofs.LevelOrderLemmas.{found_text}
+use Rattle.lalrpop_grammar_language.proofs.AmongLemmas.{found_text}
 use Rattle.lalrpop_norm_prevalidate.specs.Names.{has_prefix}
 use Rattle.lalrpop_norm_chain.specs.PremiseLaws.{HasFreePrefix}
 use Rattle.lalrpop_norm_chain.proofs.PrefixLemmas.{free_joined, decimal_high, begun_nowhere, not_begun}

@@ -12,7 +12,9 @@ use Rattle.lalrpop_norm_theory.specs.LeveledGrammar.{ranked_alternatives}
 use Rattle.lalrpop_norm_theory.specs.LevelFaults.{LevelFault, faults_of_attr, fault_of_tightest_side, faults_of_tightest}
 use Rattle.lalrpop_norm_theory.specs.LevelFaults.{faults_of_first, level_faults_in, level_faults_in_rule, level_faults}
 use Rattle.lalrpop_norm_chain.proofs.FlatListLemmas.{flat_of_map, flat_same, flat_of_zip}
-use Rattle.lalrpop_norm_chain.proofs.MadeConditionLemmas.{name_change, rule_changed, ranks_stay}
+use Rattle.lalrpop_norm_chain.proofs.MadeConditionLemmas.{ranks_stay}
+use Rattle.lalrpop_norm_theory.proofs.ResolvingLemmas.{rule_changed}
+use Rattle.lalrpop_norm_theory.proofs.ResolvingLemmas.{name_change}
 
 seconds : (w : RuleChange) (r : EnabledRule) (ps : List (Choice × Option Rank)) →
     map (λ (p : Choice × Option Rank). p.1) (map (changed_pair w r) ps) ≡ map (λ (p : Choice × Option Rank). p.1) ps

@@ -27,7 +27,11 @@ use Rattle.lalrpop_norm_theory.specs.Between.{grammar_between, rule_between, wit
 use Rattle.lalrpop_norm_theory.specs.Inlined.{IsInlined}
 use Rattle.lalrpop_norm_theory.specs.Productions.{NamedProduction, StandsForLabel}
 use Rattle.lalrpop_norm_theory.specs.Rows.{Row}
-use Rattle.lalrpop_norm_theory.proofs.AmongLemmas.{among_flat_map, among_parts, among_right, flat_map_among, map_among}
+use Rattle.lalrpop_grammar_language.proofs.AmongLemmas.{flat_map_among}
+use Rattle.lalrpop_grammar_language.proofs.AmongLemmas.{map_among}
+use Rattle.lalrpop_grammar_language.proofs.AmongLemmas.{among_flat_map}
+use Rattle.lalrpop_grammar_language.proofs.StepLemmas.{among_right}
+use Rattle.lalrpop_grammar_language.proofs.OrderLemmas.{among_parts}
 use Rattle.lalrpop_norm_theory.proofs.LevelLemmas.{keeps}
 use Rattle.lalrpop_norm_theory.proofs.LevelOrderLemmas.{one_rule}
 use Rattle.lalrpop_norm_tyinfer.specs.TerminalTypes.{AreTerminalTypes, grammar_terminals, terminals_of_alternatives, terminals_of_items}

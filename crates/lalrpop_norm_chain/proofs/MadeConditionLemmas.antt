@@ -2,23 +2,23 @@
 use Rattle.std.proofs.Common.{◌≡◌, ℕ, List, [], ◌∷◌, refl, ap, sym, ◌∙◌, subst, Bool, inl, inr}
 use Rattle.std.specs.Prelude.{Option, Some, None, map, option_map, ◌↔◌}
 use Rattle.lalrpop_grammar_symbols.specs.Symbols.{Text, Closed, Closeds}
-use Rattle.lalrpop_grammar.specs.WrittenGrammar.{Alternative, Condition, Rule, Grammar, rules_of}
+use Rattle.lalrpop_grammar.specs.WrittenGrammar.{Condition, Rule, Grammar, rules_of}
 use Rattle.lalrpop_grammar_language.specs.Among.{Among}
-use Rattle.lalrpop_grammar_language.specs.Enabled.{EnabledGrammar, EnabledRule, Choice, IsRule, choice_of}
+use Rattle.lalrpop_grammar_language.specs.Enabled.{EnabledGrammar, EnabledRule, Choice, IsRule}
 use Rattle.lalrpop_grammar_language.specs.Levels.{Rank, ranked_choices}
 use Rattle.lalrpop_grammar_language.specs.Closing.{parameter_value}
 use Rattle.lalrpop_grammar_language.specs.Admitting.{bind, rank_level}
 use Rattle.lalrpop_grammar_language.specs.Expansion.{Nonterminal, HasLevel, IsRoot, InExpansion}
 use Rattle.lalrpop_grammar_language.proofs.PlaceLemmas.{among_map}
-use Rattle.lalrpop_norm_theory.specs.Between.{with_origins, rule_between, grammar_between}
-use Rattle.lalrpop_norm_theory.proofs.AmongLemmas.{map_among}
+use Rattle.lalrpop_norm_theory.specs.Between.{rule_between, grammar_between}
+use Rattle.lalrpop_grammar_language.proofs.AmongLemmas.{map_among}
 use Rattle.lalrpop_norm_theory.specs.LevelRules.{level_name, by_level_names, all_by_level_names}
-use Rattle.lalrpop_norm_theory.specs.Resolving.{DefinedNames, defined_names, resolved_symbol, resolved_type, resolved_alternative}
-use Rattle.lalrpop_norm_theory.specs.Resolving.{resolved_rule, resolved_grammar}
-use Rattle.lalrpop_norm_theory.proofs.RuleChangeLemmas.{RuleChange, changed_choice, changed_rule, changed_pair, KeepsRanks}
+use Rattle.lalrpop_norm_theory.specs.Resolving.{DefinedNames, defined_names}
+use Rattle.lalrpop_norm_theory.specs.Resolving.{resolved_grammar}
+use Rattle.lalrpop_norm_theory.proofs.RuleChangeLemmas.{changed_rule, changed_pair, KeepsRanks}
 use Rattle.lalrpop_norm_theory.proofs.RuleChangeLemmas.{HasChangedRules, levels_kept, ranked_kept, same_levels, rule_after}
 use Rattle.lalrpop_norm_theory.proofs.RuleChangeLemmas.{rule_before}
-use Rattle.lalrpop_norm_theory.proofs.ResolvingLemmas.{rules_resolved, bares_resolved, resolving_chains}
+use Rattle.lalrpop_norm_theory.proofs.ResolvingLemmas.{rules_resolved, bares_resolved, resolving_chains, name_change, all_changed}
 use Rattle.lalrpop_norm_theory.specs.LeveledGrammar.{leveled_alternative, rule_at_level}
 use Rattle.lalrpop_norm_theory.specs.LevelLaws.{nonterminal_by_level, IsLevelable}
 use Rattle.lalrpop_norm_theory.proofs.LevelBindingLemmas.{renamed_value}
@@ -36,35 +36,6 @@ use Rattle.lalrpop_norm_theory.proofs.ChainLemmas.{same_chains}
 use Rattle.lalrpop_norm_chain.specs.MadeConditions.{IsMade, HasConditionWhere}
 
 -- resolving, as a change of rules
-
--- what resolving makes of a rule: names in its declared type and its symbols are resolved, and attributes stay
-abbrev pub name_change : DefinedNames → RuleChange
-name_change d = record {
-  declared = λ r. option_map (resolved_type d r.parameters) r.declared;
-  expr = λ r c. map (resolved_symbol d r.parameters) c.expr;
-  attributes = λ l. l;
-}
-
-choices_changed : (d : DefinedNames) (r : EnabledRule) (alternatives : List Alternative) →
-    map choice_of (with_origins (map (resolved_alternative d r.parameters) alternatives))
-    ≡ map (changed_choice (name_change d) r) (map choice_of (with_origins alternatives))
-choices_changed d r [] = refl
-choices_changed d r (a ∷ rest) =
-    ap (λ l. changed_choice (name_change d) r (choice_of (a.origin, a)) ∷ l) (choices_changed d r rest)
-
--- a rule with resolved names is the rule with that change made to it
-pub rule_changed : (d : DefinedNames) (r : Rule) → rule_between (resolved_rule d r) ≡ changed_rule (name_change d) (rule_between r)
-rule_changed d r = ap rule_with (choices_changed d (rule_between r) r.alternatives)
-  where
-    rule_with : List Choice → EnabledRule
-    rule_with cs = record (rule_between r) { declared = option_map (resolved_type d r.parameters) r.declared; choices = cs }
-
-all_changed : (d : DefinedNames) (rs : List Rule) →
-    map rule_between (map (resolved_rule d) rs) ≡ map (changed_rule (name_change d)) (map rule_between rs)
-all_changed d [] = refl
-all_changed d (r ∷ rs) =
-    ap (λ q. q ∷ map rule_between (map (resolved_rule d) rs)) (rule_changed d r)
-    ∙ ap (λ l. changed_rule (name_change d) (rule_between r) ∷ l) (all_changed d rs)
 
 -- resolving keeps the attributes that say ranks
 pub ranks_stay : (d : DefinedNames) → KeepsRanks (name_change d).attributes

@@ -12,7 +12,8 @@ use Rattle.lalrpop_grammar_repr.specs.declared.production.NonterminalData.{Nonte
 use Rattle.lalrpop_grammar_repr.specs.declared.production.Production.{Production}
 use Rattle.lalrpop_grammar.specs.declared.types.type_repr.TypeRepr.{TypeRepr}
 use Rattle.lalrpop_norm_theory.specs.Productions.{NamedProduction}
-use Rattle.lalrpop_norm_theory.proofs.AmongLemmas.{among_flat_map, flat_map_among}
+use Rattle.lalrpop_grammar_language.proofs.AmongLemmas.{flat_map_among}
+use Rattle.lalrpop_grammar_language.proofs.AmongLemmas.{among_flat_map}
 use Rattle.lalrpop_norm_tyinfer.specs.TerminalTypes.{inner_terminals}
 use Rattle.lalrpop_norm_tyinfer.specs.TerminalTypes.{terminals_of_symbols}
 use Rattle.lalrpop_norm_lower.specs.Lowered.{AreLoweredAlternatives, IsLoweredAlternative}

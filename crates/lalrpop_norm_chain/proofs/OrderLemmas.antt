@@ -14,7 +14,7 @@ use Rattle.lalrpop_norm_theory.specs.Between.{with_origins, rule_between, gramma
 use Rattle.lalrpop_norm_theory.specs.Between.{without_disabled}
 use Rattle.lalrpop_norm_theory.specs.Premises.{IsReadGrammar, IsExpanded}
 use Rattle.lalrpop_norm_theory.specs.Productions.{IsOriginBefore}
-use Rattle.lalrpop_norm_theory.proofs.AmongLemmas.{among_parts}
+use Rattle.lalrpop_grammar_language.proofs.OrderLemmas.{among_parts}
 use Rattle.std.proofs.lemmas.List.{append-nil}
 use Rattle.lalrpop_norm_theory.proofs.ExpansionListLemmas.{rule_there}
 use Rattle.lalrpop_norm_theory.proofs.LevelLemmas.{ranked_flat}

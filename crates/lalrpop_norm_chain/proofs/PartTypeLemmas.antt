@@ -10,7 +10,7 @@ use Rattle.lalrpop_grammar_language.specs.Expansion.{GrammarSymbol, Nonterminal,
 use Rattle.lalrpop_grammar_language.proofs.PlaceLemmas.{among_filter}
 use Rattle.lalrpop_norm_theory.specs.Types.{GroundType, GroundTypes, text_type, place_type, repeat_type, is_chosen, chosen_or_all}
 use Rattle.lalrpop_norm_theory.specs.Types.{HaveTypes, HaveTupleType, IsGrounded}
-use Rattle.lalrpop_norm_theory.proofs.AmongLemmas.{map_among}
+use Rattle.lalrpop_grammar_language.proofs.AmongLemmas.{map_among}
 use Rattle.lalrpop_norm_theory.proofs.TypeLemmas.{step_grounded}
 use Rattle.lalrpop_norm_theory.specs.KeyRules.{IsKey, IsMacroExpansion}
 

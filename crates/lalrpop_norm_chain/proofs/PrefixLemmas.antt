@@ -18,7 +18,12 @@ use Rattle.lalrpop_grammar_language.proofs.PlaceLemmas.{among_map}
 use Rattle.lalrpop_norm_theory.specs.Between.{rule_between, grammar_between, without_disabled}
 use Rattle.lalrpop_norm_theory.specs.Keys.{with_number}
 use Rattle.lalrpop_norm_theory.specs.Premises.{IsReadGrammar}
-use Rattle.lalrpop_norm_theory.proofs.AmongLemmas.{map_among, flat_map_among, among_flat_map, among_left, among_right, among_parts}
+use Rattle.lalrpop_grammar_language.proofs.AmongLemmas.{flat_map_among}
+use Rattle.lalrpop_grammar_language.proofs.AmongLemmas.{map_among}
+use Rattle.lalrpop_grammar_language.proofs.AmongLemmas.{among_flat_map}
+use Rattle.lalrpop_grammar_language.proofs.StepLemmas.{among_right}
+use Rattle.lalrpop_grammar_language.proofs.StepLemmas.{among_left}
+use Rattle.lalrpop_grammar_language.proofs.OrderLemmas.{among_parts}
 use Rattle.lalrpop_norm_theory.proofs.BetweenLemmas.{bares_left}
 use Rattle.lalrpop_norm_theory.specs.LevelRules.{level_name}
 use Rattle.lalrpop_norm_theory.specs.Resolving.{defined_names, resolved_grammar}

@@ -1,7 +1,7 @@
 -- The passes before leave what lowering rests on, and with it the whole chain makes the normalized grammar; for the laws of chains
 -- up to lowering.
-use Rattle.std.proofs.Common.{◌≡◌, List, [], ◌∷◌, ap, sym, ◌∙◌, subst, true, refl, Bool}
-use Rattle.std.specs.Prelude.{Option, Some, None, IsSomeAnd, is_some, ◌++◌}
+use Rattle.std.proofs.Common.{◌≡◌, List, [], ◌∷◌, ap, sym, ◌∙◌, subst, Bool}
+use Rattle.std.specs.Prelude.{Option, ◌++◌}
 use Rattle.lalrpop_grammar_symbols.specs.Symbols.{Text, Closed}
 use Rattle.lalrpop_grammar.specs.Views.{grammar_view}
 use Rattle.lalrpop_grammar.specs.WrittenGrammar.{Grammar, rules_of}
@@ -14,7 +14,7 @@ use Rattle.lalrpop_grammar_repr.specs.declared.types.Types.{Types}
 use Rattle.lalrpop_norm_theory.specs.Between.{grammar_between, rule_between}
 use Rattle.lalrpop_norm_theory.specs.Keys.{flat_key_text, with_number}
 use Rattle.lalrpop_norm_theory.specs.Premises.{IsExpanded}
-use Rattle.lalrpop_norm_theory.proofs.AmongLemmas.{map_among}
+use Rattle.lalrpop_grammar_language.proofs.AmongLemmas.{map_among}
 use Rattle.lalrpop_norm_tyinfer.specs.TypeFaults.{nonterminal_of}
 use Rattle.lalrpop_norm_lower.specs.Lowered.{AreChoicesInOrder, IsLowerable, IsLowered, KeepsTheRest}
 use Rattle.lalrpop_norm_lower.specs.declared.lowering.Normalized.{Normalized}
@@ -30,14 +30,11 @@ use Rattle.lalrpop_norm_chain.specs.LoweredViews.{HasNoTokenizer, HasOneTokenize
 use Rattle.lalrpop_norm_chain.specs.LoweredChains.{IsTypeChain}
 use Rattle.lalrpop_norm_chain.proofs.EntryLemmas.{entries_behind, first_behind}
 use Rattle.lalrpop_norm_chain.proofs.LoweredLemmas.{lowered_from}
+use Rattle.lalrpop_norm_lower.proofs.LoweredLemmas.{some_is}
 
-choices_in_order : (cs : List Choice) → AreInOrder cs → AreChoicesInOrder cs
+pub choices_in_order : (cs : List Choice) → AreInOrder cs → AreChoicesInOrder cs
 choices_in_order [] h = tt
 choices_in_order (c ∷ cs) h = (h.0, choices_in_order cs h.1)
-
-some_is : {A : Type 0} (P : A → Type 0) (o : Option A) → IsSomeAnd o P → is_some o ≡ true
-some_is P None h = absurd h
-some_is P (Some x) h = refl
 
 module _ (finds : Text → Text → Option Bool) (features : List Text) (w checked : Grammar) (types : Types)
     (c : IsTypeChain finds features w checked types) where

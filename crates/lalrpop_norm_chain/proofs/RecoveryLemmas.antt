@@ -12,7 +12,8 @@ use Rattle.lalrpop_grammar_language.proofs.PlaceLemmas.{among_filter, among_map}
 use Rattle.lalrpop_norm_theory.specs.Between.{with_origins, rule_between, grammar_between, without_disabled}
 use Rattle.lalrpop_norm_theory.specs.Between.{choice_without_cfg, rule_without_cfg}
 use Rattle.lalrpop_norm_theory.specs.Premises.{IsReadGrammar, IsNoRecovery, HasNoRecovery}
-use Rattle.lalrpop_norm_theory.proofs.AmongLemmas.{map_among, among_parts}
+use Rattle.lalrpop_grammar_language.proofs.AmongLemmas.{map_among}
+use Rattle.lalrpop_grammar_language.proofs.OrderLemmas.{among_parts}
 use Rattle.lalrpop_norm_theory.proofs.BetweenLemmas.{rules_left}
 use Rattle.lalrpop_norm_theory.specs.LevelRules.{rename_occurrences}
 use Rattle.lalrpop_norm_theory.specs.Resolving.{DefinedNames, NameUse, use_of_name, resolved_name, defined_names}

@@ -11,13 +11,15 @@ use Rattle.lalrpop_grammar_language.specs.Levels.{ranked_choices, tighter}
 use Rattle.lalrpop_grammar_language.proofs.PlaceLemmas.{among_filter, among_map}
 use Rattle.lalrpop_norm_theory.specs.Between.{alternative_without_cfg, rule_between, without_disabled}
 use Rattle.lalrpop_norm_theory.specs.Premises.{IsReadGrammar}
-use Rattle.lalrpop_norm_theory.proofs.AmongLemmas.{among_parts, flat_map_among, map_among}
+use Rattle.lalrpop_grammar_language.proofs.AmongLemmas.{flat_map_among}
+use Rattle.lalrpop_grammar_language.proofs.AmongLemmas.{map_among}
+use Rattle.lalrpop_grammar_language.proofs.OrderLemmas.{among_parts}
 use Rattle.lalrpop_norm_theory.specs.LevelRules.{level_name}
 use Rattle.lalrpop_norm_theory.specs.Resolving.{resolved_grammar}
 use Rattle.lalrpop_norm_theory.specs.LeveledGrammar.{has_rank_level, level_alternatives, leveled_alternative, leveled_grammar}
 use Rattle.lalrpop_norm_theory.specs.LeveledGrammar.{pass_downs, ranked_alternatives}
 use Rattle.lalrpop_norm_theory.specs.LevelNames.{AreLevelNames, LeveledKey, leveled_keys, leveled_keys_of}
-use Rattle.lalrpop_norm_theory.proofs.LeveledRuleLemmas.{rule_of_key}
+use Rattle.lalrpop_norm_theory.proofs.LeveledRuleLemmas.{rule_of_key, key_name}
 use Rattle.lalrpop_norm_theory.proofs.ToldPlaceLemmas.{read_tells}
 use Rattle.lalrpop_norm_theory.proofs.WellLeveledLemmas.{key_found, key_named, key_of_rule}
 use Rattle.lalrpop_norm_chain.specs.Spans.{IsRuleSpan, IsWrittenSpan}
@@ -34,12 +36,7 @@ TellsPlace a = (n : Text) × (place : ℕ) × (a.origin ≡ Origin.alternative n
 abbrev pub IsLeveledOf : Rule → Alternative → Type 0
 IsLeveledOf r a = TellsPlace a ⊎ (a.origin ≡ Origin.pass_down) × (a.span ≡ r.span)
 
--- the rule of a level, by its name
-key_name : (f : Text → ℕ → Text) (r : Rule) (level : Option ℕ) → (rule_of_key f r level).name ≡ level_name f r.name level
-key_name f r None = refl
-key_name f r (Some j) = refl
-
-key_span : (f : Text → ℕ → Text) (r : Rule) (level : Option ℕ) → (rule_of_key f r level).span ≡ r.span
+pub key_span : (f : Text → ℕ → Text) (r : Rule) (level : Option ℕ) → (rule_of_key f r level).span ≡ r.span
 key_span f r None = refl
 key_span f r (Some j) = refl
 

@@ -7,15 +7,14 @@ use Rattle.lalrpop_grammar_symbols.specs.Subsymbols.{subsymbols, subsymbols_of}
 use Rattle.lalrpop_grammar_symbols.specs.SymbolMaps.{map_symbol, map_symbols}
 use Rattle.lalrpop_grammar_language.specs.Among.{Among}
 use Rattle.lalrpop_grammar_language.specs.Closing.{Scope, names_owner, occurrences}
-use Rattle.lalrpop_norm_theory.proofs.AmongLemmas.{among_left, among_right, among_parts}
+use Rattle.lalrpop_grammar_language.proofs.StepLemmas.{among_right}
+use Rattle.lalrpop_grammar_language.proofs.StepLemmas.{among_left}
+use Rattle.lalrpop_grammar_language.proofs.OrderLemmas.{among_parts}
 use Rattle.lalrpop_norm_theory.specs.LevelRules.{rename_occurrences, rename_all_occurrences, rename_listed_occurrences}
 use Rattle.lalrpop_norm_theory.specs.Resolving.{DefinedNames, NameUse, use_of_name, resolved_name, name_resolution, resolved_symbol}
+use Rattle.lalrpop_norm_theory.proofs.LeveledRuleLemmas.{map-join}
 
 -- resolved symbols
-
-map-join : {A B : Type 0} (h : A → B) (xs ys : List A) → map h (xs ++ ys) ≡ map h xs ++ map h ys
-map-join h [] ys = refl
-map-join h (x ∷ xs) ys = ap (λ l. h x ∷ l) (map-join h xs ys)
 
 named_alone : (u : NameUse) (p : TextSpan) (n : Text) → subsymbols (resolved_name u p n) ≡ resolved_name u p n ∷ []
 named_alone NameUse.parameter p n = refl

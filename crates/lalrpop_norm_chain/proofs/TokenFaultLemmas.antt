@@ -3,10 +3,6 @@ use Rattle.std.proofs.Common.{◌≡◌, List, [], ◌∷◌, refl, ap, ap₂, s
 use Rattle.std.specs.Prelude.{Option, unwrap_or, ◌↔◌}
 use Rattle.std.specs.List.{AllByRecursion}
 use Rattle.std.specs.Option.{option_or}
-use Rattle.std.specs.Cmp.Lexicographic.{slice_cmp}
-use Rattle.std.specs.Ordering.{nat_cmp, ordering_reverse}
-use Rattle.std.specs.declared.cmp.Ordering.TheVariants.{Less, Equal, Greater}
-use Rattle.std.proofs.lemmas.Cmp.{nat_list_cmp_total, tied_itself}
 use Rattle.lalrpop_grammar_symbols.specs.Symbols.{Text, TextSpan, Terminal}
 use Rattle.lalrpop_grammar_symbols.specs.Views.{literal_view}
 use Rattle.lalrpop_grammar.specs.WrittenGrammar.{InternEntry, WrittenEntry, Grammar}
@@ -26,32 +22,9 @@ use Rattle.lalrpop_norm_token_check.specs.Places.{FirstPlaces, listed_in, place_
 use Rattle.lalrpop_norm_chain.specs.UsedLiterals.{AreAscending, AreUsedLiterals, AreFullExpansionEntries}
 use Rattle.lalrpop_norm_chain.proofs.UsedLiteralLemmas.{used_literals, full_entries}
 use Rattle.lalrpop_norm_chain.specs.TokenFaults.{TokenStandsAt}
+use Rattle.lalrpop_norm_token_check.proofs.UniqueLemmas.{before_itself, before_back}
 
 -- an expansion has one list of literals
-
-less_is_equal : Less ≡ Equal → ⊥
-less_is_equal h = cc
-
-less_is_greater : Less ≡ Greater → ⊥
-less_is_greater h = cc
-
-text_itself : (s : Text) → slice_cmp nat_cmp s s ≡ Less → ⊥
-text_itself s h = less_is_equal (sym h ∙ tied_itself nat_list_cmp_total s)
-
-text_back : (s t : Text) → slice_cmp nat_cmp s t ≡ Less → slice_cmp nat_cmp t s ≡ Less → ⊥
-text_back s t h k = less_is_greater (sym h ∙ nat_list_cmp_total.antisymm s t ∙ ap ordering_reverse k)
-
-before_itself : (t : Terminal) → IsBefore t t → ⊥
-before_itself (Terminal.quoted s) h = text_itself s h
-before_itself (Terminal.regex s) h = text_itself s h
-before_itself (Terminal.bare s) h = h
-before_itself Terminal.error h = h
-
-before_back : (s t : Terminal) → IsBefore s t → IsBefore t s → ⊥
-before_back (Terminal.quoted s) (Terminal.quoted t) h k = text_back s t h k
-before_back (Terminal.quoted s) (Terminal.regex t) h k = k
-before_back (Terminal.regex s) (Terminal.regex t) h k = text_back s t h k
-before_back _ _ h k = h
 
 behind : (t : Terminal) (ts : List Terminal) → AllByRecursion (λ u. IsBefore t u) ts → (u : Terminal) → Among ts u → IsBefore t u
 behind t [] h u i = absurd i

@@ -18,7 +18,8 @@ use Rattle.lalrpop_norm_theory.specs.Between.{with_origins, rule_between, gramma
 use Rattle.lalrpop_norm_theory.specs.Keys.{leveled_key_text, flat_key_text, IsNaming}
 use Rattle.lalrpop_norm_theory.specs.Premises.{AreDifferent}
 use Rattle.lalrpop_norm_theory.specs.Types.{GroundType, place_type, IsGrounded}
-use Rattle.lalrpop_norm_theory.proofs.AmongLemmas.{map_among, among_parts}
+use Rattle.lalrpop_grammar_language.proofs.AmongLemmas.{map_among}
+use Rattle.lalrpop_grammar_language.proofs.OrderLemmas.{among_parts}
 use Rattle.lalrpop_norm_theory.proofs.ExpansionListLemmas.{rule_there}
 use Rattle.lalrpop_norm_theory.proofs.LevelLemmas.{ranked_flat}
 use Rattle.lalrpop_norm_theory.proofs.TypeLemmas.{step_grounded}
@@ -30,7 +31,8 @@ use Rattle.lalrpop_norm_theory.proofs.ResolvingLemmas.{resolving_expansion, reso
 use Rattle.lalrpop_norm_theory.specs.LeveledGrammar.{ranked_alternatives, has_rank_level, leveled_alternative, level_alternatives}
 use Rattle.lalrpop_norm_theory.specs.LeveledGrammar.{pass_downs, leveled_grammar}
 use Rattle.lalrpop_norm_theory.specs.LevelLaws.{nonterminal_by_level, TellsOwnRules}
-use Rattle.lalrpop_norm_theory.proofs.LevelOrderLemmas.{one_rule, text_found}
+use Rattle.lalrpop_norm_theory.proofs.LevelOrderLemmas.{one_rule}
+use Rattle.lalrpop_grammar_language.proofs.AmongLemmas.{text_found}
 use Rattle.lalrpop_norm_theory.proofs.LeveledRuleLemmas.{rule_of_key, rules_of-leveled, names_differ, key_there}
 use Rattle.lalrpop_norm_theory.proofs.LevelFitLemmas.{IsCallOf}
 use Rattle.lalrpop_norm_theory.proofs.LevelExpansionLemmas.{call_of, well_in}
@@ -53,6 +55,7 @@ use Rattle.lalrpop_norm_chain.proofs.FrontLemmas.{levelable, same_leveled, prefi
 use Rattle.lalrpop_norm_chain.specs.WrittenTypeFaults.{IsCallAt, IsDisagreeing, IsUntyped}
 use Rattle.lalrpop_norm_chain.proofs.PartTypeLemmas.{key_typed}
 use Rattle.lalrpop_norm_chain.proofs.PartEquationLemmas.{none_declared, not_one_alternative}
+use Rattle.lalrpop_norm_chain.proofs.SpanLemmas.{key_span}
 
 -- where names differ, a rule is found by its name
 
@@ -79,10 +82,6 @@ one_by_name (r ∷ rs) d a b (inr i) (inl k) e = absurd (clash r rs d.0 a i (ap 
         true≢false (sym (text_found b.name (map (λ (x : Rule). x.name) rs) (map_among (λ (x : Rule). x.name) rs b j))
         ∙ ap (λ t. has_text t (map (λ (x : Rule). x.name) rs)) (sym same) ∙ none)
 one_by_name (r ∷ rs) d a b (inr i) (inr j) e = one_by_name rs d.1 a b i j e
-
-key_span : (f : Text → ℕ → Text) (r : Rule) (level : Option ℕ) → (rule_of_key f r level).span ≡ r.span
-key_span f r None = refl
-key_span f r (Some j) = refl
 
 key_name_is : (f : Text → ℕ → Text) (r : Rule) (level : Option ℕ) → (rule_of_key f r level).name ≡ level_name f r.name level
 key_name_is f r None = refl

@@ -16,11 +16,16 @@ use Rattle.lalrpop_grammar_language.specs.Admitting.{bind, argument_list}
 use Rattle.lalrpop_grammar_language.specs.Expansion.{GrammarSymbol, Nonterminal, RightSide, Produces, ByAlternative, ByPassDown}
 use Rattle.lalrpop_grammar_language.specs.Expansion.{grammar_symbol, origin_with}
 use Rattle.lalrpop_grammar_language.proofs.ComparisonLemmas.{same_text-refl}
-use Rattle.lalrpop_grammar_language.proofs.PlaceLemmas.{among_map, same_text-eq}
+use Rattle.lalrpop_grammar_language.proofs.PlaceLemmas.{among_map}
 use Rattle.lalrpop_norm_theory.specs.Between.{with_origins, rule_between, grammar_between}
 use Rattle.lalrpop_norm_theory.specs.Premises.{IsExpanded, IsExpandedSymbol}
 use Rattle.lalrpop_norm_theory.specs.Same.{rename_symbol, rename_side, SameExpansion}
-use Rattle.lalrpop_norm_theory.proofs.AmongLemmas.{map_among, flat_map_among, among_flat_map, among_left, among_right, among_parts}
+use Rattle.lalrpop_grammar_language.proofs.AmongLemmas.{flat_map_among}
+use Rattle.lalrpop_grammar_language.proofs.AmongLemmas.{map_among}
+use Rattle.lalrpop_grammar_language.proofs.AmongLemmas.{among_flat_map}
+use Rattle.lalrpop_grammar_language.proofs.StepLemmas.{among_right}
+use Rattle.lalrpop_grammar_language.proofs.StepLemmas.{among_left}
+use Rattle.lalrpop_grammar_language.proofs.OrderLemmas.{among_parts}
 use Rattle.lalrpop_norm_theory.proofs.LevelLemmas.{ranked_flat}
 use Rattle.lalrpop_lexer_scan.specs.Literals.{LiteralUse, uses_at, uses_in_alternative, uses_in_rule, uses_in_grammar, same_terminal}
 use Rattle.lalrpop_lexer_scan.specs.Literals.{first_span, IsBefore, IsAscending}
@@ -29,6 +34,7 @@ use Rattle.lalrpop_norm_token_check.specs.Entries.{AreUsed, AreEntries, AreFullE
 use Rattle.lalrpop_norm_tyinfer.proofs.ExpandedLemmas.{rule_among, ranked_among, IsRuleKey, reached_key}
 use Rattle.lalrpop_norm_chain.specs.UsedLiterals.{IsLiteralTerminal, IsUsedLiteral, AreAscending, AreUsedLiterals, AreExpansionEntries}
 use Rattle.lalrpop_norm_chain.specs.UsedLiterals.{AreFullExpansionEntries}
+use Rattle.lalrpop_norm_token_check.proofs.UniqueLemmas.{same_is}
 
 -- lists of literals
 
@@ -40,13 +46,6 @@ same_self (Terminal.quoted s) = same_text-refl s
 same_self (Terminal.regex s) = same_text-refl s
 same_self (Terminal.bare s) = same_text-refl s
 same_self Terminal.error = refl
-
-same_is : (s t : Terminal) → same_terminal s t ≡ true → s ≡ t
-same_is (Terminal.quoted s) (Terminal.quoted t) h = ap Terminal.quoted (same_text-eq s t h)
-same_is (Terminal.regex s) (Terminal.regex t) h = ap Terminal.regex (same_text-eq s t h)
-same_is (Terminal.bare s) (Terminal.bare t) h = ap Terminal.bare (same_text-eq s t h)
-same_is Terminal.error Terminal.error h = refl
-same_is _ _ h = cc
 
 found : (us : List LiteralUse) (t : Terminal) (o : Option (ℕ × ℕ)) → first_span us t ≡ o → is_some o ≡ true →
     Among (literals us) t

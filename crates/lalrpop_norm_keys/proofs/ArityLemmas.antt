@@ -10,7 +10,7 @@ use Rattle.lalrpop_grammar_symbols.specs.Symbols.{TextSpan, list_of}
 use Rattle.lalrpop_grammar_symbols.specs.SymbolWalks.{symbols_view}
 use Rattle.lalrpop_grammar_symbols.specs.declared.symbol.Symbol.{Symbol}
 use Rattle.lalrpop_grammar_symbols.specs.Views.{span_view}
-use Rattle.lalrpop_norm_theory.proofs.AmongLemmas.{among_left}
+use Rattle.lalrpop_grammar_language.proofs.StepLemmas.{among_left}
 use Rattle.lalrpop_grammar_repr.specs.declared.session.NormFault.{NormFault}
 use Rattle.lalrpop_grammar_repr.specs.declared.session.NormFault.TheVariants as faults
 use Rattle.lalrpop_norm_keys.specs.Arity.{TellsArity, arity_fault_of}

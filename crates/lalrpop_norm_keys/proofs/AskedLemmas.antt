@@ -12,7 +12,7 @@ use Rattle.lalrpop_grammar_language.specs.Closing.{Binding}
 use Rattle.lalrpop_grammar_language.specs.Admitting.{bind}
 use Rattle.lalrpop_norm_theory.specs.Premises.{HasNoLevels}
 use Rattle.lalrpop_norm_theory.specs.Rounds.{AreCallsToDepth}
-use Rattle.lalrpop_norm_theory.proofs.AmongLemmas.{among_parts}
+use Rattle.lalrpop_grammar_language.proofs.OrderLemmas.{among_parts}
 use Rattle.lalrpop_norm_theory.proofs.DepthLemmas.{all_calls_found}
 use Rattle.lalrpop_grammar_rules.specs.Details.{ChoiceDetail, choice_view}
 use Rattle.lalrpop_grammar_rules.specs.declared.rule.Choice as program

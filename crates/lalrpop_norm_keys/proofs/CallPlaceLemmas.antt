@@ -13,7 +13,9 @@ use Rattle.lalrpop_grammar_symbols.specs.declared.span.Span.{Span}
 use Rattle.lalrpop_grammar_language.specs.Among.{Among}
 use Rattle.lalrpop_grammar_language.specs.Closing.{Binding, Scope, close, close_all, close_list, is_sound, occurrences, sound_or_faulty}
 use Rattle.lalrpop_norm_theory.specs.Depth.{calls_in, calls_in_all}
-use Rattle.lalrpop_norm_theory.proofs.AmongLemmas.{among_left, among_parts, among_right}
+use Rattle.lalrpop_grammar_language.proofs.StepLemmas.{among_right}
+use Rattle.lalrpop_grammar_language.proofs.StepLemmas.{among_left}
+use Rattle.lalrpop_grammar_language.proofs.OrderLemmas.{among_parts}
 use Rattle.lalrpop_grammar_rules.specs.Views.{closed_step, closed_view, closeds}
 use Rattle.lalrpop_grammar_rules.specs.declared.closed.closed_symbol.ClosedSymbol.{ClosedSymbol, fold-roll-ClosedSymbol}
 use Rattle.lalrpop_grammar_rules.specs.declared.closed.closed_symbol.ClosedSymbol.TheOpen as layer

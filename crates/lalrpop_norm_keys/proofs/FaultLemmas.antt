@@ -11,7 +11,7 @@ use Rattle.lalrpop_grammar_language.specs.Closing.{Binding}
 use Rattle.lalrpop_grammar_language.specs.Expansion.{IsRoot, Nonterminal}
 use Rattle.lalrpop_grammar_language.proofs.PlaceLemmas.{among_map}
 use Rattle.lalrpop_norm_theory.specs.Depth.{HasCallChain}
-use Rattle.lalrpop_norm_theory.proofs.AmongLemmas.{map_among}
+use Rattle.lalrpop_grammar_language.proofs.AmongLemmas.{map_among}
 use Rattle.lalrpop_grammar_repr.specs.declared.session.NormFault.{NormFault}
 use Rattle.lalrpop_grammar_repr.specs.declared.session.NormFault.TheVariants as faults
 use Rattle.lalrpop_norm_keys.specs.Arity.{arity_fault, arity_fault_of, arity_faults, arity_faults_at, arity_faults_in}

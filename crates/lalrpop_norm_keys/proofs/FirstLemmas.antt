@@ -4,7 +4,9 @@ use Rattle.std.proofs.Common.{◌⊎◌, Some, append_assoc, length, slice_get}
 use Rattle.std.proofs.lemmas.List.{length_push}
 use Rattle.lalrpop_grammar_symbols.specs.Symbols.{Closed, TextSpan}
 use Rattle.lalrpop_grammar_language.specs.Among.{Among}
-use Rattle.lalrpop_norm_theory.proofs.AmongLemmas.{among_left, among_parts, among_right}
+use Rattle.lalrpop_grammar_language.proofs.StepLemmas.{among_right}
+use Rattle.lalrpop_grammar_language.proofs.StepLemmas.{among_left}
+use Rattle.lalrpop_grammar_language.proofs.OrderLemmas.{among_parts}
 use Rattle.lalrpop_norm_keys.specs.FirstPlaces.{AreKeySpans, IsKeySpan, IsMetFirst, TellFirst}
 use Rattle.lalrpop_norm_keys.specs.MetKeys.{MetKey}
 

@@ -10,7 +10,8 @@ use Rattle.lalrpop_grammar_language.proofs.PlaceLemmas.{among_filter, among_map}
 use Rattle.lalrpop_norm_theory.specs.Depth.{CallOccursIn}
 use Rattle.lalrpop_norm_theory.specs.Premises.{HasNoLevels}
 use Rattle.lalrpop_norm_theory.specs.Rounds.{AreCallsToDepth}
-use Rattle.lalrpop_norm_theory.proofs.AmongLemmas.{among_either, among_parts}
+use Rattle.lalrpop_norm_theory.proofs.AmongLemmas.{among_either}
+use Rattle.lalrpop_grammar_language.proofs.OrderLemmas.{among_parts}
 use Rattle.lalrpop_norm_theory.proofs.ExpansionListLemmas.{rule_there}
 use Rattle.lalrpop_norm_theory.specs.KeyTables.{IsKeyTable, IsMetKey, IsNoCall, IsPlainKey, KeyStandsIn}
 use Rattle.lalrpop_norm_theory.specs.KeyTables.{keys_in_all}

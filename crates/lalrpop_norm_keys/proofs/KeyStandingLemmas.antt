@@ -8,13 +8,16 @@ use Rattle.lalrpop_grammar_language.specs.Closing.{Scope, close, close_list, is_
 use Rattle.lalrpop_grammar_language.specs.Expansion.{GrammarSymbol, Nonterminal, grammar_symbol}
 use Rattle.lalrpop_grammar_language.proofs.PlaceLemmas.{among_map}
 use Rattle.lalrpop_grammar_rules.specs.Views.{closeds}
-use Rattle.lalrpop_norm_theory.proofs.AmongLemmas.{among_left, among_right, among_parts}
+use Rattle.lalrpop_grammar_language.proofs.StepLemmas.{among_right}
+use Rattle.lalrpop_grammar_language.proofs.StepLemmas.{among_left}
+use Rattle.lalrpop_grammar_language.proofs.OrderLemmas.{among_parts}
 use Rattle.lalrpop_norm_theory.specs.KeyTables.{IsNoCall, keys_in, keys_in_all}
 use Rattle.lalrpop_norm_theory.proofs.KeyTableLemmas.{part_stands}
 use Rattle.lalrpop_norm_keys.specs.Standing.{keys_of_repeat}
 use Rattle.lalrpop_norm_keys.specs.MetKeys.{MetKey, all_met_at, key_of_met, keys_met, keys_met_in_row}
 use Rattle.lalrpop_norm_keys.specs.KeyPlaces.{IsShapeKey}
 use Rattle.lalrpop_norm_keys.proofs.MetKeyLemmas.{keys_of_op, met_are_keys}
+use Rattle.lalrpop_norm_theory.proofs.LevelPlaceLemmas.{either_way}
 
 -- a repeat, a group or a lookaround is no call
 pub shape_no_call : (x : Closed) → IsShapeKey x → IsNoCall x
@@ -34,10 +37,6 @@ met_at_place : (q : TextSpan) (xs : List Closed) (m : MetKey) → Among (all_met
 met_at_place q [] m i = absurd i
 met_at_place q (x ∷ xs) m (inl e) = inl (ap (λ (k : MetKey). k.0) e)
 met_at_place q (x ∷ xs) m (inr i) = inr (met_at_place q xs m i)
-
-either_way : {A B C : Type 0} → A ⊎ B → (A → C) → (B → C) → C
-either_way (inl a) f g = f a
-either_way (inr b) f g = g b
 
 mutual
   pub met_stands : (w : WrittenSymbol) (c : Closed) (m : MetKey) → Among (keys_met w c) m → Among (keys_in c) m.0

@@ -11,7 +11,9 @@ use Rattle.lalrpop_grammar_language.specs.Admitting.{bind, rank_level}
 use Rattle.lalrpop_grammar_language.specs.Expansion.{GrammarSymbol, Nonterminal, Produces, RightSide, grammar_symbol}
 use Rattle.lalrpop_grammar_language.proofs.PlaceLemmas.{among_map}
 use Rattle.lalrpop_norm_theory.specs.Premises.{HasNoLevels}
-use Rattle.lalrpop_norm_theory.proofs.AmongLemmas.{among_left, among_parts, among_right}
+use Rattle.lalrpop_grammar_language.proofs.StepLemmas.{among_right}
+use Rattle.lalrpop_grammar_language.proofs.StepLemmas.{among_left}
+use Rattle.lalrpop_grammar_language.proofs.OrderLemmas.{among_parts}
 use Rattle.lalrpop_norm_theory.proofs.ExpansionListLemmas.{rule_there}
 use Rattle.lalrpop_norm_theory.proofs.LevelLemmas.{no_rank}
 use Rattle.lalrpop_norm_theory.specs.KeyTables.{IsNoCall, KeyStandsIn}

@@ -8,7 +8,8 @@ use Rattle.lalrpop_norm_theory.specs.Between.{grammar_between, without_disabled}
 use Rattle.lalrpop_norm_theory.specs.Premises.{IsReadGrammar}
 use Rattle.lalrpop_norm_theory.specs.KeyTables.{keys_in}
 use Rattle.lalrpop_norm_theory.specs.Resolving.{NameUse, defined_names, resolved_grammar, resolved_name, use_of_name}
-use Rattle.lalrpop_norm_theory.proofs.ResolvedPlaceLemmas.{name_change, replacement, replaces}
+use Rattle.lalrpop_norm_theory.proofs.ResolvedPlaceLemmas.{replacement, replaces}
+use Rattle.lalrpop_norm_theory.proofs.ResolvingLemmas.{name_change}
 use Rattle.lalrpop_norm_theory.proofs.DroppedPlaceLemmas as dropped
 use Rattle.lalrpop_norm_keys.specs.MetKeys.{all_met_at, keys_met}
 use Rattle.lalrpop_norm_keys.specs.KeyPlaces.{IsKeyPlace, IsWrittenKeyPlace}

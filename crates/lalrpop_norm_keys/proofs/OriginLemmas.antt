@@ -13,6 +13,7 @@ use Rattle.lalrpop_grammar_language.specs.Levels.{levels, loosest, greatest, tig
 use Rattle.lalrpop_grammar_language.specs.Closing.{Binding, Meaning, Scope, parameter_value, close, close_all, close_list, close_terminal}
 use Rattle.lalrpop_grammar_language.specs.Closing.{if_plain, if_macro, name_meaning, name_meaning_in, name_or, names_owner, occurrences}
 use Rattle.lalrpop_grammar_language.specs.Closing.{occurrences_in, plain_call, plain_name, right_side, sound_or_faulty}
+use Rattle.lalrpop_norm_theory.proofs.RuleChangeLemmas.{only_of_map}
 
 -- what is left of an alternative, a rule and a grammar without origins
 abbrev pub plain_choice : Choice → Choice
@@ -117,11 +118,6 @@ named_plain g n = named_among n g.rules
 -- the one rule of a name is still the one of that name without origins
 pub rule_plain : (g : EnabledGrammar) (n : Text) (r : EnabledRule) → IsRule g n r → IsRule (plain_grammar g) n (plain_rule r)
 rule_plain g n r e = named_plain g n ∙ ap (map plain_rule) e
-
-only_of_map : {A B : Type 0} (f : A → B) (xs : List A) (y : B) → map f xs ≡ y ∷ [] → (x : A) × (xs ≡ x ∷ []) × (f x ≡ y)
-only_of_map f [] y e = cc
-only_of_map f (x ∷ []) y e = (x, refl, cc)
-only_of_map f (x ∷ z ∷ xs) y e = cc
 
 -- the one rule of a name of a grammar without origins comes from the one of the grammar with them
 pub plain_was : (g : EnabledGrammar) (n : Text) (q : EnabledRule) → IsRule (plain_grammar g) n q

@@ -3,14 +3,13 @@
 use Rattle.std.proofs.Common.{◌≡◌, ℕ, zero, suc, ◌+◌, List, [], ◌∷◌, refl, ap, sym, ◌∙◌, subst, cond, inl, inr}
 use Rattle.std.proofs.Common.{◌⊎◌, map}
 use Rattle.std.specs.Prelude.{Bool, true, false, Option, Some, None, filter, length}
-use Rattle.lalrpop_grammar_symbols.specs.Symbols.{Text, Terminal, Op, Closed, Closeds}
-use Rattle.lalrpop_grammar.specs.WrittenGrammar.{Alternative, Condition, ConditionTest, Grammar, Origin, Rule, rules_of}
+use Rattle.lalrpop_grammar_symbols.specs.Symbols.{Text, Op, Closed, Closeds}
+use Rattle.lalrpop_grammar.specs.WrittenGrammar.{Alternative, Grammar, Origin, Rule, rules_of}
 use Rattle.lalrpop_grammar_language.specs.Among.{Among}
 use Rattle.lalrpop_grammar_language.specs.Enabled.{EnabledGrammar, EnabledRule, Choice, IsRule, at_places, choice_of, enabled_grammar}
 use Rattle.lalrpop_grammar_language.specs.Enabled.{enabled_rule, is_active}
 use Rattle.lalrpop_grammar_language.specs.Levels.{Rank, ranked_choices, tighter}
-use Rattle.lalrpop_grammar_language.specs.Closing.{Binding, parameter_value, right_side}
-use Rattle.lalrpop_grammar_language.specs.Conditions.{PassesTest, HoldsOf, Holds}
+use Rattle.lalrpop_grammar_language.specs.Closing.{right_side}
 use Rattle.lalrpop_grammar_language.specs.Admitting.{Fits, bind, rank_level, argument_list}
 use Rattle.lalrpop_grammar_language.specs.Expansion.{Nonterminal, RightSide, ByAlternative, ByPassDown, Produces, HasLevel, IsRoot}
 use Rattle.lalrpop_grammar_language.specs.Expansion.{grammar_symbol, origin_with}
@@ -18,37 +17,12 @@ use Rattle.lalrpop_grammar_language.proofs.PlaceLemmas.{among_map}
 use Rattle.lalrpop_norm_theory.specs.Between.{grammar_between, rule_between, with_origins}
 use Rattle.lalrpop_norm_theory.specs.Depth.{CallOccursIn, HasCallChain, IsTooDeep}
 use Rattle.lalrpop_norm_theory.specs.Rounds.{AreCallsToDepth}
-use Rattle.lalrpop_norm_theory.proofs.AmongLemmas.{map_among}
+use Rattle.lalrpop_grammar_language.proofs.AmongLemmas.{map_among}
 use Rattle.lalrpop_norm_theory.specs.KeyTables.{IsKeyTable, IsMetKey, IsPlainKey, KeyStandsIn}
 use Rattle.lalrpop_norm_keys.specs.TableLaws.{HasAllActive}
 use Rattle.lalrpop_norm_keys.proofs.OriginLemmas.{plain_choice, plain_rule, plain_pair, plain_grammar, levels_plain, ranked_plain}
 use Rattle.lalrpop_norm_keys.proofs.OriginLemmas.{rule_plain, plain_was, side_plain, tighter_plain, same_levels}
-
--- conditions ask of the grammar how patterns are found, and nothing else
-pub holds_with : (g h : EnabledGrammar) → h.finds ≡ g.finds → (b : Binding) (o : Option Condition) → Holds g b o → Holds h b o
-holds_with g h e b None m = tt
-holds_with g h e b (Some c) m = of_value (parameter_value b c.parameter) m
-  where
-    of_test : (t : ConditionTest) (text : Text) → PassesTest g t text c.against → PassesTest h t text c.against
-    of_test ConditionTest.equals text p = p
-    of_test ConditionTest.not_equals text p = p
-    of_test ConditionTest.matches text p = ap (λ f. f c.against text) e ∙ p
-    of_test ConditionTest.not_matches text p = ap (λ f. f c.against text) e ∙ p
-
-    of_value : (v : Option Closed) → HoldsOf g c v → HoldsOf h c v
-    of_value (Some (Closed.terminal (Terminal.quoted t))) p = of_test c.test t p
-    of_value (Some (Closed.terminal (Terminal.regex t))) p = p
-    of_value (Some (Closed.terminal (Terminal.bare n))) p = p
-    of_value (Some (Closed.terminal Terminal.error)) p = p
-    of_value (Some (Closed.call n args level)) p = p
-    of_value (Some (Closed.repeat op x)) p = p
-    of_value (Some (Closed.group xs)) p = p
-    of_value (Some (Closed.choose x)) p = p
-    of_value (Some (Closed.name mutable n x)) p = p
-    of_value (Some Closed.lookahead) p = p
-    of_value (Some Closed.lookbehind) p = p
-    of_value (Some Closed.faulty) p = p
-    of_value None p = p
+use Rattle.lalrpop_norm_theory.proofs.RuleChangeLemmas.{holds_with}
 
 -- productions but for the origin
 abbrev pub ProducesSome : EnabledGrammar → Closed → RightSide → Type 0

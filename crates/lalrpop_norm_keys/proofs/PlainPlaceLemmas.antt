@@ -10,10 +10,11 @@ use Rattle.lalrpop_grammar.specs.WrittenGrammar.{Origin}
 use Rattle.lalrpop_grammar_language.specs.Expansion.{GrammarSymbol, InExpansion, IsReachedIn, Nonterminal, Produces, RightSide}
 use Rattle.lalrpop_grammar_language.proofs.PlaceLemmas.{among_map}
 use Rattle.lalrpop_grammar_rules.specs.Views.{closeds}
-use Rattle.lalrpop_norm_theory.proofs.AmongLemmas.{map_among}
+use Rattle.lalrpop_grammar_language.proofs.AmongLemmas.{map_among}
 use Rattle.lalrpop_norm_keys.proofs.OriginLemmas.{levels_plain, plain_grammar, plain_pair, plain_rule, plain_was, ranked_plain}
 use Rattle.lalrpop_norm_keys.proofs.OriginLemmas.{rule_plain, same_levels, side_plain}
-use Rattle.lalrpop_norm_keys.proofs.PlainGrammarLemmas.{holds_with, produces_plain, produces_was, root_alike}
+use Rattle.lalrpop_norm_keys.proofs.PlainGrammarLemmas.{produces_plain, produces_was, root_alike}
+use Rattle.lalrpop_norm_theory.proofs.RuleChangeLemmas.{holds_with}
 use Rattle.lalrpop_norm_keys.specs.KeyPlaces.{IsKeyPlace, IsKeyPlaceIn, keys_met_in_side}
 use Rattle.lalrpop_norm_keys.specs.MetKeys.{MetKey, keys_met_in_row}
 

@@ -6,7 +6,7 @@ use Rattle.lalrpop_grammar_language.specs.Levels.{has_levels}
 use Rattle.lalrpop_grammar_language.proofs.ComparisonLemmas.{same_text-refl}
 use Rattle.lalrpop_grammar_language.proofs.PlaceLemmas.{among_map}
 use Rattle.lalrpop_norm_theory.specs.Premises.{HasNoLevels}
-use Rattle.lalrpop_norm_theory.proofs.AmongLemmas.{map_among}
+use Rattle.lalrpop_grammar_language.proofs.AmongLemmas.{map_among}
 use Rattle.lalrpop_norm_theory.proofs.LevelLemmas.{keeps}
 use Rattle.lalrpop_norm_keys.proofs.OriginLemmas.{levels_plain, plain_grammar, plain_rule, plain_was, rule_plain}
 

@@ -20,13 +20,16 @@ use Rattle.lalrpop_grammar_language.specs.Expansion.{GrammarSymbol, HasLevel, Is
 use Rattle.lalrpop_grammar_language.proofs.PlaceLemmas.{among_map}
 use Rattle.lalrpop_norm_theory.specs.Depth.{CallOccursIn, HasCallChain, calls_in, calls_in_all, calls_in_grammar_symbol}
 use Rattle.lalrpop_norm_theory.specs.Premises.{HasNoLevels}
-use Rattle.lalrpop_norm_theory.proofs.AmongLemmas.{among_left, among_parts, among_right}
+use Rattle.lalrpop_grammar_language.proofs.StepLemmas.{among_right}
+use Rattle.lalrpop_grammar_language.proofs.StepLemmas.{among_left}
+use Rattle.lalrpop_grammar_language.proofs.OrderLemmas.{among_parts}
 use Rattle.lalrpop_norm_theory.proofs.ExpansionListLemmas.{rule_there}
 use Rattle.lalrpop_norm_theory.proofs.LevelLemmas.{no_levels, no_loosest, no_rank}
 use Rattle.lalrpop_norm_theory.specs.KeyTables.{IsNoCall, IsPlainKey, KeyStandsIn, keys_in, keys_in_all}
 use Rattle.lalrpop_grammar.specs.WrittenGrammar.{Origin}
 use Rattle.lalrpop_norm_keys.proofs.FoundLemmas.{chain_is_call}
-use Rattle.lalrpop_norm_keys.proofs.SymbolLemmas.{calls_of_symbol, same_keys}
+use Rattle.lalrpop_norm_keys.proofs.SymbolLemmas.{same_keys}
+use Rattle.lalrpop_norm_theory.proofs.OccurringLemmas.{calls_of_symbol}
 
 -- a call of a rule without levels, with as many arguments as it has parameters
 pub record IsRightCall (g : EnabledGrammar) (n : Text) (args : Closeds) (level : Option ℕ) : Type 0 where

@@ -9,7 +9,8 @@ use Rattle.lalrpop_grammar_language.specs.Enabled.{EnabledGrammar, EnabledRule, 
 use Rattle.lalrpop_grammar_language.specs.Levels.{Rank, levels, ranked_choices}
 use Rattle.lalrpop_grammar_language.specs.Closing.{Binding, right_side}
 use Rattle.lalrpop_grammar_language.specs.Conditions.{Holds}
-use Rattle.lalrpop_norm_theory.proofs.AmongLemmas.{among_either, among_parts}
+use Rattle.lalrpop_norm_theory.proofs.AmongLemmas.{among_either}
+use Rattle.lalrpop_grammar_language.proofs.OrderLemmas.{among_parts}
 use Rattle.lalrpop_grammar_rules.specs.Details.{ChoiceDetail, Kept, choice_detail, choice_view, choices_view, enabled_rule_view}
 use Rattle.lalrpop_grammar_rules.specs.Details.{tighter_in}
 use Rattle.lalrpop_grammar_rules.specs.RuleTable.{IsKept}

@@ -14,7 +14,7 @@ use Rattle.lalrpop_grammar_language.specs.Expansion.{grammar_symbol, origin_with
 use Rattle.lalrpop_grammar_language.proofs.PlaceLemmas.{among_map}
 use Rattle.lalrpop_norm_theory.specs.Depth.{CallOccursIn, calls_in, calls_in_all, calls_in_grammar_symbol}
 use Rattle.lalrpop_norm_theory.specs.Premises.{HasNoLevels}
-use Rattle.lalrpop_norm_theory.proofs.AmongLemmas.{map_among}
+use Rattle.lalrpop_grammar_language.proofs.AmongLemmas.{map_among}
 use Rattle.lalrpop_norm_theory.proofs.ExpansionListLemmas.{rule_there}
 use Rattle.lalrpop_norm_theory.proofs.LevelLemmas.{no_levels, no_rank}
 use Rattle.lalrpop_norm_theory.specs.KeyTables.{IsNoCall}
@@ -22,7 +22,8 @@ use Rattle.lalrpop_grammar_rules.specs.Views.{closeds}
 use Rattle.lalrpop_norm_keys.specs.Instances.{AddsSides}
 use Rattle.lalrpop_norm_keys.specs.StandingCalls.{CallStandsIn, HasCallsOf, StandsInCall}
 use Rattle.lalrpop_norm_keys.proofs.SideLemmas.{IsOfSide, added_of_sides, all_of_sides}
-use Rattle.lalrpop_norm_keys.proofs.SymbolLemmas.{among_call, call_among, calls_of_symbol}
+use Rattle.lalrpop_norm_keys.proofs.SymbolLemmas.{among_call, call_among}
+use Rattle.lalrpop_norm_theory.proofs.OccurringLemmas.{calls_of_symbol}
 
 -- the calls in the right sides that are gathered
 pub calls_of_sides : (g : EnabledGrammar) (n : Text) (args : Closeds) (r : EnabledRule) → IsRule g n r

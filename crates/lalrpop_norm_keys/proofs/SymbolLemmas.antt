@@ -4,8 +4,10 @@ use Rattle.lalrpop_grammar_symbols.specs.Symbols.{Terminal, Closed, Closeds}
 use Rattle.lalrpop_grammar_language.specs.Among.{Among}
 use Rattle.lalrpop_grammar_language.specs.Closing.{inner}
 use Rattle.lalrpop_grammar_language.specs.Expansion.{GrammarSymbol, Nonterminal, grammar_symbol, symbol_of_inner, symbol_of_terminal}
-use Rattle.lalrpop_norm_theory.specs.Depth.{calls_in, calls_in_all, calls_in_grammar_symbol}
-use Rattle.lalrpop_norm_theory.proofs.AmongLemmas.{among_left, among_parts, among_right}
+use Rattle.lalrpop_norm_theory.specs.Depth.{calls_in, calls_in_all}
+use Rattle.lalrpop_grammar_language.proofs.StepLemmas.{among_right}
+use Rattle.lalrpop_grammar_language.proofs.StepLemmas.{among_left}
+use Rattle.lalrpop_grammar_language.proofs.OrderLemmas.{among_parts}
 use Rattle.lalrpop_norm_theory.specs.KeyTables.{IsNoCall, keys_in, keys_in_all}
 use Rattle.lalrpop_grammar_rules.specs.Views.{closeds}
 
@@ -49,24 +51,6 @@ keys_inside Closed.faulty = refl
 -- symbols that leave the same on a right side have the same keys
 pub same_keys : (x y : Closed) → grammar_symbol x ≡ grammar_symbol y → keys_in x ≡ keys_in y
 same_keys x y e = keys_inside x ∙ ap keys_in (same_inner x y e) ∙ sym (keys_inside y)
-
-calls_of_terminal : (t : Terminal) → calls_in_grammar_symbol (symbol_of_terminal t) ≡ []
-calls_of_terminal (Terminal.quoted t) = refl
-calls_of_terminal (Terminal.regex t) = refl
-calls_of_terminal (Terminal.bare n) = refl
-calls_of_terminal Terminal.error = refl
-
--- what occurs in a symbol of a right side is what stands in its closed symbol
-pub calls_of_symbol : (x : Closed) → calls_in_grammar_symbol (grammar_symbol x) ≡ calls_in x
-calls_of_symbol (Closed.terminal t) = calls_of_terminal t
-calls_of_symbol (Closed.call n args level) = refl
-calls_of_symbol (Closed.repeat op x) = refl
-calls_of_symbol (Closed.group xs) = refl
-calls_of_symbol (Closed.choose x) = calls_of_symbol x
-calls_of_symbol (Closed.name m n x) = calls_of_symbol x
-calls_of_symbol Closed.lookahead = refl
-calls_of_symbol Closed.lookbehind = refl
-calls_of_symbol Closed.faulty = refl
 
 -- what stands in one of several symbols stands in them
 pub call_among : (xs : List Closed) (x c : Closed) → Among xs x → Among (calls_in x) c → Among (calls_in_all (closeds xs)) c

@@ -1,7 +1,7 @@
 //! Laws of where repeats, groups and lookarounds are met: where one is met after the passes over what is disabled, names and levels,
 //! it is met in the written grammar.
 //!
-//! The crate has no code but laws. The definitions stand in `specs/`: `MetKeys` (the keys that are met in a symbol, each at the
+//! The module has no code but laws. The definitions stand in `specs/`: `MetKeys` (the keys that are met in a symbol, each at the
 //! innermost symbol that has it), `KeyPlaces` (where a key is met in a grammar) and `KeyPlaceLaws` (what the laws say).
 
 ghost use Rattle.lalrpop_norm_keys.specs.MetKeys.{KeysAreMet};

@@ -3,7 +3,10 @@ use Rattle.std.proofs.Common.{◌≡◌, ◌⊎◌, ℕ, zero, suc, ◌<◌, Lis
 use Rattle.std.proofs.Common.{inr, arith}
 use Rattle.std.specs.Prelude.{Some, flat_map, slice_get}
 use Rattle.lalrpop_grammar_language.specs.Among.{Among}
-use Rattle.lalrpop_norm_theory.proofs.AmongLemmas.{among_flat_map, among_left, among_parts, among_right}
+use Rattle.lalrpop_grammar_language.proofs.AmongLemmas.{among_flat_map}
+use Rattle.lalrpop_grammar_language.proofs.StepLemmas.{among_right}
+use Rattle.lalrpop_grammar_language.proofs.StepLemmas.{among_left}
+use Rattle.lalrpop_grammar_language.proofs.OrderLemmas.{among_parts}
 
 -- each of the list is related to each later one
 abbrev pub Earlier : {A : Type 0} → (A → A → Type 0) → List A → Type 0

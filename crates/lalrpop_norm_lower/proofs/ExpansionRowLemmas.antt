@@ -15,7 +15,12 @@ use Rattle.lalrpop_norm_theory.specs.Between.{grammar_between, rule_between, wit
 use Rattle.lalrpop_norm_theory.specs.Premises.{IsExpanded}
 use Rattle.lalrpop_norm_theory.specs.Productions.{IsOriginBefore}
 use Rattle.lalrpop_norm_theory.specs.Rows.{AreExpansionRows, Row}
-use Rattle.lalrpop_norm_theory.proofs.AmongLemmas.{among_flat_map, among_left, among_parts, among_right, flat_map_among, map_among}
+use Rattle.lalrpop_grammar_language.proofs.AmongLemmas.{flat_map_among}
+use Rattle.lalrpop_grammar_language.proofs.AmongLemmas.{map_among}
+use Rattle.lalrpop_grammar_language.proofs.AmongLemmas.{among_flat_map}
+use Rattle.lalrpop_grammar_language.proofs.StepLemmas.{among_right}
+use Rattle.lalrpop_grammar_language.proofs.StepLemmas.{among_left}
+use Rattle.lalrpop_grammar_language.proofs.OrderLemmas.{among_parts}
 use Rattle.lalrpop_norm_theory.proofs.LevelLemmas.{keeps}
 use Rattle.lalrpop_norm_tyinfer.proofs.ExpandedLemmas.{IsRuleKey, reached_key}
 use Rattle.lalrpop_norm_lower.proofs.EarlierLemmas.{Across, Earlier, earlier_at, earlier_joined, flat_earlier}
@@ -24,6 +29,7 @@ use Rattle.lalrpop_norm_lower.proofs.RowLemmas.{side_by_rules, start_produces, s
 use Rattle.lalrpop_norm_lower.specs.Lowered.{AreChoicesInOrder}
 use Rattle.lalrpop_norm_lower.specs.LoweredLists.{gets_start, rules_with_starts}
 use Rattle.lalrpop_norm_lower.specs.LoweredSymbols.{lowered_name}
+use Rattle.lalrpop_grammar_symbols.proofs.BoolLemmas.{and_both}
 
 -- the row by which the start symbol of a rule produces the rule
 abbrev pub start_row : Rule → Row
@@ -47,10 +53,6 @@ lowered_rows rs = map start_row (rules_with_starts rs) ++ flat_map rule_rows rs
 -- no two have one name
 abbrev pub HaveOwnNames : Rule → Rule → Type 0
 HaveOwnNames r q = r.name ≢ q.name
-
-and_both : (a b : Bool) → (a && b) ≡ true → (a ≡ true) × (b ≡ true)
-and_both true b e = (refl, e)
-and_both false b e = cc
 
 none_left : (xs : List EnabledRule) (r : EnabledRule) → xs ≡ [] → Among xs r → ⊥
 none_left xs r e i = subst (λ l. Among l r) e i

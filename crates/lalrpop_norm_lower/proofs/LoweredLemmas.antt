@@ -19,7 +19,8 @@ use Rattle.lalrpop_grammar_repr.specs.declared.types.Types.{Types}
 use Rattle.lalrpop_grammar.specs.declared.types.type_repr.TypeRepr.{TypeRepr}
 use Rattle.lalrpop_norm_theory.specs.Between.{grammar_between}
 use Rattle.lalrpop_norm_theory.specs.Productions.{AreProductions, NamedProduction}
-use Rattle.lalrpop_norm_theory.proofs.AmongLemmas.{among_flat_map, among_left}
+use Rattle.lalrpop_grammar_language.proofs.AmongLemmas.{among_flat_map}
+use Rattle.lalrpop_grammar_language.proofs.StepLemmas.{among_left}
 use Rattle.lalrpop_norm_tyinfer.specs.TerminalTypes.{terminals_of_items, terminals_of_rules}
 use Rattle.lalrpop_norm_tyinfer.specs.TypeFaults.{nonterminal_of}
 use Rattle.lalrpop_norm_lower.specs.Definitions.{definition_of, type_in_table}
@@ -72,7 +73,7 @@ below_length [] i x e = cc
 below_length (y ∷ ys) zero x e = omega arith
 below_length (y ∷ ys) (suc i) x e = let h = below_length ys i x e in omega (arith, h)
 
-some_is : {A : Type 0} (P : A → Type 0) (o : Option A) → IsSomeAnd o P → is_some o ≡ true
+pub some_is : {A : Type 0} (P : A → Type 0) (o : Option A) → IsSomeAnd o P → is_some o ≡ true
 some_is P None h = absurd h
 some_is P (Some x) h = refl
 

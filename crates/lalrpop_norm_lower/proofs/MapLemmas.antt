@@ -14,7 +14,10 @@ use Rattle.lalrpop_grammar_repr.specs.declared.types.Types.{Types}
 use Rattle.lalrpop_norm_theory.specs.Between.{grammar_between}
 use Rattle.lalrpop_norm_theory.specs.Productions.{AreProductions, NamedProduction}
 use Rattle.lalrpop_norm_theory.specs.Rows.{Row, origins_of, productions_from}
-use Rattle.lalrpop_norm_theory.proofs.AmongLemmas.{among_flat_map, among_parts, flat_map_among, map_among}
+use Rattle.lalrpop_grammar_language.proofs.AmongLemmas.{flat_map_among}
+use Rattle.lalrpop_grammar_language.proofs.AmongLemmas.{map_among}
+use Rattle.lalrpop_grammar_language.proofs.AmongLemmas.{among_flat_map}
+use Rattle.lalrpop_grammar_language.proofs.OrderLemmas.{among_parts}
 use Rattle.lalrpop_norm_theory.proofs.NumberingLemmas.{numbered_productions}
 use Rattle.lalrpop_norm_tyinfer.specs.TypeFaults.{nonterminal_of}
 use Rattle.lalrpop_norm_lower.specs.Lowered.{IsLowerable}

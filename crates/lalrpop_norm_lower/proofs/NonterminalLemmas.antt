@@ -21,7 +21,11 @@ use Rattle.lalrpop_grammar_repr.specs.declared.types.Types.{Types}
 use Rattle.lalrpop_grammar.specs.declared.types.type_repr.TypeRepr.{TypeRepr}
 use Rattle.lalrpop_norm_theory.specs.Between.{grammar_between, rule_between, with_origins}
 use Rattle.lalrpop_norm_theory.specs.Premises.{IsExpanded, IsExpandedSymbol}
-use Rattle.lalrpop_norm_theory.proofs.AmongLemmas.{among_flat_map, among_left, among_right, flat_map_among, map_among}
+use Rattle.lalrpop_grammar_language.proofs.AmongLemmas.{flat_map_among}
+use Rattle.lalrpop_grammar_language.proofs.AmongLemmas.{map_among}
+use Rattle.lalrpop_grammar_language.proofs.AmongLemmas.{among_flat_map}
+use Rattle.lalrpop_grammar_language.proofs.StepLemmas.{among_right}
+use Rattle.lalrpop_grammar_language.proofs.StepLemmas.{among_left}
 use Rattle.lalrpop_norm_theory.proofs.LevelLemmas.{keeps}
 use Rattle.lalrpop_norm_tyinfer.specs.TerminalTypes.{inner_terminals, terminals_of_alternatives, terminals_of_rules}
 use Rattle.lalrpop_norm_tyinfer.specs.TerminalTypes.{terminals_of_symbols}

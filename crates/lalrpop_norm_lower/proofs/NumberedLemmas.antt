@@ -16,6 +16,7 @@ use Rattle.lalrpop_norm_lower.proofs.RowLemmas.{symbol_by_rules}
 use Rattle.lalrpop_norm_lower.specs.LoweredLists.{LoweredNonterminal, alternative_productions, lowered_entries, rule_entries}
 use Rattle.lalrpop_norm_lower.specs.LoweredLists.{rules_with_starts, start_entries}
 use Rattle.lalrpop_norm_lower.specs.LoweredSymbols.{lowered_name, lowered_side}
+use Rattle.lalrpop_norm_theory.proofs.NumberingLemmas.{three_ways}
 
 -- the productions of an entry, over names
 abbrev pub entry_productions : LoweredNonterminal → List NamedProduction
@@ -103,9 +104,6 @@ pub record IsRegrouped (from to : List NamedProduction) : Type 0 where
   pub no_other : (p : NamedProduction) → Among to p → Among from p
   pub as_many : length to ≡ length from
   pub apart : Earlier (λ p q. (p.action ≢ q.action) × (p.nonterminal ≡ q.nonterminal → p.action < q.action)) to
-
-three_ways : (i j : ℕ) → (i < j) ⊎ ((j < i) ⊎ (i ≡ j))
-three_ways i j = grind arith
 
 module _ (g : EnabledGrammar) (f : Nonterminal → Text) (origins : List Origin) (from to : List NamedProduction)
     (a : AreProductions g f from origins) (r : IsRegrouped from to) where

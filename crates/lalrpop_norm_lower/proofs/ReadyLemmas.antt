@@ -19,7 +19,11 @@ use Rattle.lalrpop_grammar_repr.specs.declared.production.Production.{Production
 use Rattle.lalrpop_grammar_repr.specs.declared.production.Symbol.TheVariants as symbols
 use Rattle.lalrpop_grammar_repr.specs.declared.types.Types.{Types}
 use Rattle.lalrpop_grammar.specs.declared.types.type_repr.TypeRepr.{TypeRepr}
-use Rattle.lalrpop_norm_theory.proofs.AmongLemmas.{among_flat_map, among_left, among_parts, flat_map_among, map_among}
+use Rattle.lalrpop_grammar_language.proofs.AmongLemmas.{flat_map_among}
+use Rattle.lalrpop_grammar_language.proofs.AmongLemmas.{map_among}
+use Rattle.lalrpop_grammar_language.proofs.AmongLemmas.{among_flat_map}
+use Rattle.lalrpop_grammar_language.proofs.StepLemmas.{among_left}
+use Rattle.lalrpop_grammar_language.proofs.OrderLemmas.{among_parts}
 use Rattle.lalrpop_norm_tyinfer.specs.TerminalTypes.{HasTerminalTypes, inner_terminals, terminals_of_alternatives, terminals_of_items}
 use Rattle.lalrpop_norm_tyinfer.specs.TerminalTypes.{terminals_of_rules, terminals_of_symbols}
 use Rattle.lalrpop_norm_lower.specs.Definitions.{definition_of, type_in_table}

@@ -14,7 +14,7 @@ use Rattle.lalrpop_grammar_language.specs.Expansion.{GrammarSymbol, InExpansion,
 use Rattle.lalrpop_grammar_language.specs.Expansion.{origin_with}
 use Rattle.lalrpop_grammar_language.proofs.PlaceLemmas.{among_filter, same_text-eq}
 use Rattle.lalrpop_norm_theory.specs.Premises.{IsExpanded, IsExpandedSymbol}
-use Rattle.lalrpop_norm_theory.proofs.AmongLemmas.{map_among}
+use Rattle.lalrpop_grammar_language.proofs.AmongLemmas.{map_among}
 use Rattle.lalrpop_norm_theory.proofs.LevelLemmas.{no_loosest, ranked_flat}
 use Rattle.lalrpop_norm_tyinfer.proofs.ClosedTypeLemmas.{expanded_closed, flat_scope, sound_of}
 use Rattle.lalrpop_norm_tyinfer.proofs.ExpandedLemmas.{expanded_symbols, no_allowed, no_bound, ranked_among, rule_among}

@@ -1,6 +1,6 @@
 -- A private rule of added alternatives is the rule of a repeat, a group or a lookaround; for the functions that write such rules.
 use Rattle.std.proofs.Common.{◌≡◌, List, [], ap, sym, subst}
-use Rattle.std.specs.Prelude.{Option, Result, Ok, Err, IfOk, false}
+use Rattle.std.specs.Prelude.{Option, false}
 use Rattle.lalrpop_grammar_symbols.specs.Symbols.{Text, TextSpan, Closed}
 use Rattle.lalrpop_grammar.specs.WrittenGrammar.{Alternative, Rule, Ty}
 use Rattle.lalrpop_norm_macros.specs.AddedRules.{AreAddedAlternatives, IsAddedType, added_choices, inline_attributes, is_added_inlined}
@@ -8,11 +8,6 @@ use Rattle.lalrpop_norm_macros.specs.KeyDeclarations.{IsRepeatTypeUnder}
 use Rattle.lalrpop_norm_macros.specs.KeyNaming.{AreSymbolsFor}
 use Rattle.lalrpop_norm_macros.specs.RulesUnder.{IsAddedRuleUnder}
 use Rattle.lalrpop_norm_macros.specs.declared.key_symbols.names.KeyNames.{KeyNames}
-
--- what holds of what was made holds in other words too
-pub ok_from : {T E : Type 0} (P Q : T → Type 0) (r : Result T E) → ((x : T) → P x → Q x) → IfOk r P → IfOk r Q
-ok_from P Q (Ok x) to h = to x h
-ok_from P Q (Err e) to h = h
 
 -- a private rule without parameters, with the key's type and alternatives, is the added rule of the key
 pub added_rule : (k : KeyNames) (x : Closed) (n : Text) (p : TextSpan) (declared : Option Ty) (alternatives : List Alternative) (q : Rule)

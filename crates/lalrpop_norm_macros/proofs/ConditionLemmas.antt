@@ -11,7 +11,7 @@ use Rattle.lalrpop_grammar_language.specs.Admitting.{bind, rank_level}
 use Rattle.lalrpop_grammar_language.proofs.PlaceLemmas.{among_map}
 use Rattle.lalrpop_grammar_rules.specs.Finding.{IsReadIn, IsReadPattern, IsSearch, IsUnread}
 use Rattle.lalrpop_norm_theory.specs.Premises.{HasNoLevels}
-use Rattle.lalrpop_norm_theory.proofs.AmongLemmas.{map_among}
+use Rattle.lalrpop_grammar_language.proofs.AmongLemmas.{map_among}
 use Rattle.lalrpop_norm_theory.proofs.ExpansionListLemmas.{rule_there}
 use Rattle.lalrpop_norm_theory.proofs.LevelLemmas.{no_rank}
 use Rattle.lalrpop_norm_keys.specs.AskedConditions.{HasAskedConditions}

@@ -17,7 +17,9 @@ use Rattle.lalrpop_norm_theory.specs.Between.{grammar_between, rule_between, wit
 use Rattle.lalrpop_norm_theory.specs.Depth.{HasCallChain}
 use Rattle.lalrpop_norm_theory.specs.Premises.{HasNoLevels}
 use Rattle.lalrpop_norm_theory.specs.Rounds.{AreCallsToDepth}
-use Rattle.lalrpop_norm_theory.proofs.AmongLemmas.{among_left, among_right, map_among}
+use Rattle.lalrpop_grammar_language.proofs.AmongLemmas.{map_among}
+use Rattle.lalrpop_grammar_language.proofs.StepLemmas.{among_right}
+use Rattle.lalrpop_grammar_language.proofs.StepLemmas.{among_left}
 use Rattle.lalrpop_norm_theory.proofs.ExpansionListLemmas.{rule_there}
 use Rattle.lalrpop_norm_theory.proofs.LevelLemmas.{ranked_flat}
 use Rattle.lalrpop_norm_theory.specs.KeyTables.{IsKeyTable, keys_in, keys_in_all}

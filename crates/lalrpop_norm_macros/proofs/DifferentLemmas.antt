@@ -11,7 +11,7 @@ use Rattle.lalrpop_grammar_language.specs.Enabled.{has_text}
 use Rattle.lalrpop_grammar_language.proofs.ComparisonLemmas.{same_text-refl}
 use Rattle.lalrpop_grammar_language.proofs.PlaceLemmas.{among_filter, same_text-eq}
 use Rattle.lalrpop_norm_theory.specs.Premises.{AreDifferent}
-use Rattle.lalrpop_norm_theory.proofs.LevelOrderLemmas.{found_text}
+use Rattle.lalrpop_grammar_language.proofs.AmongLemmas.{found_text}
 
 -- a part of different texts
 

@@ -16,7 +16,7 @@ use Rattle.lalrpop_norm_theory.proofs.LevelLemmas.{no_loosest}
 use Rattle.lalrpop_norm_theory.specs.KeyRules.{AreWrittenFor, IsMacroExpansion}
 use Rattle.lalrpop_norm_theory.specs.KeyRules.{IsKeyRule, IsMappedTerminal, IsWrittenFor}
 use Rattle.lalrpop_norm_theory.proofs.KeyRuleLemmas.{in_keys}
-use Rattle.lalrpop_norm_theory.proofs.LevelOrderLemmas.{found_text}
+use Rattle.lalrpop_grammar_language.proofs.AmongLemmas.{found_text}
 use Rattle.lalrpop_norm_macros.specs.KeyNames.{AreKeyNames, IsNextAmongKeys}
 use Rattle.lalrpop_norm_macros.specs.NameLaws.{LeavesPrefix, nonterminal_name}
 use Rattle.lalrpop_norm_macros.proofs.PrefixLemmas.{IsFree, free_cut, free_head, free_joined, free_with_number}

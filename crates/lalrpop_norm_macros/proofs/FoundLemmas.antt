@@ -7,7 +7,7 @@ use Rattle.lalrpop_grammar_language.specs.Enabled.{EnabledGrammar}
 use Rattle.lalrpop_grammar_language.specs.Expansion.{GrammarSymbol, Nonterminal}
 use Rattle.lalrpop_norm_theory.specs.Depth.{calls_in, calls_in_all, calls_in_grammar_symbol, HasCallChain}
 use Rattle.lalrpop_norm_theory.specs.Keys.{before_tilde, flat_key_text}
-use Rattle.lalrpop_norm_theory.proofs.AmongLemmas.{among_parts}
+use Rattle.lalrpop_grammar_language.proofs.OrderLemmas.{among_parts}
 use Rattle.lalrpop_norm_theory.specs.KeyTables.{keys_in, keys_in_all, IsMetKey, IsPlainKey}
 use Rattle.lalrpop_norm_theory.proofs.LastLemmas.{IsHead, ends_in_digit, named_alone}
 use Rattle.lalrpop_norm_macros.specs.KeyNames.{HasFoundKeys}

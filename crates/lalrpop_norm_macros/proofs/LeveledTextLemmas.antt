@@ -16,7 +16,8 @@ use Rattle.lalrpop_grammar_language.specs.Expansion.{HasLevel}
 use Rattle.lalrpop_grammar_language.proofs.ComparisonLemmas.{same_text-refl}
 use Rattle.lalrpop_norm_theory.specs.Between.{grammar_between, rule_between}
 use Rattle.lalrpop_norm_theory.specs.Keys.{with_number, before_tilde}
-use Rattle.lalrpop_norm_theory.proofs.AmongLemmas.{flat_map_among, map_among}
+use Rattle.lalrpop_grammar_language.proofs.AmongLemmas.{flat_map_among}
+use Rattle.lalrpop_grammar_language.proofs.AmongLemmas.{map_among}
 use Rattle.lalrpop_norm_theory.specs.LevelRules.{level_name}
 use Rattle.lalrpop_norm_theory.specs.LeveledGrammar.{leveled_grammar, leveled_rules, levels_in_order, rule_at_level}
 use Rattle.lalrpop_norm_theory.specs.LevelNames.{after_first, AreNumberedInOrder, HasNoTildes, numbered_text}

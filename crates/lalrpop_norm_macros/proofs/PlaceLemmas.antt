@@ -9,11 +9,12 @@ use Rattle.lalrpop_grammar_language.specs.Closing.{Binding, close, is_sound, occ
 use Rattle.lalrpop_grammar_language.specs.Admitting.{Fits, bind, rank_level}
 use Rattle.lalrpop_grammar_language.proofs.PlaceLemmas.{among_map}
 use Rattle.lalrpop_norm_theory.specs.Depth.{calls_in}
-use Rattle.lalrpop_norm_theory.proofs.AmongLemmas.{map_among}
+use Rattle.lalrpop_grammar_language.proofs.AmongLemmas.{map_among}
 use Rattle.lalrpop_norm_theory.specs.CallPlaces.{IsMadeAt, IsPlaceBelow, IsPlaceInSide, IsPlaceOfCall}
 use Rattle.lalrpop_norm_keys.proofs.OriginLemmas.{allowed_plain, close_same, levels_plain, plain_choice, plain_grammar, plain_pair}
 use Rattle.lalrpop_norm_keys.proofs.OriginLemmas.{plain_rule, plain_was, ranked_plain, rule_plain}
-use Rattle.lalrpop_norm_keys.proofs.PlainGrammarLemmas.{chain_alike, holds_with, root_alike}
+use Rattle.lalrpop_norm_keys.proofs.PlainGrammarLemmas.{chain_alike, root_alike}
+use Rattle.lalrpop_norm_theory.proofs.RuleChangeLemmas.{holds_with}
 
 -- An alternative without origins has the same places.
 module _ (g : EnabledGrammar) (r : EnabledRule) (b : Binding) (c : Choice × Option Rank) where

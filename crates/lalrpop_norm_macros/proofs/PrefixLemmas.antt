@@ -15,7 +15,7 @@ use Rattle.lalrpop_grammar_language.specs.Levels.{loosest}
 use Rattle.lalrpop_grammar_language.specs.Expansion.{HasLevel}
 use Rattle.lalrpop_norm_theory.specs.Between.{grammar_between, rule_between}
 use Rattle.lalrpop_norm_theory.specs.Keys.{with_number, before_tilde}
-use Rattle.lalrpop_norm_theory.proofs.AmongLemmas.{map_among}
+use Rattle.lalrpop_grammar_language.proofs.AmongLemmas.{map_among}
 use Rattle.lalrpop_norm_theory.specs.LevelRules.{level_name}
 use Rattle.lalrpop_norm_theory.specs.LeveledGrammar.{leveled_grammar, levels_in_order}
 use Rattle.lalrpop_norm_theory.specs.LevelNames.{after_first, numbered_text}

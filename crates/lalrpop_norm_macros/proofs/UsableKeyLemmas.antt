@@ -13,7 +13,7 @@ use Rattle.lalrpop_grammar_language.proofs.PlaceLemmas.{among_map}
 use Rattle.lalrpop_norm_theory.specs.Depth.{CallOccursIn, HasCallChain, calls_in, calls_in_all, calls_in_grammar_symbol}
 use Rattle.lalrpop_norm_theory.specs.Premises.{HasNoLevels}
 use Rattle.lalrpop_norm_theory.specs.Rounds.{AreCallsToDepth}
-use Rattle.lalrpop_norm_theory.proofs.AmongLemmas.{among_parts}
+use Rattle.lalrpop_grammar_language.proofs.OrderLemmas.{among_parts}
 use Rattle.lalrpop_norm_theory.proofs.ExpansionListLemmas.{rule_there}
 use Rattle.lalrpop_norm_theory.proofs.LevelLemmas.{ranked_flat}
 use Rattle.lalrpop_norm_theory.specs.KeyRules.{IsKey}
@@ -22,7 +22,8 @@ use Rattle.lalrpop_norm_theory.proofs.KeyTableLemmas.{stands_trans}
 use Rattle.lalrpop_norm_theory.specs.KeyTypes.{HasKeyRule}
 use Rattle.lalrpop_norm_keys.proofs.FoundLemmas.{chain_is_call}
 use Rattle.lalrpop_norm_keys.proofs.RightCallLemmas.{IsRightCall, chain_right}
-use Rattle.lalrpop_norm_keys.proofs.SymbolLemmas.{calls_of_symbol, same_keys}
+use Rattle.lalrpop_norm_keys.proofs.SymbolLemmas.{same_keys}
+use Rattle.lalrpop_norm_theory.proofs.OccurringLemmas.{calls_of_symbol}
 use Rattle.lalrpop_norm_macros.specs.KeyedSymbols.{AreKeyed, IsMappedSymbol}
 use Rattle.lalrpop_norm_macros.specs.UsableSymbols.{AreUsable, IsRightGrammar, IsUsable}
 use Rattle.lalrpop_norm_macros.proofs.UsableLemmas.{side_usable}

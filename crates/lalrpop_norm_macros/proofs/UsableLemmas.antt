@@ -18,7 +18,8 @@ use Rattle.lalrpop_grammar_language.specs.Closing.{right_side, scope_of, sound_o
 use Rattle.lalrpop_grammar_language.specs.Admitting.{bind}
 use Rattle.lalrpop_grammar_language.proofs.PlaceLemmas.{same_text-eq}
 use Rattle.lalrpop_norm_theory.specs.Premises.{IsNoRecovery, IsResolvedIn, IsSymbolOf}
-use Rattle.lalrpop_norm_theory.proofs.AmongLemmas.{among_left, among_right}
+use Rattle.lalrpop_grammar_language.proofs.StepLemmas.{among_right}
+use Rattle.lalrpop_grammar_language.proofs.StepLemmas.{among_left}
 use Rattle.lalrpop_norm_theory.proofs.LevelBindingLemmas.{other_free, value_of_parameter}
 use Rattle.lalrpop_norm_macros.specs.UsableSymbols.{AreUsable, IsRightCount, IsRightGrammar, IsUsable}
 

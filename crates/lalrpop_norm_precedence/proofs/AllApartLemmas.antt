@@ -12,7 +12,8 @@ use Rattle.lalrpop_grammar_language.specs.Enabled.{has_text}
 use Rattle.lalrpop_grammar_rules.proofs.BareNameLemmas.{same_text-sym}
 use Rattle.lalrpop_norm_theory.specs.Keys.{before_tilde}
 use Rattle.lalrpop_norm_theory.specs.Premises.{AreDifferent}
-use Rattle.lalrpop_norm_theory.proofs.AmongLemmas.{among_parts, map_among}
+use Rattle.lalrpop_grammar_language.proofs.AmongLemmas.{map_among}
+use Rattle.lalrpop_grammar_language.proofs.OrderLemmas.{among_parts}
 use Rattle.lalrpop_norm_theory.specs.LevelNames.{leveled_keys_of, name_of_leveled_key, tighter_levels}
 use Rattle.lalrpop_norm_precedence.specs.TakenTimes.{AreSmallTimes}
 use Rattle.lalrpop_norm_precedence.specs.GivenNames.{Times, taken_behind_rule}

@@ -14,7 +14,7 @@ use Rattle.lalrpop_grammar_language.proofs.PlaceLemmas.{same_text-eq}
 use Rattle.lalrpop_norm_theory.specs.Between.{rule_between}
 use Rattle.lalrpop_norm_theory.specs.Keys.{with_number, before_tilde}
 use Rattle.lalrpop_norm_theory.specs.Premises.{AreDifferent}
-use Rattle.lalrpop_norm_theory.proofs.AmongLemmas.{among_parts}
+use Rattle.lalrpop_grammar_language.proofs.OrderLemmas.{among_parts}
 use Rattle.lalrpop_norm_theory.specs.LevelNames.{leveled_keys_of, name_of_leveled_key, numbered_text, tighter_levels}
 use Rattle.lalrpop_norm_theory.specs.LevelNames.{after_first}
 use Rattle.lalrpop_norm_theory.proofs.PackedNameLemmas.{numbered_stays}

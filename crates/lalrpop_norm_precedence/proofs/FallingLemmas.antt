@@ -1,15 +1,11 @@
 -- Levels in order: each is followed by the next tighter one, and the first is the loosest; for the rules of levels.
 use Rattle.std.proofs.Common.{◌≡◌, ℕ, ◌<◌, Bool, true, false, List, [], ◌∷◌, refl, ap, sym, ◌∙◌, cond, arith}
 use Rattle.std.proofs.lemmas.Bool.{eqb-true, eqb-false, ltb-true, ltb-false, lt-ltb}
-use Rattle.std.specs.Prelude.{Option, Some, None, filter, max, nat_lt, ◌==◌}
+use Rattle.std.specs.Prelude.{filter, nat_lt, ◌==◌}
 use Rattle.lalrpop_grammar_language.specs.Enabled.{EnabledRule}
-use Rattle.lalrpop_grammar_language.specs.Levels.{greatest, larger, levels, loosest, tighter}
+use Rattle.lalrpop_grammar_language.specs.Levels.{greatest, levels, loosest, tighter}
 use Rattle.lalrpop_norm_theory.specs.LeveledGrammar.{put_level, falling_levels, levels_in_order}
-
--- the first number of a list, if it has one
-abbrev pub front : List ℕ → Option ℕ
-front [] = None
-front (n ∷ ns) = Some n
+use Rattle.lalrpop_norm_theory.proofs.LevelOrderLemmas.{front, falling-front}
 
 -- the levels below another
 abbrev below : ℕ → List ℕ → List ℕ
@@ -91,20 +87,6 @@ pub levels-follow : (r : EnabledRule) → Follow (levels_in_order r) (levels_in_
 levels-follow r = follow-falls (levels_in_order r) (falling-falls (levels r))
 
 -- the first is the greatest
-
-put-front : (n : ℕ) (ms : List ℕ) → front (put_level n ms) ≡ larger n (front ms)
-put-front n [] = refl
-put-front n (m ∷ ms) = go (n == m) refl (nat_lt m n) refl
-  where
-    go : (b : Bool) → (n == m) ≡ b → (c : Bool) → nat_lt m n ≡ c
-        → front (cond b (m ∷ ms) (cond c (n ∷ m ∷ ms) (m ∷ put_level n ms))) ≡ Some (max n m)
-    go true e c f = let h : n ≡ m = eqb-true n m e in ap Some (let k : m ≡ max n m = omega (arith, h) in k)
-    go false e true f = let h = ltb-true m n f in ap Some (let k : n ≡ max n m = omega (arith, h) in k)
-    go false e false f = let h = ltb-false m n f in ap Some (let k : m ≡ max n m = omega (arith, h) in k)
-
-falling-front : (ns : List ℕ) → front (falling_levels ns) ≡ greatest ns
-falling-front [] = refl
-falling-front (n ∷ ns) = put-front n (falling_levels ns) ∙ ap (larger n) (falling-front ns)
 
 -- the loosest level is the first
 pub loosest-first : (r : EnabledRule) → loosest r ≡ front (levels_in_order r)

@@ -14,7 +14,7 @@ use Rattle.lalrpop_grammar_language.specs.Starts.{has_none}
 use Rattle.lalrpop_grammar_language.proofs.ComparisonLemmas.{same_text-refl}
 use Rattle.lalrpop_norm_theory.specs.Between.{rule_between}
 use Rattle.lalrpop_norm_theory.specs.Premises.{AreDifferent}
-use Rattle.lalrpop_norm_theory.proofs.AmongLemmas.{map_among}
+use Rattle.lalrpop_grammar_language.proofs.AmongLemmas.{map_among}
 use Rattle.lalrpop_norm_theory.specs.LeveledGrammar.{levels_in_order}
 use Rattle.lalrpop_norm_theory.specs.LevelNames.{after_first, numbered_text, tighter_levels}
 use Rattle.lalrpop_norm_precedence.specs.declared.level_names.levels.NamedLevel.{NamedLevel}

@@ -6,7 +6,7 @@ use Rattle.lalrpop_grammar.specs.WrittenGrammar.{Grammar, Rule, rules_of}
 use Rattle.lalrpop_grammar_language.specs.Among.{Among}
 use Rattle.lalrpop_grammar_language.specs.Levels.{has_levels}
 use Rattle.lalrpop_norm_theory.specs.Between.{rule_between}
-use Rattle.lalrpop_norm_theory.proofs.AmongLemmas.{map_among}
+use Rattle.lalrpop_grammar_language.proofs.AmongLemmas.{map_among}
 use Rattle.lalrpop_norm_theory.proofs.LevelLemmas.{no_levels}
 use Rattle.lalrpop_norm_theory.specs.LeveledGrammar.{falling_levels, leveled_grammar, levels_in_order}
 use Rattle.lalrpop_norm_theory.specs.LevelFaults.{HasRightLevels}

@@ -1,7 +1,7 @@
 -- Items put behind others one by one, and the tables of the rules that are left; for the expansion of a grammar.
 use Rattle.std.proofs.Common.{◌≡◌, ℕ, List, [], ◌∷◌, ◌++◌, refl, ap, sym, ◌∙◌, subst}
 use Rattle.std.proofs.lemmas.List.{append_assoc}
-use Rattle.std.specs.Prelude.{Result, Ok, Err, IfOk, OnOk, flat_map}
+use Rattle.std.specs.Prelude.{Result, Ok, Err, OnOk, flat_map}
 use Rattle.lalrpop_grammar_symbols.specs.Symbols.{Text}
 use Rattle.lalrpop_grammar.specs.WrittenGrammar.{Rule, WrittenItem, rules_of}
 use Rattle.lalrpop_norm_theory.specs.LeveledGrammar.{leveled_item}
@@ -14,11 +14,6 @@ pub put_behind : {A : Type 0} (old new part rest before whole : List A) → new 
     → old ++ before ≡ whole → new ++ rest ≡ whole
 put_behind old new part rest before whole more here is =
     ap (λ l. l ++ rest) more ∙ append_assoc old part rest ∙ ap (λ l. old ++ l) (sym here) ∙ is
-
--- what holds of what was made holds for other words too
-pub ok_from : {T E : Type 0} (P Q : T → Type 0) (r : Result T E) → ((x : T) → P x → Q x) → IfOk r P → IfOk r Q
-ok_from P Q (Ok x) to h = to x h
-ok_from P Q (Err e) to h = h
 
 -- what follows from a thing that holds where an answer is no fault holds there too
 pub on_ok_from : {T E : Type 0} (P Q : Type 0) (r : Result T E) → (P → Q) → OnOk r P → OnOk r Q

@@ -20,7 +20,8 @@ use Rattle.lalrpop_norm_precedence.specs.NamedAlternatives.{OccurrenceNaming, al
 use Rattle.lalrpop_norm_precedence.specs.LevelBuckets.{of_level}
 use Rattle.lalrpop_norm_precedence.specs.RulesByNames.{LevelAndName, naming_at, pass_downs_by_name, reached_name, rule_by_names}
 use Rattle.lalrpop_norm_precedence.specs.RulesByNames.{all_rules_by_names, rules_by_names, unreached_name}
-use Rattle.lalrpop_norm_precedence.proofs.FallingLemmas.{Follow, front, levels-follow, loosest-first, tighter-first}
+use Rattle.lalrpop_norm_precedence.proofs.FallingLemmas.{Follow, levels-follow, loosest-first, tighter-first}
+use Rattle.lalrpop_norm_theory.proofs.LevelOrderLemmas.{front}
 use Rattle.lalrpop_norm_precedence.proofs.RenameByNumberLemmas.{rename_listed_same}
 
 -- parameters

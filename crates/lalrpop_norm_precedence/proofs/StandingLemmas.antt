@@ -10,14 +10,14 @@ use Rattle.lalrpop_grammar.specs.WrittenGrammar.{Rule}
 use Rattle.lalrpop_grammar_language.specs.Among.{Among}
 use Rattle.lalrpop_grammar_language.specs.Enabled.{has_text}
 use Rattle.lalrpop_grammar_language.specs.Levels.{levels, loosest}
-use Rattle.lalrpop_grammar_language.specs.Starts.{has_none}
 use Rattle.lalrpop_grammar_language.proofs.ComparisonLemmas.{same_text-refl}
 use Rattle.lalrpop_norm_theory.specs.Between.{rule_between}
 use Rattle.lalrpop_norm_theory.specs.Keys.{with_number, before_tilde}
 use Rattle.lalrpop_norm_theory.specs.LevelRules.{level_name}
 use Rattle.lalrpop_norm_theory.specs.LevelNames.{after_first, numbered_text, plain_levels_of, tighter_levels, times_taken}
 use Rattle.lalrpop_norm_theory.specs.LevelNames.{AreNumberedInOrder}
-use Rattle.lalrpop_norm_theory.proofs.LevelOrderLemmas.{falling-has, falling-only, found_text, loosest_or_tighter, loosest-among}
+use Rattle.lalrpop_norm_theory.proofs.LevelOrderLemmas.{falling-has, falling-only, loosest_or_tighter, loosest-among}
+use Rattle.lalrpop_grammar_language.proofs.AmongLemmas.{found_text}
 use Rattle.lalrpop_norm_theory.proofs.PackedNameLemmas.{number_cut, numbered_stays}
 use Rattle.lalrpop_norm_precedence.specs.GivenNames.{Times, once_more, beside_parameters, given_name, taken_behind, given_names}
 use Rattle.lalrpop_norm_precedence.specs.GivenNames.{taken_behind_all, given_table_of, given_table, taken_behind_rule}
@@ -26,6 +26,7 @@ use Rattle.lalrpop_norm_precedence.proofs.NumberLemmas.{no_number}
 use Rattle.lalrpop_norm_precedence.proofs.TakenLemmas.{taken_more}
 use Rattle.lalrpop_norm_precedence.proofs.GivenLemmas.{order_of, levels_by, named-parts, AreGiven}
 use Rattle.lalrpop_norm_precedence.proofs.GivenLemmas.{rule-given, tighter-given, level-given}
+use Rattle.lalrpop_norm_theory.proofs.ProductionListLemmas.{no_parameters}
 
 -- the loosest level has the rule's name
 
@@ -61,10 +62,6 @@ module _ (f : Text → ℕ → Text) (r : Rule) (times : Times) where
 -- the count says of each text how often it stands in the list of taken ones
 abbrev pub AreTimesOf : Times → List Text → Type 0
 AreTimesOf times taken = (t : Text) → times t ≡ times_taken t taken
-
-pub no_parameters : (ps : List Text) → has_none ps ≡ true → ps ≡ []
-no_parameters [] e = refl
-no_parameters (p ∷ ps) e = cc
 
 more-of : (text : Text) (times : Times) (taken : List Text) → AreTimesOf times taken →
     AreTimesOf (once_more text times) (text ∷ taken)

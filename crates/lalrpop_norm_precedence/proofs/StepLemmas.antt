@@ -29,11 +29,6 @@ plain_test false [] w = refl
 plain_test true (x ∷ xs) w = refl
 plain_test false (x ∷ xs) w = let some : x ∷ xs ≡ [] → ⊥ = λ e. cc in w.1 some
 
--- what holds in any case, and what holds where nothing is refused
-pub holds_anyway : {T E : Type 0} (r : Result T E) (P : Type 0) → P → OnOk r P
-holds_anyway (Ok x) P h = h
-holds_anyway (Err e) P h = tt
-
 -- where an answer is no fault, what follows from a property of it and two facts beside holds of it
 pub holds_where_ok : {T E : Type 0} (r : Result T E) (P Q : T → Type 0) (A B : Type 0) → ((x : T) → P x → A → B → Q x) →
     IfOk r P → OnOk r A → OnOk r B → IfOk r Q

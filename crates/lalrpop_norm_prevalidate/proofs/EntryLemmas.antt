@@ -18,7 +18,7 @@ pub literal_of_mapping : (l : TerminalLiteral) (m : MatchMapping) (p : Span)
 literal_of_mapping l (mappings.Terminal t) p = refl
 literal_of_mapping l mappings.Skip p = refl
 
-span_of_mapping : (l : TerminalLiteral) (m : MatchMapping) (p : Span) → entry_span (mapping_view l m p) ≡ span_view p
+pub span_of_mapping : (l : TerminalLiteral) (m : MatchMapping) (p : Span) → entry_span (mapping_view l m p) ≡ span_view p
 span_of_mapping l (mappings.Terminal t) p = refl
 span_of_mapping l mappings.Skip p = refl
 

@@ -1,10 +1,10 @@
 mod AgainLemmas
 mod AttributeLemmas
-mod EntryLemmas
+pub mod EntryLemmas
 mod ExamplesOfChecks
 mod ExamplesOfFaults
 mod FaultLemmas
 mod FirstLemmas
 mod NameLemmas
-mod SetLemmas
+pub mod SetLemmas
 mod StandingLemmas

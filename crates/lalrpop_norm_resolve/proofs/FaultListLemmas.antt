@@ -4,7 +4,7 @@ use Rattle.std.specs.Prelude.{Result, flat_map}
 use Rattle.lalrpop_grammar_repr.specs.declared.session.NormFault.{NormFault}
 use Rattle.lalrpop_grammar_repr.specs.declared.session.NormFault.TheVariants as faults
 use Rattle.lalrpop_grammar_symbols.specs.Views.{span_view}
-use Rattle.lalrpop_norm_theory.proofs.AmongLemmas.{among_left}
+use Rattle.lalrpop_grammar_language.proofs.StepLemmas.{among_left}
 use Rattle.lalrpop_norm_theory.specs.NameFaults.{NameFault}
 use Rattle.lalrpop_norm_resolve.specs.FoundFaults.{AmongFaults, ChecksNames, FoundFault, TellsOneOf, found_fault}
 

@@ -9,7 +9,7 @@ use Rattle.lalrpop_grammar_language.specs.Among.{Among}
 use Rattle.lalrpop_grammar_language.specs.Enabled.{has_text}
 use Rattle.lalrpop_grammar_language.proofs.PlaceLemmas.{same_text-eq}
 use Rattle.lalrpop_grammar_language.proofs.ComparisonLemmas.{same_text-refl}
-use Rattle.lalrpop_norm_theory.proofs.AmongLemmas.{among_right}
+use Rattle.lalrpop_grammar_language.proofs.StepLemmas.{among_right}
 use Rattle.lalrpop_norm_theory.specs.NameFaults.{IsTwice}
 use Rattle.lalrpop_norm_resolve.specs.FoundFaults.{HasNoTwice}
 use Rattle.lalrpop_norm_resolve.specs.Searches.{first_known, knowing}

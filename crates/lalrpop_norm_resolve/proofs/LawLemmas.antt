@@ -25,11 +25,7 @@ use Rattle.lalrpop_norm_resolve.specs.Searches.{first_shared_rule}
 use Rattle.lalrpop_norm_resolve.specs.declared.names.definitions.Definitions.{Definitions}
 use Rattle.lalrpop_norm_resolve.specs.declared.names.definitions.Scope.{Scope}
 use Rattle.lalrpop_norm_resolve.proofs.RuleListLemmas.{fault_of_rules, listed_in_rule, right_names}
-
--- what holds of what was made holds for other words too
-pub ok_from : {T E : Type 0} (P Q : T → Type 0) (r : Result T E) → ((x : T) → P x → Q x) → IfOk r P → IfOk r Q
-ok_from P Q (Ok x) to h = to x h
-ok_from P Q (Err e) to h = h
+use Rattle.lalrpop_grammar_symbols.proofs.BoolLemmas.{ok_from}
 
 pub err_from : {T E : Type 0} (P Q : E → Type 0) (r : Result T E) → ((e : E) → P e → Q e) → IfErr r P → IfErr r Q
 err_from P Q (Ok x) to h = h

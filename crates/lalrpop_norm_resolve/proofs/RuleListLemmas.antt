@@ -4,7 +4,10 @@ use Rattle.std.specs.Prelude.{None}
 use Rattle.lalrpop_grammar.specs.WrittenGrammar.{Grammar, Rule, WrittenItem, rules_of}
 use Rattle.lalrpop_grammar_language.specs.Among.{Among}
 use Rattle.lalrpop_grammar_repr.specs.declared.session.NormFault.{NormFault}
-use Rattle.lalrpop_norm_theory.proofs.AmongLemmas.{among_left, among_right, among_parts, flat_map_among}
+use Rattle.lalrpop_grammar_language.proofs.AmongLemmas.{flat_map_among}
+use Rattle.lalrpop_grammar_language.proofs.StepLemmas.{among_right}
+use Rattle.lalrpop_grammar_language.proofs.StepLemmas.{among_left}
+use Rattle.lalrpop_grammar_language.proofs.OrderLemmas.{among_parts}
 use Rattle.lalrpop_norm_theory.specs.Resolving.{DefinedNames, defined_names}
 use Rattle.lalrpop_norm_theory.specs.NameFaults.{HasRightNames, IsDuplicate, name_faults_in_rule}
 use Rattle.lalrpop_norm_theory.proofs.FaultLemmas.{nil_from}

@@ -74,11 +74,6 @@ module _ (r : Rule) (n : Text) (old new : Bool) where
   no_plain is e =
       e ∙ sym (nothing_more old) ∙ ap (λ (b : Bool). old || has_text n (map (λ q. q.name) (cond (not b) (r ∷ []) []))) (sym is)
 
--- what holds in any case, and what holds where nothing is refused
-pub holds_anyway : {T E : Type 0} (r : Result T E) (P : Type 0) → P → OnOk r P
-holds_anyway (Ok x) P h = h
-holds_anyway (Err e) P h = tt
-
 -- what follows from what holds where nothing is refused holds there too
 pub holds_where_ok : {T E : Type 0} (r : Result T E) (P Q : Type 0) → (P → Q) → OnOk r P → OnOk r Q
 holds_where_ok (Ok x) P Q to h = to h

@@ -1,4 +1,4 @@
-//! The second pass of the normalizer: what the features disable goes.
+//! The passes of the normalizer that drop what the features disable, and that resolve names.
 #![tactic(auto)]
 
 mod enabling;

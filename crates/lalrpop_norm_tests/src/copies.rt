@@ -1,5 +1,6 @@
 //! Copies of parts of the lowered grammar, each made alone.
 
+use crate::check::check;
 use crate::parts::name_of;
 use lalrpop_grammar::{Atom, List};
 use lalrpop_grammar_repr::{
@@ -60,9 +61,9 @@ fn symbol_is_copied(rt: &impl Abort, alloc: Global) -> bool {
 
 #[test]
 fn copies_of_actions_by_their_parts(rt: HostRuntime) {
-    assert!(rt; user_is_copied(&rt, rt.alloc()));
-    assert!(rt; kind_is_copied(&rt, rt.alloc()));
-    assert!(rt; inlined_is_copied(&rt, rt.alloc()));
-    assert!(rt; inline_is_copied(&rt, rt.alloc()));
-    assert!(rt; symbol_is_copied(&rt, rt.alloc()));
+    check(&rt, user_is_copied(&rt, rt.alloc()));
+    check(&rt, kind_is_copied(&rt, rt.alloc()));
+    check(&rt, inlined_is_copied(&rt, rt.alloc()));
+    check(&rt, inline_is_copied(&rt, rt.alloc()));
+    check(&rt, symbol_is_copied(&rt, rt.alloc()));
 }

@@ -1,5 +1,6 @@
 //! The token check: entries, places of literals, and the automaton.
 
+use crate::check::check;
 use crate::grammars::{COMMAS, checked_grammar, expanded_grammar, places_of};
 use crate::parts::{is_quoted, is_terminal};
 use lalrpop_grammar::{Atom, Grammar, MatchEntry, MatchMapping, Span, TerminalLiteral};
@@ -56,9 +57,9 @@ fn ends_with_entries(grammar: &Grammar) -> bool {
 
 /// That the automaton is that of the entries of the comma grammar.
 pub(crate) fn tells_entries(rt: &impl Abort, dfa: &Dfa) {
-    assert!(rt; interpret(dfa, ",n") == Some((NfaIndex(0), ",")));
-    assert!(rt; interpret(dfa, "n,") == Some((NfaIndex(1), "n")));
-    assert!(rt; interpret(dfa, "T").is_none());
+    check(rt, interpret(dfa, ",n") == Some((NfaIndex(0), ",")));
+    check(rt, interpret(dfa, "n,") == Some((NfaIndex(1), "n")));
+    check(rt, interpret(dfa, "T").is_none());
 }
 
 /// Whether the entries are there where no automaton is asked for.
@@ -77,8 +78,8 @@ fn checked_with_dfa(rt: &impl Abort, alloc: Global) -> Box<(Grammar, Dfa)> {
 
 #[test]
 fn literals_become_entries_of_the_tokenizer(rt: HostRuntime) {
-    assert!(rt; has_entries_alone(&rt, rt.alloc()));
+    check(&rt, has_entries_alone(&rt, rt.alloc()));
     let checked = checked_with_dfa(&rt, rt.alloc());
-    assert!(rt; ends_with_entries(&checked.0));
+    check(&rt, ends_with_entries(&checked.0));
     tells_entries(&rt, &checked.1);
 }

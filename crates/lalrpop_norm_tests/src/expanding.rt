@@ -1,5 +1,6 @@
 //! The pass over macros, by the judge's finder and by finders of the tests' own.
 
+use crate::check::check;
 use crate::finders::{FindsNothing, GivesUp, WithoutMemory};
 use crate::grammars::{COMMAS, CONDITIONS, MACRO_LIMIT, expanded_grammar, leveled_grammar};
 use crate::parts::has_sides;
@@ -36,7 +37,7 @@ fn rule_count(grammar: &Grammar) -> usize {
 #[test]
 fn each_call_repeat_and_group_becomes_a_rule(rt: HostRuntime) {
     let grammar = expanded_grammar(&rt, rt.alloc(), COMMAS);
-    assert_eq!(rt; rule_count(&grammar), EXPANDED.len());
+    check(&rt, rule_count(&grammar) == EXPANDED.len());
     for (name, sides) in EXPANDED {
         has_sides(&rt, rt.alloc(), &grammar, name, sides);
     }
@@ -73,6 +74,12 @@ fn refuses<F: Finder>(rt: &impl Abort, alloc: Global, finder: &F, wanted: &NormF
 fn conditions_hold_as_the_finder_says(rt: HostRuntime) {
     leaves(&rt, rt.alloc(), &PatternFinder, r#"| "a""#);
     leaves(&rt, rt.alloc(), &FindsNothing, r#"| "b""#);
-    assert!(rt; refuses(&rt, rt.alloc(), &GivesUp, &NormFault::ConditionLimit));
-    assert!(rt; refuses(&rt, rt.alloc(), &WithoutMemory, &NormFault::Memory));
+    check(
+        &rt,
+        refuses(&rt, rt.alloc(), &GivesUp, &NormFault::ConditionLimit),
+    );
+    check(
+        &rt,
+        refuses(&rt, rt.alloc(), &WithoutMemory, &NormFault::Memory),
+    );
 }

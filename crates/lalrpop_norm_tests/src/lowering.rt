@@ -1,5 +1,6 @@
 //! Lowering: where productions stand, which nonterminals are inlined, and what actions do.
 
+use crate::check::check;
 use crate::entries::are_entries;
 use crate::grammars::{ACTIONS, COMMAS, checked_grammar, grammar_of, plain_session};
 use crate::parts::{is_terminal, name_of};
@@ -101,7 +102,7 @@ const NONTERMINALS: [(&str, Span, bool); 7] = [
 
 /// That nonterminals stand where they are written, and are marked as they are to be.
 fn nonterminals_stand(rt: &impl Abort, alloc: Global, grammar: &Grammar) {
-    assert_eq!(rt; grammar.nonterminals.len(), NONTERMINALS.len());
+    check(rt, grammar.nonterminals.len() == NONTERMINALS.len());
     for (name, span, inlined) in NONTERMINALS {
         let key = name_of(rt, alloc, name);
         assert!(rt; stands(grammar, &key) == Some((span, inlined)), "{name}");
@@ -129,14 +130,14 @@ fn are_copied(rt: &impl Abort, alloc: Global, grammar: &Grammar) -> bool {
 
 /// That the lowered comma grammar has a start, types, terminals and entries, and of ten productions the actions and origins.
 fn is_lowered(rt: &impl Abort, alloc: Global, made: &Normalized) {
-    assert!(rt; starts_with_list(rt, alloc, &made.grammar));
-    assert!(rt; gives_list(rt, alloc, &made.grammar.types, "__L"));
-    assert!(rt; terminals_are_copied(rt, alloc, &made.grammar.terminals));
-    assert!(rt; are_copied(rt, alloc, &made.grammar));
-    assert!(rt; are_entries(made.entries.as_slice()));
-    assert_eq!(rt; made.grammar.action_fn_defns.len(), 10);
-    assert_eq!(rt; made.origins.len(), 10);
-    assert!(rt; !made.grammar.algorithm.lalr);
+    check(rt, starts_with_list(rt, alloc, &made.grammar));
+    check(rt, gives_list(rt, alloc, &made.grammar.types, "__L"));
+    check(rt, terminals_are_copied(rt, alloc, &made.grammar.terminals));
+    check(rt, are_copied(rt, alloc, &made.grammar));
+    check(rt, are_entries(made.entries.as_slice()));
+    check(rt, made.grammar.action_fn_defns.len() == 10);
+    check(rt, made.origins.len() == 10);
+    check(rt, !made.grammar.algorithm.lalr);
 }
 
 #[test]
@@ -194,11 +195,20 @@ fn looks_ahead(definition: &ActionFnDefn) -> bool {
 
 /// That each action does what its alternative says, a start's and a place's too.
 fn do_as_written(rt: &impl Abort, alloc: Global, grammar: &Grammar) {
-    assert!(rt; grammar.algorithm.lalr);
-    assert!(rt; does(definition_at(rt, alloc, grammar, "__S", 0), None, false));
-    assert!(rt; does(definition_at(rt, alloc, grammar, "S", 0), Some("l"), false));
-    assert!(rt; does(definition_at(rt, alloc, grammar, "S", 1), Some("f"), true));
-    assert!(rt; looks_ahead(definition_at(rt, alloc, grammar, "@L", 0)));
+    check(rt, grammar.algorithm.lalr);
+    check(
+        rt,
+        does(definition_at(rt, alloc, grammar, "__S", 0), None, false),
+    );
+    check(
+        rt,
+        does(definition_at(rt, alloc, grammar, "S", 0), Some("l"), false),
+    );
+    check(
+        rt,
+        does(definition_at(rt, alloc, grammar, "S", 1), Some("f"), true),
+    );
+    check(rt, looks_ahead(definition_at(rt, alloc, grammar, "@L", 0)));
 }
 
 #[test]

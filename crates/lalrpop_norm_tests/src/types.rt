@@ -1,5 +1,6 @@
 //! Types: those that follow from alternatives, and written ones.
 
+use crate::check::check;
 use crate::grammars::{COMMAS, TYPED, checked_grammar, grammar_of};
 use crate::parts::{name_of, rule_of};
 use lalrpop_grammar::{Grammar, TypeRepr};
@@ -104,13 +105,16 @@ pub(crate) fn comma_types(rt: &impl Abort, alloc: Global) -> Box<Types> {
 
 /// That the types of the comma grammar are those of its repeats, its group and its option.
 fn follow(rt: &impl Abort, alloc: Global, types: &Types) {
-    assert!(rt; types.nonterminal_types.len() == 6 && terminals_are_texts(types));
-    assert!(rt; gives_list(rt, alloc, types, "L"));
-    assert!(rt; gives_list(rt, alloc, types, r#"Comma<"n">"#));
-    assert!(rt; gives_texts(rt, alloc, types, r#"(<"n"> ",")*"#, "Vec"));
-    assert!(rt; gives_texts(rt, alloc, types, r#"(<"n"> ",")+"#, "Vec"));
-    assert!(rt; gives_text(rt, alloc, types, r#"(<"n"> ",")"#));
-    assert!(rt; gives_texts(rt, alloc, types, r#""n"?"#, "Option"));
+    check(
+        rt,
+        types.nonterminal_types.len() == 6 && terminals_are_texts(types),
+    );
+    check(rt, gives_list(rt, alloc, types, "L"));
+    check(rt, gives_list(rt, alloc, types, r#"Comma<"n">"#));
+    check(rt, gives_texts(rt, alloc, types, r#"(<"n"> ",")*"#, "Vec"));
+    check(rt, gives_texts(rt, alloc, types, r#"(<"n"> ",")+"#, "Vec"));
+    check(rt, gives_text(rt, alloc, types, r#"(<"n"> ",")"#));
+    check(rt, gives_texts(rt, alloc, types, r#""n"?"#, "Option"));
 }
 
 #[test]
@@ -202,14 +206,14 @@ fn copy_is_whole(rt: &impl Abort, alloc: Global, ty: &TypeRepr) -> bool {
 
 /// That it is the type of that shape, and its copies are.
 fn keeps_shape(rt: &impl Abort, alloc: Global, ty: &TypeRepr) {
-    assert!(rt; is_whole(ty));
-    assert!(rt; copy_is_whole(rt, alloc, ty));
-    assert!(rt; name_is_copied(rt, alloc, ty));
+    check(rt, is_whole(ty));
+    check(rt, copy_is_whole(rt, alloc, ty));
+    check(rt, name_is_copied(rt, alloc, ty));
 }
 
 /// That the type that the rule S declares keeps its shape, and the one that T declares has none.
 fn declared_types_keep_shape(rt: &impl Abort, alloc: Global, grammar: &Grammar) {
-    assert!(rt; declared_repr(rt, alloc, grammar, "T").is_none());
+    check(rt, declared_repr(rt, alloc, grammar, "T").is_none());
     let declared = declared_repr(rt, alloc, grammar, "S").expect(rt, "a type");
     keeps_shape(rt, alloc, &declared);
 }

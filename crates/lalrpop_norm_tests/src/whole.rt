@@ -1,5 +1,6 @@
 //! All passes at once.
 
+use crate::check::check;
 use crate::entries::tells_entries;
 use crate::grammars::{COMMAS, grammar_of, plain_session};
 use crate::lowering::{lowered_commas, normalized_grammar};
@@ -37,13 +38,13 @@ fn is_seen_as(rt: &impl Abort, alloc: Global, made: &Normalized, wanted: &str) -
 fn comes_with_dfa(rt: &impl Abort, alloc: Global, wanted: &str) {
     let made = normal_with_dfa(rt, alloc);
     tells_entries(rt, &made.1);
-    assert!(rt; is_seen_as(rt, alloc, &made.0, wanted));
+    check(rt, is_seen_as(rt, alloc, &made.0, wanted));
 }
 
 #[test]
 fn all_passes_at_once_are_pass_after_pass(rt: HostRuntime) {
     let wanted = pass_by_pass(&rt, rt.alloc());
     let found = at_once(&rt, rt.alloc());
-    assert!(rt; found.as_str() == wanted.as_str());
+    check(&rt, found.as_str() == wanted.as_str());
     comes_with_dfa(&rt, rt.alloc(), wanted.as_str());
 }

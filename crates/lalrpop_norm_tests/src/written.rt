@@ -1,5 +1,6 @@
 //! The passes up to the levels, over grammars as they are written.
 
+use crate::check::check;
 use crate::grammars::{
     FEATURED, LEFT, LEVELS, enabled_grammar, featured_session, grammar_of, leveled_grammar,
     plain_session, resolved_grammar,
@@ -24,9 +25,9 @@ fn is_active(grammar: &Grammar, session: &Session, name: &str) -> bool {
 
 /// That the rule S is there, and of D and Id only the one that the session asks for.
 fn asks_for(rt: &impl Abort, grammar: &Grammar, session: &Session, wanted: &str, other: &str) {
-    assert!(rt; is_active(grammar, session, "S"));
-    assert!(rt; is_active(grammar, session, wanted));
-    assert!(rt; !is_active(grammar, session, other));
+    check(rt, is_active(grammar, session, "S"));
+    check(rt, is_active(grammar, session, wanted));
+    check(rt, !is_active(grammar, session, other));
 }
 
 /// Whether what no feature asks for goes, and all else stays as it is.
@@ -38,9 +39,9 @@ fn leaves_the_rest(rt: &impl Abort, alloc: Global) -> bool {
 
 #[test]
 fn features_decide_what_is_there(rt: HostRuntime) {
-    assert!(rt; leaves_the_rest(&rt, rt.alloc()));
+    check(&rt, leaves_the_rest(&rt, rt.alloc()));
     let grammar = grammar_of(&rt, rt.alloc(), FEATURED);
-    assert!(rt; prevalidate::validate(rt.alloc(), &grammar) == Ok(()));
+    check(&rt, prevalidate::validate(rt.alloc(), &grammar) == Ok(()));
     asks_for(&rt, &grammar, &plain_session(rt.alloc()), "Id", "D");
     asks_for(&rt, &grammar, &featured_session(&rt, rt.alloc()), "D", "Id");
 }
@@ -109,8 +110,8 @@ fn names_parameter(grammar: &Grammar) -> bool {
 #[test]
 fn names_stand_for_rules_bare_names_macros_and_parameters(rt: HostRuntime) {
     let grammar = resolved_grammar(&rt, rt.alloc(), LEFT);
-    assert!(rt; names_all_kinds(&grammar));
-    assert!(rt; names_parameter(&grammar));
+    check(&rt, names_all_kinds(&grammar));
+    check(&rt, names_parameter(&grammar));
 }
 
 /// The names of the rules that have levels, each behind a blank.
@@ -138,7 +139,7 @@ fn is_written_with_levels(rt: &impl Abort, alloc: Global) -> bool {
 
 /// That both levels of E are rules, and nothing has levels.
 fn has_level_rules(rt: &impl Abort, alloc: Global, grammar: &Grammar) {
-    assert!(rt; has_levels_in(rt, alloc, grammar, ""));
+    check(rt, has_levels_in(rt, alloc, grammar, ""));
     has_sides(rt, alloc, grammar, "E", r#"| E "+" E1| E1"#);
     has_sides(rt, alloc, grammar, "E1", r#"| "n""#);
     has_sides(rt, alloc, grammar, "T", "| E");
@@ -146,7 +147,7 @@ fn has_level_rules(rt: &impl Abort, alloc: Global, grammar: &Grammar) {
 
 #[test]
 fn each_level_becomes_a_rule_without_levels(rt: HostRuntime) {
-    assert!(rt; is_written_with_levels(&rt, rt.alloc()));
+    check(&rt, is_written_with_levels(&rt, rt.alloc()));
     let leveled = leveled_grammar(&rt, rt.alloc(), LEVELS);
     has_level_rules(&rt, rt.alloc(), &leveled);
 }
@@ -163,7 +164,7 @@ fn sides_and_attributes_by_their_words(rt: HostRuntime) {
     ] {
         assert!(rt; Assoc::from_str(text) == side, "{text}");
     }
-    assert_eq!(rt; (PREC_ATTR, LVL_ARG), ("precedence", "level"));
-    assert_eq!(rt; (ASSOC_ATTR, SIDE_ARG), ("assoc", "side"));
-    assert_eq!(rt; INLINE, "inline");
+    check(&rt, (PREC_ATTR, LVL_ARG) == ("precedence", "level"));
+    check(&rt, (ASSOC_ATTR, SIDE_ARG) == ("assoc", "side"));
+    check(&rt, INLINE == "inline");
 }

@@ -1,5 +1,5 @@
 -- Chains of macro calls are the same under the names of the levels; for the law of chains.
-use Rattle.std.proofs.Common.{◌≡◌, ℕ, zero, suc, List, [], ◌∷◌, ◌++◌, refl, ap, sym, ◌∙◌, subst, Bool}
+use Rattle.std.proofs.Common.{◌≡◌, ℕ, zero, suc, [], ◌∷◌, ◌++◌, refl, ap, sym, ◌∙◌, subst, Bool}
 use Rattle.std.specs.Prelude.{Option, map}
 use Rattle.lalrpop_grammar_symbols.specs.Symbols.{Text, Closed, Closeds}
 use Rattle.lalrpop_grammar.specs.WrittenGrammar.{Grammar}
@@ -8,7 +8,7 @@ use Rattle.lalrpop_grammar_language.specs.Expansion.{GrammarSymbol, Nonterminal,
 use Rattle.lalrpop_grammar_language.proofs.PlaceLemmas.{among_map}
 use Rattle.lalrpop_norm_theory.specs.Depth.{calls_in, calls_in_all, calls_in_grammar_symbol, CallOccursIn, HasCallChain}
 use Rattle.lalrpop_norm_theory.specs.Same.{rename_symbol}
-use Rattle.lalrpop_norm_theory.proofs.AmongLemmas.{map_among}
+use Rattle.lalrpop_grammar_language.proofs.AmongLemmas.{map_among}
 use Rattle.lalrpop_norm_theory.specs.LevelRules.{by_level_names, all_by_level_names}
 use Rattle.lalrpop_norm_theory.proofs.KeyTableLemmas.{chain_reached}
 use Rattle.lalrpop_norm_theory.specs.LevelLaws.{nonterminal_by_level, IsLevelable}
@@ -16,13 +16,9 @@ use Rattle.lalrpop_norm_theory.proofs.LevelNameLemmas.{before, after}
 use Rattle.lalrpop_norm_theory.proofs.LevelExpansionLemmas.{well_in, forth, back, root_forth, root_back}
 use Rattle.lalrpop_norm_theory.proofs.WellLeveledLemmas.{well_apart}
 use Rattle.lalrpop_norm_theory.specs.ChainLaws.{SameChains, SameDeepCalls}
+use Rattle.lalrpop_norm_theory.proofs.LevelPlaceLemmas.{joined-renamed}
 
 -- calls under the names of the levels
-
-joined-renamed : (f : Text → ℕ → Text) (xs ys : List Closed) →
-    map (by_level_names f) xs ++ map (by_level_names f) ys ≡ map (by_level_names f) (xs ++ ys)
-joined-renamed f [] ys = refl
-joined-renamed f (x ∷ xs) ys = ap (λ l. by_level_names f x ∷ l) (joined-renamed f xs ys)
 
 mutual
   calls-renamed : (f : Text → ℕ → Text) (x : Closed) → calls_in (by_level_names f x) ≡ map (by_level_names f) (calls_in x)

@@ -13,7 +13,8 @@ use Rattle.lalrpop_grammar_language.specs.Closing.{Binding, Scope, Meaning, para
 use Rattle.lalrpop_grammar_language.specs.Closing.{occurrences, occurrences_among, occurrences_in, call_level, if_plain}
 use Rattle.lalrpop_grammar_language.specs.Closing.{if_macro, plain_name, plain_call, close_terminal, name_or, close, close_all}
 use Rattle.lalrpop_grammar_language.specs.Closing.{sound_or_faulty, close_list, right_side}
-use Rattle.lalrpop_norm_theory.proofs.AmongLemmas.{among_left, among_right}
+use Rattle.lalrpop_grammar_language.proofs.StepLemmas.{among_right}
+use Rattle.lalrpop_grammar_language.proofs.StepLemmas.{among_left}
 use Rattle.lalrpop_norm_theory.proofs.RuleChangeLemmas.{RuleChange, changed_rule, changed_pair, HasChangedRules, named_kept}
 use Rattle.lalrpop_norm_theory.proofs.RuleChangeLemmas.{loosest_kept, tighter_kept}
 

@@ -15,7 +15,8 @@ use Rattle.lalrpop_grammar_language.proofs.PlaceLemmas.{same_text-eq}
 use Rattle.lalrpop_norm_theory.specs.Between.{rule_between}
 use Rattle.lalrpop_norm_theory.specs.Premises.{symbols_of_type, IsResolvedIn}
 use Rattle.lalrpop_norm_theory.specs.Types.{GroundType, IsTypeOfName, IsTypeOf, type_scope}
-use Rattle.lalrpop_norm_theory.proofs.AmongLemmas.{map_among, among_parts}
+use Rattle.lalrpop_grammar_language.proofs.AmongLemmas.{map_among}
+use Rattle.lalrpop_grammar_language.proofs.OrderLemmas.{among_parts}
 use Rattle.lalrpop_norm_theory.specs.LevelRules.{level_name, by_level_names, all_by_level_names, occurrence_name}
 use Rattle.lalrpop_norm_theory.specs.LevelRules.{rename_occurrences, rename_all_occurrences, IsLeveledScope}
 use Rattle.lalrpop_norm_theory.proofs.LevelRuleLemmas.{close_list_leveled}

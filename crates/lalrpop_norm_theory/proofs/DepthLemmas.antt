@@ -6,7 +6,8 @@ use Rattle.lalrpop_grammar_language.specs.Enabled.{EnabledGrammar}
 use Rattle.lalrpop_grammar_language.specs.Expansion.{Nonterminal, IsRoot}
 use Rattle.lalrpop_norm_theory.specs.Depth.{CallOccursIn, HasCallChain, IsTooDeep}
 use Rattle.lalrpop_norm_theory.specs.Rounds.{AreCallsToDepth, IsCallRound}
-use Rattle.lalrpop_norm_theory.proofs.AmongLemmas.{among_parts, among_either}
+use Rattle.lalrpop_norm_theory.proofs.AmongLemmas.{among_either}
+use Rattle.lalrpop_grammar_language.proofs.OrderLemmas.{among_parts}
 
 -- a chain goes on by what occurs in its last call
 pub longer_chain : (g : EnabledGrammar) (k : ℕ) (y x : Closed) → HasCallChain g k y → CallOccursIn g y x → HasCallChain g (suc k) x

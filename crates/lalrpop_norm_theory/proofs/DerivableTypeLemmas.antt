@@ -18,9 +18,12 @@ use Rattle.lalrpop_grammar_language.proofs.ComparisonLemmas.{same_bool, same_boo
 use Rattle.lalrpop_norm_theory.specs.Types.{GroundType, GroundTypes, text_type, place_type, repeat_type, chosen_or_all, HaveTypes}
 use Rattle.lalrpop_norm_theory.specs.Types.{HaveTupleType, IsTypeOfName, IsTypeOf, AreTypesOf, type_scope, CallStep, TypeStep}
 use Rattle.lalrpop_norm_theory.specs.Types.{IsGroundedIn, IsGrounded}
-use Rattle.lalrpop_norm_theory.proofs.AmongLemmas.{among_left, among_right}
+use Rattle.lalrpop_grammar_language.proofs.StepLemmas.{among_right}
+use Rattle.lalrpop_grammar_language.proofs.StepLemmas.{among_left}
 use Rattle.lalrpop_norm_theory.proofs.ClosedComparisonLemmas.{same_level, same_level-refl, same_closed, all-each}
-use Rattle.lalrpop_norm_theory.proofs.ProductionListLemmas.{fits, holds, true-holds}
+use Rattle.lalrpop_norm_theory.proofs.ProductionListLemmas.{fits}
+use Rattle.lalrpop_grammar_language.proofs.CheckLemmas.{true-holds}
+use Rattle.lalrpop_grammar_language.proofs.CheckLemmas.{holds}
 use Rattle.lalrpop_norm_theory.proofs.ExpansionListLemmas.{is_all, all-of}
 use Rattle.lalrpop_norm_theory.proofs.TypeLemmas.{step_wider}
 

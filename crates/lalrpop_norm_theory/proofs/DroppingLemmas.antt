@@ -30,10 +30,10 @@ use Rattle.lalrpop_norm_theory.proofs.TypeChangeLemmas.{changed_chains}
 
 -- ranks aren't asked of cfg attributes
 
-is_other : (id : Text) → bytes_eq (codes "cfg") id ≡ false → (a : Attr) → is_cfg a ≡ true → bytes_eq (attr_id a) id ≡ false
+pub is_other : (id : Text) → bytes_eq (codes "cfg") id ≡ false → (a : Attr) → is_cfg a ≡ true → bytes_eq (attr_id a) id ≡ false
 is_other id o a e = ap (λ t. bytes_eq t id) (same_text-eq (attr_id a) (codes "cfg") e) ∙ o
 
-mark_kept : (id : Text) → bytes_eq (codes "cfg") id ≡ false → (l : List Attr) → has_attr id (without_cfg l) ≡ has_attr id l
+pub mark_kept : (id : Text) → bytes_eq (codes "cfg") id ≡ false → (l : List Attr) → has_attr id (without_cfg l) ≡ has_attr id l
 mark_kept id o [] = refl
 mark_kept id o (a ∷ rest) = go (is_cfg a) refl (mark_kept id o rest)
   where
@@ -42,7 +42,7 @@ mark_kept id o (a ∷ rest) = go (is_cfg a) refl (mark_kept id o rest)
     go true e h = h ∙ ap (λ (m : Bool). m || has_attr id rest) (sym (is_other id o a e))
     go false e h = ap (λ (m : Bool). bytes_eq (attr_id a) id || m) h
 
-first_kept : (id : Text) → bytes_eq (codes "cfg") id ≡ false → (l : List Attr) → first_attr id (without_cfg l) ≡ first_attr id l
+pub first_kept : (id : Text) → bytes_eq (codes "cfg") id ≡ false → (l : List Attr) → first_attr id (without_cfg l) ≡ first_attr id l
 first_kept id o [] = refl
 first_kept id o (a ∷ rest) = go (is_cfg a) refl (first_kept id o rest)
   where
@@ -52,7 +52,7 @@ first_kept id o (a ∷ rest) = go (is_cfg a) refl (first_kept id o rest)
     go true e h = h ∙ ap (λ (m : Bool). if m then Some a else first_attr id rest) (sym (is_other id o a e))
     go false e h = ap (λ (m : Option Attr). if bytes_eq (attr_id a) id then Some a else m) h
 
-keeps_ranks : KeepsRanks without_cfg
+pub keeps_ranks : KeepsRanks without_cfg
 keeps_ranks = record {
   marks = mark_kept (codes "precedence") refl;
   level = first_kept (codes "precedence") refl;
@@ -70,11 +70,11 @@ later_origins [] = []
 later_origins (p ∷ ps) = ps
 
 -- the origins that the enabled alternatives tell
-abbrev left_origins : List Text → List Alternative → List Origin
+abbrev pub left_origins : List Text → List Alternative → List Origin
 left_origins features alternatives =
     map (λ a. a.origin) (map alternative_without_cfg (filter (λ a. is_active features a.attributes) alternatives))
 
-own_name : (features : List Text) (m n : Text) (k : ℕ) (alternatives : List Alternative) →
+pub own_name : (features : List Text) (m n : Text) (k : ℕ) (alternatives : List Alternative) →
     with_origins alternatives ≡ at_places m k alternatives → m ≡ n → name_in_origins n (left_origins features alternatives) ≡ n
 own_name features m n k [] e same = refl
 own_name features m n k (a ∷ rest) e same =
@@ -90,7 +90,7 @@ own_name features m n k (a ∷ rest) e same =
         ∙ same
     go false h = h
 
-name_left : (features : List Text) (items : List WrittenItem) → ((i : WrittenItem) → Among items i → IsReadItem i) → (n : Text) →
+pub name_left : (features : List Text) (items : List WrittenItem) → ((i : WrittenItem) → Among items i → IsReadItem i) → (n : Text) →
     written_name (rules_of (filter_map (enabled_item features) items)) n ≡ n
 name_left features [] w n = refl
 name_left features (WrittenItem.match_token entries place ∷ items) w n = name_left features items (λ i h. w i (inr h)) n

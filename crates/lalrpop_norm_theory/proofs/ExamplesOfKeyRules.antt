@@ -15,7 +15,8 @@ use Rattle.lalrpop_grammar_language.proofs.WrittenTreeLemmas.{here, lit, id, of_
 use Rattle.lalrpop_norm_theory.specs.Between.{grammar_between, rule_between}
 use Rattle.lalrpop_norm_theory.specs.Keys.{leveled_key_text}
 use Rattle.lalrpop_norm_theory.specs.Inlined.{IsInlined}
-use Rattle.lalrpop_norm_theory.proofs.AmongLemmas.{all-among, map_among}
+use Rattle.lalrpop_norm_theory.proofs.AmongLemmas.{all-among}
+use Rattle.lalrpop_grammar_language.proofs.AmongLemmas.{map_among}
 use Rattle.lalrpop_norm_theory.proofs.ExpansionListLemmas.{rule_there, all-of}
 use Rattle.lalrpop_norm_theory.proofs.RowListLemmas.{reached-each}
 use Rattle.lalrpop_norm_theory.proofs.NamingListLemmas.{naming-is}

@@ -16,7 +16,12 @@ use Rattle.lalrpop_grammar_language.specs.Expansion.{InExpansion}
 use Rattle.lalrpop_grammar_language.proofs.PlaceLemmas.{same_text-eq, among_map, among_filter}
 use Rattle.lalrpop_grammar_language.proofs.ComparisonLemmas.{same_text-refl}
 use Rattle.lalrpop_norm_theory.specs.Depth.{calls_in_grammar_symbol, CallOccursIn, HasCallChain, IsTooDeep}
-use Rattle.lalrpop_norm_theory.proofs.AmongLemmas.{among_left, among_right, among_parts, map_among, flat_map_among, among_flat_map}
+use Rattle.lalrpop_grammar_language.proofs.AmongLemmas.{flat_map_among}
+use Rattle.lalrpop_grammar_language.proofs.AmongLemmas.{map_among}
+use Rattle.lalrpop_grammar_language.proofs.AmongLemmas.{among_flat_map}
+use Rattle.lalrpop_grammar_language.proofs.StepLemmas.{among_right}
+use Rattle.lalrpop_grammar_language.proofs.StepLemmas.{among_left}
+use Rattle.lalrpop_grammar_language.proofs.OrderLemmas.{among_parts}
 use Rattle.lalrpop_norm_theory.proofs.ClosedComparisonLemmas.{all-each, has_closed, has_closed-among, not-has_closed}
 use Rattle.lalrpop_norm_theory.proofs.ClosedComparisonLemmas.{has_nonterminal, has_nonterminal-among}
 use Rattle.lalrpop_norm_theory.proofs.ProductionListLemmas.{productions_of, listed, is_production}

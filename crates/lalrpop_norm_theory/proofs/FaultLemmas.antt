@@ -8,7 +8,9 @@ use Rattle.lalrpop_grammar_symbols.specs.SymbolMaps.{map_symbol, map_symbols}
 use Rattle.lalrpop_grammar_language.specs.Among.{Among}
 use Rattle.lalrpop_grammar_language.specs.Enabled.{EnabledGrammar, EnabledRule, IsRule, has_text}
 use Rattle.lalrpop_norm_theory.specs.Premises.{IsResolvedIn}
-use Rattle.lalrpop_norm_theory.proofs.AmongLemmas.{among_left, among_right, among_parts}
+use Rattle.lalrpop_grammar_language.proofs.StepLemmas.{among_right}
+use Rattle.lalrpop_grammar_language.proofs.StepLemmas.{among_left}
+use Rattle.lalrpop_grammar_language.proofs.OrderLemmas.{among_parts}
 use Rattle.lalrpop_norm_theory.specs.Resolving.{DefinedNames, NameUse, use_of_name, resolved_name}
 use Rattle.lalrpop_norm_theory.specs.NameFaults.{NameFault, fault_of_name, fault_of_nonterminal, fault_of_call, own_name_fault}
 use Rattle.lalrpop_norm_theory.proofs.ClosedNameLemmas.{with_names}

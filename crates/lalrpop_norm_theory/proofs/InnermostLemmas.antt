@@ -8,7 +8,7 @@ use Rattle.lalrpop_grammar_language.specs.Levels.{Rank}
 use Rattle.lalrpop_grammar_language.specs.Closing.{Binding, Scope, close, is_sound, scope_of}
 use Rattle.lalrpop_grammar_language.proofs.PlaceLemmas.{among_map}
 use Rattle.lalrpop_norm_theory.specs.Depth.{calls_in}
-use Rattle.lalrpop_norm_theory.proofs.AmongLemmas.{map_among}
+use Rattle.lalrpop_grammar_language.proofs.AmongLemmas.{map_among}
 use Rattle.lalrpop_norm_theory.specs.CallPlaces.{CountedSymbol, IsInnermost, IsPlaceInSide, calls_at, counted_symbols, place_of_symbol}
 use Rattle.lalrpop_norm_theory.specs.CallPlaces.{symbols_within}
 

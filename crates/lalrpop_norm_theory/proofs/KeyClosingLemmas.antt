@@ -13,7 +13,7 @@ use Rattle.lalrpop_grammar_language.specs.Closing.{is_sound, sound_or_faulty, cl
 use Rattle.lalrpop_grammar_language.specs.Expansion.{GrammarSymbol, Nonterminal, grammar_symbol}
 use Rattle.lalrpop_norm_theory.proofs.LevelLemmas.{no_loosest}
 use Rattle.lalrpop_norm_theory.specs.KeyRules.{IsWrittenFor, AreWrittenFor, by_name, IsMacroExpansion}
-use Rattle.lalrpop_norm_theory.proofs.KeyRuleLemmas.{ReadsKeys, key_called, close-written}
+use Rattle.lalrpop_norm_theory.proofs.KeyRuleLemmas.{ReadsKeys, key_called, close-written, same_either}
 use Rattle.lalrpop_norm_theory.proofs.LevelOrderLemmas.{rule_meant, meant_rule, one_rule}
 use Rattle.lalrpop_norm_theory.specs.KeyTypes.{HasKeyRule, IsLeftAsWritten}
 
@@ -69,10 +69,6 @@ listed_keyed g h f keys w (y ∷ ys) all x (inr i) = listed_keyed g h f keys w y
 
 abbrev pub scope_named : EnabledGrammar → Binding → Text → (ℕ → Option ℕ) → Scope
 scope_named h b o e = record { grammar = h; binding = b; owner = o; level_at = e }
-
-same_either : {A : Type 0} (b : Bool) (x y z : A) → x ≡ z → y ≡ z → cond b x y ≡ z
-same_either true x y z e f = e
-same_either false x y z e f = f
 
 reads_keys : (g h : EnabledGrammar) (f : Closed → Text) (keys : List Closed) → IsMacroExpansion g h f keys → (b : Binding) (o : Text)
     (e : ℕ → Option ℕ) → ((k : ℕ) → e k ≡ None) → ReadsKeys (scope_named h b o e) g.bares f (Among keys)

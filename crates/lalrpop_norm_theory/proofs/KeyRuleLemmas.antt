@@ -6,9 +6,9 @@ use Rattle.std.specs.Prelude.{Option, Some, None, map, length, is_some, if◌the
 use Rattle.lalrpop_grammar_symbols.specs.Symbols.{Text, Terminal, WrittenSymbol, Sym, Op, Closed, Closeds, closed_list}
 use Rattle.lalrpop_grammar.specs.WrittenGrammar.{Action, Origin}
 use Rattle.lalrpop_grammar_language.specs.Among.{Among}
-use Rattle.lalrpop_grammar_language.specs.Enabled.{has_text, EnabledRule, EnabledGrammar, Choice, IsRule, has_name}
+use Rattle.lalrpop_grammar_language.specs.Enabled.{EnabledRule, EnabledGrammar, Choice, IsRule, has_name}
 use Rattle.lalrpop_grammar_language.specs.Levels.{Rank, ranked_choices, has_levels, loosest}
-use Rattle.lalrpop_grammar_language.specs.Closing.{Scope, Binding, Meaning, name_meaning, name_meaning_in, call_level, plain_name, if_plain}
+use Rattle.lalrpop_grammar_language.specs.Closing.{Scope, Binding, name_meaning, call_level, plain_name, if_plain}
 use Rattle.lalrpop_grammar_language.specs.Closing.{close, close_terminal, close_list, is_sound, sound_or_faulty, scope_of, right_side}
 use Rattle.lalrpop_grammar_language.specs.Closing.{occurrences}
 use Rattle.lalrpop_grammar_language.specs.Conditions.{Holds}
@@ -19,11 +19,12 @@ use Rattle.lalrpop_grammar_language.proofs.PlaceLemmas.{among_map, among_filter,
 use Rattle.lalrpop_grammar_language.proofs.SoundnessLemmas.{part-whole}
 use Rattle.lalrpop_norm_theory.specs.Inlined.{IsInlined, SameInlined}
 use Rattle.lalrpop_norm_theory.specs.Same.{rename_symbol, rename_side, SameExpansion}
-use Rattle.lalrpop_norm_theory.proofs.AmongLemmas.{map_among}
+use Rattle.lalrpop_grammar_language.proofs.AmongLemmas.{map_among}
 use Rattle.lalrpop_norm_theory.proofs.LevelLemmas.{ranked_flat, no_levels, no_loosest, no_rank}
 use Rattle.lalrpop_norm_theory.specs.KeyRules.{IsKey, IsMappedTerminal, IsWrittenFor, AreWrittenFor, by_name, nonterminal_by_name}
 use Rattle.lalrpop_norm_theory.specs.KeyRules.{IsChoiceFor, AreInstanceChoices, IsOneChoice, AreTwoChoices, AreKeyChoices}
 use Rattle.lalrpop_norm_theory.specs.KeyRules.{IsMacroExpansion}
+use Rattle.lalrpop_norm_theory.proofs.LevelOrderLemmas.{rule_meant}
 
 abbrev nt : Closed → GrammarSymbol Nonterminal
 nt x = GrammarSymbol.nonterminal (Nonterminal.closed x)
@@ -147,14 +148,7 @@ close_list-written s bares f K r k (x ∷ xs) (w ∷ ws) known h =
     ∙ ap (λ l. by_name f x ∷ l)
     (close_list-written s bares f K r (k + occurrences s.binding s.owner w) xs ws (λ y i. known y (inr i)) h.1)
 
-rule_meant : (h : EnabledGrammar) (n : Text) (q : EnabledRule) → IsRule h n q → name_meaning h n ≡ Meaning.rule q
-rule_meant h n q i = ap (λ l. name_meaning_in l (has_text n h.bares)) i ∙ by_bare (has_text n h.bares)
-  where
-    by_bare : (b : Bool) → name_meaning_in (q ∷ []) b ≡ Meaning.rule q
-    by_bare true = refl
-    by_bare false = refl
-
-same_either : {A : Type 0} (b : Bool) (x y z : A) → x ≡ z → y ≡ z → cond b x y ≡ z
+pub same_either : {A : Type 0} (b : Bool) (x y z : A) → x ≡ z → y ≡ z → cond b x y ≡ z
 same_either true x y z e f = e
 same_either false x y z e f = f
 

@@ -14,7 +14,9 @@ use Rattle.lalrpop_grammar_language.proofs.SoundnessLemmas.{part-sub}
 use Rattle.lalrpop_norm_theory.specs.Depth.{calls_in, calls_in_all, calls_in_grammar_symbol, CallOccursIn, HasCallChain}
 use Rattle.lalrpop_norm_theory.specs.Rounds.{AreCallsToDepth}
 use Rattle.lalrpop_norm_theory.specs.Same.{SameExpansion}
-use Rattle.lalrpop_norm_theory.proofs.AmongLemmas.{among_left, among_right, among_parts}
+use Rattle.lalrpop_grammar_language.proofs.StepLemmas.{among_right}
+use Rattle.lalrpop_grammar_language.proofs.StepLemmas.{among_left}
+use Rattle.lalrpop_grammar_language.proofs.OrderLemmas.{among_parts}
 use Rattle.lalrpop_norm_theory.specs.KeyRules.{IsMacroExpansion, nonterminal_by_name}
 use Rattle.lalrpop_norm_theory.specs.KeyTables.{keys_in, keys_in_all, IsNoCall, KeyStandsIn, IsPlainKey, IsMetKey, IsKeyTable}
 use Rattle.lalrpop_norm_theory.specs.KeyTables.{AreKeyRules}

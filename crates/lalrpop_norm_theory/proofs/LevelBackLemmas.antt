@@ -14,7 +14,7 @@ use Rattle.lalrpop_grammar_language.specs.Admitting.{bind}
 use Rattle.lalrpop_grammar_language.specs.Expansion.{Nonterminal, IsRoot, InExpansion}
 use Rattle.lalrpop_norm_theory.specs.Between.{rule_between}
 use Rattle.lalrpop_norm_theory.specs.Depth.{calls_in}
-use Rattle.lalrpop_norm_theory.proofs.AmongLemmas.{map_among}
+use Rattle.lalrpop_grammar_language.proofs.AmongLemmas.{map_among}
 use Rattle.lalrpop_norm_theory.proofs.LevelLemmas.{no_rank, no_loosest}
 use Rattle.lalrpop_norm_theory.specs.LevelRules.{level_name, by_level_names, all_by_level_names, rename_listed_occurrences}
 use Rattle.lalrpop_norm_theory.proofs.KeyTableLemmas.{chain_reached}

@@ -16,7 +16,7 @@ use Rattle.lalrpop_grammar_language.proofs.PlaceLemmas.{same_text-eq}
 use Rattle.lalrpop_norm_theory.specs.Premises.{AreDifferent}
 use Rattle.lalrpop_norm_theory.specs.LevelRules.{by_level_names, all_by_level_names}
 use Rattle.lalrpop_norm_theory.specs.LeveledGrammar.{parameters_alone, names_alone}
-use Rattle.lalrpop_norm_theory.proofs.LevelOrderLemmas.{text_found}
+use Rattle.lalrpop_grammar_language.proofs.AmongLemmas.{text_found}
 use Rattle.lalrpop_norm_theory.proofs.RenameLemmas.{HideAlike}
 
 -- lists of arguments

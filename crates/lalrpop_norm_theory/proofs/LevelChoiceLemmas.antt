@@ -11,7 +11,10 @@ use Rattle.lalrpop_grammar_language.specs.Levels.{Rank, with_ranks, rank_after, 
 use Rattle.lalrpop_grammar_language.specs.Levels.{tighter}
 use Rattle.lalrpop_grammar_language.proofs.PlaceLemmas.{among_map, among_filter}
 use Rattle.lalrpop_norm_theory.specs.Between.{rule_between, with_origins}
-use Rattle.lalrpop_norm_theory.proofs.AmongLemmas.{map_among, among_left, among_right, among_parts}
+use Rattle.lalrpop_grammar_language.proofs.AmongLemmas.{map_among}
+use Rattle.lalrpop_grammar_language.proofs.StepLemmas.{among_right}
+use Rattle.lalrpop_grammar_language.proofs.StepLemmas.{among_left}
+use Rattle.lalrpop_grammar_language.proofs.OrderLemmas.{among_parts}
 use Rattle.lalrpop_norm_theory.proofs.LevelLemmas.{keeps}
 use Rattle.lalrpop_norm_theory.specs.LeveledGrammar.{ranked_alternatives, has_rank_level, leveled_alternative, level_alternatives}
 use Rattle.lalrpop_norm_theory.specs.LeveledGrammar.{pass_downs, pass_down_to, rule_at_level}

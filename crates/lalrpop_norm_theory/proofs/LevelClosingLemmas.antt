@@ -16,7 +16,7 @@ use Rattle.lalrpop_grammar_language.specs.Closing.{is_sound, are_sound, sound_or
 use Rattle.lalrpop_grammar_language.specs.Admitting.{bind}
 use Rattle.lalrpop_norm_theory.specs.Between.{rule_between}
 use Rattle.lalrpop_norm_theory.specs.Premises.{AreDifferent}
-use Rattle.lalrpop_norm_theory.proofs.AmongLemmas.{map_among}
+use Rattle.lalrpop_grammar_language.proofs.AmongLemmas.{map_among}
 use Rattle.lalrpop_norm_theory.proofs.LevelLemmas.{no_loosest}
 use Rattle.lalrpop_norm_theory.specs.LevelRules.{by_level_names, all_by_level_names, occurrence_name, rename_listed_occurrences}
 use Rattle.lalrpop_norm_theory.specs.LevelRules.{IsLeveledScope}
@@ -34,6 +34,7 @@ use Rattle.lalrpop_norm_theory.proofs.LevelChoiceLemmas.{choice_between, ranked_
 use Rattle.lalrpop_norm_theory.proofs.LevelNameLemmas.{before, after, loosest_name, names_there, tighter_unhidden}
 use Rattle.lalrpop_norm_theory.proofs.LevelBindingLemmas.{renamed_length, hide_alike, parameter_bound, other_free, renamed_value}
 use Rattle.lalrpop_norm_theory.proofs.LevelBindingLemmas.{value_of_parameter, closed_names}
+use Rattle.lalrpop_norm_theory.proofs.KeyRuleLemmas.{same_either}
 
 -- the scopes of an alternative before and after
 
@@ -142,10 +143,6 @@ unleveled_side finds g f w r i flat args many c there =
     ∙ closes_renamed finds g f w r i args many c None there tt (rule_between r) refl flat c
 
 -- the pass to the next tighter level
-
-same_either : {A : Type 0} (b : Bool) (x y z : A) → x ≡ z → y ≡ z → cond b x y ≡ z
-same_either true x y z e f = e
-same_either false x y z e f = f
 
 no_arguments : (args : Closeds) → length (closed_list args) ≡ 0 → args ≡ Closeds.none
 no_arguments Closeds.none e = refl

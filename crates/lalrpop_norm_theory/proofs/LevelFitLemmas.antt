@@ -11,7 +11,7 @@ use Rattle.lalrpop_grammar_language.specs.Conditions.{PassesTest, HoldsOf, Holds
 use Rattle.lalrpop_grammar_language.specs.Admitting.{Fits, bind, rank_level}
 use Rattle.lalrpop_grammar_language.specs.Expansion.{HasLevel}
 use Rattle.lalrpop_norm_theory.specs.Between.{rule_between}
-use Rattle.lalrpop_norm_theory.proofs.AmongLemmas.{map_among}
+use Rattle.lalrpop_grammar_language.proofs.AmongLemmas.{map_among}
 use Rattle.lalrpop_norm_theory.proofs.LevelLemmas.{ranked_flat}
 use Rattle.lalrpop_norm_theory.specs.LevelRules.{level_name, by_level_names, all_by_level_names}
 use Rattle.lalrpop_norm_theory.specs.LeveledGrammar.{leveled_alternative, pass_down_to, rule_at_level}

@@ -3,7 +3,7 @@ use Rattle.std.specs.Str.{bytes_eq}
 use Rattle.std.proofs.Common.{◌≡◌, ℕ, List, [], ◌∷◌, refl, ap, sym, ◌∙◌, subst, cond, Bool, true, false, inl, inr}
 use Rattle.std.proofs.Common.{◌⊎◌, arith}
 use Rattle.std.specs.Prelude.{Option, Some, None, map, filter, max, nat_lt, ◌==◌, ◌||◌}
-use Rattle.std.proofs.lemmas.Bool.{eqb-true, ltb-true, ltb-false, true≢false, or_parts, or_left, or_right}
+use Rattle.std.proofs.lemmas.Bool.{eqb-true, ltb-true, ltb-false, true≢false, or_parts}
 use Rattle.lalrpop_grammar_symbols.specs.Symbols.{Text}
 use Rattle.lalrpop_grammar_language.specs.Among.{Among}
 use Rattle.lalrpop_grammar_language.specs.Enabled.{EnabledGrammar, EnabledRule, IsRule, has_name, has_text}
@@ -12,7 +12,7 @@ use Rattle.lalrpop_grammar_language.specs.Closing.{Meaning, name_meaning, name_m
 use Rattle.lalrpop_grammar_language.proofs.ComparisonLemmas.{same_text-refl}
 use Rattle.lalrpop_grammar_language.proofs.PlaceLemmas.{same_text-eq}
 use Rattle.lalrpop_norm_theory.specs.Premises.{AreDifferent}
-use Rattle.lalrpop_norm_theory.proofs.AmongLemmas.{map_among}
+use Rattle.lalrpop_grammar_language.proofs.AmongLemmas.{map_among, text_found}
 use Rattle.lalrpop_norm_theory.specs.LeveledGrammar.{put_level, falling_levels, levels_in_order}
 use Rattle.lalrpop_norm_theory.specs.LevelNames.{after_first}
 
@@ -70,11 +70,11 @@ falling-only (n ∷ ns) j h = go (put-only n j (falling_levels ns) h) (λ k. fal
     go (inl e) ih = inl e
     go (inr k) ih = inr (ih k)
 
-abbrev front : List ℕ → Option ℕ
+abbrev pub front : List ℕ → Option ℕ
 front [] = None
 front (n ∷ ns) = Some n
 
-put-front : (n : ℕ) (ms : List ℕ) → front (put_level n ms) ≡ larger n (front ms)
+pub put-front : (n : ℕ) (ms : List ℕ) → front (put_level n ms) ≡ larger n (front ms)
 put-front n [] = refl
 put-front n (m ∷ ms) = go (n == m) refl (nat_lt m n) refl
   where
@@ -84,7 +84,7 @@ put-front n (m ∷ ms) = go (n == m) refl (nat_lt m n) refl
     go false e true f = let h = ltb-true m n f in ap Some (let k : n ≡ max n m = omega (arith, h) in k)
     go false e false f = let h = ltb-false m n f in ap Some (let k : m ≡ max n m = omega (arith, h) in k)
 
-falling-front : (ns : List ℕ) → front (falling_levels ns) ≡ greatest ns
+pub falling-front : (ns : List ℕ) → front (falling_levels ns) ≡ greatest ns
 falling-front [] = refl
 falling-front (n ∷ ns) = put-front n (falling_levels ns) ∙ ap (λ o. larger n o) (falling-front ns)
 
@@ -136,23 +136,6 @@ has_greatest n ns = go (greatest ns)
     go (Some k) = (max n k, refl)
 
 -- names that differ
-
--- a text that is among others is found there
-pub text_found : (n : Text) (ns : List Text) → Among ns n → has_text n ns ≡ true
-text_found n [] h = absurd h
-text_found n (m ∷ ms) (inl e) =
-    or_left (bytes_eq n m) (has_text n ms) (subst (λ t. bytes_eq n t ≡ true) (sym e) (same_text-refl n))
-text_found n (m ∷ ms) (inr h) = or_right (bytes_eq n m) (has_text n ms) (text_found n ms h)
-
--- and what is found stands there
-pub found_text : (n : Text) (ns : List Text) → has_text n ns ≡ true → Among ns n
-found_text n [] h = absurd (true≢false (sym h))
-found_text n (m ∷ ms) h = go (bytes_eq n m) refl h (λ k. found_text n ms k)
-  where
-    go : (b : Bool) → bytes_eq n m ≡ b → (b || has_text n ms) ≡ true → (has_text n ms ≡ true → Among ms n) →
-        Among (m ∷ ms) n
-    go true e h ih = inl (sym (same_text-eq n m e))
-    go false e h ih = inr (ih h)
 
 none_named : (n : Text) (rs : List EnabledRule) → has_text n (map (λ r. r.name) rs) ≡ false → filter (has_name n) rs ≡ []
 none_named n [] h = refl

@@ -5,7 +5,9 @@ use Rattle.lalrpop_grammar_symbols.specs.Symbols.{Text, TextSpan, Syms, Sym, Wri
 use Rattle.lalrpop_grammar_language.specs.Among.{Among}
 use Rattle.lalrpop_grammar_language.specs.Closing.{Scope, close, occurrences}
 use Rattle.lalrpop_norm_theory.specs.Depth.{calls_in, calls_in_all}
-use Rattle.lalrpop_norm_theory.proofs.AmongLemmas.{among_left, among_right, among_parts}
+use Rattle.lalrpop_grammar_language.proofs.StepLemmas.{among_right}
+use Rattle.lalrpop_grammar_language.proofs.StepLemmas.{among_left}
+use Rattle.lalrpop_grammar_language.proofs.OrderLemmas.{among_parts}
 use Rattle.lalrpop_norm_theory.specs.LevelRules.{by_level_names, all_by_level_names, rename_occurrences, rename_all_occurrences}
 use Rattle.lalrpop_norm_theory.specs.LevelRules.{rename_listed_occurrences, IsLeveledScope, IsResolvedAfter, AreResolvedAfter}
 use Rattle.lalrpop_norm_theory.specs.LevelRules.{AreListedResolvedAfter}
@@ -15,7 +17,7 @@ use Rattle.lalrpop_norm_theory.proofs.InnermostLemmas.{GoesBack}
 
 -- calls under the names of the levels
 
-joined-renamed : (f : Text → ℕ → Text) (xs ys : List Closed) →
+pub joined-renamed : (f : Text → ℕ → Text) (xs ys : List Closed) →
     map (by_level_names f) xs ++ map (by_level_names f) ys ≡ map (by_level_names f) (xs ++ ys)
 joined-renamed f [] ys = refl
 joined-renamed f (x ∷ xs) ys = ap (λ l. by_level_names f x ∷ l) (joined-renamed f xs ys)
@@ -60,7 +62,7 @@ place-renamed f s k (Sym.error p) = refl
 abbrev pub IsRenamed : (Text → ℕ → Text) → Scope → Scope → CountedSymbol → CountedSymbol → Type 0
 IsRenamed f s t z v = IsResolvedAfter f s t z.0 z.1 × (v.1 ≡ rename_occurrences f s z.0 z.1)
 
-either_way : {A B C : Type 0} → A ⊎ B → (A → C) → (B → C) → C
+pub either_way : {A B C : Type 0} → A ⊎ B → (A → C) → (B → C) → C
 either_way (inl a) f g = f a
 either_way (inr b) f g = g b
 

@@ -12,7 +12,7 @@ use Rattle.lalrpop_grammar_language.specs.Levels.{Assoc, assoc_of, or_assoc, has
 use Rattle.lalrpop_grammar_language.proofs.PlaceLemmas.{among_map, same_text-eq}
 use Rattle.lalrpop_norm_theory.specs.Between.{rule_between}
 use Rattle.lalrpop_norm_theory.specs.Premises.{HasNoLevels}
-use Rattle.lalrpop_norm_theory.proofs.AmongLemmas.{map_among}
+use Rattle.lalrpop_grammar_language.proofs.AmongLemmas.{map_among}
 use Rattle.lalrpop_norm_theory.specs.LevelRules.{level_name}
 use Rattle.lalrpop_norm_theory.specs.LeveledGrammar.{levels_in_order, is_the_level, rule_at_level, leveled_rules, leveled_item}
 use Rattle.lalrpop_norm_theory.specs.LeveledGrammar.{leveled_grammar}

@@ -18,7 +18,8 @@ use Rattle.lalrpop_grammar_language.proofs.PlaceLemmas.{same_text-eq}
 use Rattle.lalrpop_norm_theory.specs.Between.{rule_between}
 use Rattle.lalrpop_norm_theory.specs.Keys.{closed_texts, text_beside, text_at_level, level_text, leveled_key_text}
 use Rattle.lalrpop_norm_theory.specs.Keys.{flat_key_text, with_number, before_tilde}
-use Rattle.lalrpop_norm_theory.proofs.AmongLemmas.{map_among, flat_map_among}
+use Rattle.lalrpop_grammar_language.proofs.AmongLemmas.{flat_map_among}
+use Rattle.lalrpop_grammar_language.proofs.AmongLemmas.{map_among}
 use Rattle.lalrpop_norm_theory.specs.LevelRules.{level_name, by_level_names, all_by_level_names}
 use Rattle.lalrpop_norm_theory.specs.LevelNames.{tighter_levels, numbered_text, plain_levels_of, plain_levels, times_taken}
 use Rattle.lalrpop_norm_theory.specs.LevelNames.{AreNumberedInOrder, HasNoTildes}

@@ -11,7 +11,9 @@ use Rattle.lalrpop_grammar_language.specs.Expansion.{HasLevel}
 use Rattle.lalrpop_grammar_language.proofs.PlaceLemmas.{among_map}
 use Rattle.lalrpop_norm_theory.specs.Between.{grammar_between, rule_between}
 use Rattle.lalrpop_norm_theory.specs.Premises.{AreDifferent}
-use Rattle.lalrpop_norm_theory.proofs.AmongLemmas.{map_among, flat_map_among, among_flat_map}
+use Rattle.lalrpop_grammar_language.proofs.AmongLemmas.{flat_map_among}
+use Rattle.lalrpop_grammar_language.proofs.AmongLemmas.{map_among}
+use Rattle.lalrpop_grammar_language.proofs.AmongLemmas.{among_flat_map}
 use Rattle.lalrpop_norm_theory.proofs.ExpansionListLemmas.{rule_there}
 use Rattle.lalrpop_norm_theory.proofs.LevelLemmas.{no_levels}
 use Rattle.lalrpop_norm_theory.specs.LevelRules.{level_name}
@@ -69,7 +71,7 @@ bares_of-leveled f (WrittenItem.import text ∷ items) = bares_of-leveled f item
 
 -- names
 
-map-join : {A B : Type 0} (h : A → B) (xs ys : List A) → map h (xs ++ ys) ≡ map h xs ++ map h ys
+pub map-join : {A B : Type 0} (h : A → B) (xs ys : List A) → map h (xs ++ ys) ≡ map h xs ++ map h ys
 map-join h [] ys = refl
 map-join h (x ∷ xs) ys = ap (λ l. h x ∷ l) (map-join h xs ys)
 
@@ -160,7 +162,7 @@ key_only f rs q i =
     go r i false e (inl h) = record { rule = r; level = None; among = i; has_level = e; is_it = h }
     go r i false e (inr h) = absurd h
 
-key_name : (f : Text → ℕ → Text) (r : Rule) (level : Option ℕ) → (rule_of_key f r level).name ≡ level_name f r.name level
+pub key_name : (f : Text → ℕ → Text) (r : Rule) (level : Option ℕ) → (rule_of_key f r level).name ≡ level_name f r.name level
 key_name f r None = refl
 key_name f r (Some j) = refl
 

@@ -12,7 +12,9 @@ use Rattle.lalrpop_grammar_language.specs.Expansion.{Nonterminal, InExpansion, H
 use Rattle.lalrpop_grammar_language.proofs.PlaceLemmas.{among_map}
 use Rattle.lalrpop_norm_theory.specs.Between.{rule_between}
 use Rattle.lalrpop_norm_theory.specs.Keys.{level_text, leveled_key_text, flat_key_text, with_number, IsNextNumber, IsNaming}
-use Rattle.lalrpop_norm_theory.proofs.AmongLemmas.{map_among, flat_map_among, among_flat_map}
+use Rattle.lalrpop_grammar_language.proofs.AmongLemmas.{flat_map_among}
+use Rattle.lalrpop_grammar_language.proofs.AmongLemmas.{map_among}
+use Rattle.lalrpop_grammar_language.proofs.AmongLemmas.{among_flat_map}
 use Rattle.lalrpop_norm_theory.proofs.ExpansionListLemmas.{rule_there}
 use Rattle.lalrpop_norm_theory.proofs.LevelLemmas.{no_loosest}
 use Rattle.lalrpop_norm_theory.specs.Same.{SameExpansion}
@@ -20,7 +22,8 @@ use Rattle.lalrpop_norm_theory.specs.LevelRules.{level_name, by_level_names}
 use Rattle.lalrpop_norm_theory.specs.LevelNames.{LeveledKey, leveled_keys_of, leveled_keys, tighter_levels}
 use Rattle.lalrpop_norm_theory.specs.LevelNames.{plain_levels_of, plain_levels, HasNoTildes}
 use Rattle.lalrpop_norm_theory.specs.LevelLaws.{nonterminal_by_level, IsLevelable, TellsOwnRules}
-use Rattle.lalrpop_norm_theory.proofs.LevelOrderLemmas.{one_rule, tighter-among, found_text}
+use Rattle.lalrpop_norm_theory.proofs.LevelOrderLemmas.{one_rule, tighter-among}
+use Rattle.lalrpop_grammar_language.proofs.AmongLemmas.{found_text}
 use Rattle.lalrpop_norm_theory.proofs.LeveledRuleLemmas.{rule_of_key, key_rule, rule_key}
 use Rattle.lalrpop_norm_theory.proofs.LevelAttrLemmas.{key_parameters}
 use Rattle.lalrpop_norm_theory.proofs.RightLevelLemmas.{has_loosest}

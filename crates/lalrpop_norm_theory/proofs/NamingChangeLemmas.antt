@@ -9,7 +9,7 @@ use Rattle.lalrpop_grammar_language.proofs.PlaceLemmas.{among_map}
 use Rattle.lalrpop_norm_theory.specs.Keys.{text_beside, text_at_level, level_text, closed_text, leveled_key_text, with_number}
 use Rattle.lalrpop_norm_theory.specs.Keys.{IsNextNumber, IsNaming}
 use Rattle.lalrpop_norm_theory.specs.Same.{SameExpansion}
-use Rattle.lalrpop_norm_theory.proofs.AmongLemmas.{map_among}
+use Rattle.lalrpop_grammar_language.proofs.AmongLemmas.{map_among}
 use Rattle.lalrpop_norm_theory.proofs.RuleChangeLemmas.{RuleChange, changed_rule, KeepsRanks, HasChangedRules, KeepsSides, loosest_kept}
 use Rattle.lalrpop_norm_theory.proofs.RuleChangeLemmas.{named_kept, rule_after, changed_expansion}
 

@@ -5,7 +5,7 @@ use Rattle.std.proofs.Common.{true, false, inl, inr, ◌⊎◌}
 use Rattle.std.proofs.Common.{arith, length}
 use Rattle.std.specs.Prelude.{Some, slice_get, nat_lt, ◌&&◌, ◌||◌, not}
 use Rattle.std.specs.List.{list_all}
-use Rattle.std.proofs.lemmas.Bool.{and_parts, true≢false}
+use Rattle.std.proofs.lemmas.Bool.{and_parts}
 use Rattle.lalrpop_grammar_symbols.specs.Symbols.{Text}
 use Rattle.lalrpop_grammar.specs.WrittenGrammar.{Origin}
 use Rattle.lalrpop_grammar_language.specs.Among.{Among}
@@ -84,7 +84,7 @@ not_before_itself Origin.opt_some h = h
 not_before_itself Origin.group h = h
 not_before_itself Origin.look h = h
 
-three_ways : (i j : ℕ) → (i < j) ⊎ ((j < i) ⊎ (i ≡ j))
+pub three_ways : (i j : ℕ) → (i < j) ⊎ ((j < i) ⊎ (i ≡ j))
 three_ways i j = grind arith
 
 -- numbered as they stand they are the expansion's productions

@@ -11,20 +11,23 @@ use Rattle.lalrpop_grammar_language.specs.Admitting.{argument_list, bind}
 use Rattle.lalrpop_grammar_language.specs.Expansion.{GrammarSymbol, Nonterminal, grammar_symbol, origin_with, symbol_of_terminal}
 use Rattle.lalrpop_grammar.specs.WrittenGrammar.{Origin}
 use Rattle.lalrpop_norm_theory.specs.Depth.{CallOccursIn, HasCallChain, calls_in, calls_in_all, calls_in_grammar_symbol}
-use Rattle.lalrpop_norm_theory.proofs.AmongLemmas.{among_left, among_right, among_parts, map_among}
+use Rattle.lalrpop_grammar_language.proofs.AmongLemmas.{map_among}
+use Rattle.lalrpop_grammar_language.proofs.StepLemmas.{among_right}
+use Rattle.lalrpop_grammar_language.proofs.StepLemmas.{among_left}
+use Rattle.lalrpop_grammar_language.proofs.OrderLemmas.{among_parts}
 use Rattle.lalrpop_norm_theory.specs.CallPlaces.{CountedSymbol, IsPlaceOfCall, calls_at, counted_symbols, symbols_of_row}
 use Rattle.lalrpop_norm_theory.specs.CallPlaces.{symbols_within}
 use Rattle.lalrpop_norm_theory.specs.WrittenPlaces.{IsPassDownAt, IsWrittenIn, IsWrittenBelow}
 
 -- calls in a symbol of a right side
 
-calls_of_terminal : (t : Terminal) → calls_in_grammar_symbol (symbol_of_terminal t) ≡ []
+pub calls_of_terminal : (t : Terminal) → calls_in_grammar_symbol (symbol_of_terminal t) ≡ []
 calls_of_terminal (Terminal.quoted t) = refl
 calls_of_terminal (Terminal.regex t) = refl
 calls_of_terminal (Terminal.bare n) = refl
 calls_of_terminal Terminal.error = refl
 
-calls_of_symbol : (x : Closed) → calls_in_grammar_symbol (grammar_symbol x) ≡ calls_in x
+pub calls_of_symbol : (x : Closed) → calls_in_grammar_symbol (grammar_symbol x) ≡ calls_in x
 calls_of_symbol (Closed.terminal t) = calls_of_terminal t
 calls_of_symbol (Closed.call n args level) = refl
 calls_of_symbol (Closed.repeat op x) = refl

@@ -1,100 +1,27 @@
 -- The productions of a nonterminal, the roots and the nonterminals of an expansion as lists, with what they mean; for the
 -- examples.
-use Rattle.std.specs.Str.{bytes_eq}
 use Rattle.std.proofs.Common.{◌≡◌, ◌≢◌, ℕ, List, [], ◌∷◌, ◌++◌, refl, ap, sym, ◌∙◌, subst, cond, Bool}
 use Rattle.std.proofs.Common.{true, false, inl}
 use Rattle.std.proofs.Common.{inr, ◌⊎◌, length}
-use Rattle.std.specs.Prelude.{Option, Some, None, ◌==◌, ◌&&◌, not, map, is_some, if◌then◌else◌}
-use Rattle.std.proofs.lemmas.Bool.{eqb-true, eq-eqb, and_from, and_parts, true≢false}
-use Rattle.lalrpop_grammar_symbols.specs.Symbols.{Text, Terminal, Op, Closed, Closeds, closed_list}
-use Rattle.lalrpop_grammar.specs.WrittenGrammar.{Condition, ConditionTest, Origin}
+use Rattle.std.specs.Prelude.{Option, Some, None, ◌==◌, ◌&&◌, map, is_some, if◌then◌else◌}
+use Rattle.std.proofs.lemmas.Bool.{eqb-true, eq-eqb, and_from, and_parts}
+use Rattle.lalrpop_grammar_symbols.specs.Symbols.{Text, Op, Closed, Closeds, closed_list}
+use Rattle.lalrpop_grammar.specs.WrittenGrammar.{Origin}
 use Rattle.lalrpop_grammar_language.specs.Among.{Among}
 use Rattle.lalrpop_grammar_language.specs.Enabled.{EnabledGrammar, EnabledRule, Choice, rules_named}
 use Rattle.lalrpop_grammar_language.specs.Levels.{Rank, ranked_choices, loosest, tighter, has_levels}
-use Rattle.lalrpop_grammar_language.specs.Closing.{Binding, parameter_value, right_side}
-use Rattle.lalrpop_grammar_language.specs.Conditions.{PassesTest, HoldsOf, Holds}
+use Rattle.lalrpop_grammar_language.specs.Closing.{right_side}
+use Rattle.lalrpop_grammar_language.specs.Conditions.{Holds}
 use Rattle.lalrpop_grammar_language.specs.Admitting.{bind, argument_list, rank_level}
 use Rattle.lalrpop_grammar_language.specs.Starts.{has_none}
 use Rattle.lalrpop_grammar_language.specs.Expansion.{GrammarSymbol, Nonterminal, RightSide, grammar_symbol, origin_with, ByAlternative}
 use Rattle.lalrpop_grammar_language.specs.Expansion.{ByPassDown, Produces}
-use Rattle.lalrpop_grammar_language.proofs.PlaceLemmas.{same_text-eq}
-use Rattle.lalrpop_grammar_language.proofs.ComparisonLemmas.{same_text-refl, same_bool, same_bool-eq, same_bool-refl}
-use Rattle.lalrpop_norm_theory.proofs.AmongLemmas.{among_left, among_right, among_parts}
+use Rattle.lalrpop_grammar_language.proofs.ComparisonLemmas.{same_bool, same_bool-eq, same_bool-refl}
+use Rattle.lalrpop_grammar_language.proofs.StepLemmas.{among_right}
+use Rattle.lalrpop_grammar_language.proofs.StepLemmas.{among_left}
+use Rattle.lalrpop_grammar_language.proofs.OrderLemmas.{among_parts}
 use Rattle.lalrpop_norm_theory.proofs.ClosedComparisonLemmas.{same_level, same_level-eq, same_level-refl}
-
--- whether a condition holds
-
-abbrev is_yes : Option Bool → Bool
-is_yes (Some b) = b
-is_yes None = false
-
-abbrev is_no : Option Bool → Bool
-is_no (Some b) = not b
-is_no None = false
-
-abbrev passes : EnabledGrammar → ConditionTest → Text → Text → Bool
-passes g ConditionTest.equals text against = bytes_eq text against
-passes g ConditionTest.not_equals text against = not (bytes_eq text against)
-passes g ConditionTest.matches text against = is_yes (g.finds against text)
-passes g ConditionTest.not_matches text against = is_no (g.finds against text)
-
-abbrev holds_of : EnabledGrammar → Condition → Option Closed → Bool
-holds_of g c (Some (Closed.terminal (Terminal.quoted t))) = passes g c.test t c.against
-holds_of g c _ = false
-
--- the test of a condition: true where there is none, and else what it says of the value of its parameter
-abbrev pub holds : EnabledGrammar → Binding → Option Condition → Bool
-holds g b None = true
-holds g b (Some c) = holds_of g c (parameter_value b c.parameter)
-
-not-eq : (s t : Text) → not (bytes_eq s t) ≡ true → s ≢ t
-not-eq s t h e = let k : bytes_eq s t ≡ true = subst (λ u. bytes_eq s u ≡ true) e (same_text-refl s) in
-    true≢false (sym h ∙ ap not k)
-
-holds-true : (g : EnabledGrammar) (b : Binding) (c : Option Condition) → holds g b c ≡ true → Holds g b c
-holds-true g b None h = tt
-holds-true g b (Some c) h = go (parameter_value b c.parameter) h
-  where
-    yes : (o : Option Bool) → is_yes o ≡ true → o ≡ Some true
-    yes None e = cc
-    yes (Some b) e = ap Some e
-
-    no_is : (b : Bool) → not b ≡ true → Some b ≡ Some false
-    no_is true e = cc
-    no_is false e = refl
-
-    none : (o : Option Bool) → is_no o ≡ true → o ≡ Some false
-    none None e = cc
-    none (Some b) e = no_is b e
-
-    by_test : (test : ConditionTest) (t : Text) → passes g test t c.against ≡ true → PassesTest g test t c.against
-    by_test ConditionTest.equals t e = same_text-eq t c.against e
-    by_test ConditionTest.not_equals t e = not-eq t c.against e
-    by_test ConditionTest.matches t e = yes (g.finds c.against t) e
-    by_test ConditionTest.not_matches t e = none (g.finds c.against t) e
-
-    go : (o : Option Closed) → holds_of g c o ≡ true → HoldsOf g c o
-    go (Some (Closed.terminal (Terminal.quoted t))) e = by_test c.test t e
-    go _ e = cc
-
--- where a condition holds its test is true
-pub true-holds : (g : EnabledGrammar) (b : Binding) (c : Option Condition) → Holds g b c → holds g b c ≡ true
-true-holds g b None h = refl
-true-holds g b (Some c) h = go (parameter_value b c.parameter) h
-  where
-    apart : (s t : Text) (b : Bool) → bytes_eq s t ≡ b → s ≢ t → not b ≡ true
-    apart s t true e w = absurd (w (same_text-eq s t e))
-    apart s t false e w = refl
-
-    by_test : (test : ConditionTest) (t : Text) → PassesTest g test t c.against → passes g test t c.against ≡ true
-    by_test ConditionTest.equals t e = subst (λ u. bytes_eq t u ≡ true) e (same_text-refl t)
-    by_test ConditionTest.not_equals t e = apart t c.against (bytes_eq t c.against) refl e
-    by_test ConditionTest.matches t e = ap is_yes e
-    by_test ConditionTest.not_matches t e = ap is_no e
-
-    go : (o : Option Closed) → HoldsOf g c o → holds_of g c o ≡ true
-    go (Some (Closed.terminal (Terminal.quoted t))) e = by_test c.test t e
-    go _ e = absurd e
+use Rattle.lalrpop_grammar_language.proofs.CheckLemmas.{holds, holds-true, true-holds}
 
 -- the productions of a nonterminal
 
@@ -162,7 +89,7 @@ productions_of g (Nonterminal.closed Closed.faulty) = []
 pair-is : (o p : Origin) (s t : RightSide) → o ≡ p → s ≡ t → ◌≡◌ {A = Origin × RightSide} (o, s) (p, t)
 pair-is o p s t e f = ap (λ a. (a, s)) e ∙ ap (λ b. (p, b)) f
 
-no_parameters : (ps : List Text) → has_none ps ≡ true → ps ≡ []
+pub no_parameters : (ps : List Text) → has_none ps ≡ true → ps ≡ []
 no_parameters [] h = refl
 no_parameters (p ∷ ps) h = cc
 

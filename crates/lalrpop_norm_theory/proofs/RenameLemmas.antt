@@ -10,11 +10,14 @@ use Rattle.lalrpop_grammar_language.specs.Enabled.{EnabledGrammar, EnabledRule, 
 use Rattle.lalrpop_grammar_language.specs.Levels.{loosest}
 use Rattle.lalrpop_grammar_language.specs.Closing.{Scope, Binding, parameter_value, names_owner, occurs_at, occurrences_among, occurrences}
 use Rattle.lalrpop_norm_theory.specs.Premises.{IsResolvedIn, IsMacroFor, has_arguments}
-use Rattle.lalrpop_norm_theory.proofs.AmongLemmas.{among_left, among_right, among_parts}
+use Rattle.lalrpop_grammar_language.proofs.StepLemmas.{among_right}
+use Rattle.lalrpop_grammar_language.proofs.StepLemmas.{among_left}
+use Rattle.lalrpop_grammar_language.proofs.OrderLemmas.{among_parts}
 use Rattle.lalrpop_norm_theory.specs.LevelRules.{level_name, occurrence_name, rename_occurrences, rename_all_occurrences}
 use Rattle.lalrpop_norm_theory.specs.LevelRules.{rename_listed_occurrences, IsResolvedAfter, AreResolvedAfter}
 use Rattle.lalrpop_norm_theory.specs.LevelRules.{AreListedResolvedAfter}
 use Rattle.lalrpop_norm_theory.proofs.LevelOrderLemmas.{rule_meant}
+use Rattle.lalrpop_norm_theory.proofs.LevelPlaceLemmas.{either_way}
 
 -- scopes that count alike
 
@@ -183,10 +186,6 @@ macro_there f s h r q e w k n i =
       has_parameters = λ none. i.has_parameters (sym o.2 ∙ none);
       not_hidden = ap (has_text (occurrence_name f s k n)) e ∙ w.unhidden k n i.macro i.is_rule i.not_hidden;
     }
-
-either_way : {A B C : Type 0} → A ⊎ B → (A → C) → (B → C) → C
-either_way (inl a) f g = f a
-either_way (inr b) f g = g b
 
 mutual
   pub renamed_resolved : (f : Text → ℕ → Text) (s : Scope) (h : EnabledGrammar) (r q : EnabledRule) →

@@ -13,7 +13,7 @@ use Rattle.lalrpop_grammar_language.specs.Admitting.{Fits, bind, rank_level}
 use Rattle.lalrpop_grammar_language.specs.Expansion.{Nonterminal}
 use Rattle.lalrpop_grammar_language.proofs.PlaceLemmas.{among_map}
 use Rattle.lalrpop_norm_theory.specs.Depth.{calls_in}
-use Rattle.lalrpop_norm_theory.proofs.AmongLemmas.{map_among}
+use Rattle.lalrpop_grammar_language.proofs.AmongLemmas.{map_among}
 use Rattle.lalrpop_norm_theory.proofs.RuleChangeLemmas.{RuleChange, changed_pair, changed_rule, HasChangedRules, KeepsSides}
 use Rattle.lalrpop_norm_theory.proofs.RuleChangeLemmas.{fits_before, loosest_kept, ranked_kept, root_before, rule_before}
 use Rattle.lalrpop_norm_theory.proofs.RuleChangeLemmas.{tighter_kept}

@@ -10,7 +10,9 @@ use Rattle.lalrpop_grammar_language.specs.Enabled.{EnabledGrammar, EnabledRule, 
 use Rattle.lalrpop_grammar_language.proofs.PlaceLemmas.{among_map}
 use Rattle.lalrpop_norm_theory.specs.Between.{with_origins, rule_between, grammar_between}
 use Rattle.lalrpop_norm_theory.specs.Premises.{AreDifferent, symbols_of_type, symbols_of_types, IsResolvedIn, IsResolved}
-use Rattle.lalrpop_norm_theory.proofs.AmongLemmas.{among_left, among_right, among_parts}
+use Rattle.lalrpop_grammar_language.proofs.StepLemmas.{among_right}
+use Rattle.lalrpop_grammar_language.proofs.StepLemmas.{among_left}
+use Rattle.lalrpop_grammar_language.proofs.OrderLemmas.{among_parts}
 use Rattle.lalrpop_norm_theory.specs.Resolving.{DefinedNames, defined_names, resolved_symbol, resolved_type, resolved_types}
 use Rattle.lalrpop_norm_theory.specs.Resolving.{resolved_alternative, resolved_rule, resolved_grammar}
 use Rattle.lalrpop_norm_theory.specs.NameFaults.{IsDuplicate, NameFault, own_name_fault, name_faults_in, name_fault_of_condition}

@@ -12,11 +12,13 @@ use Rattle.lalrpop_grammar_language.specs.Closing.{occurrences_in, scope_of}
 use Rattle.lalrpop_grammar_language.specs.Expansion.{HasLevel}
 use Rattle.lalrpop_norm_theory.specs.Between.{rule_between}
 use Rattle.lalrpop_norm_theory.specs.Premises.{IsResolved, IsResolvedIn, AreDifferent}
-use Rattle.lalrpop_norm_theory.proofs.AmongLemmas.{map_among, among_parts}
+use Rattle.lalrpop_grammar_language.proofs.AmongLemmas.{map_among}
+use Rattle.lalrpop_grammar_language.proofs.OrderLemmas.{among_parts}
 use Rattle.lalrpop_norm_theory.specs.LeveledGrammar.{ranked_alternatives, occurrence_scope, parameters_alone, leveled_alternative}
 use Rattle.lalrpop_norm_theory.specs.LeveledGrammar.{names_alone, own_call, pass_down_to, rule_at_level}
 use Rattle.lalrpop_norm_theory.specs.LevelLaws.{IsLevelable}
-use Rattle.lalrpop_norm_theory.proofs.LevelOrderLemmas.{one_named, text_found}
+use Rattle.lalrpop_norm_theory.proofs.LevelOrderLemmas.{one_named}
+use Rattle.lalrpop_grammar_language.proofs.AmongLemmas.{text_found}
 use Rattle.lalrpop_norm_theory.proofs.LeveledRuleLemmas.{rule_of_key, rule_key, names_differ, key_rule}
 use Rattle.lalrpop_norm_theory.proofs.LevelAttrLemmas.{key_parameters, key_declared}
 use Rattle.lalrpop_norm_theory.proofs.RightLevelLemmas.{has_loosest, rank_of, allowed_present, tighter_present}

@@ -1,69 +1,27 @@
 -- Places of calls go back over resolving names; for the law of places in resolved grammars.
 use Rattle.std.specs.Str.{bytes_eq}
 use Rattle.std.proofs.Common.{◌≡◌, ℕ, ◌+◌, List, [], ◌∷◌, refl, ap, sym, ◌∙◌, subst, Bool, true, false, inl}
-use Rattle.std.specs.Prelude.{Option, None, map, option_map, not, is_some, ◌&&◌, if◌then◌else◌}
+use Rattle.std.specs.Prelude.{Option, None, map, not, is_some, ◌&&◌, if◌then◌else◌}
 use Rattle.lalrpop_grammar_symbols.specs.Symbols.{Text, TextSpan, Terminal, Sym, WrittenSymbol, Closed, Closeds, closed_list}
-use Rattle.lalrpop_grammar.specs.WrittenGrammar.{Alternative, Rule, Origin, Grammar, rules_of}
+use Rattle.lalrpop_grammar.specs.WrittenGrammar.{Rule, Grammar, rules_of}
 use Rattle.lalrpop_grammar_language.specs.Among.{Among}
-use Rattle.lalrpop_grammar_language.specs.Enabled.{EnabledGrammar, EnabledRule, Choice, IsRule, has_text, has_name, rules_named, choice_of}
+use Rattle.lalrpop_grammar_language.specs.Enabled.{EnabledGrammar, EnabledRule, IsRule, has_text, has_name, rules_named}
 use Rattle.lalrpop_grammar_language.specs.Closing.{Binding, parameter_value, name_meaning, name_meaning_in, occurrences, plain_name}
 use Rattle.lalrpop_grammar_language.specs.Closing.{close, name_or}
 use Rattle.lalrpop_grammar_language.specs.Admitting.{bind}
 use Rattle.lalrpop_grammar_language.proofs.PlaceLemmas.{among_filter, among_map, same_text-eq}
-use Rattle.lalrpop_norm_theory.specs.Between.{with_origins, rule_between, name_in_origins, written_name, grammar_between}
-use Rattle.lalrpop_norm_theory.specs.Resolving.{DefinedNames, defined_names, NameUse, use_of_name, resolved_name, resolved_symbol}
-use Rattle.lalrpop_norm_theory.specs.Resolving.{resolved_type, resolved_alternative, resolved_rule, resolved_grammar}
-use Rattle.lalrpop_norm_theory.proofs.RuleChangeLemmas.{RuleChange, changed_choice, changed_rule, HasChangedRules}
+use Rattle.lalrpop_norm_theory.specs.Between.{rule_between, written_name, grammar_between}
+use Rattle.lalrpop_norm_theory.specs.Resolving.{DefinedNames, defined_names, NameUse, use_of_name, resolved_name}
+use Rattle.lalrpop_norm_theory.specs.Resolving.{resolved_rule, resolved_grammar}
+use Rattle.lalrpop_norm_theory.proofs.RuleChangeLemmas.{HasChangedRules}
 use Rattle.lalrpop_norm_theory.proofs.ClosedNameLemmas.{ClosesAlike, CountsAlike, name_closed, scope_in}
 use Rattle.lalrpop_norm_theory.proofs.NameUseLemmas.{IsUse, use_is, no_value, no_rule_named}
-use Rattle.lalrpop_norm_theory.proofs.ResolvingLemmas.{rules_resolved, bares_resolved}
+use Rattle.lalrpop_norm_theory.proofs.ResolvingLemmas.{rules_resolved, bares_resolved, names_kept, name_change, all_changed}
 use Rattle.lalrpop_norm_theory.specs.CallPlaces.{place_of_symbol, symbols_within}
 use Rattle.lalrpop_norm_theory.specs.WrittenPlaces.{IsWrittenBelow}
 use Rattle.lalrpop_norm_theory.proofs.ReplacedNameLemmas.{ReplacesNames, StandsAlone, written_before}
 
 -- resolving, as a change of rules
-
--- what resolving makes of a rule: names in its declared type and its symbols are resolved, and attributes stay
-abbrev pub name_change : DefinedNames → RuleChange
-name_change d = record {
-  declared = λ r. option_map (resolved_type d r.parameters) r.declared;
-  expr = λ r c. map (resolved_symbol d r.parameters) c.expr;
-  attributes = λ l. l;
-}
-
-choices_changed : (d : DefinedNames) (r : EnabledRule) (alternatives : List Alternative) →
-    map choice_of (with_origins (map (resolved_alternative d r.parameters) alternatives))
-    ≡ map (changed_choice (name_change d) r) (map choice_of (with_origins alternatives))
-choices_changed d r [] = refl
-choices_changed d r (a ∷ rest) =
-    ap (λ l. changed_choice (name_change d) r (choice_of (a.origin, a)) ∷ l) (choices_changed d r rest)
-
-rule_changed : (d : DefinedNames) (r : Rule) → rule_between (resolved_rule d r) ≡ changed_rule (name_change d) (rule_between r)
-rule_changed d r = ap rule_with (choices_changed d (rule_between r) r.alternatives)
-  where
-    rule_with : List Choice → EnabledRule
-    rule_with cs = record (rule_between r) { declared = option_map (resolved_type d r.parameters) r.declared; choices = cs }
-
-all_changed : (d : DefinedNames) (rs : List Rule) →
-    map rule_between (map (resolved_rule d) rs) ≡ map (changed_rule (name_change d)) (map rule_between rs)
-all_changed d [] = refl
-all_changed d (r ∷ rs) =
-    ap (λ q. q ∷ map rule_between (map (resolved_rule d) rs)) (rule_changed d r)
-    ∙ ap (λ l. changed_rule (name_change d) (rule_between r) ∷ l) (all_changed d rs)
-
-origins_kept : (d : DefinedNames) (ps : List Text) (alternatives : List Alternative) →
-    map (λ (a : Alternative). a.origin) (map (resolved_alternative d ps) alternatives)
-    ≡ map (λ (a : Alternative). a.origin) alternatives
-origins_kept d ps [] = refl
-origins_kept d ps (a ∷ rest) = ap (λ l. a.origin ∷ l) (origins_kept d ps rest)
-
-names_kept : (d : DefinedNames) (rs : List Rule) (n : Text) → written_name (map (resolved_rule d) rs) n ≡ written_name rs n
-names_kept d [] n = refl
-names_kept d (r ∷ rs) n =
-    ap (λ (os : List Origin). if bytes_eq r.name n then name_in_origins n os else written_name (map (resolved_rule d) rs) n)
-    (origins_kept d r.parameters r.alternatives)
-    ∙ ap (λ (m : Text). if bytes_eq r.name n then name_in_origins n (map (λ (a : Alternative). a.origin) r.alternatives) else m)
-    (names_kept d rs n)
 
 module _ (finds : Text → Text → Option Bool) (g : Grammar) where
   abbrev names : DefinedNames

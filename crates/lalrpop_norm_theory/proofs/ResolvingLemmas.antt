@@ -32,21 +32,21 @@ use Rattle.lalrpop_norm_theory.proofs.NameUseLemmas.{IsUse, use_is, no_value, no
 
 -- rules with resolved names
 
-abbrev name_change : DefinedNames → RuleChange
+abbrev pub name_change : DefinedNames → RuleChange
 name_change d = record {
   declared = λ r. option_map (resolved_type d r.parameters) r.declared;
   expr = λ r c. map (resolved_symbol d r.parameters) c.expr;
   attributes = λ l. l;
 }
 
-choices_changed : (d : DefinedNames) (r : EnabledRule) (alternatives : List Alternative) →
+pub choices_changed : (d : DefinedNames) (r : EnabledRule) (alternatives : List Alternative) →
     map choice_of (with_origins (map (resolved_alternative d r.parameters) alternatives))
     ≡ map (changed_choice (name_change d) r) (map choice_of (with_origins alternatives))
 choices_changed d r [] = refl
 choices_changed d r (a ∷ rest) =
     ap (λ l. changed_choice (name_change d) r (choice_of (a.origin, a)) ∷ l) (choices_changed d r rest)
 
-rule_changed : (d : DefinedNames) (r : Rule) → rule_between (resolved_rule d r) ≡ changed_rule (name_change d) (rule_between r)
+pub rule_changed : (d : DefinedNames) (r : Rule) → rule_between (resolved_rule d r) ≡ changed_rule (name_change d) (rule_between r)
 rule_changed d r = ap rule_with (choices_changed d (rule_between r) r.alternatives)
   where
     rule_with : List Choice → EnabledRule
@@ -72,20 +72,20 @@ bares_resolved d (WrittenItem.extern_token block ∷ items) = bares_resolved d i
 bares_resolved d (WrittenItem.intern_token entries ∷ items) = bares_resolved d items
 bares_resolved d (WrittenItem.import text ∷ items) = bares_resolved d items
 
-all_changed : (d : DefinedNames) (rs : List Rule) →
+pub all_changed : (d : DefinedNames) (rs : List Rule) →
     map rule_between (map (resolved_rule d) rs) ≡ map (changed_rule (name_change d)) (map rule_between rs)
 all_changed d [] = refl
 all_changed d (r ∷ rs) =
     ap (λ q. q ∷ map rule_between (map (resolved_rule d) rs)) (rule_changed d r)
     ∙ ap (λ l. changed_rule (name_change d) (rule_between r) ∷ l) (all_changed d rs)
 
-origins_kept : (d : DefinedNames) (ps : List Text) (alternatives : List Alternative) →
+pub origins_kept : (d : DefinedNames) (ps : List Text) (alternatives : List Alternative) →
     map (λ (a : Alternative). a.origin) (map (resolved_alternative d ps) alternatives)
     ≡ map (λ (a : Alternative). a.origin) alternatives
 origins_kept d ps [] = refl
 origins_kept d ps (a ∷ rest) = ap (λ l. a.origin ∷ l) (origins_kept d ps rest)
 
-names_kept : (d : DefinedNames) (rs : List Rule) (n : Text) → written_name (map (resolved_rule d) rs) n ≡ written_name rs n
+pub names_kept : (d : DefinedNames) (rs : List Rule) (n : Text) → written_name (map (resolved_rule d) rs) n ≡ written_name rs n
 names_kept d [] n = refl
 names_kept d (r ∷ rs) n =
     ap (λ (os : List Origin). if bytes_eq r.name n then name_in_origins n os else written_name (map (resolved_rule d) rs) n)

@@ -10,7 +10,7 @@ use Rattle.lalrpop_grammar_language.proofs.PlaceLemmas.{same_text-eq, among_filt
 use Rattle.lalrpop_grammar_language.proofs.ComparisonLemmas.{same_text-refl}
 use Rattle.lalrpop_norm_theory.specs.Between.{rule_between, grammar_between}
 use Rattle.lalrpop_norm_theory.specs.Premises.{AreDifferent}
-use Rattle.lalrpop_norm_theory.proofs.AmongLemmas.{map_among}
+use Rattle.lalrpop_grammar_language.proofs.AmongLemmas.{map_among}
 use Rattle.lalrpop_norm_theory.specs.Resolving.{DefinedNames, has_parameters, defined_names}
 use Rattle.lalrpop_norm_theory.specs.Resolving.{resolved_rule, resolved_grammar}
 use Rattle.lalrpop_norm_theory.specs.NameFaults.{IsTwice, IsDuplicate}

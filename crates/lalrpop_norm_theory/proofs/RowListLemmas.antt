@@ -9,7 +9,9 @@ use Rattle.lalrpop_grammar_language.specs.Enabled.{EnabledGrammar}
 use Rattle.lalrpop_grammar_language.specs.Expansion.{Nonterminal, RightSide, InExpansion, WrittenLabel, IsWrittenProduction}
 use Rattle.lalrpop_grammar_language.proofs.PlaceLemmas.{among_map}
 use Rattle.lalrpop_norm_theory.specs.Productions.{AreProductions}
-use Rattle.lalrpop_norm_theory.proofs.AmongLemmas.{map_among, flat_map_among, among_flat_map}
+use Rattle.lalrpop_grammar_language.proofs.AmongLemmas.{flat_map_among}
+use Rattle.lalrpop_grammar_language.proofs.AmongLemmas.{map_among}
+use Rattle.lalrpop_grammar_language.proofs.AmongLemmas.{among_flat_map}
 use Rattle.lalrpop_norm_theory.proofs.ClosedComparisonLemmas.{all-each, has_nonterminal, has_nonterminal-among}
 use Rattle.lalrpop_norm_theory.proofs.ProductionListLemmas.{productions_of, listed, is_production}
 use Rattle.lalrpop_norm_theory.proofs.ExpansionListLemmas.{reached_in, reached-in, is_all, all-of}

@@ -17,7 +17,7 @@ use Rattle.lalrpop_grammar_language.specs.Expansion.{GrammarSymbol, grammar_symb
 use Rattle.lalrpop_grammar_language.proofs.PlaceLemmas.{among_map}
 use Rattle.lalrpop_norm_theory.specs.Same.{SameExpansion}
 use Rattle.lalrpop_norm_theory.specs.Inlined.{IsInlined}
-use Rattle.lalrpop_norm_theory.proofs.AmongLemmas.{map_among}
+use Rattle.lalrpop_grammar_language.proofs.AmongLemmas.{map_among}
 use Rattle.lalrpop_norm_theory.proofs.PassLemmas.{SameExpansion-alike}
 
 -- what becomes of a rule's declared type, of its alternatives' symbols, and of attributes
@@ -168,7 +168,7 @@ abbrev first_or : {A : Type 0} → A → List A → A
 first_or x [] = x
 first_or x (y ∷ ys) = y
 
-only_of_map : {A B : Type 0} (f : A → B) (xs : List A) (y : B) → map f xs ≡ y ∷ [] → (x : A) × (xs ≡ x ∷ []) × (f x ≡ y)
+pub only_of_map : {A B : Type 0} (f : A → B) (xs : List A) (y : B) → map f xs ≡ y ∷ [] → (x : A) × (xs ≡ x ∷ []) × (f x ≡ y)
 only_of_map f [] y e = cc
 only_of_map f (x ∷ []) y e = (x, refl, ap (first_or y) e)
 only_of_map f (x ∷ z ∷ xs) y e = cc
@@ -180,7 +180,7 @@ rule_before w g h k n q e = only_of_map (changed_rule w) (rules_named g n) q (sy
 
 -- conditions ask of the grammar how patterns are found, and nothing else
 
-holds_with : (g h : EnabledGrammar) → h.finds ≡ g.finds → (b : Binding) (o : Option Condition) → Holds g b o → Holds h b o
+pub holds_with : (g h : EnabledGrammar) → h.finds ≡ g.finds → (b : Binding) (o : Option Condition) → Holds g b o → Holds h b o
 holds_with g h e b None m = tt
 holds_with g h e b (Some c) m = of_value (parameter_value b c.parameter) m
   where

@@ -8,7 +8,9 @@ use Rattle.lalrpop_grammar_language.specs.Among.{Among}
 use Rattle.lalrpop_grammar_language.specs.Enabled.{has_text, choice_of}
 use Rattle.lalrpop_norm_theory.specs.Between.{with_origins, rule_between, grammar_between}
 use Rattle.lalrpop_norm_theory.specs.Premises.{symbols_of_type, symbols_of_types, IsResolved}
-use Rattle.lalrpop_norm_theory.proofs.AmongLemmas.{map_among, among_left, among_right}
+use Rattle.lalrpop_grammar_language.proofs.AmongLemmas.{map_among}
+use Rattle.lalrpop_grammar_language.proofs.StepLemmas.{among_right}
+use Rattle.lalrpop_grammar_language.proofs.StepLemmas.{among_left}
 use Rattle.lalrpop_norm_theory.specs.Resolving.{DefinedNames, defined_names, use_of_name, resolved_name}
 use Rattle.lalrpop_norm_theory.specs.Resolving.{resolved_type, resolved_types, resolved_alternative, resolved_rule, resolved_item}
 use Rattle.lalrpop_norm_theory.specs.Resolving.{resolved_grammar}

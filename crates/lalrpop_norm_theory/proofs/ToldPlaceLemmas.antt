@@ -10,7 +10,7 @@ use Rattle.lalrpop_grammar_language.specs.Enabled.{is_active, at_places}
 use Rattle.lalrpop_grammar_language.proofs.PlaceLemmas.{among_map, among_filter}
 use Rattle.lalrpop_norm_theory.specs.Between.{enabled_part, enabled_item, alternative_without_cfg, without_disabled}
 use Rattle.lalrpop_norm_theory.specs.Premises.{IsReadGrammar, IsReadItem, IsReadRule}
-use Rattle.lalrpop_norm_theory.proofs.AmongLemmas.{map_among}
+use Rattle.lalrpop_grammar_language.proofs.AmongLemmas.{map_among}
 use Rattle.lalrpop_norm_theory.specs.LevelLaws.{TellsOwnRules}
 
 place_told : (n : Text) (k : ℕ) (alternatives : List Alternative) (p : Origin × Alternative) → Among (at_places n k alternatives) p →

@@ -11,7 +11,8 @@ use Rattle.lalrpop_grammar_language.proofs.PlaceLemmas.{among_filter}
 use Rattle.lalrpop_norm_theory.specs.Premises.{symbols_of_type, symbols_of_types}
 use Rattle.lalrpop_norm_theory.specs.Types.{GroundType, GroundTypes, is_chosen, chosen_or_all, HaveTypes, HaveTupleType}
 use Rattle.lalrpop_norm_theory.specs.Types.{IsTypeOfName, IsTypeOf, AreTypesOf}
-use Rattle.lalrpop_norm_theory.proofs.AmongLemmas.{among_left, among_right}
+use Rattle.lalrpop_grammar_language.proofs.StepLemmas.{among_right}
+use Rattle.lalrpop_grammar_language.proofs.StepLemmas.{among_left}
 
 -- which types closed symbols have, as a step of a derivation takes it
 abbrev pub Typing : Type 1

@@ -19,11 +19,13 @@ use Rattle.lalrpop_grammar_language.proofs.PlaceLemmas.{among_map, among_filter,
 use Rattle.lalrpop_grammar_language.proofs.SoundnessLemmas.{part-sub}
 use Rattle.lalrpop_norm_theory.specs.Between.{grammar_between, rule_between}
 use Rattle.lalrpop_norm_theory.specs.Premises.{AreDifferent}
-use Rattle.lalrpop_norm_theory.proofs.AmongLemmas.{map_among, flat_map_among}
+use Rattle.lalrpop_grammar_language.proofs.AmongLemmas.{flat_map_among}
+use Rattle.lalrpop_grammar_language.proofs.AmongLemmas.{map_among}
 use Rattle.lalrpop_norm_theory.specs.LevelRules.{by_level_names, all_by_level_names}
 use Rattle.lalrpop_norm_theory.specs.LeveledGrammar.{levels_in_order}
 use Rattle.lalrpop_norm_theory.specs.LevelNames.{LeveledKey, leveled_keys_of, leveled_keys, name_of_leveled_key, AreLevelNames}
-use Rattle.lalrpop_norm_theory.proofs.LevelOrderLemmas.{falling-has, text_found, meant_rule}
+use Rattle.lalrpop_norm_theory.proofs.LevelOrderLemmas.{falling-has, meant_rule}
+use Rattle.lalrpop_grammar_language.proofs.AmongLemmas.{text_found}
 use Rattle.lalrpop_norm_theory.proofs.LeveledRuleLemmas.{level_of_leveled, written_rule}
 
 -- a call of a rule that is there once, at a level that it has, with as many arguments as parameters

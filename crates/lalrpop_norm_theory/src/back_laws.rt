@@ -1,9 +1,9 @@
 //! Laws that take what is said of a grammar after the passes over levels and over macros back to the written one: its types, its
 //! chains of macro calls, and the names of its nonterminals.
 //!
-//! The crate has no code but laws. The definitions stand in `specs/`: `ChainLaws` (chains of calls under the names of levels),
+//! The module has no code but laws. The definitions stand in `specs/`: `ChainLaws` (chains of calls under the names of levels),
 //! `KeyTypes` (which types the rules of keys declare) and `TypeLaws` (what the laws say of these), and in `specs/LevelLaws` of
-//! `lalrpop_norm_level_laws`, whose other laws say what the pass over levels keeps.
+//! `level_laws`, whose other laws say what the pass over levels keeps.
 
 ghost use Rattle.lalrpop_norm_theory.specs.ChainLaws.{LevelsKeepChains, LevelsKeepDeepCalls};
 ghost use Rattle.lalrpop_norm_theory.specs.TypeLaws.{MacroExpansionsKeepTypes, SameTypesCompose};

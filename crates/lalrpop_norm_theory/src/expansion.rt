@@ -1,6 +1,6 @@
 //! What the passes of the normalizer keep and give, in terms of the expansion of a grammar.
 //!
-//! The crate has no code but laws. The definitions stand in `specs/`: `Between` (what a grammar stands for between two
+//! The module has no code but laws. The definitions stand in `specs/`: `Between` (what a grammar stands for between two
 //! passes), `Premises` (how a grammar that was read looks, and what the passes before have made of it), `Depth` (how deep
 //! macro calls stand), `Rounds` (calls found by least depth), `Same` (what a pass keeps), `Keys` (texts and names of
 //! nonterminals), `Productions` (the lowered productions), `Rows` (productions numbered as they stand), `Inlined` (which

@@ -1,6 +1,6 @@
 //! Laws of the pass of the normalizer that gives each level of a rule a rule of its own.
 //!
-//! The crate has no code but laws. The definitions stand in `specs/`: `LeveledGrammar` (the grammar after the pass), `LevelNames`
+//! The module has no code but laws. The definitions stand in `specs/`: `LeveledGrammar` (the grammar after the pass), `LevelNames`
 //! (which names levels have), `LevelFaults` (what may be wrong with levels) and `LevelLaws` (what the laws say).
 
 ghost use Rattle.lalrpop_norm_theory.specs.LevelLaws.{LevelsStayResolved, NoLevelsAreLeft, LoosestAloneIsPublic, WithoutLevelsStays};

@@ -1,6 +1,6 @@
 //! What dropping what is disabled, and resolving names, keep of a grammar and make of it.
 //!
-//! The crate has no code but laws. The definitions stand in `specs/`: `Resolving` (what a name stands for, and a grammar with
+//! The module has no code but laws. The definitions stand in `specs/`: `Resolving` (what a name stands for, and a grammar with
 //! each name resolved), `NameFaults` (what may be wrong with names) and `NameLaws` (what the laws say). Faults are said of a
 //! grammar between two passes: where what is disabled was dropped before, they stand in the enabled rules alone.
 

@@ -1,7 +1,7 @@
 //! Laws of the places of macro calls: where a call is told after the passes over what is disabled, names and levels, it stands in
 //! the written grammar.
 //!
-//! The crate has no code but laws. The definitions stand in `specs/`: `CallPlaces` (the innermost symbol that has a call),
+//! The module has no code but laws. The definitions stand in `specs/`: `CallPlaces` (the innermost symbol that has a call),
 //! `WrittenPlaces` (where a call stands in the written grammar) and `PlaceLaws` (what the laws say).
 
 ghost use Rattle.lalrpop_norm_theory.specs.PlaceLaws.{PlacedCallsAreMade, LevelsKeepPlaces, ResolvingKeepsPlaces};

@@ -23,7 +23,8 @@ use Rattle.lalrpop_norm_token_check.specs.Patterns.{first_refused}
 use Rattle.lalrpop_norm_token_check.specs.Places.{FirstPlaces}
 use Rattle.lalrpop_norm_token_check.proofs.ExamplesOfEntries.{bare, grammar, itself, quoted, regex, to, token}
 use Rattle.lalrpop_norm_token_check.proofs.FaultLemmas.{checked_entries}
-use Rattle.lalrpop_norm_token_check.proofs.UniqueLemmas.{entries_unique, false_is_true, none_is_some, used_unique}
+use Rattle.lalrpop_norm_token_check.proofs.UniqueLemmas.{entries_unique, none_is_some, used_unique}
+use Rattle.lalrpop_norm_prevalidate.proofs.SetLemmas.{false_is_true}
 
 differ : (m n : ℕ) → m ≡ n → (m == n) ≡ false → ⊥
 differ m n e h = false_is_true (sym h ∙ (Decides-eqb m n).1 e)

@@ -6,5 +6,5 @@ mod MakingLemmas
 mod NotingLemmas
 mod PlaceLemmas
 mod SearchLemmas
-mod UniqueLemmas
-mod UsedLemmas
+pub mod UniqueLemmas
+pub mod UsedLemmas

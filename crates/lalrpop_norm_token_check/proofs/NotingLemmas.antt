@@ -26,10 +26,7 @@ use Rattle.lalrpop_norm_token_check.specs.declared.noting.Noted.{Noted}
 use Rattle.lalrpop_norm_token_check.specs.Blocks.{entries_in_groups, has_terminal, is_catch_all, is_mapped_to, literal_given}
 use Rattle.lalrpop_norm_token_check.specs.Blocks.{literal_in_terminal, literal_mapped, literal_turned}
 use Rattle.lalrpop_norm_token_check.specs.Noting.{literals_of, list_unless, LiteralSet, literal_cmp, Adds, NotesEntries, HasNoted}
-
-or_false : (b : Bool) → (b || false) ≡ b
-or_false true = refl
-or_false false = refl
+use Rattle.lalrpop_grammar_symbols.proofs.BoolLemmas.{or_false}
 
 or_assoc : (a b c : Bool) → ((a || b) || c) ≡ (a || (b || c))
 or_assoc true b c = refl

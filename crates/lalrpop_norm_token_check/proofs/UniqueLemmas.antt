@@ -12,6 +12,7 @@ use Rattle.lalrpop_grammar.specs.WrittenGrammar.{InternEntry, Grammar}
 use Rattle.lalrpop_lexer_scan.specs.Literals.{LiteralUse, same_terminal, first_span, IsBefore, IsAscending, use_at}
 use Rattle.lalrpop_norm_token_check.specs.Blocks.{block_groups}
 use Rattle.lalrpop_norm_token_check.specs.Entries.{AreUsed, AreEntries, tokenizer_entries}
+use Rattle.lalrpop_norm_prevalidate.proofs.SetLemmas.{false_is_true}
 
 -- the same terminals are equal
 same_itself : (t : Terminal) → same_terminal t t ≡ true
@@ -29,25 +30,25 @@ same_is Terminal.error Terminal.error h = refl
 same_is _ _ h = cc
 
 -- none is before itself, and no two are each before the other
-less_is_equal : Less ≡ Equal → ⊥
+pub less_is_equal : Less ≡ Equal → ⊥
 less_is_equal h = cc
 
-less_is_greater : Less ≡ Greater → ⊥
+pub less_is_greater : Less ≡ Greater → ⊥
 less_is_greater h = cc
 
-text_itself : (s : Text) → slice_cmp nat_cmp s s ≡ Less → ⊥
+pub text_itself : (s : Text) → slice_cmp nat_cmp s s ≡ Less → ⊥
 text_itself s h = less_is_equal (sym h ∙ tied_itself nat_list_cmp_total s)
 
-text_back : (s t : Text) → slice_cmp nat_cmp s t ≡ Less → slice_cmp nat_cmp t s ≡ Less → ⊥
+pub text_back : (s t : Text) → slice_cmp nat_cmp s t ≡ Less → slice_cmp nat_cmp t s ≡ Less → ⊥
 text_back s t h k = less_is_greater (sym h ∙ nat_list_cmp_total.antisymm s t ∙ ap ordering_reverse k)
 
-before_itself : (t : Terminal) → IsBefore t t → ⊥
+pub before_itself : (t : Terminal) → IsBefore t t → ⊥
 before_itself (Terminal.quoted s) h = text_itself s h
 before_itself (Terminal.regex s) h = text_itself s h
 before_itself (Terminal.bare s) h = h
 before_itself Terminal.error h = h
 
-before_back : (s t : Terminal) → IsBefore s t → IsBefore t s → ⊥
+pub before_back : (s t : Terminal) → IsBefore s t → IsBefore t s → ⊥
 before_back (Terminal.quoted s) (Terminal.quoted t) h k = text_back s t h k
 before_back (Terminal.quoted s) (Terminal.regex t) h k = k
 before_back (Terminal.regex s) (Terminal.regex t) h k = text_back s t h k
@@ -60,10 +61,6 @@ some_is x y h = cc
 -- an option without a value is never one with a value
 pub none_is_some : {A : Type 0} (x : A) → None ≡ Some x → ⊥
 none_is_some x h = cc
-
--- false isn't true, so a case where it is can't be
-pub false_is_true : false ≡ true → ⊥
-false_is_true h = cc
 
 -- what is before all of the list isn't in it
 first_none : (t : Terminal) (us : List LiteralUse) → AllByRecursion (λ (v : LiteralUse). IsBefore t v.literal) us

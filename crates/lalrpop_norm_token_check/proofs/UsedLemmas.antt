@@ -11,7 +11,9 @@ use Rattle.lalrpop_norm_token_check.specs.Blocks.{block_groups, entries_in_group
 use Rattle.lalrpop_norm_token_check.specs.Blocks.{is_given, is_lacking, lists_literal, literal_given, literal_in_terminal, literal_turned}
 use Rattle.lalrpop_norm_token_check.specs.Entries.{entries_for, entries_of_groups, entry, own_entry, tokenizer_entries, not_listed}
 use Rattle.lalrpop_norm_token_check.specs.Entries.{AreFullEntries}
-use Rattle.lalrpop_norm_token_check.proofs.UniqueLemmas.{false_is_true, none_is_some, same_is, some_is}
+use Rattle.lalrpop_norm_token_check.proofs.UniqueLemmas.{none_is_some, same_is, some_is}
+use Rattle.lalrpop_norm_prevalidate.proofs.SetLemmas.{false_is_true}
+use Rattle.lalrpop_grammar_language.proofs.StepLemmas.{among_left, among_right}
 
 true_is_false : true ≡ false → ⊥
 true_is_false h = cc
@@ -24,19 +26,9 @@ not_or_false : (a b : Bool) → (not a || b) ≡ false → a ≡ true
 not_or_false true b h = refl
 not_or_false false b h = absurd (true_is_false h)
 
-both_true : (a b : Bool) → (a && b) ≡ true → (a ≡ true) × (b ≡ true)
+pub both_true : (a b : Bool) → (a && b) ≡ true → (a ≡ true) × (b ≡ true)
 both_true true b h = (refl, h)
 both_true false b h = absurd (false_is_true h)
-
--- members of lists
-among_left : {A : Type 0} (xs ys : List A) (x : A) → Among xs x → Among (xs ++ ys) x
-among_left [] ys x m = absurd m
-among_left (y ∷ xs) ys x (inl e) = inl e
-among_left (y ∷ xs) ys x (inr m) = inr (among_left xs ys x m)
-
-among_right : {A : Type 0} (xs ys : List A) (x : A) → Among ys x → Among (xs ++ ys) x
-among_right [] ys x m = m
-among_right (y ∷ xs) ys x m = inr (among_right xs ys x m)
 
 among_either : {A : Type 0} (xs ys : List A) (x : A) → Among (xs ++ ys) x → Among xs x ⊎ Among ys x
 among_either [] ys x m = inr m

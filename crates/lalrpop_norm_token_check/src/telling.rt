@@ -28,7 +28,7 @@ use lalrpop_grammar_symbols::{Span, TerminalLiteral};
 use std::alloc::Global;
 
 /// Whether the entry lists the literal.
-#[tactic(auto, using(crate::proofs::PlaceLemmas::literal_of_mapping))]
+#[tactic(auto, using(lalrpop_norm_prevalidate::proofs::EntryLemmas::literal_of_mapping))]
 fn lists(entry: &MatchItem, literal: &TerminalLiteral) -> bool
     ensures { result ≡ is_option_of (literal_view literal.now) (literal_in_entry (match_item_view entry.now)) }
 {
@@ -40,7 +40,7 @@ fn lists(entry: &MatchItem, literal: &TerminalLiteral) -> bool
 }
 
 /// Where the entry stands.
-#[tactic(auto, using(crate::proofs::PlaceLemmas::span_as_seen))]
+#[tactic(auto, using(lalrpop_norm_prevalidate::proofs::EntryLemmas::span_as_seen))]
 fn span_of(entry: &MatchItem) -> Span
     ensures { span_view result ≡ entry_span (match_item_view entry.now) }
 {

@@ -17,7 +17,9 @@ use Rattle.lalrpop_norm_theory.specs.Between.{grammar_between, rule_between, wit
 use Rattle.lalrpop_norm_theory.specs.Premises.{IsExpanded}
 use Rattle.lalrpop_norm_theory.specs.Types.{CallStep, GroundType, IsGrounded, IsGroundedIn, TypeStep}
 use Rattle.lalrpop_norm_theory.specs.Types.{chosen_or_all, text_type}
-use Rattle.lalrpop_norm_theory.proofs.AmongLemmas.{among_flat_map, flat_map_among, map_among}
+use Rattle.lalrpop_grammar_language.proofs.AmongLemmas.{flat_map_among}
+use Rattle.lalrpop_grammar_language.proofs.AmongLemmas.{map_among}
+use Rattle.lalrpop_grammar_language.proofs.AmongLemmas.{among_flat_map}
 use Rattle.lalrpop_norm_theory.proofs.LevelLemmas.{keeps, no_loosest, ranked_flat}
 use Rattle.lalrpop_norm_theory.proofs.TypeLemmas.{step_grounded, step_wider}
 use Rattle.lalrpop_norm_tyinfer.specs.TypesByTable.{KnownNames, RuleTypes, each_ground_type, known_names, tuple_of_types}

@@ -11,7 +11,7 @@ use Rattle.lalrpop_grammar.specs.declared.types.type_repr.TypeRepr.{TypeRepr}
 use Rattle.lalrpop_norm_theory.specs.Between.{grammar_between}
 use Rattle.lalrpop_norm_theory.specs.Premises.{IsExpanded}
 use Rattle.lalrpop_norm_theory.specs.Types.{GroundType}
-use Rattle.lalrpop_norm_theory.proofs.AmongLemmas.{map_among}
+use Rattle.lalrpop_grammar_language.proofs.AmongLemmas.{map_among}
 use Rattle.lalrpop_norm_tyinfer.specs.TypesByTable.{RuleTypes, known_names}
 use Rattle.lalrpop_norm_tyinfer.specs.Equations.{TypeEquation, equations_of_rule, source_ground_type, type_equations}
 use Rattle.lalrpop_norm_tyinfer.specs.TypeFaults.{HasTwoEquations, IsToldTypeFault, IsTypeFault}

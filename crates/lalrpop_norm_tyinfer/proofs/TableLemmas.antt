@@ -11,7 +11,6 @@ use Rattle.std.specs.Prelude.{Option, Some, None, option_map}
 use Rattle.lalrpop_grammar_symbols.specs.Symbols.{Text}
 use Rattle.lalrpop_grammar_symbols.specs.contracts.names.NonterminalStringOrd.TheImpl as names
 use Rattle.lalrpop_grammar_symbols.specs.declared.names.NonterminalString.{NonterminalString}
-use Rattle.lalrpop_grammar_symbols.proofs.ComparedLemmas.{same_text}
 use Rattle.lalrpop_grammar.specs.WrittenGrammar.{Grammar}
 use Rattle.lalrpop_grammar_language.specs.Among.{Among}
 use Rattle.lalrpop_grammar_repr.specs.Maps.{at_name, with_name}
@@ -27,6 +26,7 @@ use Rattle.lalrpop_norm_tyinfer.specs.TypeFaults.{nonterminal_of, rule_symbol}
 use Rattle.lalrpop_norm_tyinfer.specs.ProgramViews.{IsRightTable, rule_types}
 use Rattle.lalrpop_norm_tyinfer.proofs.EquationLemmas.{equation_grounded}
 use Rattle.lalrpop_norm_tyinfer.proofs.GrownTableLemmas.{Stays, source_stays}
+use Rattle.lalrpop_grammar_symbols.proofs.NameLemmas.{same_name}
 
 module _ {K X : Type 0} (R : K → K → Ordering) (decides : (a b : K) → Decides (is_eq (R a b)) (a ≡ b)) where
   over_equal : (b : Bool) (v w : X) (rest : Option X) → cond b (Some v) rest ≡ cond b (Some v) (cond b (Some w) rest)
@@ -65,9 +65,6 @@ module _ {K X : Type 0} (R : K → K → Ordering) (decides : (a b : K) → Deci
               let equal : is_eq (R k e.0) ≡ true = (decides k e.0).1 same in
               let greater : is_eq (R k e.0) ≡ false = ap is_eq h in
               cc
-
-same_name : (a b : NonterminalString) → Decides (is_eq ((names.ghosts).cmp a b)) (a ≡ b)
-same_name a b = (λ e. ap nonterminal_of ((same_text a.0 b.0).0 e), λ e. (same_text a.0 b.0).1 (ap (λ n. n.0) e))
 
 -- what stood at the name stands there, or the name has the new type
 abbrev IsPut : List (NonterminalString × TypeRepr) → NonterminalString → TypeRepr → Text → Type 0

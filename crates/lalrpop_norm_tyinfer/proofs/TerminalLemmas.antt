@@ -19,7 +19,9 @@ use Rattle.lalrpop_grammar_language.specs.Among.{Among}
 use Rattle.lalrpop_grammar_repr.specs.Maps.{at_terminal, with_terminal}
 use Rattle.lalrpop_grammar.specs.declared.types.type_repr.TypeRepr.{TypeRepr}
 use Rattle.lalrpop_norm_theory.specs.Types.{text_type}
-use Rattle.lalrpop_norm_theory.proofs.AmongLemmas.{among_left, among_parts, among_right}
+use Rattle.lalrpop_grammar_language.proofs.StepLemmas.{among_right}
+use Rattle.lalrpop_grammar_language.proofs.StepLemmas.{among_left}
+use Rattle.lalrpop_grammar_language.proofs.OrderLemmas.{among_parts}
 use Rattle.lalrpop_norm_tyinfer.specs.GroundViews.{type_repr_view}
 use Rattle.lalrpop_norm_tyinfer.specs.TerminalTypes.{AreTerminalTypes, IsWithTerminal, found_terminals}
 use Rattle.lalrpop_norm_tyinfer.proofs.TableLemmas.{lookup-insert_entry}

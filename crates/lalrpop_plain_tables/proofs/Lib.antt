@@ -1,5 +1,5 @@
 pub mod ExamplesOfLines
 pub mod LineLemmas
 pub mod WordLemmas
-mod ParsableLemmas
+pub mod ParsableLemmas
 mod TerminalLemmas

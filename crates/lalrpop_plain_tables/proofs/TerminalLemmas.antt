@@ -1,22 +1,20 @@
 -- Entries of a grammar's maps that are looked at one after another: for the test whether a grammar has its terminals.
-use Rattle.std.proofs.Common.{◌≡◌, ℕ, true, List, [], ◌∷◌, arith, Some, refl, slice_get}
+use Rattle.std.proofs.Common.{◌≡◌, ℕ, List, [], ◌∷◌, arith, Some, slice_get}
 use Rattle.std.specs.List.{All}
 use Rattle.std.specs.BTreeMap.{is_at}
-use Rattle.std.specs.Ordering.{is_eq}
-use Rattle.std.specs.declared.cmp.Ordering.{Ordering}
-use Rattle.std.specs.declared.cmp.Ordering.TheVariants.{Less, Equal, Greater}
 use Rattle.std.proofs.lemmas.List.Elements.{All-cons, All-contains}
 use Rattle.std.proofs.lemmas.Map.Views.{Contains-from_lookup}
 use Rattle.lalrpop_grammar_symbols.specs.contracts.terminal.TerminalStringOrd.TheImpl as terminals
 use Rattle.lalrpop_grammar_symbols.specs.declared.terminal.TerminalString.{TerminalString}
 use Rattle.lalrpop_grammar_repr.specs.declared.grammar.Grammar.{Grammar}
 use Rattle.lalrpop_grammar_repr.specs.declared.terminal_set.TerminalSet.{TerminalSet}
-use Rattle.lalrpop_lr1_barren.proofs.NameLemmas.{in_flat}
+use Rattle.lalrpop_lr1_core.proofs.GraphLemmas.{in_flat}
 use Rattle.lalrpop_lr1_core.specs.Numbering.{NumbersArePlaces}
 use Rattle.lalrpop_lr1_core.specs.TheoryGrammars.{productions_of_grammar}
 use Rattle.lalrpop_lr1_first.specs.Tables.{HasNumberedTerminal, HaveNumberedTerminals}
 use Rattle.lalrpop_lr1_first.proofs.OrderLemmas.{exact_terminal}
 use Rattle.lalrpop_plain_tables.specs.KnownTerminals.{AreKnownIn}
+use Rattle.lalrpop_grammar_symbols.proofs.BoolLemmas.{is_equal}
 
 -- where it is so of this one, what is left tells of the whole
 pub rest_tells : {X : Type 0} (P : X → Type 0) (e : X) (left rest whole : List X) → left ≡ e ∷ rest → P e →
@@ -28,11 +26,6 @@ rest_tells P e left rest whole first here tells others =
 pub none_tells : {X : Type 0} (P : X → Type 0) (left whole : List X) → left ≡ [] → (All P left → All P whole) → All P whole
 none_tells P left whole nothing tells =
     let at_end : All P [] → All P whole = rw nothing at tells in at_end (λ k d h. absurd (omega (arith, h)))
-
-is_equal : (o : Ordering) → is_eq o ≡ true → o ≡ Equal
-is_equal Less e = let w : ⊥ = cc in absurd w
-is_equal Equal e = refl
-is_equal Greater e = let w : ⊥ = cc in absurd w
 
 -- where each entry's number is its terminal's place, so is each number that is found
 pub entries_tell : (ts : TerminalSet) → All (λ e. slice_get ts.all e.1 ≡ Some e.0) ts.bits → NumbersArePlaces ts

@@ -3,7 +3,7 @@ use Rattle.std.proofs.Common.{◌≡◌, ℕ, List, arith}
 use Rattle.std.proofs.lemmas.Option.{slice_get_within}
 use Rattle.lalrpop_grammar.specs.Views.{grammar_view}
 use Rattle.lalrpop_judge.specs.declared.certificates.certificate.Certificate.{Certificate}
-use Rattle.lalrpop_lr1_build.proofs.NumberedAutomatonLemmas.{get_some}
+use Rattle.lalrpop_lr1_first.proofs.TableLemmas.{get_some}
 use Rattle.lalrpop_norm_theory.specs.Premises.{IsReadGrammar}
 use Rattle.lalrpop_lr1_core.specs.declared.table_fault.TableConstructionError.{TableConstructionError}
 use Rattle.lalrpop_run_prepare.specs.PreparedGrammars.{PreparedGrammar}

@@ -1,6 +1,6 @@
 -- Trees to which written trees are folded, put together and taken apart: for the search.
 use Rattle.std.proofs.Common.{◌≡◌, ◌+◌, ◌<◌, ◌≤◌, ◌⊎◌, ℕ, zero, suc, List, [], ◌∷◌, ◌++◌}
-use Rattle.std.proofs.Common.{Bool, true, false, length, refl, ap, ap₂, sym, ◌∙◌}
+use Rattle.std.proofs.Common.{true, false, length, refl, ap, ap₂, sym, ◌∙◌}
 use Rattle.std.proofs.Common.{arith, subst, inl, inr, map}
 use Rattle.std.specs.Prelude.{drop}
 use Rattle.std.proofs.lemmas.Bool.{true≢false}
@@ -18,6 +18,7 @@ use Rattle.lalrpop_run_trees.specs.TreeSizes.{tree_size}
 use Rattle.lalrpop_run_trees.specs.declared.tree_parts.tree_part.TreePart.{TreePart}
 use Rattle.lalrpop_run_parser.specs.Folds.{AreFoldedTo, AreRankedUnder}
 use Rattle.lalrpop_run_parser.specs.PassingRanks.{FallsAlong, IsLower, label_rank}
+use Rattle.lalrpop_lr1_theory.proofs.ExampleLemmas.{terminal_same}
 
 same_trees : (x y : Tree) (xs ys : List Tree) → x ∷ xs ≡ y ∷ ys → (x ≡ y) × (xs ≡ ys)
 same_trees x y xs ys e = (cc, cc)
@@ -27,9 +28,6 @@ same_symbols x y xs ys e = (cc, cc)
 
 no_symbol : (x : Symbol) (xs : List Symbol) → x ∷ xs ≡ [] → ⊥
 no_symbol x xs e = absurd (cc)
-
-terminal_same : (t u : Terminal) → terminal t ≡ terminal u → t ≡ u
-terminal_same t u e = cc
 
 name_same : (m n : Text) → nonterminal m ≡ nonterminal n → m ≡ n
 name_same m n e = cc

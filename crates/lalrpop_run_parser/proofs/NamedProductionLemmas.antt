@@ -8,9 +8,9 @@ use Rattle.lalrpop_grammar_repr.specs.declared.grammar.Grammar.{Grammar}
 use Rattle.lalrpop_grammar_repr.specs.declared.production.NonterminalData.{NonterminalData}
 use Rattle.lalrpop_grammar_repr.specs.declared.production.Production.{Production}
 use Rattle.lalrpop_lr1_core.specs.TheoryGrammars.{theory_grammar}
-use Rattle.lalrpop_lr1_barren.proofs.NameLemmas.{in_flat}
+use Rattle.lalrpop_lr1_core.proofs.GraphLemmas.{in_flat}
 use Rattle.lalrpop_lr1_core.specs.TheoryGrammars.{productions_of_grammar}
-use Rattle.lalrpop_lr1_first.proofs.KnownLemmas.{flat_has}
+use Rattle.lalrpop_lr1_core.proofs.GraphLemmas.{flat_has}
 use Rattle.lalrpop_lr1_inline.specs.InlinedNames.{name_of_text}
 use Rattle.lalrpop_lr1_inline.proofs.NamedLemmas.{entry_found, lookup_entry}
 use Rattle.lalrpop_lr1_core.specs.Views.{production_view}

@@ -13,7 +13,7 @@ use Rattle.lalrpop_lr1_theory.specs.Productions as theory
 use Rattle.lalrpop_lr1_core.specs.Views.{production_symbol_view, production_view}
 use Rattle.lalrpop_lr1_core.proofs.MemberLemmas.{map_has}
 use Rattle.lalrpop_lr1_core.specs.TheoryGrammars.{productions_of_grammar}
-use Rattle.lalrpop_lr1_first.proofs.KnownLemmas.{flat_has}
+use Rattle.lalrpop_lr1_core.proofs.GraphLemmas.{flat_has}
 use Rattle.lalrpop_lr1_core.specs.TheoryGrammars.{theory_grammar}
 
 module _ (g : Grammar) (n : NonterminalString) (alone : IsStartAlone (theory_grammar g) n.0) where

@@ -9,7 +9,6 @@ use Rattle.lalrpop_grammar.specs.declared.origin.Origin as choices
 use Rattle.lalrpop_grammar.specs.declared.origin.Origin.TheVariants as origins
 use Rattle.lalrpop_grammar_language.specs.Expansion.{Nonterminal}
 use Rattle.lalrpop_grammar_repr.specs.declared.action.ActionFnDefn.{ActionFnDefn}
-use Rattle.lalrpop_grammar_repr.specs.declared.action.ActionFnDefnKind.{ActionFnDefnKind}
 use Rattle.lalrpop_grammar_repr.specs.declared.action.ActionFnDefnKind.TheVariants as kinds
 use Rattle.lalrpop_grammar_repr.specs.declared.action.InlineActionFnDefn.{InlineActionFnDefn}
 use Rattle.lalrpop_grammar_repr.specs.declared.action.InlinedSymbol.{InlinedSymbol}
@@ -22,6 +21,7 @@ use Rattle.lalrpop_lr1_inline.proofs.ExamplesOfInliningSteps.{by, same}
 use Rattle.lalrpop_run_theory.proofs.ExamplesOfExpansions.{place, rule}
 use Rattle.lalrpop_run_trees.specs.ActionLabels.{ChoiceInlinings, ChoiceLabel, TellEntries, TellsLabel, all_kept, kept_count}
 use Rattle.lalrpop_run_trees.specs.ActionLabels.{fill_all_by_entries, label_of_entries}
+use Rattle.lalrpop_lr1_inline.proofs.SmallerLemmas.{inline_told, some_told}
 
 -- what has told a label
 
@@ -172,12 +172,6 @@ both_kept : kept_count S_by_both ≡ 2
 both_kept = refl
 
 -- What isn't told.
-
-some_told : (a b : ActionFnDefn) → Some a ≡ Some b → a ≡ b
-some_told a b e = cc
-
-inline_told : (a b : InlineActionFnDefn) → kinds.Inline a ≡ kinds.Inline b → a ≡ b
-inline_told a b e = cc
 
 -- what an action is made of stands in its definition
 made_is : (defined : ActionFnDefn) (own i : InlineActionFnDefn) (d : ActionFnDefn) → Some defined ≡ Some d →

@@ -16,9 +16,7 @@ use Rattle.lalrpop_run_prepare.specs.PreparedGrammars.{MayBeParsedFrom}
 use Rattle.lalrpop_run_prepare.proofs.AloneLemmas.{alone_told}
 use Rattle.lalrpop_run_prepare.specs.declared.refusals.refusing.GenerateError.{GenerateError}
 use Rattle.lalrpop_run_prepare.specs.declared.refusals.refusing.GenerateError.TheVariants as errors
-
-never : (r : Bool) → r ≡ false → IsTrue r → ⊥
-never r e t = let wrong : ⊥ = cc in wrong
+use Rattle.lalrpop_judge.proofs.CheckLemmas.{never}
 
 module _ (g : Grammar) (name : NonterminalString) where
   pub isnt_alone : (r : Bool) → r ≡ false → (IsAlone name g.nonterminals → IsTrue r) → MayBeParsedFrom g name → ⊥

@@ -18,7 +18,7 @@ use Rattle.lalrpop_lr1_inline.specs.InlinedNames.{NonterminalEntries, data_named
 use Rattle.lalrpop_lr1_inline.specs.InliningSteps.{AreInlineSteps, entries_after, is_place}
 use Rattle.lalrpop_lr1_inline.specs.InliningSteps.{productions_after, productions_in_place, productions_named, productions_of_records}
 use Rattle.lalrpop_lr1_inline.specs.InliningSteps.{records_after, records_in_place, records_of}
-use Rattle.lalrpop_lr1_inline.proofs.AmongLemmas.{among_parts}
+use Rattle.lalrpop_grammar_language.proofs.OrderLemmas.{among_parts}
 use Rattle.lalrpop_lr1_inline.proofs.NamedLemmas.{entry_found, lookup_entry}
 use Rattle.lalrpop_lr1_inline.proofs.StepsLemmas.{names_on}
 use Rattle.lalrpop_run_prepare.specs.NamedGrammars.{StandUnderNames}

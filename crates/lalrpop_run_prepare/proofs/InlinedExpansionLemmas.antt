@@ -21,7 +21,9 @@ use Rattle.lalrpop_grammar_repr.specs.declared.production.Symbol.TheVariants as 
 use Rattle.lalrpop_norm_theory.specs.Inlined.{IsInlined}
 use Rattle.lalrpop_norm_theory.specs.Productions.{NamedProduction}
 use Rattle.lalrpop_norm_theory.specs.Same.{rename_side}
-use Rattle.lalrpop_norm_theory.proofs.AmongLemmas.{among_flat_map, flat_map_among, map_among}
+use Rattle.lalrpop_grammar_language.proofs.AmongLemmas.{flat_map_among}
+use Rattle.lalrpop_grammar_language.proofs.AmongLemmas.{map_among}
+use Rattle.lalrpop_grammar_language.proofs.AmongLemmas.{among_flat_map}
 use Rattle.lalrpop_grammar_language.specs.Labels.{GrammarSymbols, Label}
 use Rattle.lalrpop_grammar_language.specs.Inlining.{Inlines}
 use Rattle.lalrpop_norm_lower.specs.LoweredSymbols.{named_production, named_productions}

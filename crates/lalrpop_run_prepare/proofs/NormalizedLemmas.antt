@@ -17,7 +17,7 @@ use Rattle.lalrpop_grammar.specs.declared.types.attribute.AttributeArg.{Attribut
 use Rattle.lalrpop_grammar.specs.declared.types.attribute.AttributeArg.TheFolds.{fold-AttributeArg, fold_out-AttributeArg}
 use Rattle.lalrpop_grammar.specs.declared.types.attribute.AttributeArg.TheOpen as layer
 use Rattle.lalrpop_grammar.specs.declared.types.attribute.AttributeArg.TheViews.{out-AttributeArg}
-use Rattle.lalrpop_norm_theory.proofs.AmongLemmas.{map_among}
+use Rattle.lalrpop_grammar_language.proofs.AmongLemmas.{map_among}
 use Rattle.lalrpop_norm_theory.proofs.LevelLemmas.{keeps}
 use Rattle.lalrpop_norm_lower.specs.Lowered.{says_inline}
 use Rattle.lalrpop_norm_lower.specs.declared.lowering.Normalized.{Normalized}

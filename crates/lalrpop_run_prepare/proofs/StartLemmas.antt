@@ -21,11 +21,7 @@ use Rattle.lalrpop_norm_theory.specs.Resolving.{defined_names, resolved_grammar,
 use Rattle.lalrpop_norm_theory.proofs.DroppingLemmas.{dropping_expansion}
 use Rattle.lalrpop_norm_theory.proofs.ResolvingLemmas.{resolving_expansion}
 use Rattle.lalrpop_norm_theory.proofs.RightNameLemmas.{stands_once}
-
-both_true : (a b : Bool) → (a && b) ≡ true → (a ≡ true) × (b ≡ true)
-both_true true true e = (refl, refl)
-both_true true false e = let wrong : ⊥ = cc in absurd wrong
-both_true false b e = let wrong : ⊥ = cc in absurd wrong
+use Rattle.lalrpop_norm_token_check.proofs.UsedLemmas.{both_true}
 
 none_there : (ps : List Text) → has_none ps ≡ true → ps ≡ []
 none_there [] e = refl

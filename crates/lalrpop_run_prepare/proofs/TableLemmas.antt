@@ -12,7 +12,7 @@ use Rattle.lalrpop_grammar_repr.specs.declared.production.Production.{Production
 use Rattle.lalrpop_grammar_repr.specs.declared.production.Symbol.{Symbol}
 use Rattle.lalrpop_grammar_repr.specs.declared.production.Symbol.TheVariants as symbols
 use Rattle.lalrpop_lr1_theory.proofs.ListLemmas.{AllOf, all_of, contains_here, contains_later, contains_split}
-use Rattle.lalrpop_lr1_barren.proofs.NameLemmas.{in_flat}
+use Rattle.lalrpop_lr1_core.proofs.GraphLemmas.{in_flat}
 use Rattle.lalrpop_lr1_core.specs.TheoryGrammars.{productions_of_grammar}
 use Rattle.lalrpop_lr1_first.specs.NumberedGrammars.{HasItsTerminals}
 use Rattle.lalrpop_lr1_first.specs.Tables.{HasNumberedTerminal, IsTerminalSet}

@@ -20,7 +20,7 @@ use Rattle.lalrpop_grammar_language.specs.Labels.{Label}
 use Rattle.lalrpop_grammar_language.specs.Steps.{label_with}
 use Rattle.lalrpop_lr1_inline.specs.InliningSteps.{is_place, production_of_record, record_entries, records_of, side_of_record}
 use Rattle.lalrpop_lr1_inline.specs.NamedProductions.{record_by_labels}
-use Rattle.lalrpop_lr1_inline.proofs.AmongLemmas.{among_flat_map}
+use Rattle.lalrpop_grammar_language.proofs.AmongLemmas.{among_flat_map}
 use Rattle.lalrpop_lr1_inline.proofs.SmallerLemmas.{MadeBelow, RecordBelow}
 use Rattle.lalrpop_run_prepare.specs.NamedLabels.{label_back}
 use Rattle.lalrpop_run_trees.specs.ActionLabels.{ChoiceInlinings, ChoiceLabel, TellEntries, TellsLabel}

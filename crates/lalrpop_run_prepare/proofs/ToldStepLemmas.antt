@@ -25,7 +25,8 @@ use Rattle.lalrpop_lr1_inline.specs.InliningSteps.{AreInlineDefinitions, AreInli
 use Rattle.lalrpop_lr1_inline.specs.InliningSteps.{production_of_record, productions_after, productions_in_place, productions_named}
 use Rattle.lalrpop_lr1_inline.specs.InliningSteps.{productions_of_records, records_after, records_in_place, records_of}
 use Rattle.lalrpop_lr1_inline.specs.NamedProductions.{record_by_labels}
-use Rattle.lalrpop_lr1_inline.proofs.AmongLemmas.{among_flat_map, among_parts}
+use Rattle.lalrpop_grammar_language.proofs.AmongLemmas.{among_flat_map}
+use Rattle.lalrpop_grammar_language.proofs.OrderLemmas.{among_parts}
 use Rattle.lalrpop_lr1_inline.proofs.GivenLabelLemmas.{named_stands}
 use Rattle.lalrpop_lr1_inline.proofs.MadeLabelLemmas.{got_at}
 use Rattle.lalrpop_lr1_inline.proofs.OrderLabelLemmas.{steps_extend}

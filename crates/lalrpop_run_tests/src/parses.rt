@@ -3,8 +3,6 @@
 #[cfg(test)]
 mod folding;
 #[cfg(test)]
-mod given;
-#[cfg(test)]
 mod grammars;
 #[cfg(test)]
 mod inlining;

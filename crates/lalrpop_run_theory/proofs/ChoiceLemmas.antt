@@ -1,5 +1,5 @@
 -- The expanded tree of a written tree, taken apart, has the choices that the tree names: for the law on choices.
-use Rattle.std.proofs.Common.{◌≡◌, ◌∙◌, ◌++◌, List, [], ◌∷◌, ap, refl, subst, sym, append_assoc, inl, inr}
+use Rattle.std.proofs.Common.{◌≡◌, ◌∙◌, ◌++◌, [], ◌∷◌, ap, refl, subst, sym, append_assoc, inl, inr}
 use Rattle.lalrpop_grammar_symbols.specs.Symbols.{Closed, Op}
 use Rattle.lalrpop_grammar.specs.WrittenGrammar.{Origin}
 use Rattle.lalrpop_grammar.specs.Trees.{Tree, Trees}
@@ -13,10 +13,7 @@ use Rattle.lalrpop_grammar_language.proofs.PlaceLemmas.{TellPlaces}
 use Rattle.lalrpop_grammar_language.specs.BaseTrees.{BaseTree, BaseTrees, IsBaseTreeOf, AreBaseTreesOf}
 use Rattle.lalrpop_grammar_language.specs.WrittenTrees.{derivation_of_tree, derivations_of_trees}
 use Rattle.lalrpop_run_theory.specs.TreeChoices.{all_base_choices, base_choices, choices_of_origin, tree_choices, trees_choices}
-
-append-none : {A : Type 0} (xs : List A) → xs ++ [] ≡ xs
-append-none [] = refl
-append-none (x ∷ xs) = ap (λ l. x ∷ l) (append-none xs)
+use Rattle.lalrpop_grammar_language.proofs.StepOnceLemmas.{append-none}
 
 mutual
   -- leaf texts name no choice

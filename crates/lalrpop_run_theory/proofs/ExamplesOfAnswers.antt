@@ -26,6 +26,7 @@ use Rattle.lalrpop_run_theory.specs.ExpansionTrees.{expanded_size, is_inlined_no
 use Rattle.lalrpop_run_theory.proofs.InlinedTestLemmas.{inlined_decided}
 use Rattle.lalrpop_run_theory.specs.TreeChoices.{base_choices, tree_choices}
 use Rattle.lalrpop_run_theory.specs.TextAnswers.{TextAnswer, IsRightForTokens, terminals_of_tokens}
+use Rattle.lalrpop_grammar_language.proofs.StepOnceLemmas.{append-none}
 
 -- Short ways to write.
 
@@ -88,10 +89,6 @@ rule_leaves (Derivation.node y o kids) h = go (listed g (rule "S") o h.1 h.2)
         terminals_of_tokens (derivations_tokens kids) ≡ three
     go (inl e) = three_leaves kids (subst (λ s. AreDerivationsOf g s kids) (sym (ap (λ (c : Choice). c.1) e)) h.3)
     go (inr i) = absurd i
-
-append-none : {A : Type 0} (xs : List A) → xs ++ [] ≡ xs
-append-none [] = refl
-append-none (x ∷ xs) = ap (λ l. x ∷ l) (append-none xs)
 
 start_leaves : (d : Derivation) → IsDerivationOf g (GrammarSymbol.nonterminal start) d →
     terminals_of_tokens (derivation_tokens d) ≡ three

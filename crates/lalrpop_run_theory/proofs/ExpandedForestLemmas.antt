@@ -18,25 +18,13 @@ use Rattle.lalrpop_run_theory.specs.ExpansionTrees.{IsForestOfTree, first_expand
 use Rattle.lalrpop_run_theory.proofs.ForestCountLemmas.{spans-labelled, terminals-labelled, token_spans, token_terminals}
 use Rattle.lalrpop_run_theory.proofs.ForestLemmas.{forest_is, labelled_is}
 use Rattle.lalrpop_run_theory.proofs.TextLemmas.{shown_tokens}
-use Rattle.lalrpop_run_theory.proofs.WrittenForestLemmas.{shown_same}
+use Rattle.lalrpop_run_theory.proofs.WrittenForestLemmas.{shown_same, shown_terminals, shown_spans}
+use Rattle.lalrpop_grammar_language.proofs.StepOnceLemmas.{append-none}
 
 -- there are as many spans as terminals
 pub as_many : (tokens : List Token) → length (token_spans tokens) ≡ length (token_terminals tokens)
 as_many [] = refl
 as_many (k ∷ tokens) = ap suc (as_many tokens)
-
-append-none : {A : Type 0} (xs : List A) → xs ++ [] ≡ xs
-append-none [] = refl
-append-none (x ∷ xs) = ap (λ l. x ∷ l) (append-none xs)
-
--- what is shown keeps terminals and spans
-shown_terminals : (ks : List Token) → token_terminals (shown_tokens ks) ≡ token_terminals ks
-shown_terminals [] = refl
-shown_terminals (k ∷ ks) = ap (λ z. k.terminal ∷ z) (shown_terminals ks)
-
-shown_spans : (ks : List Token) → token_spans (shown_tokens ks) ≡ token_spans ks
-shown_spans [] = refl
-shown_spans (k ∷ ks) = ap (λ z. k.span ∷ z) (shown_spans ks)
 
 mutual
   tree_shown : (d : ExpandedTree Nonterminal Origin) → shown_tokens (expanded_tokens d) ≡ expanded_tokens d

@@ -6,7 +6,7 @@ use Rattle.lalrpop_grammar_language.specs.Enabled.{EnabledGrammar}
 use Rattle.lalrpop_grammar_language.specs.Expansion.{GrammarSymbol, Produces, InExpansion}
 use Rattle.lalrpop_grammar_language.specs.Labels.{GrammarSymbols, BaseProductions, Label, Inlinings}
 use Rattle.lalrpop_grammar_language.specs.Inlining.{Inlines, InlinesAll}
-use Rattle.lalrpop_norm_theory.proofs.AmongLemmas.{among_parts}
+use Rattle.lalrpop_grammar_language.proofs.OrderLemmas.{among_parts}
 
 -- it holds of each nonterminal of a right side
 abbrev pub HoldsInside : {N : Type 0} → (N → Type 0) → GrammarSymbols N → Type 0

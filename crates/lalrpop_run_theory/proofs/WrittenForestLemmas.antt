@@ -45,11 +45,11 @@ shown_same (k ∷ ks) (j ∷ js) t s =
     ∙ ap (λ z. leaf_token j.terminal z ∷ shown_tokens ks) spans
     ∙ ap (λ z. shown_token j ∷ z) rest
 
-shown_terminals : (ks : List Token) → token_terminals (shown_tokens ks) ≡ token_terminals ks
+pub shown_terminals : (ks : List Token) → token_terminals (shown_tokens ks) ≡ token_terminals ks
 shown_terminals [] = refl
 shown_terminals (k ∷ ks) = ap (λ z. k.terminal ∷ z) (shown_terminals ks)
 
-shown_spans : (ks : List Token) → token_spans (shown_tokens ks) ≡ token_spans ks
+pub shown_spans : (ks : List Token) → token_spans (shown_tokens ks) ≡ token_spans ks
 shown_spans [] = refl
 shown_spans (k ∷ ks) = ap (λ z. k.span ∷ z) (shown_spans ks)
 

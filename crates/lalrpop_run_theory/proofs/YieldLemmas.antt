@@ -1,5 +1,5 @@
 -- Sentences of a written grammar are the yields of its expansion's start, and so are their beginnings: for the laws on right answers.
-use Rattle.std.proofs.Common.{◌≡◌, List, [], ◌∷◌, ◌++◌, refl, ap, sym, ◌∙◌, subst, Bool, Option, length, suc}
+use Rattle.std.proofs.Common.{◌≡◌, List, [], ◌∷◌, ◌++◌, refl, ap, sym, ◌∙◌, subst, Bool, Option, length}
 use Rattle.std.specs.Prelude.{map}
 use Rattle.std.proofs.lemmas.List.{map-append}
 use Rattle.lalrpop_grammar_symbols.specs.Symbols.{Text, Terminal}
@@ -17,10 +17,7 @@ use Rattle.lalrpop_run_theory.specs.Expansions.{AreExpansion}
 use Rattle.lalrpop_run_theory.proofs.ContainsLemmas.{with_spans}
 use Rattle.lalrpop_run_theory.proofs.ForestCountLemmas.{token_spans, token_terminals}
 use Rattle.lalrpop_run_theory.proofs.WrittenForestLemmas.{forest_of_tree, tree_of_forest}
-
-as_many : (tokens : List Token) → length (token_spans tokens) ≡ length (token_terminals tokens)
-as_many [] = refl
-as_many (k ∷ tokens) = ap suc (as_many tokens)
+use Rattle.lalrpop_run_theory.proofs.ExpandedForestLemmas.{as_many}
 
 -- tokens with these terminals
 some_tokens : List Terminal → List Token

@@ -1,7 +1,7 @@
 //! What the productions of a grammar's expansion are, as the theory of tables sees them, and what they say of the written grammar: the
 //! right answer to a text is told by them.
 //!
-//! The crate has no code but laws, over lists of productions. The definitions stand in `specs/`: `Expansions` (the productions are
+//! The module has no code but laws, over lists of productions. The definitions stand in `specs/`: `Expansions` (the productions are
 //! those of the expansion, one for each label, under names), `ExpansionTrees` (the expanded tree of a written tree over such
 //! productions), `Barren` (what the written start reaches without a finite derivation) and `Laws` (what the laws say).
 

@@ -1,4 +1,4 @@
-//! What a right answer is: for a text, and for a run of the program.
+//! What the right answer to a text is: over the written grammar, and over the productions of its expansion.
 #![tactic(auto)]
 
 pub mod answers;

@@ -1,7 +1,7 @@
 //! What the right answer to a text is, over the written grammar, and the law that what is right over the productions of its expansion is
 //! that answer.
 //!
-//! The crate has no code but laws. The definitions stand in `specs/`: `TextAnswers` (the right answer, by its cases), `TreeChoices` (the
+//! The module has no code but laws. The definitions stand in `specs/`: `TextAnswers` (the right answer, by its cases), `TreeChoices` (the
 //! choices that a written tree names) and `AnswerLaws` (what the laws on right answers say).
 
 ghost use Rattle.lalrpop_run_theory.specs.AnswerLaws.{RightParsesAreRight, RightParsesHaveAnswers};

@@ -13,6 +13,7 @@ use Rattle.lalrpop_grammar.specs.declared.tree.WrittenTree.{WrittenTree, fold-ro
 use Rattle.lalrpop_grammar.specs.declared.tree.WrittenTree.TheVariants as variant
 use Rattle.lalrpop_grammar.specs.declared.tree.WrittenTree.TheOpen as layer
 use Rattle.lalrpop_grammar_language.specs.Derivations.{append_tree, join_trees, plus_more_tree}
+use Rattle.lalrpop_run_trees.proofs.ChildrenLemmas.{trees_joined}
 
 -- a rule's tree is seen with its name, its arguments without marks, its place, and its children as they are seen
 pub of_rule : (n : NonterminalString) (args : List Symbol) (place : ℕ) (cs : List WrittenTree) →
@@ -43,10 +44,6 @@ of_terminal t text span =
 
 pub of_look : tree_view variant.Look ≡ Tree.look
 of_look = ap tree_view (sym variant.rolls-Look) ∙ fold-roll-WrittenTree Tree tree_step layer.Look
-
-trees_joined : (us : List Tree) (t : Tree) → trees (us ++ t ∷ []) ≡ join_trees (trees us) (Trees.more t Trees.none)
-trees_joined [] t = refl
-trees_joined (u ∷ us) t = ap (Trees.more u) (trees_joined us t)
 
 -- with one written tree more, one tree more is seen, at the end
 pub viewed_more : (ts : List WrittenTree) (t : WrittenTree) → map tree_view (ts ++ t ∷ []) ≡ map tree_view ts ++ tree_view t ∷ []

@@ -10,6 +10,7 @@ use Rattle.std.specs.Int.{bit_at, bit_not}
 use Rattle.std.specs.List.{range_with_len}
 use Rattle.std.specs.Int.{w64}
 use Rattle.lalrpop_sets.specs.Bits.{has_bit, has, bit_numbers, AscendsFrom}
+use Rattle.lalrpop_grammar_symbols.proofs.BoolLemmas.{and_false, or_false}
 
 pub eqb_self : (k : ℕ) → eqb k k ≡ true
 eqb_self k = grind arith
@@ -185,10 +186,6 @@ get_set_other (w ∷ ws) (suc i) (suc j) v h = get_set_other ws i j v (λ e. h (
 
 place_same : (j k : ℕ) → j / 64 ≡ k / 64 → j % 64 ≡ k % 64 → j ≡ k
 place_same j k p q = omega arith
-
-or_false : (b : Bool) → (b || false) ≡ b
-or_false true = refl
-or_false false = refl
 
 -- `words[k / 64] |= 1 << k % 64`
 pub bit_set : (ws : List ℕ) (k j : ℕ) → k / 64 < length ws
@@ -604,10 +601,6 @@ and_bits a b i = ap (λ x. eqb x 1) (bit_at_and a b i) ∙ go (bit_at a i) (bit_
     go x y (inl p) (inr q) = rw (p, q) refl
     go x y (inr p) (inl q) = rw (p, q) refl
     go x y (inr p) (inr q) = rw (p, q) refl
-
-and_false : (b : Bool) → (b && false) ≡ false
-and_false true = refl
-and_false false = refl
 
 pub get_pushed : (ws : List ℕ) (v : ℕ) (n : ℕ) → length ws ≡ n → get_or (ws ++ v ∷ []) n 0 ≡ v
 get_pushed [] v zero h = refl

@@ -2,14 +2,15 @@
 
 ghost use Rattle.lalrpop_lr1_first.specs.NumberedGrammars.{HasItsTerminals};
 
-use crate::case::WrittenState;
 use crate::states::states_of;
+use anyhow::Result;
 use lalrpop_grammar_repr::{Grammar, Map, Production, TerminalSet};
 use lalrpop_grammar_symbols::{List, NonterminalString};
 use lalrpop_lr1_check::check_states;
 use lalrpop_lr1_core::{Items, Lr1State, State, StateIndex};
 use lalrpop_plain_tables::answers::canonical_states;
 use lalrpop_sets::TokenSet;
+use serde_json::Value;
 use std::alloc::{AllocError, Global};
 
 /// A reduction of a state, with what may follow.
@@ -159,15 +160,15 @@ pub(crate) fn text_of_written(
     grammar: &Grammar,
     others: &Grammar,
     start: &NonterminalString,
-    written: &[WrittenState],
-) -> Result<String, AllocError>
+    written: &[Value],
+) -> Result<String>
     requires { HasItsTerminals grammar.now }
 {
     let Some(states) = states_of(alloc, grammar, others, written)? else {
-        return String::from_str(alloc, "no such production");
+        return Ok(String::from_str(alloc, "no such production")?);
     };
     let passes = check_states(alloc, grammar, start, states.as_slice())?;
-    verdict_text(alloc, passes)
+    Ok(verdict_text(alloc, passes)?)
 }
 
 /// What the test says.

@@ -14,16 +14,21 @@ mod states;
 use crate::answer::answer_of;
 use crate::case::Case;
 use anyhow::{Context, Result};
-use lalrpop_case_kinds::files::{TableCase, Tally, read_text, run_cases, tell};
+use lalrpop_case_kinds::files::{TableCase, Tally, run_cases, tell};
+use serde_json::Value;
 use std::alloc::Global;
 use std::rt::Files;
 
-impl TableCase for Case {
-    fn is_right<R: Alloc<A = Global> + Print>(&self, rt: &R) -> Result<bool> {
-        let answer = answer_of(rt.alloc(), self).context(format_args!("{}", self.name))?;
-        let right = answer.as_str() == self.wanted.as_str();
+/// What is asked of plain productions.
+struct Tables;
+
+impl TableCase for Tables {
+    fn is_right<R: Alloc<A = Global> + Print>(rt: &R, case: &Value) -> Result<bool> {
+        let case = Case::of(case)?;
+        let answer = answer_of(rt.alloc(), &case).context(format_args!("{}", case.name))?;
+        let right = answer.as_str() == case.wanted;
         if !right {
-            tell(rt, self.name.as_str(), &self.wanted, &answer)?;
+            tell(rt, case.name, &case.wanted, &answer)?;
         }
         Ok(right)
     }
@@ -31,7 +36,5 @@ impl TableCase for Case {
 
 /// How many cases of the file pass; each of the others is told.
 pub fn run_tally<R: Alloc<A = Global> + Files + Print>(rt: &R, file: &str) -> Result<Tally> {
-    let text = read_text(rt, file)?;
-    let tally = run_cases::<Case, R>(rt, file, text.as_str())?;
-    Ok(tally)
+    run_cases::<Tables, R>(rt, file)
 }

@@ -1,11 +1,14 @@
 //! States as cases write them.
 
 use crate::case::WrittenState;
+use anyhow::{Result, bail};
+use lalrpop_case_kinds::files::fields::{count_of, list_of, text_of};
 use lalrpop_grammar_repr::{Grammar, Map, Production, TerminalSet};
 use lalrpop_grammar_symbols::{Atom, List, NonterminalString, TerminalString};
 use lalrpop_lr1_core::{Item, Items, Lr1Item, Lr1State, State, StateIndex};
 use lalrpop_plain_tables::answers::start_of;
 use lalrpop_sets::{Token, TokenSet};
+use serde_json::Value;
 use std::alloc::{AllocError, Global};
 
 /// A reduction of a state, with what may follow.
@@ -42,28 +45,40 @@ fn set_of(alloc: Global, terminals: &TerminalSet, words: &str) -> Result<TokenSe
     Ok(set)
 }
 
+/// The word and the state of an edge.
+fn edge_of(value: &Value) -> Result<(&str, StateIndex)> {
+    match list_of(value)? {
+        [word, to] => Ok((text_of(word)?, StateIndex(count_of(to)?))),
+        _ => bail!("no word with a state"),
+    }
+}
+
 /// Where terminals lead.
-fn shifts_of(
-    alloc: Global,
-    written: &[(String, usize)],
-) -> Result<Map<TerminalString, StateIndex>, AllocError> {
+fn shifts_of(alloc: Global, written: &[Value]) -> Result<Map<TerminalString, StateIndex>> {
     let mut shifts = Map::new(alloc);
-    for (text, to) in written {
-        shifts.insert(terminal_of(alloc, text.as_str())?, StateIndex(*to))?;
+    for value in written {
+        let (text, to) = edge_of(value)?;
+        shifts.insert(terminal_of(alloc, text)?, to)?;
     }
     Ok(shifts)
 }
 
 /// Where nonterminals lead.
-fn gotos_of(
-    alloc: Global,
-    written: &[(String, usize)],
-) -> Result<Map<NonterminalString, StateIndex>, AllocError> {
+fn gotos_of(alloc: Global, written: &[Value]) -> Result<Map<NonterminalString, StateIndex>> {
     let mut gotos = Map::new(alloc);
-    for (name, to) in written {
-        gotos.insert(start_of(alloc, name.as_str())?, StateIndex(*to))?;
+    for value in written {
+        let (name, to) = edge_of(value)?;
+        gotos.insert(start_of(alloc, name)?, to)?;
     }
     Ok(gotos)
+}
+
+/// A production as it is told, by its nonterminal and its place, and what is said of it.
+fn told_production(value: &Value) -> Result<(&str, usize, &Value)> {
+    match list_of(value)? {
+        [name, place, of] => Ok((text_of(name)?, count_of(place)?, of)),
+        _ => bail!("no production with what is said of it"),
+    }
 }
 
 impl<'g> Lookup<'g> {
@@ -76,64 +91,74 @@ impl<'g> Lookup<'g> {
         }
     }
 
+    /// The item, before the end; none where its production isn't there.
+    fn item(&self, value: &Value) -> Result<Option<Lr1Item<'g>>> {
+        let (name, place, dot) = told_production(value)?;
+        let dot = count_of(dot)?;
+        let Some(production) = self.production(name, place)? else {
+            return Ok(None);
+        };
+        let end = TokenSet::eof(self.alloc, &self.grammar.terminals)?;
+        Ok(Some(Item::lr0(production, dot).with_lookahead(end)))
+    }
+
     /// The items, each before the end; none where a production isn't there.
-    fn items(
-        &self,
-        written: &[(String, usize, usize)],
-    ) -> Result<Option<List<Lr1Item<'g>>>, AllocError> {
+    fn items(&self, written: &[Value]) -> Result<Option<List<Lr1Item<'g>>>> {
         let mut items = List::new(self.alloc);
-        for (name, place, dot) in written {
-            let Some(production) = self.production(name.as_str(), *place)? else {
+        for value in written {
+            let Some(item) = self.item(value)? else {
                 return Ok(None);
             };
-            let end = TokenSet::eof(self.alloc, &self.grammar.terminals)?;
-            items.push(Item::lr0(production, *dot).with_lookahead(end))?;
+            items.push(item)?;
         }
         Ok(Some(items))
     }
 
+    /// The reduction; none where its production isn't there.
+    fn reduction(&self, value: &Value) -> Result<Option<Reduction<'g>>> {
+        let (name, place, words) = told_production(value)?;
+        let words = text_of(words)?;
+        let Some(production) = self.production(name, place)? else {
+            return Ok(None);
+        };
+        let tokens = set_of(self.alloc, &self.grammar.terminals, words)?;
+        Ok(Some((tokens, production)))
+    }
+
     /// The reductions; none where a production isn't there.
-    fn reductions(
-        &self,
-        written: &[(String, usize, String)],
-    ) -> Result<Option<List<Reduction<'g>>>, AllocError> {
+    fn reductions(&self, written: &[Value]) -> Result<Option<List<Reduction<'g>>>> {
         let mut reductions = List::new(self.alloc);
-        for (name, place, words) in written {
-            let Some(production) = self.production(name.as_str(), *place)? else {
+        for value in written {
+            let Some(reduction) = self.reduction(value)? else {
                 return Ok(None);
             };
-            let tokens = set_of(self.alloc, &self.grammar.terminals, words.as_str())?;
-            reductions.push((tokens, production))?;
+            reductions.push(reduction)?;
         }
         Ok(Some(reductions))
     }
 
     /// The state of this number; none where a production isn't there.
-    fn state(
-        &self,
-        number: usize,
-        written: &WrittenState,
-    ) -> Result<Option<Lr1State<'g>>, AllocError> {
-        let Some(vec) = self.items(written.items.as_slice())? else {
+    fn state(&self, number: usize, written: &WrittenState<'_>) -> Result<Option<Lr1State<'g>>> {
+        let Some(vec) = self.items(written.items)? else {
             return Ok(None);
         };
-        let Some(reductions) = self.reductions(written.reductions.as_slice())? else {
+        let Some(reductions) = self.reductions(written.reductions)? else {
             return Ok(None);
         };
         Ok(Some(State {
             index: StateIndex(number),
             items: Items { vec },
             reductions,
-            shifts: shifts_of(self.alloc, written.shifts.as_slice())?,
-            gotos: gotos_of(self.alloc, written.gotos.as_slice())?,
+            shifts: shifts_of(self.alloc, written.shifts)?,
+            gotos: gotos_of(self.alloc, written.gotos)?,
         }))
     }
 
     /// The states in order; none where a production isn't there.
-    fn states(&self, written: &[WrittenState]) -> Result<Option<Vec<Lr1State<'g>>>, AllocError> {
+    fn states(&self, written: &[Value]) -> Result<Option<Vec<Lr1State<'g>>>> {
         let mut states = Vec::new(self.alloc);
-        for (number, one) in written.iter().enumerate() {
-            let Some(state) = self.state(number, one)? else {
+        for (number, value) in written.iter().enumerate() {
+            let Some(state) = self.state(number, &WrittenState::of(value)?)? else {
                 return Ok(None);
             };
             states.push(state)?;
@@ -147,8 +172,8 @@ pub(crate) fn states_of<'g>(
     alloc: Global,
     grammar: &'g Grammar,
     others: &'g Grammar,
-    written: &[WrittenState],
-) -> Result<Option<Vec<Lr1State<'g>>>, AllocError> {
+    written: &[Value],
+) -> Result<Option<Vec<Lr1State<'g>>>> {
     let lookup = Lookup {
         alloc,
         grammar,

@@ -1,25 +1,55 @@
 //! What a call answers, as a value.
 
 use crate::calls::automata::{dfa_answer, longest_front, matched_words, pieces};
-use crate::calls::case::Call;
 use crate::calls::grammars::{symbol_text, terminal_text, tree_text, written_grammar};
 use crate::calls::pattern::{regex_fault, regex_tree};
-use anyhow::Result;
+use crate::files::fields::{Fields, list_of, only_member, text_of};
+use anyhow::{Result, bail};
 use serde_json::Value;
 use std::alloc::Global;
 
-/// What the call answers.
-pub(crate) fn answer_of(alloc: Global, call: &Call) -> Result<Value> {
-    match call {
-        Call::ParseRegex(pattern) => Ok(regex_tree(alloc, pattern)?),
-        Call::RegexFault(pattern) => Ok(regex_fault(alloc, pattern)?),
-        Call::MatchedWords { pattern, words } => matched_words(alloc, pattern, words),
-        Call::LongestFront { pattern, text } => longest_front(alloc, pattern, text),
-        Call::BuildDfa { patterns, texts } => dfa_answer(alloc, patterns, texts),
-        Call::RemoveOverlap(ranges) => Ok(pieces(alloc, ranges)?),
-        Call::SymbolText(symbol) => symbol_text(alloc, symbol),
-        Call::TerminalText(terminal) => terminal_text(alloc, terminal),
-        Call::WriteGrammar(grammar) => written_grammar(alloc, grammar),
-        Call::PrintTree(tree) => tree_text(alloc, tree),
+/// What the call answers, which is an object of one member: the call's word, and what it is asked of.
+///
+/// - `parse_regex`: the tree of a pattern's text, or its fault.
+/// - `regex_fault`: the fault of a pattern's text, `null` where it is a pattern.
+/// - `matched_words`: the words that a pattern matches, of those that are listed.
+/// - `longest_front`: the longest front of a text that a pattern matches, `null` where there is none.
+/// - `build_dfa`: for each text the winner among patterns with precedences at its front, by its number, and the match, `null`
+///   where there is none; or the first pattern that is refused, or the two that tie.
+/// - `remove_overlap`: the pieces of ranges that may overlap, each range by its first and its last number.
+/// - `symbol_text`: the text of a symbol.
+/// - `terminal_text`: the text of a terminal, and how many bytes it says to have.
+/// - `write_grammar`: what a grammar is written as, `"itself"` where it is the value that it was read from.
+/// - `print_tree`: the text of a tree.
+pub(crate) fn answer_of(alloc: Global, call: &Value) -> Result<Value> {
+    let (word, of) = only_member(call)?;
+    match word {
+        "parse_regex" => Ok(regex_tree(alloc, text_of(of)?)?),
+        "regex_fault" => Ok(regex_fault(alloc, text_of(of)?)?),
+        "remove_overlap" => pieces(alloc, list_of(of)?),
+        "symbol_text" => symbol_text(alloc, of),
+        "terminal_text" => terminal_text(alloc, of),
+        "write_grammar" => written_grammar(alloc, of),
+        "print_tree" => tree_text(alloc, of),
+        _ => automata_answer(alloc, word, of),
+    }
+}
+
+/// The same of the calls that ask automata.
+fn automata_answer(alloc: Global, word: &str, of: &Value) -> Result<Value> {
+    match word {
+        "matched_words" => {
+            let fields = Fields::of(of, &["pattern", "words"])?;
+            matched_words(alloc, fields.text("pattern")?, fields.list("words")?)
+        }
+        "longest_front" => {
+            let fields = Fields::of(of, &["pattern", "text"])?;
+            longest_front(alloc, fields.text("pattern")?, fields.text("text")?)
+        }
+        "build_dfa" => {
+            let fields = Fields::of(of, &["patterns", "texts"])?;
+            dfa_answer(alloc, fields.list("patterns")?, fields.list("texts")?)
+        }
+        _ => bail!("no such call"),
     }
 }

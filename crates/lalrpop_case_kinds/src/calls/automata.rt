@@ -1,11 +1,13 @@
 //! What automata find.
 
+use crate::files::fields::{count_of, list_of, number_of, text_of};
+use crate::files::values::{number, object, object_of_two, pair, text};
 use anyhow::{Result, bail};
 use lalrpop_lexer::dfa::{Dfa, DfaConstructionError, Precedence, build_dfa, remove_overlap};
 use lalrpop_lexer::nfa::{Nfa, Test};
 use lalrpop_lexer::{dfa, nfa};
 use lalrpop_lexer_regex::parse_regex;
-use serde_json::{Value, json};
+use serde_json::Value;
 use std::alloc::{AllocError, Global};
 use std::collections::BTreeSet;
 
@@ -34,76 +36,124 @@ impl Automata {
         }
         Ok(own)
     }
+
+    /// The word, if the whole of it is matched.
+    fn whole<'t>(&self, alloc: Global, word: &'t str) -> Result<Option<&'t str>> {
+        let front = self.front(alloc, word)?;
+        Ok(if front == Some(word) { front } else { None })
+    }
 }
 
 /// The words that the pattern matches.
-pub(crate) fn matched_words(alloc: Global, pattern: &str, words: &[String]) -> Result<Value> {
+pub(crate) fn matched_words(alloc: Global, pattern: &str, words: &[Value]) -> Result<Value> {
     let automata = Automata::new(alloc, pattern)?;
+    words_of(alloc, &automata, words)
+}
+
+/// The words that the automata match.
+fn words_of(alloc: Global, automata: &Automata, words: &[Value]) -> Result<Value> {
     let mut matched = Vec::new(alloc);
     for word in words {
-        if automata.front(alloc, word)? == Some(word.as_str()) {
-            matched.push(Value::try_from_str(alloc, word)?)?;
+        if let Some(word) = automata.whole(alloc, text_of(word)?)? {
+            matched.push(text(alloc, word)?)?;
         }
     }
     Ok(Value::Array(matched))
 }
 
 /// The longest front of the text that the pattern matches.
-pub(crate) fn longest_front(alloc: Global, pattern: &str, text: &str) -> Result<Value> {
+pub(crate) fn longest_front(alloc: Global, pattern: &str, of: &str) -> Result<Value> {
     let automata = Automata::new(alloc, pattern)?;
-    match automata.front(alloc, text)? {
-        Some(front) => Ok(Value::try_from_str(alloc, front)?),
+    match automata.front(alloc, of)? {
+        Some(front) => Ok(text(alloc, front)?),
         None => Ok(Value::Null),
     }
 }
 
+/// The text of a pattern, and its precedence.
+fn pattern_of(value: &Value) -> Result<(&str, usize)> {
+    match list_of(value)? {
+        [text, precedence] => Ok((text_of(text)?, count_of(precedence)?)),
+        _ => bail!("no pattern with its precedence"),
+    }
+}
+
 /// What the automaton of the patterns finds at the front of each text, or why there is none.
-pub(crate) fn dfa_answer(
-    alloc: Global,
-    patterns: &[(String, usize)],
-    texts: &[String],
-) -> Result<Value> {
+pub(crate) fn dfa_answer(alloc: Global, patterns: &[Value], texts: &[Value]) -> Result<Value> {
     let mut trees = Vec::new(alloc);
     let mut precedences = Vec::new(alloc);
-    for (pattern, precedence) in patterns {
-        trees.push(parse_regex(alloc, pattern)?)?;
-        precedences.push(Precedence(*precedence))?;
+    for pattern in patterns {
+        let (text, precedence) = pattern_of(pattern)?;
+        trees.push(parse_regex(alloc, text)?)?;
+        precedences.push(Precedence(precedence))?;
     }
     match build_dfa(alloc, &trees, &precedences) {
-        Ok(dfa) => Ok(winners(alloc, &dfa, texts)?),
-        Err(DfaConstructionError::NfaConstructionError { index, error }) => {
-            let error = format!(in alloc; "{error:?}")?;
-            Ok(json!(in alloc; {"refused": index.index(), "error": error})?)
+        Ok(dfa) => winners(alloc, &dfa, texts),
+        Err(error) => Ok(refusal(alloc, error)?),
+    }
+}
+
+/// Why there is no automaton.
+fn refusal(alloc: Global, error: DfaConstructionError) -> Result<Value, AllocError> {
+    match error {
+        DfaConstructionError::NfaConstructionError { index, error } => {
+            let error = Value::from(format!(in alloc; "{error:?}")?);
+            let index = number(index.index());
+            object_of_two(alloc, ("refused", index), ("error", error))
         }
-        Err(DfaConstructionError::Ambiguity { match0, match1 }) => {
-            Ok(json!(in alloc; {"tie": [match0.index(), match1.index()]})?)
+        DfaConstructionError::Ambiguity { match0, match1 } => {
+            let tie = pair(alloc, number(match0.index()), number(match1.index()))?;
+            object(alloc, "tie", tie)
         }
-        Err(DfaConstructionError::Memory) => Err(AllocError.into()),
+        DfaConstructionError::Memory => Err(AllocError),
     }
 }
 
 /// The winner at the front of each text, and the match.
-fn winners(alloc: Global, dfa: &Dfa, texts: &[String]) -> Result<Value, AllocError> {
+fn winners(alloc: Global, dfa: &Dfa, texts: &[Value]) -> Result<Value> {
     let mut winners = Vec::new(alloc);
     for text in texts {
-        let winner = match dfa::interpret(dfa, text) {
-            Some((pattern, front)) => json!(in alloc; [pattern.index(), front])?,
-            None => Value::Null,
-        };
-        winners.push(winner)?;
+        winners.push(winner(alloc, dfa, text_of(text)?)?)?;
     }
     Ok(Value::Array(winners))
 }
 
-/// The pieces of the ranges.
-pub(crate) fn pieces(alloc: Global, ranges: &[(u32, u32)]) -> Result<Value, AllocError> {
-    let mut tests = BTreeSet::new(alloc);
-    for (start, end) in ranges {
-        tests.insert(Test::new(*start..=*end))?;
+fn winner(alloc: Global, dfa: &Dfa, of: &str) -> Result<Value, AllocError> {
+    match dfa::interpret(dfa, of) {
+        Some((pattern, front)) => pair(alloc, number(pattern.index()), text(alloc, front)?),
+        None => Ok(Value::Null),
     }
+}
+
+/// The pieces of the ranges.
+pub(crate) fn pieces(alloc: Global, ranges: &[Value]) -> Result<Value> {
+    let tests = tests_of(alloc, ranges)?;
+    Ok(pieces_value(alloc, &tests)?)
+}
+
+fn tests_of(alloc: Global, ranges: &[Value]) -> Result<BTreeSet<Test>> {
+    let mut tests = BTreeSet::new(alloc);
+    for range in ranges {
+        tests.insert(test_of(range)?)?;
+    }
+    Ok(tests)
+}
+
+fn test_of(range: &Value) -> Result<Test> {
+    match list_of(range)? {
+        [start, end] => {
+            let start = u32::try_from(number_of(start)?)?;
+            let end = u32::try_from(number_of(end)?)?;
+            Ok(Test::new(start..=end))
+        }
+        _ => bail!("no range"),
+    }
+}
+
+fn pieces_value(alloc: Global, tests: &BTreeSet<Test>) -> Result<Value, AllocError> {
     let mut pieces = Vec::new(alloc);
-    for piece in remove_overlap(alloc, &tests)? {
-        pieces.push(json!(in alloc; [piece.start(), piece.end()])?)?;
+    for piece in remove_overlap(alloc, tests)? {
+        pieces.push(pair(alloc, Value::from(piece.start()), Value::from(piece.end()))?)?;
     }
     Ok(Value::Array(pieces))
 }

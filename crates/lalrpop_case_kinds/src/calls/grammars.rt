@@ -1,12 +1,13 @@
 //! Symbols, grammars and trees: their texts, and what they are written as.
 
+use crate::files::values::{number, pair, text};
 use anyhow::{Result, bail};
 use lalrpop_grammar::Grammar;
 use lalrpop_json_document::lend_value;
 use lalrpop_json_grammar::writer::write_grammar;
 use lalrpop_json_grammar::{print_tree, read_grammar, read_tree};
 use lalrpop_json_symbols::{symbol_of, terminal_of};
-use serde_json::{Value, json};
+use serde_json::Value;
 use std::alloc::Global;
 
 /// The text of the symbol.
@@ -24,8 +25,8 @@ pub(crate) fn terminal_text(alloc: Global, terminal: &Value) -> Result<Value> {
     let Ok(terminal) = terminal_of(alloc, &document) else {
         bail!("no terminal");
     };
-    let text = terminal.canonical_form(alloc)?;
-    Ok(json!(in alloc; [text, terminal.display_len()])?)
+    let written = Value::from(terminal.canonical_form(alloc)?);
+    Ok(pair(alloc, written, number(terminal.display_len()))?)
 }
 
 /// The text of the tree.
@@ -51,7 +52,7 @@ pub(crate) fn written_grammar(alloc: Global, value: &Value) -> Result<Value> {
         bail!("not written");
     };
     if written == *value && written.to_string(alloc)? == value.to_string(alloc)? {
-        return Ok(json!(in alloc; "itself")?);
+        return Ok(text(alloc, "itself")?);
     }
     Ok(written)
 }

@@ -1,8 +1,9 @@
 //! Patterns as they are read, and their faults.
 
-use lalrpop_lexer_pattern::{Hir, Range};
+use crate::files::values::{number, object, object_of_two, pair, text, triple};
+use lalrpop_lexer_pattern::{Hir, Range, Repeats};
 use lalrpop_lexer_regex::{RegexError, parse_regex};
-use serde_json::{Value, json};
+use serde_json::Value;
 use std::alloc::{AllocError, Global};
 
 /// The tree of the pattern, or its fault.
@@ -30,45 +31,25 @@ fn fault_value(alloc: Global, error: RegexError) -> Result<Value, AllocError> {
         RegexError::UnknownName(at) => ("UnknownName", at),
         RegexError::Memory => return Err(AllocError),
     };
-    json!(in alloc; {"fault": kind, "at": at})
+    object_of_two(alloc, ("fault", text(alloc, kind)?), ("at", number(at)))
 }
 
 /// The tree as a value.
 #[cycle(trees)]
 fn tree_value(alloc: Global, tree: &Hir) -> Result<Value, AllocError> {
     match tree {
-        Hir::Empty => json!(in alloc; "empty"),
-        Hir::Literal(characters) => {
-            let text = literal_text(alloc, characters)?;
-            json!(in alloc; {"literal": text})
-        }
-        Hir::Class(class) => {
-            let ranges = ranges_value(alloc, &class.ranges)?;
-            json!(in alloc; {"class": ranges})
-        }
-        Hir::Look(look) => {
-            let look = format!(in alloc; "{look:?}")?;
-            json!(in alloc; {"look": look})
-        }
+        Hir::Empty => text(alloc, "empty"),
+        Hir::Literal(characters) => object(alloc, "literal", literal_value(alloc, characters)?),
+        Hir::Class(class) => object(alloc, "class", ranges_value(alloc, &class.ranges)?),
+        Hir::Look(look) => object(alloc, "look", Value::from(format!(in alloc; "{look:?}")?)),
         Hir::Capture { name, sub } => {
-            let sub = tree_value(alloc, sub)?;
-            match name {
-                Some(name) => json!(in alloc; {"capture": sub, "name": name}),
-                None => json!(in alloc; {"capture": sub}),
-            }
+            capture_value(alloc, name.as_deref(), tree_value(alloc, sub)?)
         }
         Hir::Repetition { repeats, sub } => {
-            let sub = tree_value(alloc, sub)?;
-            json!(in alloc; {"repeat": [repeats.min, repeats.max, repeats.greedy], "of": sub})
+            repeat_value(alloc, repeats, tree_value(alloc, sub)?)
         }
-        Hir::Concat(subs) => {
-            let subs = tree_values(alloc, subs)?;
-            json!(in alloc; {"concat": subs})
-        }
-        Hir::Alternation(subs) => {
-            let subs = tree_values(alloc, subs)?;
-            json!(in alloc; {"alternation": subs})
-        }
+        Hir::Concat(subs) => object(alloc, "concat", tree_values(alloc, subs)?),
+        Hir::Alternation(subs) => object(alloc, "alternation", tree_values(alloc, subs)?),
     }
 }
 
@@ -82,22 +63,42 @@ fn tree_values(alloc: Global, trees: &[Hir]) -> Result<Value, AllocError> {
     Ok(Value::Array(values))
 }
 
+/// What is captured, with its name if it has one.
+fn capture_value(alloc: Global, name: Option<&str>, sub: Value) -> Result<Value, AllocError> {
+    match name {
+        Some(name) => object_of_two(alloc, ("name", text(alloc, name)?), ("capture", sub)),
+        None => object(alloc, "capture", sub),
+    }
+}
+
+/// What is repeated, and how often.
+fn repeat_value(alloc: Global, repeats: &Repeats, sub: Value) -> Result<Value, AllocError> {
+    let least = Value::from(repeats.min);
+    let repeat = triple(
+        alloc,
+        least,
+        Value::from(repeats.max),
+        Value::from(repeats.greedy),
+    )?;
+    object_of_two(alloc, ("repeat", repeat), ("of", sub))
+}
+
 /// The text of characters that are given as numbers, without those that are none.
-fn literal_text(alloc: Global, characters: &[u32]) -> Result<String, AllocError> {
+fn literal_value(alloc: Global, characters: &[u32]) -> Result<Value, AllocError> {
     let mut text = String::new(alloc);
     for number in characters {
         if let Some(character) = char::from_u32(*number) {
             text.push(character)?;
         }
     }
-    Ok(text)
+    Ok(Value::from(text))
 }
 
 /// The ranges, each by its first and its last character.
 fn ranges_value(alloc: Global, ranges: &[Range]) -> Result<Value, AllocError> {
     let mut values = Vec::new(alloc);
     for range in ranges {
-        values.push(json!(in alloc; [range.start, range.end])?)?;
+        values.push(pair(alloc, Value::from(range.start), Value::from(range.end))?)?;
     }
     Ok(Value::Array(values))
 }

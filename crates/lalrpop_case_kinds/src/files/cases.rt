@@ -1,37 +1,53 @@
 //! The cases of a file.
 
+use crate::files::fields::list_of;
 use crate::files::tally::Tally;
 use anyhow::{Context, Result};
-use serde::Deserialize;
+use serde_json::Value;
 use std::alloc::Global;
 use std::fmt::Display;
 use std::fs;
 use std::rt::Files;
 
-/// A case of a file.
-pub trait TableCase: Drop {
-    /// Whether the case is right; if not, what differs is told.
-    fn is_right<R: Alloc<A = Global> + Print>(&self, rt: &R) -> Result<bool>;
+/// A kind of cases.
+pub trait TableCase {
+    /// Whether the case that the value spells is right; if not, what differs is told.
+    fn is_right<R: Alloc<A = Global> + Print>(rt: &R, case: &Value) -> Result<bool>;
 }
 
 /// The text of the file.
-pub fn read_text<R: Alloc<A = Global> + Files>(rt: &R, file: &str) -> Result<String> {
+fn read_text<R: Alloc<A = Global> + Files>(rt: &R, file: &str) -> Result<String> {
     let text = fs::read_to_string(rt, file).context(format_args!("reading {file}"))?;
     Ok(text)
 }
 
-/// How many cases are right of those that the file's text lists; each of the others tells what differs.
-pub fn run_cases<'de, C: TableCase + Deserialize<'de>, R: Alloc<A = Global> + Print>(
+/// How many cases are right of those that the file lists; each of the others tells what differs.
+pub fn run_cases<C: TableCase, R: Alloc<A = Global> + Files + Print>(
     rt: &R,
     file: &str,
-    text: &'de str,
 ) -> Result<Tally> {
-    let cases: Vec<C> = serde_json::from_str(rt.alloc(), text).context(format_args!("{file}"))?;
+    let text = read_text(rt, file)?;
+    let cases = Value::from_str(rt.alloc(), text.as_str()).context(format_args!("{file}"))?;
+    let tally = run_values::<C, R>(rt, &cases).context(format_args!("{file}"))?;
+    Ok(tally)
+}
+
+/// The same of the cases that the value lists.
+fn run_values<C: TableCase, R: Alloc<A = Global> + Print>(rt: &R, cases: &Value) -> Result<Tally> {
     let mut tally = Tally::new();
-    for case in &cases {
-        tally = tally.and(case.is_right(rt)?);
+    for case in list_of(cases)? {
+        tally = tally.and(C::is_right(rt, case)?);
     }
     Ok(tally)
+}
+
+/// Whether the answer is the one that is wanted; if not, both are told under the case's name.
+pub fn compare(rt: &impl Print, name: &str, wanted: &Value, answer: &Value) -> Result<bool> {
+    let right = *answer == *wanted;
+    if !right {
+        tell(rt, name, wanted, answer)?;
+    }
+    Ok(right)
 }
 
 /// Tells what was wanted of the case and what came.

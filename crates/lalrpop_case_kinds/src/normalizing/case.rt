@@ -1,50 +1,58 @@
-//! Cases: grammars, what is asked of each, and the answer.
+//! What a case gives: a grammar, what is asked of it, and the answer.
 
-use serde::Deserialize;
+use crate::files::fields::Fields;
+use anyhow::Result;
 use serde_json::Value;
 
-/// A grammar, what is asked of it, and the answer.
-#[derive(Drop, Deserialize)]
-#[serde(deny_unknown_fields)]
-pub(crate) struct Case {
+/// How deep macros may stand in macros, where no case says it.
+const MACRO_LIMIT: u64 = 200;
+
+/// What a case has: what it shows, in words and as a grammar in short for who reads it, what is asked, the grammar, the features
+/// that are on, the prefix that no name may begin with, where it isn't the one that reading finds, how deep macros may stand in
+/// macros, and the answer.
+const KEYS: [&str; 8] = [
+    "name",
+    "shows",
+    "call",
+    "grammar",
+    "features",
+    "prefix",
+    "macro_limit",
+    "wanted",
+];
+
+/// A grammar, and under what it is looked at.
+#[derive(Clone, Copy)]
+pub(crate) struct Case<'v> {
     /// What the case shows.
-    pub(crate) name: String,
-    /// The grammar in short, for who reads the case.
-    #[serde(default)]
-    pub(crate) shows: Option<String>,
-    /// What is asked.
-    pub(crate) call: Call,
+    pub(crate) name: &'v str,
+    /// The word of what is asked.
+    pub(crate) call: &'v str,
     /// The grammar.
-    pub(crate) grammar: Value,
+    pub(crate) grammar: &'v Value,
     /// The features that are on.
-    #[serde(default)]
-    pub(crate) features: Vec<String>,
-    /// The prefix that no name may begin with, where it isn't the one that reading finds.
-    #[serde(default)]
-    pub(crate) prefix: Option<String>,
-    /// How deep macros may stand in macros, where it isn't 200.
-    #[serde(default)]
-    pub(crate) macro_limit: Option<u16>,
+    pub(crate) features: &'v [Value],
+    /// The prefix, where it isn't the one that reading finds.
+    pub(crate) prefix: Option<&'v str>,
+    /// How deep macros may stand in macros.
+    pub(crate) macro_limit: u16,
     /// The answer.
-    pub(crate) wanted: Value,
+    pub(crate) wanted: &'v Value,
 }
 
-/// What is asked of a grammar.
-#[derive(Drop, Deserialize)]
-#[serde(rename_all = "snake_case")]
-pub(crate) enum Call {
-    /// The first fault that a pass tells, up to the levels, with its span, `null` where none does.
-    FirstFault,
-    /// The same up to the token check, of a grammar without levels and macros.
-    TokenFault,
-    /// The rules once each level has a rule of its own, each by its name, whether it is public, and the texts of its symbols,
-    /// alternative by alternative.
-    LeveledRules,
-    /// The fault of normalizing, with its span, `null` where there is none.
-    Fault,
-    /// The names of the normalized grammar's nonterminals, in order.
-    Nonterminals,
-    /// The productions of the normalized grammar, nonterminal by nonterminal in order: its name, the symbols, and which written
-    /// choice it stands for.
-    Productions,
+impl<'v> Case<'v> {
+    /// The case that the value spells.
+    pub(crate) fn of(value: &'v Value) -> Result<Case<'v>> {
+        let fields = Fields::of(value, &KEYS)?;
+        let limit = fields.number_if("macro_limit")?.unwrap_or(MACRO_LIMIT);
+        Ok(Case {
+            name: fields.text("name")?,
+            call: fields.text("call")?,
+            grammar: fields.value("grammar")?,
+            features: fields.list("features")?,
+            prefix: fields.text_if("prefix")?,
+            macro_limit: u16::try_from(limit)?,
+            wanted: fields.value("wanted")?,
+        })
+    }
 }

@@ -1,16 +1,17 @@
 //! What grammars are normalized to.
 
+use crate::files::values::{text, triple};
 use crate::normalizing::case::Case;
 use crate::normalizing::passes::{fault_value, grammar_of_case, session_of};
 use anyhow::{Result, bail};
-use lalrpop_grammar::Origin;
+use lalrpop_grammar::{Origin, Symbol as WrittenSymbol};
 use lalrpop_grammar_repr::{NonterminalData, NormFault, NormResult, Production, Symbol};
 use lalrpop_norm::{Normalized, normalize};
-use serde_json::{Value, json};
+use serde_json::Value;
 use std::alloc::{AllocError, Global};
 
 /// The fault of normalizing, with its span, `null` where there is none.
-pub(crate) fn fault(alloc: Global, case: &Case) -> Result<Value> {
+pub(crate) fn fault(alloc: Global, case: &Case<'_>) -> Result<Value> {
     match normal(alloc, case)? {
         Ok(_) => Ok(Value::Null),
         Err(fault) => fault_value(alloc, fault),
@@ -18,7 +19,7 @@ pub(crate) fn fault(alloc: Global, case: &Case) -> Result<Value> {
 }
 
 /// The names of the nonterminals, in order; or the fault.
-pub(crate) fn nonterminals(alloc: Global, case: &Case) -> Result<Value> {
+pub(crate) fn nonterminals(alloc: Global, case: &Case<'_>) -> Result<Value> {
     match normal(alloc, case)? {
         Ok(made) => Ok(names_value(alloc, &made)?),
         Err(fault) => fault_value(alloc, fault),
@@ -26,7 +27,7 @@ pub(crate) fn nonterminals(alloc: Global, case: &Case) -> Result<Value> {
 }
 
 /// The productions, each by its nonterminal, its symbols and its written choice; or the fault.
-pub(crate) fn productions(alloc: Global, case: &Case) -> Result<Value> {
+pub(crate) fn productions(alloc: Global, case: &Case<'_>) -> Result<Value> {
     match normal(alloc, case)? {
         Ok(made) => productions_value(alloc, &made),
         Err(fault) => fault_value(alloc, fault),
@@ -34,7 +35,7 @@ pub(crate) fn productions(alloc: Global, case: &Case) -> Result<Value> {
 }
 
 /// What the case's grammar is normalized to.
-fn normal(alloc: Global, case: &Case) -> Result<NormResult<Normalized>> {
+fn normal(alloc: Global, case: &Case<'_>) -> Result<NormResult<Normalized>> {
     let grammar = grammar_of_case(alloc, case)?;
     let session = session_of(alloc, case)?;
     Ok(normalize(alloc, &session, grammar))
@@ -70,13 +71,21 @@ fn add_productions(
 }
 
 fn production_value(alloc: Global, made: &Normalized, production: &Production) -> Result<Value> {
-    let name = production.nonterminal.to_string(alloc)?;
-    let symbols = symbols_value(alloc, production.symbols.as_slice())?;
     let Some(origin) = made.origins.as_slice().get(production.action.index()) else {
         bail!("a production without an origin");
     };
-    let origin = origin_value(alloc, origin)?;
-    Ok(json!(in alloc; [name, symbols, origin])?)
+    Ok(production_of(alloc, production, origin)?)
+}
+
+/// The production with its written choice.
+fn production_of(
+    alloc: Global,
+    production: &Production,
+    origin: &Origin,
+) -> Result<Value, AllocError> {
+    let name = Value::from(production.nonterminal.to_string(alloc)?);
+    let symbols = symbols_value(alloc, production.symbols.as_slice())?;
+    triple(alloc, name, symbols, origin_value(alloc, origin)?)
 }
 
 /// The texts of the symbols.
@@ -96,24 +105,32 @@ fn symbol_text(alloc: Global, symbol: &Symbol) -> Result<String, AllocError> {
 }
 
 /// A written alternative by its rule, the texts of its arguments and its place, another choice by its word.
-fn origin_value(alloc: Global, origin: &Origin) -> Result<Value> {
-    match origin {
-        Origin::Start => Ok(json!(in alloc; "Start")?),
+fn origin_value(alloc: Global, origin: &Origin) -> Result<Value, AllocError> {
+    let word = match origin {
         Origin::Alternative { rule, args, place } => {
-            let mut texts = Vec::new(alloc);
-            for argument in args.as_slice() {
-                texts.push(Value::from(argument.to_string(alloc)?))?;
-            }
-            Ok(json!(in alloc; [rule.to_string(alloc)?, Value::Array(texts), *place])?)
+            let args = arguments_value(alloc, args.as_slice())?;
+            let rule = Value::from(rule.to_string(alloc)?);
+            return triple(alloc, rule, args, Value::from(*place));
         }
-        Origin::PassDown => Ok(json!(in alloc; "PassDown")?),
-        Origin::PlusOne => Ok(json!(in alloc; "PlusOne")?),
-        Origin::PlusMore => Ok(json!(in alloc; "PlusMore")?),
-        Origin::StarNone => Ok(json!(in alloc; "StarNone")?),
-        Origin::StarSome => Ok(json!(in alloc; "StarSome")?),
-        Origin::OptNone => Ok(json!(in alloc; "OptNone")?),
-        Origin::OptSome => Ok(json!(in alloc; "OptSome")?),
-        Origin::Group => Ok(json!(in alloc; "Group")?),
-        Origin::Look => Ok(json!(in alloc; "Look")?),
+        Origin::Start => "Start",
+        Origin::PassDown => "PassDown",
+        Origin::PlusOne => "PlusOne",
+        Origin::PlusMore => "PlusMore",
+        Origin::StarNone => "StarNone",
+        Origin::StarSome => "StarSome",
+        Origin::OptNone => "OptNone",
+        Origin::OptSome => "OptSome",
+        Origin::Group => "Group",
+        Origin::Look => "Look",
+    };
+    text(alloc, word)
+}
+
+/// The texts of the arguments.
+fn arguments_value(alloc: Global, arguments: &[WrittenSymbol]) -> Result<Value, AllocError> {
+    let mut texts = Vec::new(alloc);
+    for argument in arguments {
+        texts.push(Value::from(argument.to_string(alloc)?))?;
     }
+    Ok(Value::Array(texts))
 }

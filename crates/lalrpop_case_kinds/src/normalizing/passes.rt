@@ -1,5 +1,7 @@
 //! What the passes of the normalizer say of grammars, up to some pass.
 
+use crate::files::fields::text_of;
+use crate::files::values::triple;
 use crate::normalizing::case::Case;
 use anyhow::{Result, bail};
 use lalrpop_grammar::{Atom, Grammar, NonterminalData, Symbol};
@@ -10,14 +12,11 @@ use lalrpop_norm_prevalidate::prevalidate::validate;
 use lalrpop_norm_resolve::names::resolve;
 use lalrpop_norm_resolve::remove_disabled_decls;
 use lalrpop_norm_token_check::{LiteralPlaces, token_check};
-use serde_json::{Value, json};
+use serde_json::Value;
 use std::alloc::{AllocError, Global};
 
-/// How deep macros may stand in macros, where no case says it.
-const MACRO_LIMIT: u16 = 200;
-
 /// The first fault that a pass tells, up to the levels, with its span, `null` where none does.
-pub(crate) fn first_fault(alloc: Global, case: &Case) -> Result<Value> {
+pub(crate) fn first_fault(alloc: Global, case: &Case<'_>) -> Result<Value> {
     let grammar = grammar_of_case(alloc, case)?;
     let session = session_of(alloc, case)?;
     match check_and_resolve(alloc, &session, grammar) {
@@ -27,7 +26,7 @@ pub(crate) fn first_fault(alloc: Global, case: &Case) -> Result<Value> {
 }
 
 /// The same up to the token check, of a grammar without levels and macros.
-pub(crate) fn token_fault(alloc: Global, case: &Case) -> Result<Value> {
+pub(crate) fn token_fault(alloc: Global, case: &Case<'_>) -> Result<Value> {
     let grammar = grammar_of_case(alloc, case)?;
     let session = session_of(alloc, case)?;
     match check_tokens(alloc, &session, grammar) {
@@ -38,7 +37,7 @@ pub(crate) fn token_fault(alloc: Global, case: &Case) -> Result<Value> {
 
 /// The rules of the grammar in which each level has a rule of its own, each by its name and the texts of its symbols,
 /// alternative by alternative; or the fault.
-pub(crate) fn leveled_rules(alloc: Global, case: &Case) -> Result<Value> {
+pub(crate) fn leveled_rules(alloc: Global, case: &Case<'_>) -> Result<Value> {
     let grammar = grammar_of_case(alloc, case)?;
     let session = session_of(alloc, case)?;
     match expand_levels(alloc, &session, grammar) {
@@ -48,11 +47,11 @@ pub(crate) fn leveled_rules(alloc: Global, case: &Case) -> Result<Value> {
 }
 
 /// The grammar, with the prefix of the case where it has one.
-pub(crate) fn grammar_of_case(alloc: Global, case: &Case) -> Result<Grammar> {
-    let Ok(mut grammar) = read_grammar(alloc, &case.grammar) else {
+pub(crate) fn grammar_of_case(alloc: Global, case: &Case<'_>) -> Result<Grammar> {
+    let Ok(mut grammar) = read_grammar(alloc, case.grammar) else {
         bail!("no grammar");
     };
-    if let Some(prefix) = &case.prefix {
+    if let Some(prefix) = case.prefix {
         grammar.prefix = Atom::new(alloc, prefix)?;
     }
     Ok(grammar)
@@ -71,15 +70,19 @@ pub(crate) fn fault_value(alloc: Global, fault: NormFault) -> Result<Value> {
 }
 
 /// The features that are on, and how deep macros may stand in macros.
-pub(crate) fn session_of(alloc: Global, case: &Case) -> Result<Session, AllocError> {
-    let mut features = Vec::new(alloc);
-    for feature in &case.features {
-        features.push(Atom::new(alloc, feature)?)?;
-    }
+pub(crate) fn session_of(alloc: Global, case: &Case<'_>) -> Result<Session> {
     Ok(Session {
-        features,
-        macro_recursion_limit: case.macro_limit.unwrap_or(MACRO_LIMIT),
+        features: features_of(alloc, case.features)?,
+        macro_recursion_limit: case.macro_limit,
     })
+}
+
+fn features_of(alloc: Global, texts: &[Value]) -> Result<Vec<Atom>> {
+    let mut features = Vec::new(alloc);
+    for text in texts {
+        features.push(Atom::new(alloc, text_of(text)?)?)?;
+    }
+    Ok(features)
 }
 
 /// The grammar without what is disabled and with names resolved, where the passes up to the levels take it.
@@ -121,8 +124,9 @@ fn rule_value(alloc: Global, rule: &NonterminalData) -> Result<Value, AllocError
     for alternative in rule.alternatives.as_slice() {
         alternatives.push(symbols_value(alloc, alternative.expr.as_slice())?)?;
     }
-    let name = rule.name.to_string(alloc)?;
-    Ok(json!(in alloc; [name, rule.visibility.is_pub(), alternatives])?)
+    let name = Value::from(rule.name.to_string(alloc)?);
+    let public = Value::from(rule.visibility.is_pub());
+    triple(alloc, name, public, Value::Array(alternatives))
 }
 
 /// The texts of the symbols.

@@ -1,20 +1,34 @@
-//! Cases: grammars, and how many conflicts each has.
+//! What a case gives: a grammar, and how many conflicts it has.
 
-use serde::Deserialize;
+use anyhow::Result;
+use lalrpop_case_kinds::files::fields::{Fields, count_of};
 use serde_json::Value;
 
 /// A grammar, a start, and how many conflicts the canonical states have.
-#[derive(Drop, Deserialize)]
-#[serde(deny_unknown_fields)]
-pub(crate) struct Case {
+#[derive(Clone, Copy)]
+pub(crate) struct Case<'v> {
     /// What the case shows.
-    pub(crate) name: String,
+    pub(crate) name: &'v str,
     /// The grammar in short, for who reads the case.
-    pub(crate) shows: String,
+    pub(crate) shows: &'v str,
     /// The rule to start from.
-    pub(crate) start: String,
+    pub(crate) start: &'v str,
     /// The grammar.
-    pub(crate) grammar: Value,
+    pub(crate) grammar: &'v Value,
     /// How many conflicts there are.
     pub(crate) wanted: usize,
+}
+
+impl<'v> Case<'v> {
+    /// The case that the value spells.
+    pub(crate) fn of(value: &'v Value) -> Result<Case<'v>> {
+        let fields = Fields::of(value, &["name", "shows", "start", "grammar", "wanted"])?;
+        Ok(Case {
+            name: fields.text("name")?,
+            shows: fields.text("shows")?,
+            start: fields.text("start")?,
+            grammar: fields.value("grammar")?,
+            wanted: count_of(fields.value("wanted")?)?,
+        })
+    }
 }

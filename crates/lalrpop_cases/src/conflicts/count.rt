@@ -11,7 +11,7 @@ use lalrpop_run_prepare::refusals::GenerateError;
 use std::alloc::Global;
 
 /// How many conflicts the case's grammar has, for each of which a certificate is accepted. They are as many as the canonical states have.
-pub(crate) fn conflict_count(alloc: Global, case: &Case) -> Result<usize, Difference> {
+pub(crate) fn conflict_count(alloc: Global, case: &Case<'_>) -> Result<usize, Difference> {
     let prepared = prepared_grammar(alloc, case)?;
     shown_count(alloc, &prepared)
 }

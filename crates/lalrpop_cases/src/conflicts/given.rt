@@ -12,9 +12,9 @@ use std::alloc::Global;
 const MACRO_LIMIT: u16 = 200;
 
 /// The case's grammar, prepared for its start.
-pub(crate) fn prepared_grammar(alloc: Global, case: &Case) -> Result<Prepared, Difference> {
-    let start = Atom::new(alloc, case.start.as_str())?;
-    match read_grammar(alloc, &case.grammar) {
+pub(crate) fn prepared_grammar(alloc: Global, case: &Case<'_>) -> Result<Prepared, Difference> {
+    let start = Atom::new(alloc, case.start)?;
+    match read_grammar(alloc, case.grammar) {
         Ok(grammar) => prepare_read(alloc, grammar, &start),
         Err(_) => Err(Difference::NoGrammar),
     }

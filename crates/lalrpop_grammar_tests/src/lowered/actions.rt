@@ -1,5 +1,6 @@
 //! Actions: their numbers, and copies of what they do.
 
+use crate::check::check;
 use crate::lowered::parts::{nonterminal_symbol, terminal_symbol};
 use lalrpop_grammar_repr::{
     ActionFn, ActionFnDefn, ActionFnDefnKind, InlineActionFnDefn, InlinedSymbol,
@@ -11,8 +12,8 @@ use std::process::Abort;
 
 #[test]
 fn numbers_of_actions(rt: HostRuntime) {
-    assert!(rt; ActionFn::new(4_294_967_295).index() == 4_294_967_295);
-    assert!(rt; ActionFn::new(9) < ActionFn::new(10));
+    check(&rt, ActionFn::new(4_294_967_295).index() == 4_294_967_295);
+    check(&rt, ActionFn::new(9) < ActionFn::new(10));
 }
 
 /// Whether a copy of an action of the kind equals it.
@@ -30,15 +31,19 @@ fn is_copied(rt: &impl Abort, alloc: Global, kind: ActionFnDefnKind) -> bool {
 fn copies_of_actions_of_alternatives_and_places(rt: HostRuntime) {
     let alloc = rt.alloc();
     let code = Some(Atom::new(alloc, "x + 1").expect(&rt, "memory"));
-    assert!(rt;
+    check(
+        &rt,
         is_copied(
             &rt,
             alloc,
-            ActionFnDefnKind::User(UserActionFnDefn { code })
-        )
+            ActionFnDefnKind::User(UserActionFnDefn { code }),
+        ),
     );
     let look = LookaroundActionFnDefn::Lookbehind;
-    assert!(rt; is_copied(&rt, alloc, ActionFnDefnKind::Lookaround(look)));
+    check(
+        &rt,
+        is_copied(&rt, alloc, ActionFnDefnKind::Lookaround(look)),
+    );
 }
 
 /// The action of number 3, in which a terminal was kept and the production of number 4 was inlined.
@@ -61,5 +66,8 @@ fn inline_action(rt: &impl Abort, alloc: Global) -> InlineActionFnDefn {
 #[test]
 fn a_copy_of_an_action_made_of_others(rt: HostRuntime) {
     let inline = inline_action(&rt, rt.alloc());
-    assert!(rt; is_copied(&rt, rt.alloc(), ActionFnDefnKind::Inline(inline)));
+    check(
+        &rt,
+        is_copied(&rt, rt.alloc(), ActionFnDefnKind::Inline(inline)),
+    );
 }

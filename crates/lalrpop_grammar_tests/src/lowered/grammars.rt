@@ -1,5 +1,6 @@
 //! Questions of a grammar of plain productions, and its copy.
 
+use crate::check::check;
 use crate::lowered::parts::{name_of, production_of, terminal_of};
 use lalrpop_grammar::{Attribute, AttributeArg};
 use lalrpop_grammar_repr::{
@@ -185,9 +186,9 @@ fn ask_of(rt: &impl Abort, alloc: Global, grammar: &Grammar, name: &str) -> (usi
 }
 
 fn answers(rt: &impl Abort, alloc: Global, grammar: &Grammar) {
-    assert!(rt; ask_of(rt, alloc, grammar, "__S") == (1, true));
-    assert!(rt; ask_of(rt, alloc, grammar, "S") == (1, false));
-    assert!(rt; ask_of(rt, alloc, grammar, "A") == (0, false));
+    check(rt, ask_of(rt, alloc, grammar, "__S") == (1, true));
+    check(rt, ask_of(rt, alloc, grammar, "S") == (1, false));
+    check(rt, ask_of(rt, alloc, grammar, "A") == (0, false));
 }
 
 #[test]
@@ -197,9 +198,9 @@ fn questions_of_a_grammar(rt: HostRuntime) {
 }
 
 fn the_last_may_fail(rt: &impl Abort, grammar: &Grammar) {
-    assert_eq!(rt; grammar.action_fn_defns.len(), 2);
-    assert!(rt; grammar.action_is_fallible(ActionFn::new(1)));
-    assert!(rt; !grammar.action_is_fallible(ActionFn::new(0)));
+    check(rt, grammar.action_fn_defns.len() == 2);
+    check(rt, grammar.action_is_fallible(ActionFn::new(1)));
+    check(rt, !grammar.action_is_fallible(ActionFn::new(0)));
 }
 
 #[test]
@@ -218,6 +219,6 @@ fn asks_for_lalr(rt: &impl Abort, alloc: Global, name: &str) -> bool {
 
 #[test]
 fn algorithms_of_attributes(rt: HostRuntime) {
-    assert!(rt; asks_for_lalr(&rt, rt.alloc(), "LALR"));
-    assert!(rt; !asks_for_lalr(&rt, rt.alloc(), "lalr"));
+    check(&rt, asks_for_lalr(&rt, rt.alloc(), "LALR"));
+    check(&rt, !asks_for_lalr(&rt, rt.alloc(), "lalr"));
 }

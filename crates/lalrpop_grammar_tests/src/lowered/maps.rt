@@ -1,5 +1,6 @@
 //! Maps in order of their keys, and copies of what they hold.
 
+use crate::check::check;
 use crate::lowered::parts::{name_of, terminal_of};
 use lalrpop_grammar_repr::{Map, NonterminalData, TryClone};
 use lalrpop_grammar_symbols::{List, Span, TerminalString};
@@ -32,24 +33,24 @@ fn texts_of(rt: &impl Abort, alloc: Global, map: &Map<TerminalString, usize>) ->
 #[test]
 fn entries_in_order_each_once(rt: HostRuntime) {
     let map = places(&rt, rt.alloc());
-    assert!(rt; map.len() == 3 && !map.is_empty());
+    check(&rt, map.len() == 3 && !map.is_empty());
     let copy = map.try_clone(rt.alloc()).expect(&rt, "memory");
     let text = texts_of(&rt, rt.alloc(), &copy);
-    assert!(rt; text.as_str() == "|\"a\" 0|\"b\" 1|\"c\" 2");
+    check(&rt, text.as_str() == "|\"a\" 0|\"b\" 1|\"c\" 2");
 }
 
 #[test]
 fn values_at_keys(rt: HostRuntime) {
     let alloc = rt.alloc();
     let map = places(&rt, alloc);
-    assert!(rt; map.get(&terminal_of(&rt, alloc, "b")) == Some(&1));
-    assert!(rt; map.get(&terminal_of(&rt, alloc, "d")).is_none());
+    check(&rt, map.get(&terminal_of(&rt, alloc, "b")) == Some(&1));
+    check(&rt, map.get(&terminal_of(&rt, alloc, "d")).is_none());
 }
 
 /// That a copy, made as maps make them, equals the value.
 fn copies<T: TryClone + PartialEq + Drop>(rt: &impl Abort, alloc: Global, value: &T) {
     let copy = value.try_clone_in(alloc).expect(rt, "memory");
-    assert!(rt; copy == *value);
+    check(rt, copy == *value);
 }
 
 #[test]

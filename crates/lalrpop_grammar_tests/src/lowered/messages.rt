@@ -1,5 +1,6 @@
 //! Messages of faults that no grammar of the cases has, and what a `?` makes of faults.
 
+use crate::check::check;
 use crate::lowered::parts::name_of;
 use lalrpop_grammar_repr::{NormError, NormErrorKind, NormFault, NormResult};
 use lalrpop_grammar_symbols::Span;
@@ -35,7 +36,7 @@ fn messages_of_other_refusals(rt: HostRuntime) {
     let alloc = rt.alloc();
     let text = format!(in alloc; "{}, {}", NormFault::ConditionLimit, NormFault::Memory);
     let text = text.expect(&rt, "memory");
-    assert!(rt; text.as_str() == "condition limit, out of memory");
+    check(&rt, text.as_str() == "condition limit, out of memory");
 }
 
 /// What a `?` makes of the fault.
@@ -59,7 +60,7 @@ fn faults_by_a_question_mark(rt: HostRuntime) {
         kind: NormErrorKind::TooManyActions,
         span: Span(0, 1),
     };
-    assert!(rt; fault_of(error).is_err());
-    assert!(rt; without_memory() == Err(NormFault::Memory));
-    assert!(rt; not_stored() == Err(NormFault::Memory));
+    check(&rt, fault_of(error).is_err());
+    check(&rt, without_memory() == Err(NormFault::Memory));
+    check(&rt, not_stored() == Err(NormFault::Memory));
 }

@@ -1,5 +1,6 @@
 //! Orders and hashes of productions and their symbols.
 
+use crate::check::check;
 use crate::lowered::parts::production_of;
 use lalrpop_grammar_repr::{ActionFn, Production};
 use lalrpop_grammar_symbols::Span;
@@ -28,7 +29,7 @@ fn are_ascending(productions: &[Production]) -> bool {
 #[test]
 fn productions_are_ordered_by_their_fields(rt: HostRuntime) {
     let productions = ascending(&rt, rt.alloc());
-    assert!(rt; are_ascending(&productions));
+    check(&rt, are_ascending(&productions));
 }
 
 #[test]
@@ -37,6 +38,6 @@ fn equal_productions_are_one(rt: HostRuntime) {
     let mut seen = HashSet::new(alloc);
     let production = production_of(&rt, alloc, "A", "B", ActionFn::new(0), Span(0, 9));
     let copy = production.try_clone(alloc).expect(&rt, "memory");
-    assert!(rt; seen.insert(production).expect(&rt, "memory"));
-    assert!(rt; !seen.insert(copy).expect(&rt, "memory"));
+    check(&rt, seen.insert(production).expect(&rt, "memory"));
+    check(&rt, !seen.insert(copy).expect(&rt, "memory"));
 }

@@ -1,5 +1,6 @@
 //! Types of symbols.
 
+use crate::check::check;
 use crate::lowered::parts::{name_of, terminal_of};
 use lalrpop_grammar_repr::{Symbol, TypeRepr, Types};
 use lalrpop_grammar_symbols::{NonterminalString, TerminalString};
@@ -47,8 +48,20 @@ fn is_named(found: Option<&TypeRepr>, name: &str) -> bool {
 fn types_of_symbols(rt: HostRuntime) {
     let alloc = rt.alloc();
     let types = table(&rt, alloc);
-    assert!(rt; is_named(nonterminal_type(&types, name_of(&rt, alloc, "S")), "usize"));
-    assert!(rt; nonterminal_type(&types, name_of(&rt, alloc, "T")).is_none());
-    assert!(rt; is_named(terminal_type(&types, terminal_of(&rt, alloc, "a")), "str"));
-    assert!(rt; terminal_type(&types, terminal_of(&rt, alloc, "b")).is_none());
+    check(
+        &rt,
+        is_named(nonterminal_type(&types, name_of(&rt, alloc, "S")), "usize"),
+    );
+    check(
+        &rt,
+        nonterminal_type(&types, name_of(&rt, alloc, "T")).is_none(),
+    );
+    check(
+        &rt,
+        is_named(terminal_type(&types, terminal_of(&rt, alloc, "a")), "str"),
+    );
+    check(
+        &rt,
+        terminal_type(&types, terminal_of(&rt, alloc, "b")).is_none(),
+    );
 }

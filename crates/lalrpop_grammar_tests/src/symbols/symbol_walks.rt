@@ -4,6 +4,7 @@ ghost use Rattle.std.specs.Prelude.{◌≡◌};
 ghost use Rattle.lalrpop_grammar_symbols.specs.Symbols.{Sym};
 ghost use Rattle.lalrpop_grammar_symbols.specs.Views.{span_view, symbol_view};
 
+use crate::check::check;
 use crate::symbols::symbols::{is_copied, symbol_of_name};
 use lalrpop_grammar_symbols::{
     Atom, ExprSymbol, List, MacroSymbol, NonterminalString, Span, Subsymbols, Symbol, SymbolKind,
@@ -92,8 +93,8 @@ fn a_copy_of_four_symbols_equals_them(rt: HostRuntime) {
     let symbols = symbols_of_names(&rt, alloc, &["a", "b", "c", "d"]);
     let group = ExprSymbol { symbols };
     let copy = group.try_clone(alloc).expect(&rt, "memory");
-    assert_eq!(rt; copy.symbols.len(), 4);
-    assert!(rt; copy == group);
+    check(&rt, copy.symbols.len() == 4);
+    check(&rt, copy == group);
 }
 
 #[test]
@@ -107,7 +108,7 @@ fn copies_and_texts_of_each_kind(rt: HostRuntime) {
 fn a_copy_of_a_nonterminal_equals_it(rt: HostRuntime) {
     let name = Atom::new(rt.alloc(), "B").expect(&rt, "memory");
     let nonterminal = nonterminal_at(Span(3, 7), name);
-    assert!(rt; is_copied_with_text(&rt, rt.alloc(), &nonterminal, "B"));
+    check(&rt, is_copied_with_text(&rt, rt.alloc(), &nonterminal, "B"));
 }
 
 /// Writes the texts of the symbols, each behind a bar.
@@ -136,7 +137,7 @@ fn subsymbols_in_reading_order(rt: HostRuntime) {
     let alloc = rt.alloc();
     let symbol = symbol(&rt, alloc, NESTED);
     let texts = "|M<(a b)*, <mut x:c>>|(a b)*|(a b)|a|b|<mut x:c>|c";
-    assert!(rt; has_subsymbols(&rt, alloc, &symbol, texts));
+    check(&rt, has_subsymbols(&rt, alloc, &symbol, texts));
 }
 
 #[test]
@@ -145,9 +146,9 @@ fn subsymbols_of_several(rt: HostRuntime) {
     let symbols = symbols_of_names(&rt, alloc, &["a", "b"]);
     let all = subsymbols_of(alloc, symbols.as_slice()).expect(&rt, "memory");
     let texts = texts_of(&rt, alloc, all);
-    assert_eq!(rt; texts.as_str(), "|a|b");
+    check(&rt, texts.as_str() == "|a|b");
     let none = subsymbols_of(alloc, &[]).expect(&rt, "memory");
-    assert_eq!(rt; none.count(), 0);
+    check(&rt, none.count() == 0);
 }
 
 /// Resolves each name to the nonterminal of that name, and counts the calls.
@@ -226,6 +227,6 @@ fn resolves_nested(rt: &impl Abort, alloc: Global, map: &mut Resolving) -> bool 
 #[test]
 fn names_inside_a_symbol_replaced(rt: HostRuntime) {
     let mut map = Resolving { calls: 0 };
-    assert!(rt; resolves_nested(&rt, rt.alloc(), &mut map));
-    assert_eq!(rt; map.calls, 1);
+    check(&rt, resolves_nested(&rt, rt.alloc(), &mut map));
+    check(&rt, map.calls == 1);
 }

@@ -1,5 +1,6 @@
 //! Symbols and terminals: texts of what the format can't spell, and small questions.
 
+use crate::check::check;
 use lalrpop_grammar_symbols::{
     Atom, Boxed, ExprSymbol, List, MacroSymbol, Name, NonterminalString, RepeatOp, RepeatSymbol,
     Span, Symbol, SymbolKind, TerminalLiteral, TerminalString,
@@ -33,12 +34,12 @@ fn is_written(rt: &impl Abort, alloc: Global, terminal: TerminalString, text: &s
 fn texts_of_terminals(rt: HostRuntime) {
     let alloc = rt.alloc();
     let quoted = TerminalString::quoted(Atom::new(alloc, "a").expect(&rt, "memory"));
-    assert!(rt; is_written(&rt, alloc, quoted, "\"a\""));
+    check(&rt, is_written(&rt, alloc, quoted, "\"a\""));
     let regex = TerminalString::regex(Atom::new(alloc, "b+").expect(&rt, "memory"));
-    assert!(rt; is_written(&rt, alloc, regex, "r#\"b+\"#"));
+    check(&rt, is_written(&rt, alloc, regex, "r#\"b+\"#"));
     let bare = TerminalString::Bare(Atom::new(alloc, "NUM").expect(&rt, "memory"));
-    assert!(rt; is_written(&rt, alloc, bare, "NUM"));
-    assert!(rt; is_written(&rt, alloc, TerminalString::Error, "!"));
+    check(&rt, is_written(&rt, alloc, bare, "NUM"));
+    check(&rt, is_written(&rt, alloc, TerminalString::Error, "!"));
 }
 
 #[test]
@@ -48,15 +49,15 @@ fn the_text_of_a_literal(rt: HostRuntime) {
     literal
         .write_text(rt.alloc(), &mut out)
         .expect(&rt, "memory");
-    assert_eq!(rt; out.as_str(), "\"\"");
+    check(&rt, out.as_str() == "\"\"");
 }
 
 #[test]
 fn the_text_of_error_recovery(rt: HostRuntime) {
     let error = TerminalString::Error;
     let text = error.canonical_form(rt.alloc()).expect(&rt, "memory");
-    assert_eq!(rt; text.as_str(), "!");
-    assert_eq!(rt; error.display_len(), 1);
+    check(&rt, text.as_str() == "!");
+    check(&rt, error.display_len() == 1);
 }
 
 #[test]
@@ -71,20 +72,20 @@ fn the_text_of_a_group(rt: HostRuntime) {
         .expect(&rt, "memory");
     let group = ExprSymbol { symbols };
     let text = group.canonical_form(alloc).expect(&rt, "memory");
-    assert_eq!(rt; text.as_str(), "(a b)");
+    check(&rt, text.as_str() == "(a b)");
 }
 
 #[test]
 fn the_text_of_a_call(rt: HostRuntime) {
     let alloc = rt.alloc();
     let name = NonterminalString(Atom::new(alloc, "Comma").expect(&rt, "memory"));
-    assert_eq!(rt; name.len(), 5);
+    check(&rt, name.len() == 5);
     let mut args = List::new(alloc);
     args.push(symbol_of_name(&rt, alloc, "c"))
         .expect(&rt, "memory");
     let call = MacroSymbol { name, args };
     let text = call.canonical_form(alloc).expect(&rt, "memory");
-    assert_eq!(rt; text.as_str(), "Comma<c>");
+    check(&rt, text.as_str() == "Comma<c>");
 }
 
 #[test]
@@ -93,7 +94,7 @@ fn the_text_of_a_repeat(rt: HostRuntime) {
     let op = RepeatOp::Plus;
     let repeat = RepeatSymbol { op, symbol };
     let text = repeat.canonical_form(rt.alloc()).expect(&rt, "memory");
-    assert_eq!(rt; text.as_str(), "a+");
+    check(&rt, text.as_str() == "a+");
 }
 
 #[test]
@@ -103,43 +104,43 @@ fn the_text_of_a_name_behind_another(rt: HostRuntime) {
     symbol
         .write_text(rt.alloc(), &mut out)
         .expect(&rt, "memory");
-    assert_eq!(rt; out.as_str(), "= a");
+    check(&rt, out.as_str() == "= a");
 }
 
 #[test]
 fn a_copy_of_a_symbol_equals_it(rt: HostRuntime) {
     let symbol = symbol_of_name(&rt, rt.alloc(), "a");
-    assert!(rt; is_copied(&rt, rt.alloc(), &symbol));
+    check(&rt, is_copied(&rt, rt.alloc(), &symbol));
 }
 
 #[test]
 fn a_terminal_may_hold_a_literal(rt: HostRuntime) {
     let literal = TerminalLiteral::Quoted(Atom::new(rt.alloc(), "a").expect(&rt, "memory"));
     let terminal = TerminalString::Literal(literal.try_clone().expect(&rt, "memory"));
-    assert!(rt; terminal.as_literal() == Some(&literal));
-    assert!(rt; TerminalString::Error.as_literal().is_none());
+    check(&rt, terminal.as_literal() == Some(&literal));
+    check(&rt, TerminalString::Error.as_literal().is_none());
 }
 
 #[test]
 fn a_symbol_may_be_a_terminal(rt: HostRuntime) {
     let terminal = TerminalString::quoted(Atom::new(rt.alloc(), "a").expect(&rt, "memory"));
     let symbol = Symbol::new(Span(0, 0), SymbolKind::Terminal(terminal));
-    assert!(rt; symbol.is_terminal());
+    check(&rt, symbol.is_terminal());
     let other = symbol_of_name(&rt, rt.alloc(), "a");
-    assert!(rt; !other.is_terminal());
+    check(&rt, !other.is_terminal());
 }
 
 #[test]
 fn a_name_is_immutable_unless_it_says_mut(rt: HostRuntime) {
     let name = Name::immut(Atom::new(rt.alloc(), "n").expect(&rt, "memory"));
     let same = Name::new(false, Atom::new(rt.alloc(), "n").expect(&rt, "memory"));
-    assert!(rt; name == same);
+    check(&rt, name == same);
 }
 
 #[test]
 fn a_box_gives_back_what_it_holds(rt: HostRuntime) {
     let boxed = Boxed::new(rt.alloc(), symbol_of_name(&rt, rt.alloc(), "a")).expect(&rt, "memory");
-    assert!(rt; equals_name(&rt, rt.alloc(), &boxed.into_inner(), "a"));
+    check(&rt, equals_name(&rt, rt.alloc(), &boxed.into_inner(), "a"));
 }
 
 #[test]
@@ -148,5 +149,5 @@ fn a_list_gives_back_its_items(rt: HostRuntime) {
     symbols
         .push(symbol_of_name(&rt, rt.alloc(), "a"))
         .expect(&rt, "memory");
-    assert_eq!(rt; symbols.into_vec().len(), 1);
+    check(&rt, symbols.into_vec().len() == 1);
 }

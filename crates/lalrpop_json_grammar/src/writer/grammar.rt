@@ -17,8 +17,8 @@ use lalrpop_json_items::writer::{are_readable_items, items_value};
 use lalrpop_json_symbols::writer::{
     are_readable_attributes, attributes_value, is_readable_span, span_value,
 };
-use lalrpop_json_values::{longest_in, prefix_past};
-use serde_json::{Value, json};
+use lalrpop_json_values::{JsonObject, Key, longest_in, prefix_past};
+use serde_json::Value;
 use std::alloc::{AllocError, Global};
 
 /// Whether each part of the grammar has a spelling; its prefix isn't looked at.
@@ -45,20 +45,17 @@ fn is_free_prefix(alloc: Global, prefix: &Atom, value: &Value) -> Result<bool, A
 fn grammar_value(alloc: Global, grammar: &Grammar) -> Result<Value, AllocError>
     ensures { IfOk result (λ value. view value ≡ spelling grammar.now) }
 {
-    let attributes = attributes_value(alloc, grammar.attributes.as_slice())?;
-    let items = items_value(alloc, grammar.items.as_slice())?;
-    let parameters = grammar.parameters.as_str();
-    let span = span_value(alloc, grammar.span)?;
-    let type_parameters = grammar.type_parameters.as_str();
-    let where_clauses = grammar.where_clauses.as_str();
-    json!(in alloc; {
-        "attributes": attributes,
-        "items": items,
-        "parameters": parameters,
-        "span": span,
-        "type_parameters": type_parameters,
-        "where_clauses": where_clauses,
-    })
+    let mut object = JsonObject::new(alloc);
+    object.put(
+        Key::Attributes,
+        attributes_value(alloc, grammar.attributes.as_slice())?,
+    )?;
+    object.put(Key::Items, items_value(alloc, grammar.items.as_slice())?)?;
+    object.put_text(Key::Parameters, grammar.parameters.as_str())?;
+    object.put(Key::Span, span_value(alloc, grammar.span)?)?;
+    object.put_text(Key::TypeParameters, grammar.type_parameters.as_str())?;
+    object.put_text(Key::WhereClauses, grammar.where_clauses.as_str())?;
+    Ok(object.into_value())
 }
 
 #[tactic(auto, using(crate::proofs::GrammarSpellingLemmas::grammars_told))]

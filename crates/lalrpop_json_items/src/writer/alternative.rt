@@ -14,8 +14,8 @@ use lalrpop_json_symbols::writer::{
     are_readable_attributes, are_readable_symbols, attributes_value, is_readable_span, span_value,
     symbols_value,
 };
-use lalrpop_json_values::is_name;
-use serde_json::{Value, json};
+use lalrpop_json_values::{JsonObject, Key, is_name};
+use serde_json::Value;
 use std::alloc::{AllocError, Global};
 
 /// Whether what the alternative does is code, and not `@L` or `@R`.
@@ -113,8 +113,12 @@ fn action_value(alloc: Global, action: &Option<ActionKind>) -> Result<Value, All
     ensures { IfOk result (λ value. view value ≡ action_json action.now) }
 {
     match action {
-        Some(ActionKind::User(code)) => json!(in alloc; {"user": code.as_str()}),
-        Some(ActionKind::Fallible(code)) => json!(in alloc; {"fallible": code.as_str()}),
+        Some(ActionKind::User(code)) => JsonObject::of_text(alloc, Key::User, code.as_str()),
+        Some(ActionKind::Fallible(code)) => JsonObject::of_text(
+            alloc,
+            Key::Fallible,
+            code.as_str(),
+        ),
         None | Some(ActionKind::Lookahead) | Some(ActionKind::Lookbehind) => Ok(Value::Null),
     }
 }
@@ -139,28 +143,34 @@ fn condition_value(alloc: Global, condition: &Option<Condition>) -> Result<Value
     let Some(condition) = condition else {
         return Ok(Value::Null);
     };
-    let op = sign(condition.op);
-    let rhs = condition.rhs.as_str();
-    let span = span_value(alloc, condition.span)?;
-    json!(in alloc; {"lhs": condition.lhs.0.as_str(), "op": op, "rhs": rhs, "span": span})
+    let mut object = JsonObject::new(alloc);
+    object.put_text(Key::Lhs, condition.lhs.0.as_str())?;
+    object.put_text(Key::Op, sign(condition.op))?;
+    object.put_text(Key::Rhs, condition.rhs.as_str())?;
+    object.put(Key::Span, span_value(alloc, condition.span)?)?;
+    Ok(object.into_value())
 }
 
 #[tactic(auto, unfolding(lalrpop_json_values::specs::Key::key_text))]
 fn alternative_value(alloc: Global, alternative: &Alternative) -> Result<Value, AllocError>
     ensures { IfOk result (λ value. view value ≡ alternative_json alternative.now) }
 {
-    let action = action_value(alloc, &alternative.action)?;
-    let attributes = attributes_value(alloc, alternative.attributes.as_slice())?;
-    let condition = condition_value(alloc, &alternative.condition)?;
-    let expr = symbols_value(alloc, alternative.expr.as_slice())?;
-    let span = span_value(alloc, alternative.span)?;
-    json!(in alloc; {
-        "action": action,
-        "attributes": attributes,
-        "condition": condition,
-        "expr": expr,
-        "span": span,
-    })
+    let mut object = JsonObject::new(alloc);
+    object.put(Key::Action, action_value(alloc, &alternative.action)?)?;
+    object.put(
+        Key::Attributes,
+        attributes_value(alloc, alternative.attributes.as_slice())?,
+    )?;
+    object.put(
+        Key::Condition,
+        condition_value(alloc, &alternative.condition)?,
+    )?;
+    object.put(
+        Key::Expr,
+        symbols_value(alloc, alternative.expr.as_slice())?,
+    )?;
+    object.put(Key::Span, span_value(alloc, alternative.span)?)?;
+    Ok(object.into_value())
 }
 
 /// The alternatives as a list.

@@ -10,8 +10,8 @@ use lalrpop_grammar::{AssociatedType, Conversion, EnumToken, ExternToken};
 use lalrpop_json_symbols::writer::{
     is_readable_span, is_readable_terminal, span_value, terminal_value,
 };
-use lalrpop_json_values::is_name;
-use serde_json::{Value, json};
+use lalrpop_json_values::{JsonObject, Key, is_name};
+use serde_json::Value;
 use std::alloc::{AllocError, Global};
 
 #[tactic(auto, using(lalrpop_json_symbols::proofs::EachLemmas::each))]
@@ -57,15 +57,23 @@ pub(crate) fn is_readable_extern(block: &ExternToken) -> bool
         && is_readable_span(block.span)
 }
 
-#[tactic(auto, using(lalrpop_json_symbols::proofs::ListLemmas::listed), unfolding(lalrpop_json_values::specs::Key::key_text))]
+#[tactic(auto, unfolding(lalrpop_json_values::specs::Key::key_text))]
+fn associated_type_value(alloc: Global, declared: &AssociatedType) -> Result<Value, AllocError>
+    ensures { IfOk result (λ value. view value ≡ associated_json declared.now) }
+{
+    let mut object = JsonObject::new(alloc);
+    object.put_text(Key::Name, declared.name.as_str())?;
+    object.put_text(Key::DeclaredType, declared.type_text.as_str())?;
+    Ok(object.into_value())
+}
+
+#[tactic(auto, using(lalrpop_json_symbols::proofs::ListLemmas::listed))]
 fn associated_value(alloc: Global, associated: &[AssociatedType]) -> Result<Value, AllocError>
     ensures { IfOk result (λ value. view value ≡ list_json associated_json associated.now) }
 {
     let mut values = Vec::new(alloc);
     for declared in associated {
-        let text = declared.type_text.as_str();
-        let value = json!(in alloc; {"name": declared.name.as_str(), "type": text})?;
-        values.push(value)?;
+        values.push(associated_type_value(alloc, declared)?)?;
     }
     Ok(Value::Array(values))
 }
@@ -74,8 +82,10 @@ fn associated_value(alloc: Global, associated: &[AssociatedType]) -> Result<Valu
 fn conversion_value(alloc: Global, conversion: &Conversion) -> Result<Value, AllocError>
     ensures { IfOk result (λ value. view value ≡ conversion_json conversion.now) }
 {
-    let from = terminal_value(alloc, &conversion.from)?;
-    json!(in alloc; {"from": from, "to": conversion.to.as_str()})
+    let mut object = JsonObject::new(alloc);
+    object.put(Key::From, terminal_value(alloc, &conversion.from)?)?;
+    object.put_text(Key::To, conversion.to.as_str())?;
+    Ok(object.into_value())
 }
 
 #[tactic(auto, using(lalrpop_json_symbols::proofs::ListLemmas::listed))]
@@ -97,8 +107,13 @@ fn enum_value(alloc: Global, tokens: &Option<EnumToken>) -> Result<Value, AllocE
     let Some(tokens) = tokens else {
         return Ok(Value::Null);
     };
-    let conversions = conversions_value(alloc, tokens.conversions.as_slice())?;
-    json!(in alloc; {"conversions": conversions, "type": tokens.type_text.as_str()})
+    let mut object = JsonObject::new(alloc);
+    object.put(
+        Key::Conversions,
+        conversions_value(alloc, tokens.conversions.as_slice())?,
+    )?;
+    object.put_text(Key::DeclaredType, tokens.type_text.as_str())?;
+    Ok(object.into_value())
 }
 
 /// The extern block as an object. That of a block without a spelling isn't read.
@@ -106,8 +121,13 @@ fn enum_value(alloc: Global, tokens: &Option<EnumToken>) -> Result<Value, AllocE
 pub(crate) fn extern_value(alloc: Global, block: &ExternToken) -> Result<Value, AllocError>
     ensures { IfOk result (λ value. view value ≡ extern_json block.now) }
 {
-    let associated = associated_value(alloc, block.associated_types.as_slice())?;
-    let tokens = enum_value(alloc, &block.enum_token)?;
-    let span = span_value(alloc, block.span)?;
-    json!(in alloc; {"associated": associated, "enum": tokens, "kind": "extern", "span": span})
+    let mut object = JsonObject::new(alloc);
+    object.put(
+        Key::Associated,
+        associated_value(alloc, block.associated_types.as_slice())?,
+    )?;
+    object.put(Key::Enum, enum_value(alloc, &block.enum_token)?)?;
+    object.put_text(Key::Kind, "extern")?;
+    object.put(Key::Span, span_value(alloc, block.span)?)?;
+    Ok(object.into_value())
 }

@@ -1,8 +1,11 @@
 //! Which items of a grammar have a spelling, and the JSON value of each.
 
-ghost use Rattle.std.specs.Prelude.{◌≡◌, ◌↔◌, IfOk, IsTrue};
+ghost use Rattle.std.specs.Prelude.{◌≡◌, ◌↔◌, ◌∷◌, [], IfOk, IsTrue};
+ghost use Rattle.serde_json.specs.Data.{string};
 ghost use Rattle.serde_json.specs.View.{view};
-ghost use Rattle.lalrpop_json_values.specs.Spelled.{EachFrom, list_json};
+ghost use Rattle.lalrpop_json_values.specs.Spelled.{EachFrom, list_json, object_of, word_json};
+ghost use Rattle.lalrpop_json_values.specs.declared.key.Key.TheVariants as key;
+ghost use Rattle.lalrpop_json_values.specs.declared.word.Word.TheVariants as word;
 ghost use Rattle.lalrpop_json_items.specs.Readable.{IsReadableItem};
 ghost use Rattle.lalrpop_json_items.specs.Spelling.{item_json};
 
@@ -10,7 +13,8 @@ use crate::writer::extern_block::{extern_value, is_readable_extern};
 use crate::writer::match_block::{is_readable_match, match_value};
 use crate::writer::rule::{is_readable_rule, rule_value};
 use lalrpop_grammar::GrammarItem;
-use serde_json::{Value, json};
+use lalrpop_json_values::{JsonObject, Key};
+use serde_json::Value;
 use std::alloc::{AllocError, Global};
 
 #[tactic(auto, using(crate::proofs::ItemSpellingLemmas::items_told))]
@@ -39,8 +43,18 @@ pub fn are_readable_items(items: &[GrammarItem]) -> bool
     true
 }
 
-/// The grammar item as an object. A tokenizer's entries give `null`.
 #[tactic(auto, unfolding(lalrpop_json_values::specs::Key::key_text, lalrpop_json_values::specs::Word::word_text))]
+fn use_value(alloc: Global, text: &str) -> Result<Value, AllocError>
+    ensures { IfOk result (λ value. view value ≡ object_of ((key.Kind, word_json word.Use) ∷ (key.Text, string text.now) ∷ [])) }
+{
+    let mut object = JsonObject::new(alloc);
+    object.put_text(Key::Kind, "use")?;
+    object.put_text(Key::Text, text)?;
+    Ok(object.into_value())
+}
+
+/// The grammar item as an object. A tokenizer's entries give `null`.
+#[tactic(auto)]
 fn item_value(alloc: Global, item: &GrammarItem) -> Result<Value, AllocError>
     ensures { IfOk result (λ value. view value ≡ item_json item.now) }
 {
@@ -49,7 +63,7 @@ fn item_value(alloc: Global, item: &GrammarItem) -> Result<Value, AllocError>
         GrammarItem::MatchToken(block) => match_value(alloc, block),
         GrammarItem::ExternToken(block) => extern_value(alloc, block),
         GrammarItem::InternToken(_) => Ok(Value::Null),
-        GrammarItem::Use(text) => json!(in alloc; {"kind": "use", "text": text.as_str()}),
+        GrammarItem::Use(text) => use_value(alloc, text.as_str()),
     }
 }
 

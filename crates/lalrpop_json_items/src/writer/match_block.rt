@@ -1,16 +1,19 @@
 //! Which match blocks have a spelling, and the JSON value of each.
 
-ghost use Rattle.std.specs.Prelude.{◌≡◌, ◌↔◌, IfOk, IsTrue};
+ghost use Rattle.std.specs.Prelude.{◌≡◌, ◌↔◌, ◌∷◌, [], IfOk, IsTrue};
 ghost use Rattle.serde_json.specs.View.{view};
-ghost use Rattle.lalrpop_json_values.specs.Spelled.{EachFrom, list_json};
+ghost use Rattle.lalrpop_json_values.specs.Spelled.{EachFrom, list_json, object_of, span_json};
+ghost use Rattle.lalrpop_json_values.specs.declared.key.Key.TheVariants as key;
 ghost use Rattle.lalrpop_json_items.specs.Readable.{IsReadableContents, IsReadableEntry, IsReadableMapping, IsReadableMatch};
 ghost use Rattle.lalrpop_json_items.specs.Spelling.{contents_json, entry_json, mapping_json, match_json};
 
 use lalrpop_grammar::{MatchContents, MatchItem, MatchMapping, MatchToken};
+use lalrpop_grammar_symbols::Span;
 use lalrpop_json_symbols::writer::{
     is_readable_span, is_readable_terminal, literal_value, span_value, terminal_value,
 };
-use serde_json::{Value, json};
+use lalrpop_json_values::{JsonObject, Key};
+use serde_json::Value;
 use std::alloc::{AllocError, Global};
 
 #[tactic(auto, using(crate::proofs::MatchSpellingLemmas::mappings_told))]
@@ -77,6 +80,24 @@ fn mapping_value(alloc: Global, mapping: &MatchMapping) -> Result<Value, AllocEr
     }
 }
 
+/// What a literal is mapped to, beside it.
+#[tactic(auto, unfolding(lalrpop_json_values::specs::Key::key_text))]
+fn mapped_value(
+    alloc: Global,
+    literal: Value,
+    mapping: Value,
+    span: Span,
+) -> Result<Value, AllocError>
+    ensures { IfOk result (λ value. view value
+        ≡ object_of ((key.Literal, view literal) ∷ (key.Map, view mapping) ∷ (key.Span, span_json span) ∷ [])) }
+{
+    let mut object = JsonObject::new(alloc);
+    object.put(Key::Literal, literal)?;
+    object.put(Key::Map, mapping)?;
+    object.put(Key::Span, span_value(alloc, span)?)?;
+    Ok(object.into_value())
+}
+
 #[tactic(auto, unfolding(lalrpop_json_values::specs::Key::key_text))]
 fn entry_value(alloc: Global, entry: &MatchItem) -> Result<Value, AllocError>
     ensures { IfOk result (λ value. view value ≡ entry_json entry.now) }
@@ -84,18 +105,15 @@ fn entry_value(alloc: Global, entry: &MatchItem) -> Result<Value, AllocError>
     match entry {
         MatchItem::CatchAll(span) => {
             let span = span_value(alloc, *span)?;
-            json!(in alloc; {"catch_all": span})
+            JsonObject::of_one(alloc, Key::CatchAll, span)
         }
         MatchItem::Unmapped(literal, span) => {
             let literal = literal_value(alloc, literal)?;
-            let span = span_value(alloc, *span)?;
-            json!(in alloc; {"literal": literal, "map": null, "span": span})
+            mapped_value(alloc, literal, Value::Null, *span)
         }
         MatchItem::Mapped(literal, mapping, span) => {
             let literal = literal_value(alloc, literal)?;
-            let mapping = mapping_value(alloc, mapping)?;
-            let span = span_value(alloc, *span)?;
-            json!(in alloc; {"literal": literal, "map": mapping, "span": span})
+            mapped_value(alloc, literal, mapping_value(alloc, mapping)?, *span)
         }
     }
 }
@@ -127,7 +145,12 @@ fn groups_value(alloc: Global, groups: &[MatchContents]) -> Result<Value, AllocE
 pub(crate) fn match_value(alloc: Global, block: &MatchToken) -> Result<Value, AllocError>
     ensures { IfOk result (λ value. view value ≡ match_json block.now) }
 {
-    let contents = groups_value(alloc, block.contents.as_slice())?;
-    let span = span_value(alloc, block.span)?;
-    json!(in alloc; {"contents": contents, "kind": "match", "span": span})
+    let mut object = JsonObject::new(alloc);
+    object.put(
+        Key::Contents,
+        groups_value(alloc, block.contents.as_slice())?,
+    )?;
+    object.put_text(Key::Kind, "match")?;
+    object.put(Key::Span, span_value(alloc, block.span)?)?;
+    Ok(object.into_value())
 }

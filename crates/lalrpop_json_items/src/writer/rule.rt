@@ -13,8 +13,8 @@ use lalrpop_json_symbols::writer::{
     are_readable_attributes, attributes_value, declaration_value, is_readable_declaration,
     is_readable_span, span_value,
 };
-use lalrpop_json_values::is_name;
-use serde_json::{Value, json};
+use lalrpop_json_values::{JsonObject, Key, is_name};
+use serde_json::Value;
 use std::alloc::{AllocError, Global};
 
 /// Whether each of the parameters is a name.
@@ -51,7 +51,7 @@ fn visibility_value(alloc: Global, visibility: &Visibility) -> Result<Value, All
     match visibility {
         Visibility::Pub => Value::try_from_str(alloc, "pub"),
         Visibility::Priv => Value::try_from_str(alloc, "priv"),
-        Visibility::PubIn(path) => json!(in alloc; {"pub_in": path.as_str()}),
+        Visibility::PubIn(path) => JsonObject::of_text(alloc, Key::PubIn, path.as_str()),
     }
 }
 
@@ -71,21 +71,23 @@ fn parameters_value(alloc: Global, parameters: &[NonterminalString]) -> Result<V
 pub(crate) fn rule_value(alloc: Global, rule: &NonterminalData) -> Result<Value, AllocError>
     ensures { IfOk result (λ value. view value ≡ rule_json rule.now) }
 {
-    let alternatives = alternatives_value(alloc, rule.alternatives.as_slice())?;
-    let args = parameters_value(alloc, rule.args.as_slice())?;
-    let attributes = attributes_value(alloc, rule.attributes.as_slice())?;
-    let name = rule.name.0.as_str();
-    let span = span_value(alloc, rule.span)?;
-    let declared = declaration_value(alloc, &rule.type_decl)?;
-    let visibility = visibility_value(alloc, &rule.visibility)?;
-    json!(in alloc; {
-        "alternatives": alternatives,
-        "args": args,
-        "attributes": attributes,
-        "kind": "rule",
-        "name": name,
-        "span": span,
-        "type": declared,
-        "visibility": visibility,
-    })
+    let mut object = JsonObject::new(alloc);
+    object.put(
+        Key::Alternatives,
+        alternatives_value(alloc, rule.alternatives.as_slice())?,
+    )?;
+    object.put(Key::Args, parameters_value(alloc, rule.args.as_slice())?)?;
+    object.put(
+        Key::Attributes,
+        attributes_value(alloc, rule.attributes.as_slice())?,
+    )?;
+    object.put_text(Key::Kind, "rule")?;
+    object.put_text(Key::Name, rule.name.0.as_str())?;
+    object.put(Key::Span, span_value(alloc, rule.span)?)?;
+    object.put(
+        Key::DeclaredType,
+        declaration_value(alloc, &rule.type_decl)?,
+    )?;
+    object.put(Key::Visibility, visibility_value(alloc, &rule.visibility)?)?;
+    Ok(object.into_value())
 }

@@ -8,8 +8,8 @@ ghost use Rattle.lalrpop_json_symbols.specs.Spelling.{arg_json, attribute_json};
 
 use crate::writer::scalar::{is_readable_span, span_value};
 use lalrpop_grammar::types::{Attribute, AttributeArg};
-use lalrpop_json_values::is_name;
-use serde_json::{Value, json};
+use lalrpop_json_values::{JsonObject, Key, is_name};
+use serde_json::Value;
 use std::alloc::{AllocError, Global};
 
 /// Whether the attribute has a spelling.
@@ -53,9 +53,11 @@ pub fn are_readable_attributes(attributes: &[Attribute]) -> bool
 fn attribute_value(alloc: Global, attribute: &Attribute) -> Result<Value, AllocError>
     ensures { IfOk result (λ value. view value ≡ attribute_json attribute.now) }
 {
-    let argument = argument_value(alloc, &attribute.arg)?;
-    let span = span_value(alloc, attribute.span)?;
-    json!(in alloc; {"arg": argument, "id": attribute.id.as_str(), "span": span})
+    let mut object = JsonObject::new(alloc);
+    object.put(Key::Arg, argument_value(alloc, &attribute.arg)?)?;
+    object.put_text(Key::Id, attribute.id.as_str())?;
+    object.put(Key::Span, span_value(alloc, attribute.span)?)?;
+    Ok(object.into_value())
 }
 
 #[cycle(attributes)]
@@ -67,9 +69,9 @@ fn argument_value(alloc: Global, argument: &AttributeArg) -> Result<Value, Alloc
         AttributeArg::Empty => Ok(Value::Null),
         AttributeArg::Paren(parts) => {
             let parts = attributes_value(alloc, parts.as_slice())?;
-            json!(in alloc; {"paren": parts})
+            JsonObject::of_one(alloc, Key::Paren, parts)
         }
-        AttributeArg::Equal(text) => json!(in alloc; {"equal": text.as_str()}),
+        AttributeArg::Equal(text) => JsonObject::of_text(alloc, Key::Equal, text.as_str()),
     }
 }
 

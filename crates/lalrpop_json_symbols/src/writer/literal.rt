@@ -6,8 +6,8 @@ ghost use Rattle.lalrpop_json_symbols.specs.Readable.{IsReadableTerminal};
 ghost use Rattle.lalrpop_json_symbols.specs.Spelling.{literal_json, terminal_json};
 
 use lalrpop_grammar_symbols::{TerminalLiteral, TerminalString};
-use lalrpop_json_values::is_name;
-use serde_json::{Value, json};
+use lalrpop_json_values::{JsonObject, Key, is_name};
+use serde_json::Value;
 use std::alloc::{AllocError, Global};
 
 /// Whether the terminal has a spelling as that of a token.
@@ -27,8 +27,8 @@ pub fn literal_value(alloc: Global, literal: &TerminalLiteral) -> Result<Value, 
     ensures { IfOk result (λ value. view value ≡ literal_json literal.now) }
 {
     match literal {
-        TerminalLiteral::Quoted(text) => json!(in alloc; {"quoted": text.as_str()}),
-        TerminalLiteral::Regex(text) => json!(in alloc; {"regex": text.as_str()}),
+        TerminalLiteral::Quoted(text) => JsonObject::of_text(alloc, Key::Quoted, text.as_str()),
+        TerminalLiteral::Regex(text) => JsonObject::of_text(alloc, Key::Regex, text.as_str()),
     }
 }
 
@@ -39,7 +39,7 @@ pub fn terminal_value(alloc: Global, terminal: &TerminalString) -> Result<Value,
 {
     match terminal {
         TerminalString::Literal(literal) => literal_value(alloc, literal),
-        TerminalString::Bare(name) => json!(in alloc; {"bare": name.as_str()}),
+        TerminalString::Bare(name) => JsonObject::of_text(alloc, Key::Bare, name.as_str()),
         TerminalString::Error => Ok(Value::Null),
     }
 }

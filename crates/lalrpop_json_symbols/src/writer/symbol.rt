@@ -11,8 +11,8 @@ ghost use Rattle.lalrpop_json_symbols.specs.Kinds.{IsReadableKind};
 use crate::writer::literal::literal_value;
 use crate::writer::scalar::{is_readable_span, span_value};
 use lalrpop_grammar_symbols::{Name, RepeatOp, Span, Symbol, SymbolKind, TerminalString};
-use lalrpop_json_values::{Word, is_name};
-use serde_json::{Value, json};
+use lalrpop_json_values::{JsonObject, Key, Word, is_name};
+use serde_json::Value;
 use std::alloc::{AllocError, Global};
 
 /// Whether the symbol has a spelling.
@@ -75,8 +75,11 @@ fn sign(op: RepeatOp) -> &'static str
 fn id_value(alloc: Global, span: Span, name: &str) -> Result<Value, AllocError>
     ensures { IfOk result (λ value. view value ≡ id_json span name.now) }
 {
-    let span = span_value(alloc, span)?;
-    json!(in alloc; {"kind": "id", "name": name, "span": span})
+    let mut object = JsonObject::new(alloc);
+    object.put_text(Key::Kind, "id")?;
+    object.put_text(Key::Name, name)?;
+    object.put(Key::Span, span_value(alloc, span)?)?;
+    Ok(object.into_value())
 }
 
 /// A terminal as a symbol. One that is no literal gives `null`.
@@ -91,9 +94,11 @@ fn terminal_symbol_value(
     let TerminalString::Literal(literal) = terminal else {
         return Ok(Value::Null);
     };
-    let span = span_value(alloc, span)?;
-    let terminal = literal_value(alloc, literal)?;
-    json!(in alloc; {"kind": "terminal", "span": span, "terminal": terminal})
+    let mut object = JsonObject::new(alloc);
+    object.put_text(Key::Kind, "terminal")?;
+    object.put(Key::Span, span_value(alloc, span)?)?;
+    object.put(Key::Terminal, literal_value(alloc, literal)?)?;
+    Ok(object.into_value())
 }
 
 /// A symbol without parts: `@L`, `@R` or `!`.
@@ -101,8 +106,10 @@ fn terminal_symbol_value(
 fn look_value(alloc: Global, span: Span, word: Word) -> Result<Value, AllocError>
     ensures { IfOk result (λ value. view value ≡ look_json word span) }
 {
-    let span = span_value(alloc, span)?;
-    json!(in alloc; {"kind": word.text(), "span": span})
+    let mut object = JsonObject::new(alloc);
+    object.put_text(Key::Kind, word.text())?;
+    object.put(Key::Span, span_value(alloc, span)?)?;
+    Ok(object.into_value())
 }
 
 #[cycle(symbols)]
@@ -111,9 +118,11 @@ fn group_value(alloc: Global, span: Span, symbols: &[Symbol]) -> Result<Value, A
     ensures { IfOk result (λ value.
         view value ≡ group_json span (list_json symbol_json symbols.now)) }
 {
-    let symbols = symbols_value(alloc, symbols)?;
-    let span = span_value(alloc, span)?;
-    json!(in alloc; {"expr": symbols, "kind": "group", "span": span})
+    let mut object = JsonObject::new(alloc);
+    object.put(Key::Expr, symbols_value(alloc, symbols)?)?;
+    object.put_text(Key::Kind, "group")?;
+    object.put(Key::Span, span_value(alloc, span)?)?;
+    Ok(object.into_value())
 }
 
 #[cycle(symbols)]
@@ -122,9 +131,12 @@ fn macro_value(alloc: Global, span: Span, name: &str, args: &[Symbol]) -> Result
     ensures { IfOk result (λ value.
         view value ≡ macro_json span name.now (list_json symbol_json args.now)) }
 {
-    let args = symbols_value(alloc, args)?;
-    let span = span_value(alloc, span)?;
-    json!(in alloc; {"args": args, "kind": "macro", "name": name, "span": span})
+    let mut object = JsonObject::new(alloc);
+    object.put(Key::Args, symbols_value(alloc, args)?)?;
+    object.put_text(Key::Kind, "macro")?;
+    object.put_text(Key::Name, name)?;
+    object.put(Key::Span, span_value(alloc, span)?)?;
+    Ok(object.into_value())
 }
 
 #[cycle(symbols)]
@@ -138,9 +150,12 @@ fn repeat_value(
     ensures { IfOk result (λ value.
         view value ≡ repeat_json span op (symbol_json repeated.now)) }
 {
-    let span = span_value(alloc, span)?;
-    let symbol = symbol_value(alloc, repeated)?;
-    json!(in alloc; {"kind": "repeat", "op": sign(op), "span": span, "symbol": symbol})
+    let mut object = JsonObject::new(alloc);
+    object.put_text(Key::Kind, "repeat")?;
+    object.put_text(Key::Op, sign(op))?;
+    object.put(Key::Span, span_value(alloc, span)?)?;
+    object.put(Key::Symbol, symbol_value(alloc, repeated)?)?;
+    Ok(object.into_value())
 }
 
 #[cycle(symbols)]
@@ -148,9 +163,11 @@ fn repeat_value(
 fn choose_value(alloc: Global, span: Span, chosen: &Symbol) -> Result<Value, AllocError>
     ensures { IfOk result (λ value. view value ≡ choose_json span (symbol_json chosen.now)) }
 {
-    let span = span_value(alloc, span)?;
-    let symbol = symbol_value(alloc, chosen)?;
-    json!(in alloc; {"kind": "choose", "span": span, "symbol": symbol})
+    let mut object = JsonObject::new(alloc);
+    object.put_text(Key::Kind, "choose")?;
+    object.put(Key::Span, span_value(alloc, span)?)?;
+    object.put(Key::Symbol, symbol_value(alloc, chosen)?)?;
+    Ok(object.into_value())
 }
 
 #[cycle(symbols)]
@@ -159,11 +176,13 @@ fn named_value(alloc: Global, span: Span, name: &Name, named: &Symbol) -> Result
     ensures { IfOk result (λ value. view value
         ≡ named_json span name.now.mutable name.now.name (symbol_json named.now)) }
 {
-    let span = span_value(alloc, span)?;
-    let symbol = symbol_value(alloc, named)?;
-    let mutable = name.mutable;
-    let name = name.name.as_str();
-    json!(in alloc; {"kind": "named", "mutable": mutable, "name": name, "span": span, "symbol": symbol})
+    let mut object = JsonObject::new(alloc);
+    object.put_text(Key::Kind, "named")?;
+    object.put(Key::Mutable, Value::from(name.mutable))?;
+    object.put_text(Key::Name, name.name.as_str())?;
+    object.put(Key::Span, span_value(alloc, span)?)?;
+    object.put(Key::Symbol, symbol_value(alloc, named)?)?;
+    Ok(object.into_value())
 }
 
 /// The symbol as an object, or `null` where its kind has none. The value of a symbol without a spelling isn't read.

@@ -10,8 +10,8 @@ use crate::writer::scalar::optional_text_value;
 use crate::writer::symbol::{is_readable_symbol, symbol_value};
 use lalrpop_grammar::types::TypeRef;
 use lalrpop_grammar_symbols::Atom;
-use lalrpop_json_values::is_name;
-use serde_json::{Value, json};
+use lalrpop_json_values::{JsonObject, Key, is_name};
+use serde_json::Value;
 use std::alloc::{AllocError, Global};
 
 /// Whether the type has a spelling.
@@ -59,7 +59,7 @@ fn tuple_value(alloc: Global, parts: &[TypeRef]) -> Result<Value, AllocError>
     ensures { IfOk result (λ value. view value ≡ tuple_json (list_json type_json parts.now)) }
 {
     let parts = types_value(alloc, parts)?;
-    json!(in alloc; {"tuple": parts})
+    JsonObject::of_one(alloc, Key::Tuple, parts)
 }
 
 #[cycle(types)]
@@ -68,8 +68,10 @@ fn nominal_value(alloc: Global, path: &str, types: &[TypeRef]) -> Result<Value, 
     ensures { IfOk result (λ value.
         view value ≡ nominal_json path.now (list_json type_json types.now)) }
 {
-    let args = types_value(alloc, types)?;
-    json!(in alloc; {"args": args, "path": path})
+    let mut object = JsonObject::new(alloc);
+    object.put(Key::Args, types_value(alloc, types)?)?;
+    object.put_text(Key::Path, path)?;
+    Ok(object.into_value())
 }
 
 #[cycle(types)]
@@ -83,9 +85,11 @@ fn reference_value(
     ensures { IfOk result (λ value.
         view value ≡ ref_json lifetime.now mutable (type_json referent.now)) }
 {
-    let lifetime = optional_text_value(alloc, lifetime)?;
-    let referent = type_value(alloc, referent)?;
-    json!(in alloc; {"lifetime": lifetime, "mutable": mutable, "ref": referent})
+    let mut object = JsonObject::new(alloc);
+    object.put(Key::Lifetime, optional_text_value(alloc, lifetime)?)?;
+    object.put(Key::Mutable, Value::from(mutable))?;
+    object.put(Key::Ref, type_value(alloc, referent)?)?;
+    Ok(object.into_value())
 }
 
 /// The type as an object. That of a type without a spelling isn't read.
@@ -99,17 +103,17 @@ pub(crate) fn type_value(alloc: Global, declared: &TypeRef) -> Result<Value, All
         TypeRef::Nominal { path, types } => {
             nominal_value(alloc, path.as_str(), types.as_slice())
         }
-        TypeRef::Id(name) => json!(in alloc; {"id": name.as_str()}),
+        TypeRef::Id(name) => JsonObject::of_text(alloc, Key::Id, name.as_str()),
         TypeRef::OfSymbol(symbol) => {
             let symbol = symbol_value(alloc, symbol)?;
-            json!(in alloc; {"symbol": symbol})
+            JsonObject::of_one(alloc, Key::Symbol, symbol)
         }
         TypeRef::Ref {
             lifetime,
             mutable,
             referent,
         } => reference_value(alloc, lifetime, *mutable, referent.get()),
-        TypeRef::Opaque(text) => json!(in alloc; {"text": text.as_str()}),
+        TypeRef::Opaque(text) => JsonObject::of_text(alloc, Key::Text, text.as_str()),
     }
 }
 

@@ -1,5 +1,6 @@
 //! The judge, with tokens and without.
 
+use crate::check::check;
 use lalrpop_grammar::{Atom, Grammar, ScanToken, WrittenTree};
 use lalrpop_json_grammar::{read_grammar, read_tree};
 use lalrpop_judge::{judge, judge_tree};
@@ -49,7 +50,7 @@ fn a_tree_with_the_tokens_at_its_leaves(rt: HostRuntime) {
     let alloc = rt.alloc();
     let tree = tree(&rt, alloc, TREE);
     let tokens = tree.tokens(alloc).expect(&rt, "memory");
-    assert!(rt; admits(&rt, alloc, &tree, &tokens));
+    check(&rt, admits(&rt, alloc, &tree, &tokens));
 }
 
 #[test]
@@ -58,10 +59,10 @@ fn a_tree_with_a_token_too_few(rt: HostRuntime) {
     let tree = tree(&rt, alloc, TREE);
     let tokens = tree.tokens(alloc).expect(&rt, "memory");
     match tokens.split_last() {
-        Some((_, front)) => assert!(rt; !admits(&rt, alloc, &tree, front)),
-        None => assert!(rt; false),
+        Some((_, front)) => check(&rt, !admits(&rt, alloc, &tree, front)),
+        None => check(&rt, false),
     }
-    assert!(rt; !admits(&rt, alloc, &tree, &[]));
+    check(&rt, !admits(&rt, alloc, &tree, &[]));
 }
 
 #[test]
@@ -69,7 +70,7 @@ fn a_tree_that_is_not_admitted_with_its_tokens(rt: HostRuntime) {
     let alloc = rt.alloc();
     let other = tree(&rt, alloc, OTHER);
     let tokens = other.tokens(alloc).expect(&rt, "memory");
-    assert!(rt; !admits(&rt, alloc, &other, &tokens));
+    check(&rt, !admits(&rt, alloc, &other, &tokens));
 }
 
 /// Whether `S` admits the tree with the tokens at its leaves.
@@ -82,7 +83,7 @@ fn admits_alone(rt: &impl Abort, alloc: Global, tree: &WrittenTree) -> bool {
 #[test]
 fn trees_over_their_own_leaves(rt: HostRuntime) {
     let right = tree(&rt, rt.alloc(), TREE);
-    assert!(rt; admits_alone(&rt, rt.alloc(), &right));
+    check(&rt, admits_alone(&rt, rt.alloc(), &right));
     let other = tree(&rt, rt.alloc(), OTHER);
-    assert!(rt; !admits_alone(&rt, rt.alloc(), &other));
+    check(&rt, !admits_alone(&rt, rt.alloc(), &other));
 }

@@ -1,11 +1,11 @@
-//! Whether states reduce before all that is handed to slots.
+//! Whether states reduce before all that is propagated to slots.
 
 ghost use Rattle.std.specs.Prelude.{◌≡◌, ◌↔◌, ◌⊎◌, ℕ, List, IfOk, IsTrue, OnOk, true};
 ghost use Rattle.lalrpop_lr1_theory.specs.States.{LookaheadSet};
 ghost use Rattle.lalrpop_sets.specs.Bits.{has};
 ghost use Rattle.lalrpop_lr1_barren.specs.NamedLists.{AreListedByName};
 ghost use Rattle.lalrpop_lr1_check_lookaheads.specs.ListTests.{HoldsAtEach};
-ghost use Rattle.lalrpop_lr1_check_lookaheads.specs.HandReductions.{
+ghost use Rattle.lalrpop_lr1_check_lookaheads.specs.LookaheadReductions.{
   DoesSlotReduce,
   ReducesAfter,
   ReducesAsOwn,
@@ -13,7 +13,7 @@ ghost use Rattle.lalrpop_lr1_check_lookaheads.specs.HandReductions.{
   option_set,
   reductions_in,
 };
-ghost use Rattle.lalrpop_lr1_check_lookaheads.specs.HandSlots.{slot_key, slot_keys};
+ghost use Rattle.lalrpop_lr1_check_lookaheads.specs.LookaheadSlots.{slot_key, slot_keys};
 
 use crate::lookaheads::seeds::is_of;
 use crate::lookaheads::slots::{Slot, Slots};

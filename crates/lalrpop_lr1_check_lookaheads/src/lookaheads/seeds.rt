@@ -7,7 +7,7 @@ ghost use Rattle.lalrpop_lr1_first.specs.Listings.{lent};
 ghost use Rattle.lalrpop_lr1_first.specs.NumberedGrammars.{table_productions};
 ghost use Rattle.lalrpop_lr1_barren.specs.NamedLists.{AreListedByName};
 ghost use Rattle.lalrpop_lr1_check_lookaheads.specs.Brought.{BeginBrings, BringsMark, ClosesMarks, ItemBrings, OfSome, OfSomePlace};
-ghost use Rattle.lalrpop_lr1_check_lookaheads.specs.HandSlots.{AreSlots, GainsSlotMarks, slot_key};
+ghost use Rattle.lalrpop_lr1_check_lookaheads.specs.LookaheadSlots.{AreSlots, GainsSlotMarks, slot_key};
 
 use crate::lookaheads::rests::{name_at, tokens_of};
 use crate::lookaheads::slots::{Slot, Slots};
@@ -18,8 +18,8 @@ use lalrpop_lr1_core::{Lr1Item, Lr1State};
 use lalrpop_lr1_first::FirstSets;
 use std::alloc::{AllocError, Global};
 
-/// Hands to the nonterminal behind the dot what can come first behind it.
-fn hand_behind<'g>(
+/// Propagates to the nonterminal behind the dot what can come first behind it.
+fn seed_behind<'g>(
     alloc: Global,
     grammar: &Grammar,
     firsts: &FirstSets,
@@ -37,14 +37,14 @@ fn hand_behind<'g>(
         None => Ok(()),
         Some((name, rest)) => {
             let tokens = tokens_of(alloc, grammar, firsts, rest)?;
-            slots.hand(alloc, &grammar.terminals, Slot { state, name }, &tokens)?;
+            slots.add(alloc, &grammar.terminals, Slot { state, name }, &tokens)?;
             Ok(())
         }
     }
 }
 
-/// Hands what the items of a state bring.
-fn hand_items<'g>(
+/// Propagates what the items of a state bring.
+fn seed_items<'g>(
     alloc: Global,
     grammar: &Grammar,
     firsts: &FirstSets,
@@ -58,13 +58,13 @@ fn hand_items<'g>(
 {
     for item in items {
         let symbols = item.production.symbols.as_slice();
-        hand_behind(alloc, grammar, firsts, state, symbols, item.index, slots)?;
+        seed_behind(alloc, grammar, firsts, state, symbols, item.index, slots)?;
     }
     Ok(())
 }
 
-/// Hands what the items of all states bring.
-pub(crate) fn hand_all_items<'g>(
+/// Propagates what the items of all states bring.
+pub(crate) fn seed_all_items<'g>(
     alloc: Global,
     grammar: &Grammar,
     firsts: &FirstSets,
@@ -78,7 +78,7 @@ pub(crate) fn hand_all_items<'g>(
 {
     for state in 0..states.len() {
         let items = states[state].items.vec.as_slice();
-        hand_items(alloc, grammar, firsts, state, items, slots)?;
+        seed_items(alloc, grammar, firsts, state, items, slots)?;
     }
     Ok(())
 }
@@ -90,8 +90,8 @@ pub(crate) fn is_of(production: &Production, name: &NonterminalString) -> bool
     production.nonterminal == *name
 }
 
-/// Hands what the production, where it is of the slot's name, brings with its dot in front.
-fn hand_begin<'g>(
+/// Propagates what the production, where it is of the slot's name, brings with its dot in front.
+fn seed_begin<'g>(
     alloc: Global,
     grammar: &Grammar,
     firsts: &FirstSets,
@@ -105,13 +105,13 @@ fn hand_begin<'g>(
 {
     if is_of(production, slot.name) {
         let symbols = production.symbols.as_slice();
-        hand_behind(alloc, grammar, firsts, slot.state, symbols, 0, slots)?;
+        seed_behind(alloc, grammar, firsts, slot.state, symbols, 0, slots)?;
     }
     Ok(())
 }
 
-/// Hands what the productions of the slot's name bring with their dots in front.
-fn hand_begins<'g>(
+/// Propagates what the productions of the slot's name bring with their dots in front.
+fn seed_begins<'g>(
     alloc: Global,
     grammar: &Grammar,
     firsts: &FirstSets,
@@ -125,12 +125,12 @@ fn hand_begins<'g>(
         (OfSome (BeginBrings grammar.now (slot_key slot.entry)) (lent productions.now))) }
 {
     for production in productions {
-        hand_begin(alloc, grammar, firsts, slot, *production, slots)?;
+        seed_begin(alloc, grammar, firsts, slot, *production, slots)?;
     }
     Ok(())
 }
 
-/// Hands what the productions of the names of all slots bring with their dots in front, until nothing comes.
+/// Propagates what the productions of the names of all slots bring with their dots in front, until nothing comes.
 pub(crate) fn close_slots<'g>(
     alloc: Global,
     grammar: &Grammar,
@@ -146,7 +146,7 @@ pub(crate) fn close_slots<'g>(
     let mut number = 0;
     while let Some(slot) = slots.slot_at(number) {
         let productions = named.productions_of(slot.name);
-        hand_begins(alloc, grammar, firsts, slot, productions, slots)?;
+        seed_begins(alloc, grammar, firsts, slot, productions, slots)?;
         number += 1;
     }
     Ok(())

@@ -1,7 +1,7 @@
-//! Slots, by their numbers, with what is handed to each.
+//! Slots, by their numbers, with what is propagated to each.
 
 ghost use Rattle.std.specs.Prelude.{◌≡◌, ◌<◌, ◌^◌, [], IfOk, IfSome, OnOk, Some, slice_get};
-ghost use Rattle.lalrpop_lr1_check_lookaheads.specs.HandSlots.{AreSlots, GainsSlotMarks, IsMarkIn, slot_key, slot_keys, slot_sets};
+ghost use Rattle.lalrpop_lr1_check_lookaheads.specs.LookaheadSlots.{AreSlots, GainsSlotMarks, IsMarkIn, slot_key, slot_keys, slot_sets};
 
 use indexmap::IndexSet;
 use lalrpop_grammar_repr::TerminalSet;
@@ -18,7 +18,7 @@ pub(crate) struct Slot<'g> {
     pub(crate) name: &'g NonterminalString,
 }
 
-/// Slots in the order in which they were found, each with the tokens that are handed to it.
+/// Slots in the order in which they were found, each with the tokens that are propagated to it.
 #[derive(Drop)]
 pub(crate) struct Slots<'g> {
     pub(crate) keys: IndexSet<Slot<'g>>,
@@ -67,8 +67,8 @@ impl<'g> Slots<'g> {
         Ok(number)
     }
 
-    /// Hands the tokens to the slot.
-    pub(crate) fn hand(
+    /// Propagates the tokens to the slot.
+    pub(crate) fn add(
         &mut self,
         alloc: Global,
         terminals: &TerminalSet,

@@ -3,7 +3,7 @@
 ghost use Rattle.std.specs.Prelude.{◌≡◌, ◌↔◌, List, ℕ, Some, map};
 ghost use Rattle.lalrpop_lr1_theory.specs.States.{HasEdge, LookaheadSet};
 ghost use Rattle.lalrpop_lr1_core.specs.Views.{lr_state_view, production_symbol_view};
-ghost use Rattle.lalrpop_lr1_theory.specs.HandedNexts.{LeadAlong};
+ghost use Rattle.lalrpop_lr1_theory.specs.PropagatedNexts.{LeadAlong};
 ghost use Rattle.lalrpop_lr1_check_lookaheads.specs.SeenEdges.{HasOrderedEdges, target_at};
 
 use lalrpop_grammar_repr::Symbol;

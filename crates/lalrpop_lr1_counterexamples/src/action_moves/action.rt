@@ -6,12 +6,12 @@ ghost use Rattle.lalrpop_grammar_repr.specs.declared.grammar.Grammar.{Grammar};
 ghost use Rattle.lalrpop_lr1_theory.specs.States as theory;
 ghost use Rattle.lalrpop_lr1_core.specs.Views.{lr_state_view};
 ghost use Rattle.lalrpop_lr1_least_trees.specs.MoveViews.{tree_move_view};
-ghost use Rattle.lalrpop_lr1_paths.specs.OutSearches.{IsAnyOut};
-ghost use Rattle.lalrpop_lr1_counterexamples.specs.ShownMoves.{AreSteppedStates, IsNextOut, next_of, next_ways};
+ghost use Rattle.lalrpop_lr1_paths.specs.CompletionSearches.{IsAnyCompletion};
+ghost use Rattle.lalrpop_lr1_counterexamples.specs.ShownMoves.{AreSteppedStates, IsNextCompletion, next_of, next_ways};
 ghost use Rattle.lalrpop_lr1_counterexamples.specs.ActionMoves.{ShowsAction};
 
-use crate::shift_positions::shift_place;
-use crate::shown_moves::{AnyOut, NextOut, with_reduction, with_shift};
+use crate::shift_positions::shift_position;
+use crate::shown_moves::{AnyCompletion, NextCompletion, with_reduction, with_shift};
 use lalrpop_lr1_core::{Action, State};
 use lalrpop_lr1_least_trees::TreeMove;
 use std::alloc::{AllocError, Global};
@@ -24,15 +24,15 @@ use std::alloc::{AllocError, Global};
 /// Memory is refused.
 pub fn action_moves<'g, L>(
     alloc: Global,
-    next: &NextOut<'_, '_, '_, 'g>,
-    any: &AnyOut<'_, '_, 'g>,
+    next: &NextCompletion<'_, '_, '_, 'g>,
+    any: &AnyCompletion<'_, '_, 'g>,
     front: &[TreeMove<'g>],
     number: usize,
     state: &State<'g, L>,
     action: &Action<'g>,
 ) -> Result<Option<Vec<TreeMove<'g>>>, AllocError>
-    requires next { IsNextOut next.now }
-    requires any { IsAnyOut any.now }
+    requires next { IsNextCompletion next.now }
+    requires any { IsAnyCompletion any.now }
     requires ways { next_ways next.now ≡ any.now.ways.now }
     ensures { IfOk result (λ found. (g : Grammar) (s : Text) (look : L → theory.LookaheadSet) (states : List theory.State) →
         AreSteppedStates g s states any.now.ways.now → slice_get states number ≡ Some (lr_state_view look state.now) →
@@ -45,7 +45,7 @@ pub fn action_moves<'g, L>(
             with_reduction(alloc, next, paths, front, number, *production)
         }
         Action::Shift(terminal, _) => {
-            let Some(place) = shift_place(state, terminal) else {
+            let Some(place) = shift_position(state, terminal) else {
                 return Ok(None);
             };
             with_shift(

@@ -10,7 +10,7 @@ ghost use Rattle.lalrpop_lr1_counterexamples.specs.ShownStates.{AreToldConflicts
 
 use crate::certificates::shown::ShownConflicts;
 use crate::certificates::slots::all_certificates;
-use crate::shown_laws::{AnyOut, OutGraphs};
+use crate::shown_laws::{AnyCompletion, CompletionGraphs};
 use lalrpop_grammar_repr::Grammar;
 use lalrpop_grammar_symbols::NonterminalString;
 use lalrpop_judge::certificates::Certificate;
@@ -45,8 +45,8 @@ pub fn certificates<'g>(
 {
     let trees = LeastTrees::new(alloc, grammar)?;
     let paths = StatePaths::new(alloc, &trees, states)?;
-    let ways = OutGraphs::new(alloc, &paths, states, start)?;
-    let any = AnyOut::new(alloc, &ways)?;
+    let ways = CompletionGraphs::new(alloc, &paths, states, start)?;
+    let any = AnyCompletion::new(alloc, &ways)?;
     let shown = ShownConflicts {
         grammar,
         start,

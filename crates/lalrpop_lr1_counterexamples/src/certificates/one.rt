@@ -5,8 +5,8 @@ ghost use Rattle.lalrpop_grammar_symbols.specs.Views.{terminal_view};
 ghost use Rattle.lalrpop_sets.specs.TokensLeft.{token_seen};
 ghost use Rattle.lalrpop_judge.specs.CertificateViews.{certificate_view};
 ghost use Rattle.lalrpop_judge.specs.MoveViews.{move_view};
-ghost use Rattle.lalrpop_lr1_paths.specs.OutSearches.{IsAnyOut};
-ghost use Rattle.lalrpop_lr1_counterexamples.specs.ShownMoves.{IsNextOut, next_of, next_ways};
+ghost use Rattle.lalrpop_lr1_paths.specs.CompletionSearches.{IsAnyCompletion};
+ghost use Rattle.lalrpop_lr1_counterexamples.specs.ShownMoves.{IsNextCompletion, next_of, next_ways};
 ghost use Rattle.lalrpop_lr1_counterexamples.specs.StandingConflicts.{next_of_token};
 ghost use Rattle.lalrpop_lr1_counterexamples.specs.ConflictCertificates.{move_of_action};
 ghost use Rattle.lalrpop_lr1_counterexamples.specs.MadeCertificates.{AreMovesAt, CanBeMade, IsMadeCertificate};
@@ -15,7 +15,8 @@ ghost use Rattle.lalrpop_lr1_counterexamples.specs.ShownStates.{AreShownConflict
 use crate::certificates::shown::ShownConflicts;
 use crate::conflict_laws::{ConflictMoves, conflict_moves, standing_conflicts_have_moves};
 use crate::shown_laws::{
-    AnyOut, NextOut, made_trees, only_tree, shown_moves_can_be_made, shown_trees_make_the_move,
+    AnyCompletion, NextCompletion, made_trees, only_tree, shown_moves_can_be_made,
+    shown_trees_make_the_move,
 };
 use lalrpop_grammar_symbols::TerminalString;
 use lalrpop_judge::certificates::{Certificate, Move};
@@ -72,15 +73,15 @@ fn made_certificate<'g>(
 fn moves_before<'g>(
     alloc: Global,
     shown: &ShownConflicts<'_, 'g>,
-    any: &AnyOut<'_, '_, 'g>,
-    next: &NextOut<'_, '_, '_, 'g>,
+    any: &AnyCompletion<'_, '_, 'g>,
+    next: &NextCompletion<'_, '_, '_, 'g>,
     token: TokenRef<'_>,
     number: usize,
 ) -> Result<ConflictMoves<'g>, AllocError>
     requires shown { AreShownConflicts shown.now }
-    requires any { IsAnyOut any.now }
+    requires any { IsAnyCompletion any.now }
     requires steps { AreStepsOut shown.now any.now.ways.now }
-    requires next { IsNextOut next.now }
+    requires next { IsNextCompletion next.now }
     requires ways { next_ways next.now ≡ any.now.ways.now }
     requires number { number < length shown.now.conflicts.now }
     requires least { IsLeastToken shown.now number token }
@@ -101,15 +102,15 @@ fn moves_before<'g>(
 pub(crate) fn certificate_before<'g>(
     alloc: Global,
     shown: &ShownConflicts<'_, 'g>,
-    any: &AnyOut<'_, '_, 'g>,
-    next: &NextOut<'_, '_, '_, 'g>,
+    any: &AnyCompletion<'_, '_, 'g>,
+    next: &NextCompletion<'_, '_, '_, 'g>,
     token: TokenRef<'_>,
     number: usize,
 ) -> Result<Certificate<'g>, AllocError>
     requires shown { AreShownConflicts shown.now }
-    requires any { IsAnyOut any.now }
+    requires any { IsAnyCompletion any.now }
     requires steps { AreStepsOut shown.now any.now.ways.now }
-    requires next { IsNextOut next.now }
+    requires next { IsNextCompletion next.now }
     requires ways { next_ways next.now ≡ any.now.ways.now }
     requires number { number < length shown.now.conflicts.now }
     requires least { IsLeastToken shown.now number token }

@@ -2,14 +2,16 @@
 //! lacks for the moves of all.
 
 ghost use Rattle.std.specs.Prelude.{◌≡◌, ◌<◌, IfOk, length};
-ghost use Rattle.lalrpop_lr1_paths.specs.OutSearches.{IsAnyOut};
-ghost use Rattle.lalrpop_lr1_counterexamples.specs.ShownMoves.{IsNextOut};
+ghost use Rattle.lalrpop_lr1_paths.specs.CompletionSearches.{IsAnyCompletion};
+ghost use Rattle.lalrpop_lr1_counterexamples.specs.ShownMoves.{IsNextCompletion};
 ghost use Rattle.lalrpop_lr1_counterexamples.specs.ShownStates.{AreShownConflicts};
 
 use crate::certificates::shown::ShownConflicts;
 use crate::certificates::slots::is_same_token;
-use crate::shift_positions::shift_place;
-use crate::shown_laws::{AnyOut, EndOut, NextOut, WantedOut, WantedSteps, rest_count};
+use crate::shift_positions::shift_position;
+use crate::shown_laws::{
+    AnyCompletion, EndCompletion, NextCompletion, WantedCompletion, WantedSteps, rest_count,
+};
 use lalrpop_grammar_repr::Production;
 use lalrpop_grammar_symbols::TerminalString;
 use lalrpop_lr1_core::{Action, State};
@@ -31,12 +33,12 @@ fn sum(count: u64, more: u64) -> Result<u64, AllocError> {
 
 /// How many moves there are from a reduction in the state on, before what comes next, out to a whole tree.
 fn reduction_count(
-    next: &NextOut<'_, '_, '_, '_>,
-    any: &AnyOut<'_, '_, '_>,
+    next: &NextCompletion<'_, '_, '_, '_>,
+    any: &AnyCompletion<'_, '_, '_>,
     state: usize,
     production: &Production,
 ) -> Result<u64, AllocError>
-    requires { IsNextOut next.now }
+    requires { IsNextCompletion next.now }
 {
     let before = any.ways().paths().back(state, production.symbols.len());
     match next.count(before, &production.nonterminal)? {
@@ -47,14 +49,14 @@ fn reduction_count(
 
 /// How many moves there are from the shift of the terminal in the state with the number on, out to a whole tree.
 fn shift_count(
-    any: &AnyOut<'_, '_, '_>,
+    any: &AnyCompletion<'_, '_, '_>,
     number: usize,
     state: &State<'_, TokenSet>,
     terminal: &TerminalString,
 ) -> Result<u64, AllocError>
-    requires { IsAnyOut any.now }
+    requires { IsAnyCompletion any.now }
 {
-    let Some(place) = shift_place(state, terminal) else {
+    let Some(place) = shift_position(state, terminal) else {
         return Ok(0);
     };
     let paths = any.ways().paths();
@@ -70,14 +72,14 @@ fn shift_count(
 
 /// How many moves there are from the action in the state with the number on, out to a whole tree.
 fn action_count(
-    next: &NextOut<'_, '_, '_, '_>,
-    any: &AnyOut<'_, '_, '_>,
+    next: &NextCompletion<'_, '_, '_, '_>,
+    any: &AnyCompletion<'_, '_, '_>,
     number: usize,
     state: &State<'_, TokenSet>,
     action: &Action<'_>,
 ) -> Result<u64, AllocError>
-    requires next { IsNextOut next.now }
-    requires any { IsAnyOut any.now }
+    requires next { IsNextCompletion next.now }
+    requires any { IsAnyCompletion any.now }
 {
     match action {
         Action::Reduce(production) => reduction_count(next, any, number, production),
@@ -90,13 +92,13 @@ fn action_count(
 fn conflict_count(
     alloc: Global,
     shown: &ShownConflicts<'_, '_>,
-    any: &AnyOut<'_, '_, '_>,
-    next: &NextOut<'_, '_, '_, '_>,
+    any: &AnyCompletion<'_, '_, '_>,
+    next: &NextCompletion<'_, '_, '_, '_>,
     number: usize,
 ) -> Result<u64, AllocError>
     requires shown { AreShownConflicts shown.now }
-    requires any { IsAnyOut any.now }
-    requires next { IsNextOut next.now }
+    requires any { IsAnyCompletion any.now }
+    requires next { IsNextCompletion next.now }
     requires number { number < length shown.now.conflicts.now }
 {
     let conflict = shown.conflict(number);
@@ -112,15 +114,15 @@ fn conflict_count(
 fn count_conflicts(
     alloc: Global,
     shown: &ShownConflicts<'_, '_>,
-    any: &AnyOut<'_, '_, '_>,
-    next: &NextOut<'_, '_, '_, '_>,
+    any: &AnyCompletion<'_, '_, '_>,
+    next: &NextCompletion<'_, '_, '_, '_>,
     tokens: &[TokenRef<'_>],
     token: TokenRef<'_>,
     counted: &mut Vec<bool>,
 ) -> Result<u64, AllocError>
     requires shown { AreShownConflicts shown.now }
-    requires any { IsAnyOut any.now }
-    requires next { IsNextOut next.now }
+    requires any { IsAnyCompletion any.now }
+    requires next { IsNextCompletion next.now }
     requires tokens { length tokens.now ≡ length shown.now.conflicts.now }
     requires marks { length counted.old.items ≡ length tokens.now }
     ensures { length counted.new.items ≡ length tokens.now }
@@ -135,17 +137,17 @@ fn count_conflicts(
     Ok(count)
 }
 
-/// Searches the ways out before the token. How many moves show the conflicts with this least token, which are marked as counted.
+/// Searches the completions before the token. How many moves show the conflicts with this least token, which are marked as counted.
 fn count_for_token(
     alloc: Global,
     shown: &ShownConflicts<'_, '_>,
-    any: &AnyOut<'_, '_, '_>,
+    any: &AnyCompletion<'_, '_, '_>,
     tokens: &[TokenRef<'_>],
     token: TokenRef<'_>,
     counted: &mut Vec<bool>,
 ) -> Result<u64, AllocError>
     requires shown { AreShownConflicts shown.now }
-    requires any { IsAnyOut any.now }
+    requires any { IsAnyCompletion any.now }
     requires tokens { length tokens.now ≡ length shown.now.conflicts.now }
     requires marks { length counted.old.items ≡ length tokens.now }
     ensures { length counted.new.items ≡ length tokens.now }
@@ -153,11 +155,11 @@ fn count_for_token(
     match token {
         TokenRef::Terminal(terminal) => {
             let steps = WantedSteps::new(alloc, any, terminal)?;
-            let next = NextOut::Terminal(WantedOut::new(alloc, &steps)?);
+            let next = NextCompletion::Terminal(WantedCompletion::new(alloc, &steps)?);
             count_conflicts(alloc, shown, any, &next, tokens, token, counted)
         }
         TokenRef::Eof | TokenRef::Error => {
-            let next = NextOut::End(EndOut::new(alloc, any.ways())?);
+            let next = NextCompletion::End(EndCompletion::new(alloc, any.ways())?);
             count_conflicts(alloc, shown, any, &next, tokens, token, counted)
         }
     }
@@ -178,11 +180,11 @@ fn no_marks(alloc: Global, count: usize) -> Result<Vec<bool>, AllocError>
 fn count_all(
     alloc: Global,
     shown: &ShownConflicts<'_, '_>,
-    any: &AnyOut<'_, '_, '_>,
+    any: &AnyCompletion<'_, '_, '_>,
     tokens: &[TokenRef<'_>],
 ) -> Result<u64, AllocError>
     requires shown { AreShownConflicts shown.now }
-    requires any { IsAnyOut any.now }
+    requires any { IsAnyCompletion any.now }
     requires tokens { length tokens.now ≡ length shown.now.conflicts.now }
 {
     let mut counted = no_marks(alloc, tokens.len())?;
@@ -204,11 +206,11 @@ fn count_all(
 pub(crate) fn ask_for_room(
     alloc: Global,
     shown: &ShownConflicts<'_, '_>,
-    any: &AnyOut<'_, '_, '_>,
+    any: &AnyCompletion<'_, '_, '_>,
     tokens: &[TokenRef<'_>],
 ) -> Result<(), AllocError>
     requires shown { AreShownConflicts shown.now }
-    requires any { IsAnyOut any.now }
+    requires any { IsAnyCompletion any.now }
     requires tokens { length tokens.now ≡ length shown.now.conflicts.now }
 {
     let count = count_all(alloc, shown, any, tokens)?;

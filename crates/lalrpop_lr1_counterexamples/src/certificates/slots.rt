@@ -1,9 +1,9 @@
-//! The certificates of all conflicts, in slots that are filled one token after the other, since ways out are searched once for a token.
+//! The certificates of all conflicts, in slots that are filled one token after the other, since completions are searched once for a token.
 
 ghost use Rattle.std.specs.Prelude.{◌≡◌, ◌<◌, ◌↔◌, ℕ, IfOk, IsTrue, OnOk, Some, length, map, set};
 ghost use Rattle.lalrpop_sets.specs.TokensLeft.{token_seen};
-ghost use Rattle.lalrpop_lr1_paths.specs.OutSearches.{IsAnyOut};
-ghost use Rattle.lalrpop_lr1_counterexamples.specs.ShownMoves.{IsNextOut, next_of, next_ways};
+ghost use Rattle.lalrpop_lr1_paths.specs.CompletionSearches.{IsAnyCompletion};
+ghost use Rattle.lalrpop_lr1_counterexamples.specs.ShownMoves.{IsNextCompletion, next_of, next_ways};
 ghost use Rattle.lalrpop_lr1_counterexamples.specs.StandingConflicts.{next_of_token};
 ghost use Rattle.lalrpop_lr1_counterexamples.specs.ShownStates.{AreShownConflicts, AreStepsOut};
 ghost use Rattle.lalrpop_lr1_counterexamples.specs.Slots.{AreFilledBefore, AreFilledBelow, AreLeastTokens, AreCertificateSlots, IsFilled, StayFilled};
@@ -11,7 +11,9 @@ ghost use Rattle.lalrpop_lr1_counterexamples.specs.Slots.{AreFilledBefore, AreFi
 use crate::certificates::one::certificate_before;
 use crate::certificates::room::ask_for_room;
 use crate::certificates::shown::ShownConflicts;
-use crate::shown_laws::{AnyOut, EndOut, NextOut, WantedOut, WantedSteps};
+use crate::shown_laws::{
+    AnyCompletion, EndCompletion, NextCompletion, WantedCompletion, WantedSteps,
+};
 use lalrpop_judge::certificates::Certificate;
 use lalrpop_sets::TokenRef;
 use std::alloc::{AllocError, Global};
@@ -89,16 +91,16 @@ fn fill_slot<'g>(
 fn fill_slots<'g>(
     alloc: Global,
     shown: &ShownConflicts<'_, 'g>,
-    any: &AnyOut<'_, '_, 'g>,
-    next: &NextOut<'_, '_, '_, 'g>,
+    any: &AnyCompletion<'_, '_, 'g>,
+    next: &NextCompletion<'_, '_, '_, 'g>,
     tokens: &[TokenRef<'_>],
     token: TokenRef<'_>,
     slots: &mut Vec<Option<Certificate<'g>>>,
 ) -> Result<(), AllocError>
     requires shown { AreShownConflicts shown.now }
-    requires any { IsAnyOut any.now }
+    requires any { IsAnyCompletion any.now }
     requires steps { AreStepsOut shown.now any.now.ways.now }
-    requires next { IsNextOut next.now }
+    requires next { IsNextCompletion next.now }
     requires ways { next_ways next.now ≡ any.now.ways.now }
     requires tokens { AreLeastTokens shown.now tokens.now }
     requires token { next_of_token (token_seen token) ≡ next_of next.now }
@@ -117,17 +119,17 @@ fn fill_slots<'g>(
     Ok(())
 }
 
-/// Searches the ways out before the token, and fills the slots of the conflicts with this least token.
+/// Searches the completions before the token, and fills the slots of the conflicts with this least token.
 fn fill_for_token<'g>(
     alloc: Global,
     shown: &ShownConflicts<'_, 'g>,
-    any: &AnyOut<'_, '_, 'g>,
+    any: &AnyCompletion<'_, '_, 'g>,
     tokens: &[TokenRef<'_>],
     token: TokenRef<'_>,
     slots: &mut Vec<Option<Certificate<'g>>>,
 ) -> Result<(), AllocError>
     requires shown { AreShownConflicts shown.now }
-    requires any { IsAnyOut any.now }
+    requires any { IsAnyCompletion any.now }
     requires steps { AreStepsOut shown.now any.now.ways.now }
     requires tokens { AreLeastTokens shown.now tokens.now }
     requires slots { AreCertificateSlots shown.now slots.old.items }
@@ -138,11 +140,11 @@ fn fill_for_token<'g>(
     match token {
         TokenRef::Terminal(terminal) => {
             let steps = WantedSteps::new(alloc, any, terminal)?;
-            let next = NextOut::Terminal(WantedOut::new(alloc, &steps)?);
+            let next = NextCompletion::Terminal(WantedCompletion::new(alloc, &steps)?);
             fill_slots(alloc, shown, any, &next, tokens, token, slots)
         }
         TokenRef::Eof | TokenRef::Error => {
-            let next = NextOut::End(EndOut::new(alloc, any.ways())?);
+            let next = NextCompletion::End(EndCompletion::new(alloc, any.ways())?);
             fill_slots(alloc, shown, any, &next, tokens, token, slots)
         }
     }
@@ -152,10 +154,10 @@ fn fill_for_token<'g>(
 pub(crate) fn all_certificates<'g>(
     alloc: Global,
     shown: &ShownConflicts<'_, 'g>,
-    any: &AnyOut<'_, '_, 'g>,
+    any: &AnyCompletion<'_, '_, 'g>,
 ) -> Result<Vec<Certificate<'g>>, AllocError>
     requires shown { AreShownConflicts shown.now }
-    requires any { IsAnyOut any.now }
+    requires any { IsAnyCompletion any.now }
     requires steps { AreStepsOut shown.now any.now.ways.now }
     ensures { IfOk result (λ all. AreCertificateSlots shown.now (map Some all.items)) }
 {

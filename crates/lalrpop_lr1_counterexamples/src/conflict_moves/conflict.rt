@@ -5,11 +5,11 @@ ghost use Rattle.lalrpop_grammar_symbols.specs.Symbols.{Text};
 ghost use Rattle.lalrpop_grammar_repr.specs.declared.grammar.Grammar.{Grammar};
 ghost use Rattle.lalrpop_lr1_theory.specs.States as theory;
 ghost use Rattle.lalrpop_lr1_core.specs.Views.{lr_state_view};
-ghost use Rattle.lalrpop_lr1_paths.specs.OutSearches.{IsAnyOut};
-ghost use Rattle.lalrpop_lr1_counterexamples.specs.ShownMoves.{AreSteppedStates, IsNextOut, next_of, next_ways};
+ghost use Rattle.lalrpop_lr1_paths.specs.CompletionSearches.{IsAnyCompletion};
+ghost use Rattle.lalrpop_lr1_counterexamples.specs.ShownMoves.{AreSteppedStates, IsNextCompletion, next_of, next_ways};
 ghost use Rattle.lalrpop_lr1_counterexamples.specs.ConflictMoves.{HasFinishedItem, ShowConflict};
 
-use crate::action_moves::{AnyOut, NextOut, action_moves, with_reduction};
+use crate::action_moves::{AnyCompletion, NextCompletion, action_moves, with_reduction};
 use lalrpop_lr1_core::{Conflict, State};
 use lalrpop_lr1_least_trees::TreeMove;
 use std::alloc::{AllocError, Global};
@@ -32,14 +32,14 @@ pub struct ConflictMoves<'g> {
 /// Memory is refused. It is where a tree has as many leaves and nodes as the greatest number or more.
 pub fn conflict_moves<'g, L>(
     alloc: Global,
-    next: &NextOut<'_, '_, '_, 'g>,
-    any: &AnyOut<'_, '_, 'g>,
+    next: &NextCompletion<'_, '_, '_, 'g>,
+    any: &AnyCompletion<'_, '_, 'g>,
     number: usize,
     state: &State<'g, L>,
     conflict: &Conflict<'g, L>,
 ) -> Result<Option<ConflictMoves<'g>>, AllocError>
-    requires next { IsNextOut next.now }
-    requires any { IsAnyOut any.now }
+    requires next { IsNextCompletion next.now }
+    requires any { IsAnyCompletion any.now }
     requires ways { next_ways next.now ≡ any.now.ways.now }
     ensures { IfOk result (λ found. (g : Grammar) (s : Text) (look : L → theory.LookaheadSet) (states : List theory.State) →
         AreSteppedStates g s states any.now.ways.now → slice_get states number ≡ Some (lr_state_view look state.now) →

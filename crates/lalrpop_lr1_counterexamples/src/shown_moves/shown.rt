@@ -8,14 +8,14 @@ ghost use Rattle.lalrpop_lr1_theory.specs.Productions.{terminal as leaf_symbol};
 ghost use Rattle.lalrpop_lr1_theory.specs.States.{HasItem, State};
 ghost use Rattle.lalrpop_lr1_core.specs.Views.{production_symbol_view, production_view};
 ghost use Rattle.lalrpop_lr1_least_trees.specs.MoveViews.{tree_move_view};
-ghost use Rattle.lalrpop_lr1_paths.specs.OutSearches.{IsAnyOut};
-ghost use Rattle.lalrpop_lr1_counterexamples.specs.ShownMoves.{AreSteppedStates, IsNextOut, ShowsReduction, ShowsShift, next_of, next_ways};
+ghost use Rattle.lalrpop_lr1_paths.specs.CompletionSearches.{IsAnyCompletion};
+ghost use Rattle.lalrpop_lr1_counterexamples.specs.ShownMoves.{AreSteppedStates, IsNextCompletion, ShowsReduction, ShowsShift, next_of, next_ways};
 
-use crate::shown_moves::next_out::NextOut;
+use crate::shown_moves::next_completion::NextCompletion;
 use lalrpop_grammar_repr::{Production, Symbol};
 use lalrpop_grammar_symbols::TerminalString;
 use lalrpop_lr1_least_trees::TreeMove;
-use lalrpop_lr1_paths::completions::{AnyOut, StatePaths, rest_moves};
+use lalrpop_lr1_paths::completions::{AnyCompletion, StatePaths, rest_moves};
 use std::alloc::{AllocError, Global};
 
 /// These moves, then the one, then the others.
@@ -44,13 +44,13 @@ fn joined_moves<'g>(
 /// Memory is refused.
 pub fn with_reduction<'g>(
     alloc: Global,
-    next: &NextOut<'_, '_, '_, 'g>,
+    next: &NextCompletion<'_, '_, '_, 'g>,
     paths: &StatePaths<'_, 'g>,
     front: &[TreeMove<'g>],
     state: usize,
     production: &'g Production,
 ) -> Result<Option<Vec<TreeMove<'g>>>, AllocError>
-    requires next { IsNextOut next.now }
+    requires next { IsNextCompletion next.now }
     requires paths { (next_ways next.now).paths.now ≡ paths.now }
     ensures { IfOk result (λ found. (g : Grammar) (s : Text) (states : List State) → AreSteppedStates g s states (next_ways next.now) →
         HasItem states state (production_view production.now) (length (production_view production.now).right) →
@@ -76,7 +76,7 @@ pub fn with_reduction<'g>(
 /// Memory is refused.
 pub fn with_shift<'g>(
     alloc: Global,
-    any: &AnyOut<'_, '_, 'g>,
+    any: &AnyCompletion<'_, '_, 'g>,
     front: &[TreeMove<'g>],
     state: usize,
     production: &'g Production,
@@ -84,7 +84,7 @@ pub fn with_shift<'g>(
     terminal: &'g TerminalString,
     rest: &'g [Symbol],
 ) -> Result<Option<Vec<TreeMove<'g>>>, AllocError>
-    requires { IsAnyOut any.now }
+    requires { IsAnyCompletion any.now }
     ensures { IfOk result (λ found. (g : Grammar) (s : Text) (states : List State) → AreSteppedStates g s states any.now.ways.now →
         HasItem states state (production_view production.now) index →
         drop index (production_view production.now).right ≡ leaf_symbol (terminal_view terminal.now) ∷ map production_symbol_view rest.now →

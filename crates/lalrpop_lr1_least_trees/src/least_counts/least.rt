@@ -8,7 +8,7 @@ ghost use Rattle.lalrpop_lr1_least_trees.specs.Searches.{IsTry, number_lists, ru
 use crate::least_counts::counts::{LeastTree, is_more, side_count};
 use crate::least_counts::rule::Rule;
 use crate::least_counts::uses::uses_of;
-use crate::least_counts::waiting::Waiting;
+use crate::least_counts::waiting::Worklist;
 use std::alloc::{AllocError, Global};
 
 /// A table in which no name has a tree.
@@ -67,7 +67,7 @@ pub fn least_trees(
 {
     let uses = uses_of(alloc, names, rules)?;
     let mut table = no_trees(alloc, names)?;
-    let mut waiting = Waiting::all(alloc, rules.len())?;
+    let mut waiting = Worklist::all(alloc, rules.len())?;
     while let Some(number) = waiting.pop() {
         let rule = &rules[number];
         let fell = try_rule(rule, number, leaves, &mut table);

@@ -8,34 +8,34 @@ use std::collections::VecDeque;
 
 /// The rules that wait, each once, those first that have waited longest.
 #[derive(Drop)]
-pub(crate) struct Waiting {
+pub(crate) struct Worklist {
     // The rules.
     rules: VecDeque<usize>,
     // Of each rule, whether it is among them.
     waits: Vec<bool>,
 }
 
-impl Waiting {
+impl Worklist {
     /// Of so many rules none waits.
-    fn none(alloc: Global, count: usize) -> Result<Waiting, AllocError>
+    fn none(alloc: Global, count: usize) -> Result<Worklist, AllocError>
         ensures { IfOk result (IsQueue count) }
     {
         let mut waits = Vec::new(alloc);
         for _ in 0..count {
             waits.push(false)?;
         }
-        Ok(Waiting {
+        Ok(Worklist {
             rules: VecDeque::new(alloc),
             waits,
         })
     }
 
     /// So many rules wait, in order.
-    pub(crate) fn all(alloc: Global, count: usize) -> Result<Waiting, AllocError>
+    pub(crate) fn all(alloc: Global, count: usize) -> Result<Worklist, AllocError>
         ensures queue { IfOk result (IsQueue count) }
         ensures all { IfOk result (λ waiting. (r : ℕ) → r < count → Contains waiting.rules.items r) }
     {
-        let mut waiting = Waiting::none(alloc, count)?;
+        let mut waiting = Worklist::none(alloc, count)?;
         for rule in 0..count {
             waiting.push(rule)?;
         }

@@ -3,10 +3,10 @@
 ghost use Rattle.std.specs.Prelude.{◌≡◌, ◌<◌, IfOk, Some, false, length, option_map, slice_get, true};
 ghost use Rattle.lalrpop_lr1_least_trees.specs.GrammarTrees.{AreLeastTrees};
 ghost use Rattle.lalrpop_lr1_least_trees.specs.RestForests.{AnyLeaves, NoLeaves};
-ghost use Rattle.lalrpop_lr1_paths.specs.OutGraphs.{AreOutGraphs};
+ghost use Rattle.lalrpop_lr1_paths.specs.CompletionGraphs.{AreCompletionGraphs};
 ghost use Rattle.lalrpop_lr1_paths.specs.StepMoves.{AddsAlongIf, AddsFoundIf, AddsStepIf, AreGraphEdges, step_edges};
 
-use crate::completion_steps::{OutGraphs, OutStep};
+use crate::completion_steps::{CompletionGraphs, CompletionStep};
 use lalrpop_grammar_repr::Production;
 use lalrpop_lr1_least_trees::rest_trees::{empty_rest_moves, rest_moves};
 use lalrpop_lr1_least_trees::{LeastTrees, TreeMove};
@@ -35,7 +35,7 @@ pub(crate) fn push_found<'g>(
 fn push_any<'g>(
     alloc: Global,
     trees: &LeastTrees<'g>,
-    step: OutStep<'g>,
+    step: CompletionStep<'g>,
     moves: &mut Vec<TreeMove<'g>>,
 ) -> Result<bool, AllocError>
     requires { AreLeastTrees trees.now }
@@ -50,7 +50,7 @@ fn push_any<'g>(
 fn push_empty<'g>(
     alloc: Global,
     trees: &LeastTrees<'g>,
-    step: OutStep<'g>,
+    step: CompletionStep<'g>,
     moves: &mut Vec<TreeMove<'g>>,
 ) -> Result<bool, AllocError>
     requires { AreLeastTrees trees.now }
@@ -69,7 +69,7 @@ pub(crate) fn number_at(numbers: &[usize], place: usize) -> usize
 }
 
 /// The step with the number.
-pub(crate) fn step_at<'g>(steps: &[OutStep<'g>], number: usize) -> OutStep<'g>
+pub(crate) fn step_at<'g>(steps: &[CompletionStep<'g>], number: usize) -> CompletionStep<'g>
     requires { number < length steps.now }
     ensures { slice_get steps.now number ≡ Some result }
 {
@@ -79,11 +79,11 @@ pub(crate) fn step_at<'g>(steps: &[OutStep<'g>], number: usize) -> OutStep<'g>
 /// Adds the moves of the steps over these edges of the graph of all steps, in order; false where some has none.
 pub(crate) fn push_anys<'g>(
     alloc: Global,
-    ways: &OutGraphs<'_, 'g>,
+    ways: &CompletionGraphs<'_, 'g>,
     edges: &[usize],
     moves: &mut Vec<TreeMove<'g>>,
 ) -> Result<bool, AllocError>
-    requires graphs { AreOutGraphs ways.now }
+    requires graphs { AreCompletionGraphs ways.now }
     requires edges { AreGraphEdges (step_edges ways.now true) edges.now }
     ensures { IfOk result (AddsAlongIf ways.now true edges.now moves.old.items moves.new.items) }
 {
@@ -100,11 +100,11 @@ pub(crate) fn push_anys<'g>(
 /// Adds the moves of the steps over these edges of the graph of empty steps, in order; false where some has none.
 pub(crate) fn push_empties<'g>(
     alloc: Global,
-    ways: &OutGraphs<'_, 'g>,
+    ways: &CompletionGraphs<'_, 'g>,
     edges: &[usize],
     moves: &mut Vec<TreeMove<'g>>,
 ) -> Result<bool, AllocError>
-    requires graphs { AreOutGraphs ways.now }
+    requires graphs { AreCompletionGraphs ways.now }
     requires edges { AreGraphEdges (step_edges ways.now false) edges.now }
     ensures { IfOk result (AddsAlongIf ways.now false edges.now moves.old.items moves.new.items) }
 {

@@ -6,12 +6,12 @@ ghost use Rattle.lalrpop_lr1_least_trees.specs.BeginForests.{IsWanted};
 ghost use Rattle.lalrpop_lr1_least_trees.specs.BeginTables.{AreBeginTrees};
 ghost use Rattle.lalrpop_lr1_least_trees.specs.GrammarTrees.{symbols_by};
 ghost use Rattle.lalrpop_lr1_least_trees.specs.RestForests.{BeginsWith};
-ghost use Rattle.lalrpop_lr1_paths.specs.OutSearches.{AreWantedSteps, IsAnyOut};
+ghost use Rattle.lalrpop_lr1_paths.specs.CompletionSearches.{AreWantedSteps, IsAnyCompletion};
 ghost use Rattle.lalrpop_lr1_paths.specs.StepMoves.{AddsStepIf};
 ghost use Rattle.lalrpop_lr1_paths.specs.WantedGoals.{AreBeginGoals, AddsBegin};
 
-use crate::completion_steps::OutStep;
-use crate::completions::any_out::AnyOut;
+use crate::completion_steps::CompletionStep;
+use crate::completions::any_completion::AnyCompletion;
 use crate::completions::step_moves::{push_found, step_at};
 use crate::graph_paths::Goal;
 use lalrpop_grammar_symbols::TerminalString;
@@ -23,8 +23,8 @@ use std::alloc::{AllocError, Global};
 /// The steps with whose trees a terminal comes, and from where some way leads out.
 #[derive(Drop)]
 pub struct WantedSteps<'w, 't, 'g> {
-    // Light ways out, whatever comes on them.
-    pub(crate) any: &'w AnyOut<'w, 't, 'g>,
+    // Light completions, whatever comes on them.
+    pub(crate) any: &'w AnyCompletion<'w, 't, 'g>,
     // The terminal.
     pub(crate) terminal: TerminalString,
     // The trees that begin with it.
@@ -46,14 +46,14 @@ pub(crate) struct BeginGoals {
 
 /// Adds the step with the number, if the terminal comes with its trees, and some way leads out from there.
 fn push_goal(
-    any: &AnyOut<'_, '_, '_>,
+    any: &AnyCompletion<'_, '_, '_>,
     begins: &BeginTrees<'_, '_>,
     terminal: &TerminalString,
-    step: OutStep<'_>,
+    step: CompletionStep<'_>,
     number: usize,
     found: &mut BeginGoals,
 ) -> Result<(), AllocError>
-    requires any { IsAnyOut any.now }
+    requires any { IsAnyCompletion any.now }
     requires begins { AreBeginTrees begins.now }
     requires wanted { IsWanted (symbols_by begins.now.trees.now.table) (terminal_view terminal.now) begins.now.wanted }
     ensures { OnOk result (AddsBegin any.now begins.now.trees.now.table (terminal_view terminal.now) step.entry number found.old found.new) }
@@ -75,11 +75,11 @@ fn push_goal(
 /// The steps with whose trees the terminal comes, and from where some way leads out.
 fn begin_goals(
     alloc: Global,
-    any: &AnyOut<'_, '_, '_>,
+    any: &AnyCompletion<'_, '_, '_>,
     begins: &BeginTrees<'_, '_>,
     terminal: &TerminalString,
 ) -> Result<BeginGoals, AllocError>
-    requires any { IsAnyOut any.now }
+    requires any { IsAnyCompletion any.now }
     requires begins { AreBeginTrees begins.now }
     requires wanted { IsWanted (symbols_by begins.now.trees.now.table) (terminal_view terminal.now) begins.now.wanted }
     ensures { IfOk result (AreBeginGoals any.now begins.now.trees.now.table (terminal_view terminal.now)) }
@@ -110,10 +110,10 @@ impl<'w, 't, 'g> WantedSteps<'w, 't, 'g> {
     /// Memory is refused.
     pub fn new(
         alloc: Global,
-        any: &'w AnyOut<'w, 't, 'g>,
+        any: &'w AnyCompletion<'w, 't, 'g>,
         terminal: &TerminalString,
     ) -> Result<WantedSteps<'w, 't, 'g>, AllocError>
-        requires { IsAnyOut any.now }
+        requires { IsAnyCompletion any.now }
         ensures steps { IfOk result AreWantedSteps }
         ensures any { IfOk result (λ steps. steps.any.now ≡ any.now) }
         ensures terminal { IfOk result (λ steps. steps.terminal ≡ terminal.now) }
@@ -135,7 +135,7 @@ impl<'w, 't, 'g> WantedSteps<'w, 't, 'g> {
     pub(crate) fn push_begin(
         &self,
         alloc: Global,
-        step: OutStep<'g>,
+        step: CompletionStep<'g>,
         moves: &mut Vec<TreeMove<'g>>,
     ) -> Result<bool, AllocError>
         requires { AreWantedSteps self.now }

@@ -11,7 +11,7 @@ ghost use Rattle.lalrpop_lr1_least_trees.specs.MoveViews.{tree_move_view};
 ghost use Rattle.lalrpop_lr1_paths.specs.PathForests.{HaveForestMoves};
 ghost use Rattle.lalrpop_lr1_paths.specs.PathTables.{HasSymbol, HaveSymbols};
 
-use crate::state_paths::turned::symbol_weight;
+use crate::state_paths::reversed::symbol_weight;
 use lalrpop_lr1_least_trees::{LeastTrees, TreeMove, terminal_at};
 use std::alloc::{AllocError, Global};
 

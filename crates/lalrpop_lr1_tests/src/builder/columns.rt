@@ -9,6 +9,7 @@ ghost use Rattle.lalrpop_lr1_interpret.specs.declared.parse.action_table.ActionT
 ghost use Rattle.lalrpop_lr1_interpret.specs.declared.parse.table_row.NextNumber.{NextNumber as Column};
 
 use crate::builder::given::{name_of, pairs};
+use crate::check::check;
 use lalrpop_grammar::ScanToken;
 use lalrpop_grammar_repr::{Grammar, Production, TerminalSet};
 use lalrpop_grammar_symbols::{Atom, Span, TerminalString};
@@ -114,10 +115,22 @@ fn parses(
         leaves: 3,
         nodes: 5,
     };
-    assert!(rt; made_of(rt, alloc, table, terminals, &[0, 2, 2], 8) == Ok(whole));
-    assert!(rt; made_of(rt, alloc, table, terminals, &[0, 2, 2], 7) == Err(Stop::Limit));
-    assert!(rt; made_of(rt, alloc, table, terminals, &[0, 2, 0], 8) == Err(Stop::End));
-    assert!(rt; made_of(rt, alloc, table, terminals, &[2, 2, 2], 8) == Err(Stop::Token(2)));
+    check(
+        rt,
+        made_of(rt, alloc, table, terminals, &[0, 2, 2], 8) == Ok(whole),
+    );
+    check(
+        rt,
+        made_of(rt, alloc, table, terminals, &[0, 2, 2], 7) == Err(Stop::Limit),
+    );
+    check(
+        rt,
+        made_of(rt, alloc, table, terminals, &[0, 2, 0], 8) == Err(Stop::End),
+    );
+    check(
+        rt,
+        made_of(rt, alloc, table, terminals, &[2, 2, 2], 8) == Err(Stop::Token(2)),
+    );
 }
 
 /// The quoted terminal.

@@ -3,6 +3,7 @@
 ghost use Rattle.lalrpop_lr1_first.specs.NumberedGrammars.{HasItsTerminals};
 
 use crate::builder::given::{name_of, pairs};
+use crate::check::check;
 use lalrpop_grammar_repr::Grammar;
 use lalrpop_lr1_build::builder::Lr;
 use lalrpop_sets::{Nil, TokenSet};
@@ -15,7 +16,7 @@ fn with_lookaheads(rt: &impl Abort, alloc: Global, grammar: &Grammar)
     let end = TokenSet::eof(alloc, &grammar.terminals).expect(rt, "memory");
     let lr = Lr::new(alloc, grammar, name_of(rt, alloc, "__S"), end).expect(rt, "memory");
     let states = lr.build_states(alloc).expect(rt, "states");
-    assert_eq!(rt; states.len(), 10);
+    check(rt, states.len() == 10);
 }
 
 fn without_lookaheads(rt: &impl Abort, alloc: Global, grammar: &Grammar)
@@ -23,7 +24,7 @@ fn without_lookaheads(rt: &impl Abort, alloc: Global, grammar: &Grammar)
 {
     let lr = Lr::new(alloc, grammar, name_of(rt, alloc, "__S"), Nil).expect(rt, "memory");
     let states = lr.build_states(alloc).expect(rt, "states");
-    assert_eq!(rt; states.len(), 7);
+    check(rt, states.len() == 7);
 }
 
 #[test]

@@ -1,6 +1,7 @@
 //! Kernels of items.
 
 use crate::builder::given::{name_of, pairs};
+use crate::check::check;
 use lalrpop_grammar_repr::{Grammar, Production};
 use lalrpop_grammar_symbols::List;
 use lalrpop_lr1_build::builder::Kernel;
@@ -26,11 +27,20 @@ fn item_list<'g>(
 fn are_numbered(rt: &impl Abort, alloc: Global, production: &Production) {
     let mut kernels = KernelSet::new(alloc);
     let start = Kernel::start(item_list(rt, alloc, production, 0));
-    assert!(rt; kernels.add_state(start).expect(rt, "memory") == StateIndex(0));
+    check(
+        rt,
+        kernels.add_state(start).expect(rt, "memory") == StateIndex(0),
+    );
     let next = Kernel::shifted(item_list(rt, alloc, production, 1));
-    assert!(rt; kernels.add_state(next).expect(rt, "memory") == StateIndex(1));
+    check(
+        rt,
+        kernels.add_state(next).expect(rt, "memory") == StateIndex(1),
+    );
     let again = Kernel::shifted(item_list(rt, alloc, production, 0));
-    assert!(rt; kernels.add_state(again).expect(rt, "memory") == StateIndex(0));
+    check(
+        rt,
+        kernels.add_state(again).expect(rt, "memory") == StateIndex(0),
+    );
 }
 
 fn first_pair(rt: &impl Abort, alloc: Global, grammar: &Grammar) {

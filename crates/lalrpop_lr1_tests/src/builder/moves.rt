@@ -4,6 +4,7 @@ ghost use Rattle.lalrpop_lr1_first.specs.FirstSetsOf.{AreFirstSetsOf};
 ghost use Rattle.lalrpop_lr1_first.specs.NumberedGrammars.{HasItsTerminals};
 
 use crate::builder::given::{name_of, pairs, symbols_of};
+use crate::check::check;
 use lalrpop_grammar_repr::Grammar;
 use lalrpop_lr1_build::builder::{LookaheadBuild, Lr};
 use lalrpop_lr1_core::{Item, Lr0Item, Lr1Item};
@@ -45,11 +46,11 @@ fn brings(rt: &impl Abort, alloc: Global, grammar: &Grammar, end: &TokenSet, lr:
 {
     let before_pair = lr1_moves(rt, alloc, lr, "C", &["C"], end);
     let text = lr1_text(rt, alloc, grammar, before_pair.as_slice());
-    assert!(rt; text.as_str() == r#"0 ["c", "d"];0 ["c", "d"];"#);
+    check(rt, text.as_str() == r#"0 ["c", "d"];0 ["c", "d"];"#);
     let before_end = lr1_moves(rt, alloc, lr, "C", &[], end);
     let text = lr1_text(rt, alloc, grammar, before_end.as_slice());
-    assert!(rt; text.as_str() == "0 [Eof];0 [Eof];");
-    assert!(rt; lr1_moves(rt, alloc, lr, "X", &[], end).is_empty());
+    check(rt, text.as_str() == "0 [Eof];0 [Eof];");
+    check(rt, lr1_moves(rt, alloc, lr, "X", &[], end).is_empty());
 }
 
 fn pairs_bring(rt: &impl Abort, alloc: Global, grammar: &Grammar)
@@ -90,7 +91,7 @@ fn brings_without(rt: &impl Abort, alloc: Global, grammar: &Grammar)
     };
     let items = lr0_moves(rt, alloc, grammar, "C");
     let wanted = [Item::lr0(first, 0), Item::lr0(second, 0)];
-    assert!(rt; items.as_slice() == wanted.as_slice());
+    check(rt, items.as_slice() == wanted.as_slice());
 }
 
 #[test]

@@ -6,7 +6,7 @@ use lalrpop_run_parser::conflicts::WrittenConflict;
 use lalrpop_run_prepare::refusals::GenerateError;
 
 /// What the program has to say, before it is put into words.
-#[derive(Debug, Drop)]
+#[derive(Drop)]
 pub enum Reply {
     /// Whether the grammar admits the tree.
     Judged(bool),
@@ -43,7 +43,7 @@ pub enum Reply {
 }
 
 /// What the program writes, and the status that it ends with.
-#[derive(Debug, Drop)]
+#[derive(Drop)]
 pub struct Answer {
     /// The text, each line with a line feed.
     pub text: String,

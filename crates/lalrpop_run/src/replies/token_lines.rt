@@ -10,7 +10,7 @@ use lalrpop_lexer_scan::TokenReceiver;
 use std::alloc::{AllocError, Global};
 
 /// A line for each token that it was given: from which byte to which byte it stands, its terminal, and its text as a JSON string.
-#[derive(Debug, Drop)]
+#[derive(Drop)]
 pub struct TokenLines {
     text: String,
 }

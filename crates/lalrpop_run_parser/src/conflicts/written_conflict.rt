@@ -4,7 +4,7 @@ use lalrpop_grammar::WrittenTree;
 use lalrpop_grammar_symbols::TerminalString;
 
 /// What a parser would have to do.
-#[derive(Clone, Copy, Debug, PartialEq, Eq)]
+#[derive(Clone, Copy)]
 pub enum WrittenMove {
     /// Shift what comes next.
     Shift,
@@ -13,7 +13,7 @@ pub enum WrittenMove {
 }
 
 /// A conflict, shown by two trees of the written grammar.
-#[derive(Debug, Drop)]
+#[derive(Drop)]
 pub struct WrittenConflict {
     /// How many trees both have in common, complete before the moves.
     pub shared: usize,

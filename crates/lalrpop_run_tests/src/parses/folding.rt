@@ -1,6 +1,7 @@
 //! Folding written trees, and unfolding what they are folded to.
 
-use crate::parses::given::{Question, ask, parser_by, tree_of_json};
+use crate::check::check;
+use crate::given::{parser_by, prepared_grammar, tree_of_json};
 use crate::parses::grammars::{CALCULATOR, COMMAS, LISTS, PLACES};
 use crate::parses::trees::{LEAF, LIST, PRODUCT_OF_SUM, SUM_OF_PRODUCT, SUM_OF_SUM, SWAPPED_LIST};
 use lalrpop_grammar::WrittenTree;
@@ -51,10 +52,10 @@ fn unfolds(
     folded: &ExpandedTree<'_>,
     given: &WrittenTree,
 ) {
-    assert_eq!(rt; folded.node_count(), case.count);
+    check(rt, folded.node_count() == case.count);
     let unfolded = unfolding_of(rt, alloc, prepared, folded);
-    assert!(rt; is_shown(rt, alloc, &unfolded, case.shown));
-    assert!(rt; *unfolded == *given || case.shown != case.tree);
+    check(rt, is_shown(rt, alloc, &unfolded, case.shown));
+    check(rt, *unfolded == *given || case.shown != case.tree);
 }
 
 /// That the tree is folded, and is unfolded again.
@@ -71,9 +72,9 @@ fn is_folded(
     case: &Folding,
     tree: &WrittenTree,
 ) {
-    assert!(rt; is_shown(rt, alloc, tree, case.tree));
+    check(rt, is_shown(rt, alloc, tree, case.tree));
     let admitted = judge_tree(alloc, prepared.grammar(), &[], prepared.start(), tree);
-    assert!(rt; admitted.expect(rt, "a judgement"));
+    check(rt, admitted.expect(rt, "a judgement"));
     folds(rt, alloc, prepared, case, tree);
 }
 
@@ -95,78 +96,66 @@ fn folds_text(rt: &impl Abort, alloc: Global, prepared: &Prepared, text: &str, c
     folds_parsed(rt, alloc, &parser, prepared, text, case);
 }
 
-struct FoldsList;
-
-impl Question for FoldsList {
-    fn ask<A: Abort>(rt: &A, alloc: Global, prepared: &Prepared) {
-        let case = Folding {
-            tree: r#"S#0("a", S#1("b"))"#,
-            count: 5,
-            shown: r#"S#0("a", S#1("b"))"#,
-        };
-        folds_text(rt, alloc, prepared, "a b", &case);
-    }
+fn folds_list(rt: &impl Abort, alloc: Global, prepared: &Prepared) {
+    let case = Folding {
+        tree: r#"S#0("a", S#1("b"))"#,
+        count: 5,
+        shown: r#"S#0("a", S#1("b"))"#,
+    };
+    folds_text(rt, alloc, prepared, "a b", &case);
 }
 
 #[test]
 fn a_list_is_folded_and_unfolded(rt: HostRuntime) {
-    ask::<FoldsList, HostRuntime>(&rt, rt.alloc(), LISTS, "S");
+    let prepared = prepared_grammar(&rt, rt.alloc(), LISTS, "S");
+    folds_list(&rt, rt.alloc(), &prepared);
 }
 
-struct FoldsPlaces;
-
-impl Question for FoldsPlaces {
-    fn ask<A: Abort>(rt: &A, alloc: Global, prepared: &Prepared) {
-        let case = Folding {
-            tree: r#"S#0(@, "a", @)"#,
-            count: 3,
-            shown: r#"S#0(@, "a", @)"#,
-        };
-        folds_text(rt, alloc, prepared, "a", &case);
-    }
+fn folds_places(rt: &impl Abort, alloc: Global, prepared: &Prepared) {
+    let case = Folding {
+        tree: r#"S#0(@, "a", @)"#,
+        count: 3,
+        shown: r#"S#0(@, "a", @)"#,
+    };
+    folds_text(rt, alloc, prepared, "a", &case);
 }
 
 // Places are no nodes once they are inlined.
 #[test]
 fn places_are_folded_and_unfolded(rt: HostRuntime) {
-    ask::<FoldsPlaces, HostRuntime>(&rt, rt.alloc(), PLACES, "S");
+    let prepared = prepared_grammar(&rt, rt.alloc(), PLACES, "S");
+    folds_places(&rt, rt.alloc(), &prepared);
 }
 
-struct FoldsLevels;
-
-impl Question for FoldsLevels {
-    fn ask<A: Abort>(rt: &A, alloc: Global, prepared: &Prepared) {
-        let case = Folding {
-            tree: r#"Expr#2(Expr#0(Num#0("1")), "+", Expr#1(Expr#0(Num#0("2")), "*", Expr#0(Num#0("3"))))"#,
-            count: 17,
-            shown: r#"Expr#2(Expr#0(Num#0("[0-9]+")), "+", Expr#1(Expr#0(Num#0("[0-9]+")), "*", Expr#0(Num#0("[0-9]+"))))"#,
-        };
-        folds_text(rt, alloc, prepared, "1+2*3", &case);
-    }
+fn folds_levels(rt: &impl Abort, alloc: Global, prepared: &Prepared) {
+    let case = Folding {
+        tree: r#"Expr#2(Expr#0(Num#0("1")), "+", Expr#1(Expr#0(Num#0("2")), "*", Expr#0(Num#0("3"))))"#,
+        count: 17,
+        shown: r#"Expr#2(Expr#0(Num#0("[0-9]+")), "+", Expr#1(Expr#0(Num#0("[0-9]+")), "*", Expr#0(Num#0("[0-9]+"))))"#,
+    };
+    folds_text(rt, alloc, prepared, "1+2*3", &case);
 }
 
 #[test]
 fn levels_are_folded_and_unfolded(rt: HostRuntime) {
-    ask::<FoldsLevels, HostRuntime>(&rt, rt.alloc(), CALCULATOR, "Expr");
+    let prepared = prepared_grammar(&rt, rt.alloc(), CALCULATOR, "Expr");
+    folds_levels(&rt, rt.alloc(), &prepared);
 }
 
-struct FoldsRepeats;
-
-impl Question for FoldsRepeats {
-    fn ask<A: Abort>(rt: &A, alloc: Global, prepared: &Prepared) {
-        let case = Folding {
-            tree: r#"L#0(Comma<Id>#0([(Id#0("a"), ",")], ?(Id#0("b"))))"#,
-            count: 9,
-            shown: r#"L#0(Comma<Id>#0([(Id#0("[a-z]+"), ",")], ?(Id#0("[a-z]+"))))"#,
-        };
-        folds_text(rt, alloc, prepared, "a, b", &case);
-    }
+fn folds_repeats(rt: &impl Abort, alloc: Global, prepared: &Prepared) {
+    let case = Folding {
+        tree: r#"L#0(Comma<Id>#0([(Id#0("a"), ",")], ?(Id#0("b"))))"#,
+        count: 9,
+        shown: r#"L#0(Comma<Id>#0([(Id#0("[a-z]+"), ",")], ?(Id#0("[a-z]+"))))"#,
+    };
+    folds_text(rt, alloc, prepared, "a, b", &case);
 }
 
 // Options, groups and repeats of none or some are no nodes once they are inlined.
 #[test]
 fn repeats_are_folded_and_unfolded(rt: HostRuntime) {
-    ask::<FoldsRepeats, HostRuntime>(&rt, rt.alloc(), COMMAS, "L");
+    let prepared = prepared_grammar(&rt, rt.alloc(), COMMAS, "L");
+    folds_repeats(&rt, rt.alloc(), &prepared);
 }
 
 /// Whether the tree isn't folded since it isn't admitted.
@@ -190,40 +179,26 @@ fn is_refused(rt: &impl Abort, alloc: Global, prepared: &Prepared, json: &str) -
 }
 
 fn refuses_lists(rt: &impl Abort, alloc: Global, prepared: &Prepared) {
-    assert!(rt; !is_refused(rt, alloc, prepared, LIST));
-    assert!(rt; is_refused(rt, alloc, prepared, SWAPPED_LIST));
-    assert!(rt; is_refused(rt, alloc, prepared, LEAF));
-}
-
-struct RefusesLists;
-
-impl Question for RefusesLists {
-    fn ask<A: Abort>(rt: &A, alloc: Global, prepared: &Prepared) {
-        refuses_lists(rt, alloc, prepared);
-    }
+    check(rt, !is_refused(rt, alloc, prepared, LIST));
+    check(rt, is_refused(rt, alloc, prepared, SWAPPED_LIST));
+    check(rt, is_refused(rt, alloc, prepared, LEAF));
 }
 
 #[test]
 fn a_tree_by_other_alternatives_is_not_folded(rt: HostRuntime) {
-    ask::<RefusesLists, HostRuntime>(&rt, rt.alloc(), LISTS, "S");
+    let prepared = prepared_grammar(&rt, rt.alloc(), LISTS, "S");
+    refuses_lists(&rt, rt.alloc(), &prepared);
 }
 
 // A sum may stand neither in a product nor to the right in a sum.
 fn refuses_operations(rt: &impl Abort, alloc: Global, prepared: &Prepared) {
-    assert!(rt; !is_refused(rt, alloc, prepared, SUM_OF_PRODUCT));
-    assert!(rt; is_refused(rt, alloc, prepared, PRODUCT_OF_SUM));
-    assert!(rt; is_refused(rt, alloc, prepared, SUM_OF_SUM));
-}
-
-struct RefusesOperations;
-
-impl Question for RefusesOperations {
-    fn ask<A: Abort>(rt: &A, alloc: Global, prepared: &Prepared) {
-        refuses_operations(rt, alloc, prepared);
-    }
+    check(rt, !is_refused(rt, alloc, prepared, SUM_OF_PRODUCT));
+    check(rt, is_refused(rt, alloc, prepared, PRODUCT_OF_SUM));
+    check(rt, is_refused(rt, alloc, prepared, SUM_OF_SUM));
 }
 
 #[test]
 fn an_operation_at_a_tighter_level_is_not_folded(rt: HostRuntime) {
-    ask::<RefusesOperations, HostRuntime>(&rt, rt.alloc(), CALCULATOR, "Expr");
+    let prepared = prepared_grammar(&rt, rt.alloc(), CALCULATOR, "Expr");
+    refuses_operations(&rt, rt.alloc(), &prepared);
 }

@@ -1,6 +1,7 @@
 //! Inlining: in which order, and into which productions.
 
-use crate::parses::given::{Question, ask, grammar_of, usual_session};
+use crate::check::check;
+use crate::given::{grammar_of, prepared_grammar, usual_session};
 use crate::parses::grammars::{NESTED, ROUND, TWICE};
 use lalrpop_grammar::{Atom, Grammar as WrittenGrammar, NonterminalString, Span};
 use lalrpop_grammar_repr::{Grammar, NormError, NormErrorKind, NormFault, Symbol};
@@ -55,7 +56,7 @@ fn a_rule_that_another_names_is_inlined_before_it(rt: HostRuntime) {
     let [first, second] = order.as_slice() else {
         panic!(rt; "not two rules");
     };
-    assert_eq!(rt; (first.0.as_str(), second.0.as_str()), ("B", "A"));
+    check(&rt, (first.0.as_str(), second.0.as_str()) == ("B", "A"));
 }
 
 /// Puts the symbols behind the text, a blank before each.
@@ -102,33 +103,27 @@ fn each_choice_has_a_production_and_the_last_place_changes_first(rt: HostRuntime
     }
 }
 
-struct HasChoices;
-
-impl Question for HasChoices {
-    fn ask<A: Abort>(rt: &A, alloc: Global, prepared: &Prepared) {
-        let start = prepared.start_name().0.as_str();
-        has_right_sides(rt, alloc, prepared.expansion(), "S", WALK);
-        has_right_sides(rt, alloc, prepared.expansion(), start, "| S");
-    }
+fn has_choices(rt: &impl Abort, alloc: Global, prepared: &Prepared) {
+    let start = prepared.start_name().0.as_str();
+    has_right_sides(rt, alloc, prepared.expansion(), "S", WALK);
+    has_right_sides(rt, alloc, prepared.expansion(), start, "| S");
 }
 
 #[test]
 fn what_is_prepared_has_its_choices_below_the_start(rt: HostRuntime) {
-    ask::<HasChoices, HostRuntime>(&rt, rt.alloc(), TWICE, "S");
+    let prepared = prepared_grammar(&rt, rt.alloc(), TWICE, "S");
+    has_choices(&rt, rt.alloc(), &prepared);
 }
 
-struct NamesInlined;
-
-impl Question for NamesInlined {
-    fn ask<A: Abort>(rt: &A, alloc: Global, prepared: &Prepared) {
-        has_right_sides(rt, alloc, prepared.lowered(), "S", "| Op Op");
-        has_right_sides(rt, alloc, prepared.lowered(), "Op", r#"| "a"| "b""#);
-    }
+fn names_inlined(rt: &impl Abort, alloc: Global, prepared: &Prepared) {
+    has_right_sides(rt, alloc, prepared.lowered(), "S", "| Op Op");
+    has_right_sides(rt, alloc, prepared.lowered(), "Op", r#"| "a"| "b""#);
 }
 
 #[test]
 fn before_inlining_a_rule_names_the_inlined_one(rt: HostRuntime) {
-    ask::<NamesInlined, HostRuntime>(&rt, rt.alloc(), TWICE, "S");
+    let prepared = prepared_grammar(&rt, rt.alloc(), TWICE, "S");
+    names_inlined(&rt, rt.alloc(), &prepared);
 }
 
 /// That the rule `A`, which stands there, would be inlined into itself.
@@ -144,7 +139,7 @@ fn round_fault(rt: &impl Abort, alloc: Global) -> InlineFault {
 fn has_no_order(rt: &impl Abort, alloc: Global, fault: &InlineFault) {
     match order_of(rt, alloc, ROUND) {
         Ok(_) => panic!(rt; "an order"),
-        Err(found) => assert!(rt; found == *fault),
+        Err(found) => check(rt, found == *fault),
     }
 }
 
@@ -152,7 +147,7 @@ fn has_no_order(rt: &impl Abort, alloc: Global, fault: &InlineFault) {
 fn is_not_inlined(rt: &impl Abort, alloc: Global, fault: &InlineFault) {
     match &*inlining_of_json(rt, alloc, ROUND) {
         Ok(_) => panic!(rt; "inlined"),
-        Err(found) => assert!(rt; *found == *fault),
+        Err(found) => check(rt, *found == *fault),
     }
 }
 

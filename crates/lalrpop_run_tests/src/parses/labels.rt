@@ -1,6 +1,7 @@
 //! Productions by the choices that they stand for.
 
-use crate::parses::given::{Question, ask};
+use crate::check::check;
+use crate::given::prepared_grammar;
 use crate::parses::grammars::TWICE;
 use lalrpop_grammar::{Atom, NonterminalString};
 use lalrpop_grammar_repr::{Grammar, Production};
@@ -57,20 +58,13 @@ fn has_choices(rt: &impl Abort, alloc: Global, prepared: &Prepared) {
     let second = mark_of(rt, alloc, prepared, "Op", 1);
     let wanted = [whole, first, LabelMark::Kept, second, LabelMark::Kept];
     let label = label_of(rt, alloc, prepared, "S", 1);
-    assert_eq!(rt; label.as_slice(), wanted.as_slice());
-}
-
-struct LabelsChoices;
-
-impl Question for LabelsChoices {
-    fn ask<A: Abort>(rt: &A, alloc: Global, prepared: &Prepared) {
-        has_choices(rt, alloc, prepared);
-    }
+    check(rt, label.as_slice() == wanted.as_slice());
 }
 
 #[test]
 fn a_label_has_the_choices_in_reading_order(rt: HostRuntime) {
-    ask::<LabelsChoices, HostRuntime>(&rt, rt.alloc(), TWICE, "S");
+    let prepared = prepared_grammar(&rt, rt.alloc(), TWICE, "S");
+    has_choices(&rt, rt.alloc(), &prepared);
 }
 
 /// That the table tells for the label of the nonterminal's production at that place this place.
@@ -83,14 +77,14 @@ fn tells_place(
     place: usize,
 ) {
     let label = label_of(rt, alloc, prepared, name, place);
-    assert_eq!(rt; labels.place(&label), Some(place));
+    check(rt, labels.place(&label) == Some(place));
 }
 
 /// That the table tells nothing for a label that no production has: a symbol kept by no choice.
 fn tells_no_other(rt: &impl Abort, alloc: Global, labels: &LabelTable) {
     let mut label = Vec::new(alloc);
     label.push(LabelMark::Kept).expect(rt, "memory");
-    assert_eq!(rt; labels.place(&label), None);
+    check(rt, labels.place(&label) == None);
 }
 
 /// That the table tells the places of the four productions of `S` and of the two of `Op`.
@@ -111,16 +105,13 @@ fn new_table_tells_places(rt: &impl Abort, alloc: Global, prepared: &Prepared) {
     tells_places(rt, alloc, prepared, &labels);
 }
 
-struct FindsLabels;
-
-impl Question for FindsLabels {
-    fn ask<A: Abort>(rt: &A, alloc: Global, prepared: &Prepared) {
-        tells_places(rt, alloc, prepared, prepared.labels());
-        new_table_tells_places(rt, alloc, prepared);
-    }
+fn finds_labels(rt: &impl Abort, alloc: Global, prepared: &Prepared) {
+    tells_places(rt, alloc, prepared, prepared.labels());
+    new_table_tells_places(rt, alloc, prepared);
 }
 
 #[test]
 fn each_production_is_found_by_its_label(rt: HostRuntime) {
-    ask::<FindsLabels, HostRuntime>(&rt, rt.alloc(), TWICE, "S");
+    let prepared = prepared_grammar(&rt, rt.alloc(), TWICE, "S");
+    finds_labels(&rt, rt.alloc(), &prepared);
 }

@@ -1,6 +1,7 @@
 //! Parsers: how many states they have, and what they answer to texts.
 
-use crate::parses::given::{Question, ask, parser_by};
+use crate::check::check;
+use crate::given::{parser_by, prepared_grammar};
 use crate::parses::grammars::LISTS;
 use lalrpop_grammar::{Atom, ScanToken, Span, TerminalString, WrittenTree};
 use lalrpop_grammar_repr::methods::Method;
@@ -16,20 +17,17 @@ fn state_count(rt: &impl Abort, alloc: Global, prepared: &Prepared, method: Meth
     parser.state_count()
 }
 
-struct HasFiveStates;
-
-impl Question for HasFiveStates {
-    fn ask<A: Abort>(rt: &A, alloc: Global, prepared: &Prepared) {
-        for method in [Method::Canonical, Method::Lane { copies: 0 }] {
-            assert_eq!(rt; state_count(rt, alloc, prepared, method), 5);
-        }
+fn has_five_states(rt: &impl Abort, alloc: Global, prepared: &Prepared) {
+    for method in [Method::Canonical, Method::Lane { copies: 0 }] {
+        check(rt, state_count(rt, alloc, prepared, method) == 5);
     }
 }
 
 // At the start, behind a whole list, behind an "a", behind the list that follows it, and behind a "b".
 #[test]
 fn lists_have_five_states_by_either_method(rt: HostRuntime) {
-    ask::<HasFiveStates, HostRuntime>(&rt, rt.alloc(), LISTS, "S");
+    let prepared = prepared_grammar(&rt, rt.alloc(), LISTS, "S");
+    has_five_states(&rt, rt.alloc(), &prepared);
 }
 
 /// Whether the token is of the quoted terminal with this text, and stands there.
@@ -40,10 +38,10 @@ fn is_token(rt: &impl Abort, alloc: Global, token: &ScanToken<'_>, text: &str, s
 
 /// That these are the tokens of `aa b`.
 fn are_three(rt: &impl Abort, alloc: Global, tokens: &[ScanToken<'_>]) {
-    assert_eq!(rt; tokens.len(), 3);
-    assert!(rt; is_token(rt, alloc, &tokens[0], "a", Span(0, 1)));
-    assert!(rt; is_token(rt, alloc, &tokens[1], "a", Span(1, 2)));
-    assert!(rt; is_token(rt, alloc, &tokens[2], "b", Span(3, 4)));
+    check(rt, tokens.len() == 3);
+    check(rt, is_token(rt, alloc, &tokens[0], "a", Span(0, 1)));
+    check(rt, is_token(rt, alloc, &tokens[1], "a", Span(1, 2)));
+    check(rt, is_token(rt, alloc, &tokens[2], "b", Span(3, 4)));
 }
 
 fn scans_all(rt: &impl Abort, alloc: Global, parser: &Parser<'_>) {
@@ -57,7 +55,10 @@ fn scan_fault(alloc: Global, parser: &Parser<'_>, text: &str) -> Option<ScanErro
 }
 
 fn scans(rt: &impl Abort, alloc: Global, parser: &Parser<'_>) {
-    assert!(rt; scan_fault(alloc, parser, "a c") == Some(ScanError::NoToken(2)));
+    check(
+        rt,
+        scan_fault(alloc, parser, "a c") == Some(ScanError::NoToken(2)),
+    );
     scans_all(rt, alloc, parser);
 }
 
@@ -66,23 +67,16 @@ fn lists_are_scanned(rt: &impl Abort, alloc: Global, prepared: &Prepared) {
     scans(rt, alloc, &parser);
 }
 
-struct ScansLists;
-
-impl Question for ScansLists {
-    fn ask<A: Abort>(rt: &A, alloc: Global, prepared: &Prepared) {
-        lists_are_scanned(rt, alloc, prepared);
-    }
-}
-
 #[test]
 fn a_scan_gives_the_tokens_or_the_byte_without_one(rt: HostRuntime) {
-    ask::<ScansLists, HostRuntime>(&rt, rt.alloc(), LISTS, "S");
+    let prepared = prepared_grammar(&rt, rt.alloc(), LISTS, "S");
+    lists_are_scanned(&rt, rt.alloc(), &prepared);
 }
 
 /// That the tree is printed so.
 fn is_printed(rt: &impl Abort, alloc: Global, tree: &WrittenTree, wanted: &str) {
     let shown = print_tree(alloc, tree).expect(rt, "memory");
-    assert_eq!(rt; shown.as_str(), wanted);
+    check(rt, shown.as_str() == wanted);
 }
 
 /// That the text has this tree under this limit.
@@ -107,7 +101,7 @@ fn refuses(
 ) {
     match parse_fault(alloc, parser, text, limit) {
         None => panic!(rt; "a tree"),
-        Some(found) => assert!(rt; found == *why),
+        Some(found) => check(rt, found == *why),
     }
 }
 
@@ -144,17 +138,10 @@ fn lists_are_parsed(rt: &impl Abort, alloc: Global, prepared: &Prepared) {
     parses_without_moves(rt, alloc, &parser);
 }
 
-struct ParsesLists;
-
-impl Question for ParsesLists {
-    fn ask<A: Abort>(rt: &A, alloc: Global, prepared: &Prepared) {
-        lists_are_parsed(rt, alloc, prepared);
-    }
-}
-
 #[test]
 fn a_text_has_its_tree_or_the_reason_why_it_has_none(rt: HostRuntime) {
-    ask::<ParsesLists, HostRuntime>(&rt, rt.alloc(), LISTS, "S");
+    let prepared = prepared_grammar(&rt, rt.alloc(), LISTS, "S");
+    lists_are_parsed(&rt, rt.alloc(), &prepared);
 }
 
 fn laws_of_parsers_are_called(rt: &impl Abort, alloc: Global, prepared: &Prepared) {
@@ -163,16 +150,13 @@ fn laws_of_parsers_are_called(rt: &impl Abort, alloc: Global, prepared: &Prepare
     parser.canonical_states_tell_faults();
 }
 
-struct CallsLaws;
-
-impl Question for CallsLaws {
-    fn ask<A: Abort>(rt: &A, alloc: Global, prepared: &Prepared) {
-        foldings_are_inverse();
-        laws_of_parsers_are_called(rt, alloc, prepared);
-    }
+fn calls_laws(rt: &impl Abort, alloc: Global, prepared: &Prepared) {
+    foldings_are_inverse();
+    laws_of_parsers_are_called(rt, alloc, prepared);
 }
 
 #[test]
 fn laws_are_called(rt: HostRuntime) {
-    ask::<CallsLaws, HostRuntime>(&rt, rt.alloc(), LISTS, "S");
+    let prepared = prepared_grammar(&rt, rt.alloc(), LISTS, "S");
+    calls_laws(&rt, rt.alloc(), &prepared);
 }

@@ -1,6 +1,7 @@
 //! Tokens with the entries that match them, and tokens that are given to a receiver.
 
-use crate::parses::given::{Question, ask, parser_by};
+use crate::check::check;
+use crate::given::{parser_by, prepared_grammar};
 use crate::parses::grammars::LISTS;
 use lalrpop_grammar::{ScanToken, Span, TerminalString};
 use lalrpop_grammar_repr::methods::Method;
@@ -12,14 +13,17 @@ use std::process::Abort;
 /// That the token is of the terminal of the entry with this number.
 fn is_of_entry(rt: &impl Abort, scanner: &Scanner, token: &ScanToken<'_>, entry: usize) {
     match scanner.terminals().get(entry) {
-        Some(Some(terminal)) => assert!(rt; token.terminal == *terminal),
+        Some(Some(terminal)) => check(rt, token.terminal == *terminal),
         _ => panic!(rt; "no terminal"),
     }
 }
 
 /// That there is an entry for each token, of the same terminal.
 fn are_of_entries(rt: &impl Abort, scanner: &Scanner, found: &EntryTokens<'_>, count: usize) {
-    assert_eq!(rt; (found.tokens.len(), found.entries.len()), (count, count));
+    check(
+        rt,
+        (found.tokens.len(), found.entries.len()) == (count, count),
+    );
     for (token, entry) in found.tokens.iter().zip(found.entries.iter()) {
         is_of_entry(rt, scanner, token, *entry);
     }
@@ -36,21 +40,21 @@ fn fault_of(alloc: Global, scanner: &Scanner, text: &str) -> Option<ScanError> {
 }
 
 fn scans(rt: &impl Abort, alloc: Global, scanner: &Scanner) {
-    assert!(rt; fault_of(alloc, scanner, "a c") == Some(ScanError::NoToken(2)));
+    check(
+        rt,
+        fault_of(alloc, scanner, "a c") == Some(ScanError::NoToken(2)),
+    );
     scans_entries(rt, alloc, scanner);
 }
 
-struct ScansEntries;
-
-impl Question for ScansEntries {
-    fn ask<A: Abort>(rt: &A, alloc: Global, prepared: &Prepared) {
-        scans(rt, alloc, prepared.scanner());
-    }
+fn prepared_scans_entries(rt: &impl Abort, alloc: Global, prepared: &Prepared) {
+    scans(rt, alloc, prepared.scanner());
 }
 
 #[test]
 fn each_token_has_the_entry_that_matches_it(rt: HostRuntime) {
-    ask::<ScansEntries, HostRuntime>(&rt, rt.alloc(), LISTS, "S");
+    let prepared = prepared_grammar(&rt, rt.alloc(), LISTS, "S");
+    prepared_scans_entries(&rt, rt.alloc(), &prepared);
 }
 
 /// Notes for each token that it is given from which byte to which byte it stands, its terminal, and its text.
@@ -92,8 +96,8 @@ fn gives(
         text: String::new(alloc),
     };
     let found = scanner.scan_into(text, &mut given).err();
-    assert!(rt; found == fault);
-    assert_eq!(rt; given.text.as_str(), notes);
+    check(rt, found == fault);
+    check(rt, given.text.as_str() == notes);
 }
 
 /// That the parser gives the tokens of the text, too.
@@ -102,8 +106,8 @@ fn parser_gives(rt: &impl Abort, alloc: Global, parser: &Parser<'_>) {
         text: String::new(alloc),
     };
     let found = parser.scan_into("aa b", &mut given);
-    assert!(rt; found.is_ok());
-    assert_eq!(rt; given.text.as_str(), THREE);
+    check(rt, found.is_ok());
+    check(rt, given.text.as_str() == THREE);
 }
 
 fn lists_are_given(rt: &impl Abort, alloc: Global, prepared: &Prepared) {
@@ -114,15 +118,8 @@ fn lists_are_given(rt: &impl Abort, alloc: Global, prepared: &Prepared) {
     parser_gives(rt, alloc, &parser);
 }
 
-struct GivesTokens;
-
-impl Question for GivesTokens {
-    fn ask<A: Abort>(rt: &A, alloc: Global, prepared: &Prepared) {
-        lists_are_given(rt, alloc, prepared);
-    }
-}
-
 #[test]
 fn a_receiver_is_given_the_tokens_in_front_of_the_byte_without_one(rt: HostRuntime) {
-    ask::<GivesTokens, HostRuntime>(&rt, rt.alloc(), LISTS, "S");
+    let prepared = prepared_grammar(&rt, rt.alloc(), LISTS, "S");
+    lists_are_given(&rt, rt.alloc(), &prepared);
 }

@@ -1,8 +1,8 @@
 //! Certificates of the two inlined alternatives, as they are told and with something changed.
 
-use crate::witnesses::given::{
-    Question, ask, certificate_of, is_taken, name_of, production_at, terminal_of,
-};
+use crate::check::check;
+use crate::given::prepared_grammar;
+use crate::witnesses::given::{certificate_of, is_taken, name_of, production_at, terminal_of};
 use crate::witnesses::grammars::INLINED;
 use crate::witnesses::trees::{A, Leaf, MOVED_X, NO_ACTION, X, leaves_of};
 use lalrpop_grammar::{Span, TerminalString};
@@ -30,10 +30,10 @@ fn is_leaf(rt: &impl Abort, alloc: Global, tree: &ExpandedTree<'_>, leaf: Leaf) 
 /// That what both sentences have in common are the tokens `a` and `x`, and the end comes next.
 fn shares_both_tokens(rt: &impl Abort, alloc: Global, certificate: &Certificate<'_>) {
     let shared = certificate.shared.as_slice();
-    assert_eq!(rt; shared.len(), 2);
-    assert!(rt; is_leaf(rt, alloc, &shared[0], A));
-    assert!(rt; is_leaf(rt, alloc, &shared[1], X));
-    assert!(rt; certificate.next.is_none());
+    check(rt, shared.len() == 2);
+    check(rt, is_leaf(rt, alloc, &shared[0], A));
+    check(rt, is_leaf(rt, alloc, &shared[1], X));
+    check(rt, certificate.next.is_none());
 }
 
 /// Whether the move reduces by this action.
@@ -52,9 +52,9 @@ fn reduces_by_each(
     certificate: &Certificate<'_>,
 ) {
     let (first, second) = two_actions(rt, alloc, prepared);
-    assert!(rt; first != second);
-    assert!(rt; reduces_by(&certificate.move1, first));
-    assert!(rt; reduces_by(&certificate.move2, second));
+    check(rt, first != second);
+    check(rt, reduces_by(&certificate.move1, first));
+    check(rt, reduces_by(&certificate.move2, second));
 }
 
 /// That the certificate is taken, shares both tokens, and tells both reductions.
@@ -64,7 +64,7 @@ fn tells_reductions(
     prepared: &Prepared,
     certificate: &Certificate<'_>,
 ) {
-    assert!(rt; is_taken(rt, alloc, prepared, certificate));
+    check(rt, is_taken(rt, alloc, prepared, certificate));
     shares_both_tokens(rt, alloc, certificate);
     reduces_by_each(rt, alloc, prepared, certificate);
 }
@@ -74,19 +74,16 @@ fn are_told_apart(rt: &impl Abort, alloc: Global, prepared: &Prepared) {
     tells_reductions(rt, alloc, prepared, &certificate);
 }
 
-struct AreToldApart;
-
-impl Question for AreToldApart {
-    fn ask<A: Abort>(rt: &A, alloc: Global, prepared: &Prepared) {
-        // what it shows that a certificate is taken
-        certificates_refute();
-        are_told_apart(rt, alloc, prepared);
-    }
+fn prepared_are_told_apart(rt: &impl Abort, alloc: Global, prepared: &Prepared) {
+    // what it shows that a certificate is taken
+    certificates_refute();
+    are_told_apart(rt, alloc, prepared);
 }
 
 #[test]
 fn two_inlined_alternatives_of_equal_symbols_are_told_apart(rt: HostRuntime) {
-    ask::<AreToldApart, HostRuntime>(&rt, rt.alloc(), INLINED, "S");
+    let prepared = prepared_grammar(&rt, rt.alloc(), INLINED, "S");
+    prepared_are_told_apart(&rt, rt.alloc(), &prepared);
 }
 
 /// Whether the certificate is taken with the reductions by these actions.
@@ -111,9 +108,18 @@ fn takes_its_reductions(
 ) {
     let (first, second) = two_actions(rt, alloc, prepared);
     let other = ActionFn::new(NO_ACTION);
-    assert!(rt; is_taken_with_reductions(rt, alloc, prepared, certificate, first, second));
-    assert!(rt; !is_taken_with_reductions(rt, alloc, prepared, certificate, first, first));
-    assert!(rt; !is_taken_with_reductions(rt, alloc, prepared, certificate, first, other));
+    check(
+        rt,
+        is_taken_with_reductions(rt, alloc, prepared, certificate, first, second),
+    );
+    check(
+        rt,
+        !is_taken_with_reductions(rt, alloc, prepared, certificate, first, first),
+    );
+    check(
+        rt,
+        !is_taken_with_reductions(rt, alloc, prepared, certificate, first, other),
+    );
 }
 
 fn takes_no_other_moves(rt: &impl Abort, alloc: Global, prepared: &Prepared) {
@@ -121,17 +127,10 @@ fn takes_no_other_moves(rt: &impl Abort, alloc: Global, prepared: &Prepared) {
     takes_its_reductions(rt, alloc, prepared, &mut certificate);
 }
 
-struct TakesItsMoves;
-
-impl Question for TakesItsMoves {
-    fn ask<A: Abort>(rt: &A, alloc: Global, prepared: &Prepared) {
-        takes_no_other_moves(rt, alloc, prepared);
-    }
-}
-
 #[test]
 fn other_moves_are_not_taken(rt: HostRuntime) {
-    ask::<TakesItsMoves, HostRuntime>(&rt, rt.alloc(), INLINED, "S");
+    let prepared = prepared_grammar(&rt, rt.alloc(), INLINED, "S");
+    takes_no_other_moves(&rt, rt.alloc(), &prepared);
 }
 
 /// The shift of the quoted terminal.
@@ -162,22 +161,21 @@ fn is_taken_with_shifts(
 fn takes_no_shifts(rt: &impl Abort, alloc: Global, prepared: &Prepared) {
     let mut certificate = certificate_of(rt, alloc, prepared);
     move_to_front(rt, alloc, &mut certificate);
-    assert!(rt; !is_taken_with_shifts(rt, alloc, prepared, &mut certificate, "a", "a"));
-    assert!(rt; !is_taken_with_shifts(rt, alloc, prepared, &mut certificate, "a", "x"));
-}
-
-struct TakesReductions;
-
-impl Question for TakesReductions {
-    fn ask<A: Abort>(rt: &A, alloc: Global, prepared: &Prepared) {
-        takes_no_shifts(rt, alloc, prepared);
-    }
+    check(
+        rt,
+        !is_taken_with_shifts(rt, alloc, prepared, &mut certificate, "a", "a"),
+    );
+    check(
+        rt,
+        !is_taken_with_shifts(rt, alloc, prepared, &mut certificate, "a", "x"),
+    );
 }
 
 // Each sentence makes the shift of "a" there.
 #[test]
 fn two_shifts_are_not_taken(rt: HostRuntime) {
-    ask::<TakesReductions, HostRuntime>(&rt, rt.alloc(), INLINED, "S");
+    let prepared = prepared_grammar(&rt, rt.alloc(), INLINED, "S");
+    takes_no_shifts(&rt, rt.alloc(), &prepared);
 }
 
 /// Whether the certificate is taken with this terminal next.
@@ -206,23 +204,25 @@ fn is_taken_before_text(
 
 fn takes_the_end(rt: &impl Abort, alloc: Global, prepared: &Prepared) {
     let mut certificate = certificate_of(rt, alloc, prepared);
-    assert!(rt; is_taken_before(rt, alloc, prepared, &mut certificate, None));
-    assert!(rt; !is_taken_before_text(rt, alloc, prepared, &mut certificate, "x"));
-    assert!(rt; !is_taken_before_text(rt, alloc, prepared, &mut certificate, "z"));
-}
-
-struct TakesItsEnd;
-
-impl Question for TakesItsEnd {
-    fn ask<A: Abort>(rt: &A, alloc: Global, prepared: &Prepared) {
-        takes_the_end(rt, alloc, prepared);
-    }
+    check(
+        rt,
+        is_taken_before(rt, alloc, prepared, &mut certificate, None),
+    );
+    check(
+        rt,
+        !is_taken_before_text(rt, alloc, prepared, &mut certificate, "x"),
+    );
+    check(
+        rt,
+        !is_taken_before_text(rt, alloc, prepared, &mut certificate, "z"),
+    );
 }
 
 // "z" is no terminal of the grammar.
 #[test]
 fn another_next_token_is_not_taken(rt: HostRuntime) {
-    ask::<TakesItsEnd, HostRuntime>(&rt, rt.alloc(), INLINED, "S");
+    let prepared = prepared_grammar(&rt, rt.alloc(), INLINED, "S");
+    takes_the_end(&rt, rt.alloc(), &prepared);
 }
 
 /// Whether the certificate is taken with these leaves as what both sentences have in common.
@@ -247,12 +247,27 @@ fn takes_both_leaves(
     prepared: &Prepared,
     certificate: &mut Certificate<'_>,
 ) {
-    assert!(rt; is_taken_sharing(rt, alloc, prepared, certificate, &[A, X]));
-    assert!(rt; !is_taken_sharing(rt, alloc, prepared, certificate, &[A]));
-    assert!(rt; !is_taken_sharing(rt, alloc, prepared, certificate, &[]));
-    assert!(rt; !is_taken_sharing(rt, alloc, prepared, certificate, &[A, X, MOVED_X]));
-    assert!(rt; !is_taken_sharing(rt, alloc, prepared, certificate, &FIVE_LEAVES));
-    assert!(rt; !is_taken_sharing(rt, alloc, prepared, certificate, &[A, MOVED_X]));
+    check(
+        rt,
+        is_taken_sharing(rt, alloc, prepared, certificate, &[A, X]),
+    );
+    check(
+        rt,
+        !is_taken_sharing(rt, alloc, prepared, certificate, &[A]),
+    );
+    check(rt, !is_taken_sharing(rt, alloc, prepared, certificate, &[]));
+    check(
+        rt,
+        !is_taken_sharing(rt, alloc, prepared, certificate, &[A, X, MOVED_X]),
+    );
+    check(
+        rt,
+        !is_taken_sharing(rt, alloc, prepared, certificate, &FIVE_LEAVES),
+    );
+    check(
+        rt,
+        !is_taken_sharing(rt, alloc, prepared, certificate, &[A, MOVED_X]),
+    );
 }
 
 fn shares_both_leaves(rt: &impl Abort, alloc: Global, prepared: &Prepared) {
@@ -260,15 +275,8 @@ fn shares_both_leaves(rt: &impl Abort, alloc: Global, prepared: &Prepared) {
     takes_both_leaves(rt, alloc, prepared, &mut certificate);
 }
 
-struct SharesLeaves;
-
-impl Question for SharesLeaves {
-    fn ask<A: Abort>(rt: &A, alloc: Global, prepared: &Prepared) {
-        shares_both_leaves(rt, alloc, prepared);
-    }
-}
-
 #[test]
 fn other_shared_trees_are_not_taken(rt: HostRuntime) {
-    ask::<SharesLeaves, HostRuntime>(&rt, rt.alloc(), INLINED, "S");
+    let prepared = prepared_grammar(&rt, rt.alloc(), INLINED, "S");
+    shares_both_leaves(&rt, rt.alloc(), &prepared);
 }

@@ -1,60 +1,14 @@
 //! Grammars from JSON, what is prepared of them, and the certificates of their conflicts.
 
-use lalrpop_grammar::{Atom, Grammar, NonterminalString, TerminalString, WrittenTree};
+use lalrpop_grammar::{Atom, NonterminalString, TerminalString, WrittenTree};
+use lalrpop_grammar_repr::Production;
 use lalrpop_grammar_repr::methods::Method;
-use lalrpop_grammar_repr::{Production, Session};
-use lalrpop_json_grammar::read_grammar;
 use lalrpop_lr1::ExpandedTree;
 use lalrpop_run_parser::folding::unfold;
-use lalrpop_run_parser::{Certificate, Prepared, check_conflict, generate, prepare};
+use lalrpop_run_parser::{Certificate, Prepared, check_conflict, generate};
 use lalrpop_run_prepare::refusals::GenerateError;
-use serde_json::Value;
 use std::alloc::Global;
 use std::process::Abort;
-
-/// The JSON value. It is boxed, as all that is large here: a box is dropped by one call.
-fn json_value(rt: &impl Abort, alloc: Global, json: &str) -> Box<Value> {
-    let value = Value::from_str(alloc, json).expect(rt, "JSON");
-    Box::new(alloc, value).expect(rt, "memory")
-}
-
-/// The grammar that the JSON spells.
-fn grammar_of(rt: &impl Abort, alloc: Global, json: &str) -> Box<Grammar> {
-    let value = json_value(rt, alloc, json);
-    let grammar = read_grammar(alloc, &value).expect(rt, "a grammar");
-    Box::new(alloc, grammar).expect(rt, "memory")
-}
-
-/// The grammar that the JSON spells, prepared for the start.
-pub(crate) fn prepared_grammar(
-    rt: &impl Abort,
-    alloc: Global,
-    json: &str,
-    start: &str,
-) -> Box<Prepared> {
-    let grammar = grammar_of(rt, alloc, json);
-    let start = Atom::new(alloc, start).expect(rt, "memory");
-    let session = Session {
-        features: Vec::new(alloc),
-        macro_recursion_limit: 200,
-    };
-    let prepared = prepare(alloc, Box::into_inner(grammar), &start, session).expect(
-        rt,
-        "a preparation",
-    );
-    Box::new(alloc, prepared).expect(rt, "memory")
-}
-
-/// What a test asks of a prepared grammar.
-pub(crate) trait Question {
-    fn ask<A: Abort>(rt: &A, alloc: Global, prepared: &Prepared);
-}
-
-/// Asks this of the grammar that the JSON spells, prepared for the start.
-pub(crate) fn ask<Q: Question, A: Abort>(rt: &A, alloc: Global, json: &str, start: &str) {
-    let prepared = prepared_grammar(rt, alloc, json, start);
-    Q::ask(rt, alloc, &prepared);
-}
 
 /// The certificates for which the grammar has no parser.
 pub(crate) fn certificates_of<'p>(

@@ -1,6 +1,8 @@
 //! Certificates over other grammars, and from other starts.
 
-use crate::witnesses::given::{Question, ask, certificate_of, name_of, prepared_grammar};
+use crate::check::check;
+use crate::given::prepared_grammar;
+use crate::witnesses::given::{certificate_of, name_of};
 use crate::witnesses::grammars::{INLINED, OPERATORS};
 use lalrpop_run_parser::{Certificate, Prepared, check_conflict};
 use std::alloc::Global;
@@ -25,9 +27,9 @@ fn is_taken_from_the_start(
     certificate: &Certificate<'_>,
 ) {
     let start = prepared.start_name().0.as_str();
-    assert!(rt; is_taken_from(rt, alloc, prepared, start, certificate));
-    assert!(rt; !is_taken_from(rt, alloc, prepared, "S", certificate));
-    assert!(rt; !is_taken_from(rt, alloc, prepared, "T", certificate));
+    check(rt, is_taken_from(rt, alloc, prepared, start, certificate));
+    check(rt, !is_taken_from(rt, alloc, prepared, "S", certificate));
+    check(rt, !is_taken_from(rt, alloc, prepared, "T", certificate));
 }
 
 fn has_one_start(rt: &impl Abort, alloc: Global, prepared: &Prepared) {
@@ -35,18 +37,11 @@ fn has_one_start(rt: &impl Abort, alloc: Global, prepared: &Prepared) {
     is_taken_from_the_start(rt, alloc, prepared, &certificate);
 }
 
-struct TakesItsStart;
-
-impl Question for TakesItsStart {
-    fn ask<A: Abort>(rt: &A, alloc: Global, prepared: &Prepared) {
-        has_one_start(rt, alloc, prepared);
-    }
-}
-
 // `S` is there, but stands below the start.
 #[test]
 fn another_start_is_not_taken(rt: HostRuntime) {
-    ask::<TakesItsStart, HostRuntime>(&rt, rt.alloc(), INLINED, "S");
+    let prepared = prepared_grammar(&rt, rt.alloc(), INLINED, "S");
+    has_one_start(&rt, rt.alloc(), &prepared);
 }
 
 /// Whether the certificate is taken, from the nonterminal of this name, over the productions of the grammar that the JSON spells.
@@ -68,8 +63,14 @@ fn is_taken_over_equal_ones(
     name: &str,
     certificate: &Certificate<'_>,
 ) {
-    assert!(rt; is_taken_over_grammar(rt, alloc, INLINED, "S", name, certificate));
-    assert!(rt; !is_taken_over_grammar(rt, alloc, OPERATORS, "E", name, certificate));
+    check(
+        rt,
+        is_taken_over_grammar(rt, alloc, INLINED, "S", name, certificate),
+    );
+    check(
+        rt,
+        !is_taken_over_grammar(rt, alloc, OPERATORS, "E", name, certificate),
+    );
 }
 
 fn asks_for_productions(rt: &impl Abort, alloc: Global, prepared: &Prepared) {
@@ -77,15 +78,8 @@ fn asks_for_productions(rt: &impl Abort, alloc: Global, prepared: &Prepared) {
     is_taken_over_equal_ones(rt, alloc, prepared.start_name().0.as_str(), &certificate);
 }
 
-struct TakesEqualGrammars;
-
-impl Question for TakesEqualGrammars {
-    fn ask<A: Abort>(rt: &A, alloc: Global, prepared: &Prepared) {
-        asks_for_productions(rt, alloc, prepared);
-    }
-}
-
 #[test]
 fn a_grammar_of_equal_productions_takes_the_same_certificates(rt: HostRuntime) {
-    ask::<TakesEqualGrammars, HostRuntime>(&rt, rt.alloc(), INLINED, "S");
+    let prepared = prepared_grammar(&rt, rt.alloc(), INLINED, "S");
+    asks_for_productions(&rt, rt.alloc(), &prepared);
 }

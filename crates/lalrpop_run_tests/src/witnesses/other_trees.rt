@@ -1,8 +1,8 @@
 //! Certificates of the two inlined alternatives, with other trees.
 
-use crate::witnesses::given::{
-    Question, ask, certificate_of, is_taken, name_of, production_at, terminal_of,
-};
+use crate::check::check;
+use crate::given::prepared_grammar;
+use crate::witnesses::given::{certificate_of, is_taken, name_of, production_at, terminal_of};
 use crate::witnesses::grammars::INLINED;
 use crate::witnesses::trees::{A, Leaf, MOVED_X, NO_ACTION, X, leaf_of, node_over, whole_tree};
 use lalrpop_grammar::Span;
@@ -44,8 +44,14 @@ fn wants_counted_leaves<'p>(
     certificate: &mut Certificate<'p>,
 ) {
     let first = inlined_production(rt, alloc, prepared, 0);
-    assert!(rt; is_taken_over(rt, alloc, prepared, certificate, first, &[A, X]));
-    assert!(rt; !is_taken_over(rt, alloc, prepared, certificate, first, &[A, MOVED_X]));
+    check(
+        rt,
+        is_taken_over(rt, alloc, prepared, certificate, first, &[A, X]),
+    );
+    check(
+        rt,
+        !is_taken_over(rt, alloc, prepared, certificate, first, &[A, MOVED_X]),
+    );
 }
 
 fn counts_leaves(rt: &impl Abort, alloc: Global, prepared: &Prepared) {
@@ -53,17 +59,10 @@ fn counts_leaves(rt: &impl Abort, alloc: Global, prepared: &Prepared) {
     wants_counted_leaves(rt, alloc, prepared, &mut certificate);
 }
 
-struct TakesCountedLeaves;
-
-impl Question for TakesCountedLeaves {
-    fn ask<A: Abort>(rt: &A, alloc: Global, prepared: &Prepared) {
-        counts_leaves(rt, alloc, prepared);
-    }
-}
-
 #[test]
 fn leaves_at_other_places_are_not_taken(rt: HostRuntime) {
-    ask::<TakesCountedLeaves, HostRuntime>(&rt, rt.alloc(), INLINED, "S");
+    let prepared = prepared_grammar(&rt, rt.alloc(), INLINED, "S");
+    counts_leaves(&rt, rt.alloc(), &prepared);
 }
 
 /// Puts the child of the second tree in the place of that tree.
@@ -88,25 +87,18 @@ fn make_leaves(rt: &impl Abort, alloc: Global, certificate: &mut Certificate<'_>
 
 fn wants_sentences(rt: &impl Abort, alloc: Global, prepared: &Prepared) {
     let mut certificate = certificate_of(rt, alloc, prepared);
-    assert!(rt; is_taken(rt, alloc, prepared, &certificate));
+    check(rt, is_taken(rt, alloc, prepared, &certificate));
     drop_start(rt, alloc, prepared, &mut certificate);
-    assert!(rt; !is_taken(rt, alloc, prepared, &certificate));
+    check(rt, !is_taken(rt, alloc, prepared, &certificate));
     make_leaves(rt, alloc, &mut certificate);
-    assert!(rt; !is_taken(rt, alloc, prepared, &certificate));
-}
-
-struct TakesSentences;
-
-impl Question for TakesSentences {
-    fn ask<A: Abort>(rt: &A, alloc: Global, prepared: &Prepared) {
-        wants_sentences(rt, alloc, prepared);
-    }
+    check(rt, !is_taken(rt, alloc, prepared, &certificate));
 }
 
 // A tree that isn't the start's, and leaves alone.
 #[test]
 fn trees_that_are_no_sentences_are_not_taken(rt: HostRuntime) {
-    ask::<TakesSentences, HostRuntime>(&rt, rt.alloc(), INLINED, "S");
+    let prepared = prepared_grammar(&rt, rt.alloc(), INLINED, "S");
+    wants_sentences(&rt, rt.alloc(), &prepared);
 }
 
 /// A copy of the production with this action and this span.
@@ -151,20 +143,19 @@ fn is_taken_over_copy(
 fn wants_each_field(rt: &impl Abort, alloc: Global, prepared: &Prepared) {
     let first = inlined_production(rt, alloc, prepared, 0);
     let (action, span) = (first.action, first.span);
-    assert!(rt; is_taken_over_copy(rt, alloc, prepared, action, span));
-    assert!(rt; !is_taken_over_copy(rt, alloc, prepared, ActionFn::new(NO_ACTION), span));
-    assert!(rt; !is_taken_over_copy(rt, alloc, prepared, action, Span(0, 1)));
-}
-
-struct TakesItsProductions;
-
-impl Question for TakesItsProductions {
-    fn ask<A: Abort>(rt: &A, alloc: Global, prepared: &Prepared) {
-        wants_each_field(rt, alloc, prepared);
-    }
+    check(rt, is_taken_over_copy(rt, alloc, prepared, action, span));
+    check(
+        rt,
+        !is_taken_over_copy(rt, alloc, prepared, ActionFn::new(NO_ACTION), span),
+    );
+    check(
+        rt,
+        !is_taken_over_copy(rt, alloc, prepared, action, Span(0, 1)),
+    );
 }
 
 #[test]
 fn a_production_of_another_grammar_is_not_taken(rt: HostRuntime) {
-    ask::<TakesItsProductions, HostRuntime>(&rt, rt.alloc(), INLINED, "S");
+    let prepared = prepared_grammar(&rt, rt.alloc(), INLINED, "S");
+    wants_each_field(&rt, rt.alloc(), &prepared);
 }

@@ -1,6 +1,8 @@
 //! The trees of certificates, as written trees.
 
-use crate::witnesses::given::{Question, ask, certificates_of, is_taken, stands_for};
+use crate::check::check;
+use crate::given::prepared_grammar;
+use crate::witnesses::given::{certificates_of, is_taken, stands_for};
 use crate::witnesses::grammars::{INLINED, OPERATORS};
 use lalrpop_grammar::WrittenTree;
 use lalrpop_judge::judge_tree;
@@ -13,13 +15,13 @@ use std::process::Abort;
 /// That the tree is folded, and is unfolded to itself.
 fn is_folded(rt: &impl Abort, alloc: Global, prepared: &Prepared, written: &WrittenTree) {
     let folded = fold(alloc, prepared, written).expect(rt, "an admitted tree");
-    assert!(rt; stands_for(rt, alloc, prepared, &folded, written));
+    check(rt, stands_for(rt, alloc, prepared, &folded, written));
 }
 
 /// That the tree is admitted, is folded, and is unfolded to itself.
 fn folds_again(rt: &impl Abort, alloc: Global, prepared: &Prepared, written: &WrittenTree) {
     let admitted = judge_tree(alloc, prepared.grammar(), &[], prepared.start(), written);
-    assert!(rt; admitted.expect(rt, "a judgement"));
+    check(rt, admitted.expect(rt, "a judgement"));
     is_folded(rt, alloc, prepared, written);
 }
 
@@ -36,7 +38,7 @@ fn is_of_written_trees(
     prepared: &Prepared,
     certificate: &Certificate<'_>,
 ) {
-    assert!(rt; is_taken(rt, alloc, prepared, certificate));
+    check(rt, is_taken(rt, alloc, prepared, certificate));
     is_written(rt, alloc, prepared, &certificate.tree1);
     is_written(rt, alloc, prepared, &certificate.tree2);
 }
@@ -56,32 +58,26 @@ fn each_is_of_written_trees(
 /// That the grammar has so many certificates, each of written trees.
 fn are_of_written_trees(rt: &impl Abort, alloc: Global, prepared: &Prepared, count: usize) {
     let certificates = certificates_of(rt, alloc, prepared);
-    assert_eq!(rt; certificates.len(), count);
+    check(rt, certificates.len() == count);
     each_is_of_written_trees(rt, alloc, prepared, certificates.as_slice());
 }
 
-struct AdmitsInlined;
-
-impl Question for AdmitsInlined {
-    fn ask<A: Abort>(rt: &A, alloc: Global, prepared: &Prepared) {
-        are_of_written_trees(rt, alloc, prepared, 1);
-    }
+fn admits_inlined(rt: &impl Abort, alloc: Global, prepared: &Prepared) {
+    are_of_written_trees(rt, alloc, prepared, 1);
 }
 
 #[test]
 fn both_trees_of_inlined_alternatives_are_admitted(rt: HostRuntime) {
-    ask::<AdmitsInlined, HostRuntime>(&rt, rt.alloc(), INLINED, "S");
+    let prepared = prepared_grammar(&rt, rt.alloc(), INLINED, "S");
+    admits_inlined(&rt, rt.alloc(), &prepared);
 }
 
-struct AdmitsOperators;
-
-impl Question for AdmitsOperators {
-    fn ask<A: Abort>(rt: &A, alloc: Global, prepared: &Prepared) {
-        are_of_written_trees(rt, alloc, prepared, 4);
-    }
+fn admits_operators(rt: &impl Abort, alloc: Global, prepared: &Prepared) {
+    are_of_written_trees(rt, alloc, prepared, 4);
 }
 
 #[test]
 fn both_trees_of_each_pair_of_operators_are_admitted(rt: HostRuntime) {
-    ask::<AdmitsOperators, HostRuntime>(&rt, rt.alloc(), OPERATORS, "E");
+    let prepared = prepared_grammar(&rt, rt.alloc(), OPERATORS, "E");
+    admits_operators(&rt, rt.alloc(), &prepared);
 }

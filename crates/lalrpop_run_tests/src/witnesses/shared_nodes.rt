@@ -1,6 +1,8 @@
 //! The certificate of a sum of sums, with other trees in common.
 
-use crate::witnesses::given::{Question, ask, certificate_of, is_taken, name_of, production_at};
+use crate::check::check;
+use crate::given::prepared_grammar;
+use crate::witnesses::given::{certificate_of, is_taken, name_of, production_at};
 use crate::witnesses::grammars::SUMS;
 use crate::witnesses::trees::{leaf_of, node_over};
 use lalrpop_grammar::Span;
@@ -63,18 +65,25 @@ fn wants_one<'p>(
     other: &'p Production,
 ) {
     let mut certificate = certificate_of(rt, alloc, prepared);
-    assert!(rt;
+    check(
+        rt,
         is_taken_behind(
             rt,
             alloc,
             prepared,
             &mut certificate,
             production,
-            production
-        )
+            production,
+        ),
     );
-    assert!(rt; !is_taken_behind(rt, alloc, prepared, &mut certificate, production, other));
-    assert!(rt; !is_taken_behind(rt, alloc, prepared, &mut certificate, other, production));
+    check(
+        rt,
+        !is_taken_behind(rt, alloc, prepared, &mut certificate, production, other),
+    );
+    check(
+        rt,
+        !is_taken_behind(rt, alloc, prepared, &mut certificate, other, production),
+    );
 }
 
 /// The production of the alternative `"n"`.
@@ -95,16 +104,13 @@ fn wants_its_name(rt: &impl Abort, alloc: Global, prepared: &Prepared) {
     wants_one(rt, alloc, prepared, production, &other);
 }
 
-struct TakesItsSharedTrees;
-
-impl Question for TakesItsSharedTrees {
-    fn ask<A: Abort>(rt: &A, alloc: Global, prepared: &Prepared) {
-        wants_its_place(rt, alloc, prepared);
-        wants_its_name(rt, alloc, prepared);
-    }
+fn takes_its_shared_trees(rt: &impl Abort, alloc: Global, prepared: &Prepared) {
+    wants_its_place(rt, alloc, prepared);
+    wants_its_name(rt, alloc, prepared);
 }
 
 #[test]
 fn a_shared_tree_over_another_production_with_the_same_action_is_not_taken(rt: HostRuntime) {
-    ask::<TakesItsSharedTrees, HostRuntime>(&rt, rt.alloc(), SUMS, "E");
+    let prepared = prepared_grammar(&rt, rt.alloc(), SUMS, "E");
+    takes_its_shared_trees(&rt, rt.alloc(), &prepared);
 }

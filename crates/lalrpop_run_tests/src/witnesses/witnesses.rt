@@ -2,7 +2,9 @@
 
 ghost use Rattle.lalrpop_run_parser.specs.Witnesses.{AreItsConflicts};
 
-use crate::witnesses::given::{Question, ask, certificates_of, stands_for};
+use crate::check::check;
+use crate::given::prepared_grammar;
+use crate::witnesses::given::{certificates_of, stands_for};
 use crate::witnesses::grammars::OPERATORS;
 use lalrpop_lr1::{
     ExpandedTree, Lr1TableConstructionError, TableFault, build_lr1_states_canonical,
@@ -32,10 +34,19 @@ fn agree(
     made: &Certificate<'_>,
     told: &Certificate<'_>,
 ) {
-    assert!(rt; made.next == told.next && made.shared.len() == told.shared.len());
-    assert!(rt; made.move1 == told.move1 && made.move2 == told.move2);
-    assert!(rt; is_same_tree(rt, alloc, prepared, &made.tree1, &told.tree1));
-    assert!(rt; is_same_tree(rt, alloc, prepared, &made.tree2, &told.tree2));
+    check(
+        rt,
+        made.next == told.next && made.shared.len() == told.shared.len(),
+    );
+    check(rt, made.move1 == told.move1 && made.move2 == told.move2);
+    check(
+        rt,
+        is_same_tree(rt, alloc, prepared, &made.tree1, &told.tree1),
+    );
+    check(
+        rt,
+        is_same_tree(rt, alloc, prepared, &made.tree2, &told.tree2),
+    );
 }
 
 /// The certificate of each of the conflicts, made of that conflict alone.
@@ -72,7 +83,7 @@ fn agree_in_order(
     made: &[Certificate<'_>],
     told: &[Certificate<'_>],
 ) {
-    assert!(rt; made.len() == told.len());
+    check(rt, made.len() == told.len());
     for (one, other) in made.iter().zip(told) {
         agree(rt, alloc, prepared, one, other);
     }
@@ -87,20 +98,13 @@ fn makes(rt: &impl Abort, alloc: Global, prepared: &Prepared, told: &[Certificat
 /// That there are four certificates, each made of its conflict alone.
 fn makes_four(rt: &impl Abort, alloc: Global, prepared: &Prepared) {
     let told = certificates_of(rt, alloc, prepared);
-    assert!(rt; told.len() == 4);
+    check(rt, told.len() == 4);
     makes(rt, alloc, prepared, told.as_slice());
-}
-
-struct MakesItsCertificates;
-
-impl Question for MakesItsCertificates {
-    fn ask<A: Abort>(rt: &A, alloc: Global, prepared: &Prepared) {
-        makes_four(rt, alloc, prepared);
-    }
 }
 
 // Each of two operators in each operand of each.
 #[test]
 fn the_witness_of_each_conflict_is_its_certificate(rt: HostRuntime) {
-    ask::<MakesItsCertificates, HostRuntime>(&rt, rt.alloc(), OPERATORS, "E");
+    let prepared = prepared_grammar(&rt, rt.alloc(), OPERATORS, "E");
+    makes_four(&rt, rt.alloc(), &prepared);
 }

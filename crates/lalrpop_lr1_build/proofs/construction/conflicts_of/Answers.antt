@@ -1,6 +1,6 @@
 use Rattle.std.proofs.Common.{◌∙◌, ◌++◌, List, ap}
 use Rattle.lalrpop_lr1_core.specs.declared.conflict.Conflict.{Conflict}
-use Rattle.lalrpop_lr1_build.proofs.EntryLemmas.{flat_more}
+use Rattle.lalrpop_lr1_build.proofs.ListLemmas.{flat_more}
 use Rattle.lalrpop_lr1_build.proofs.construction.conflicts_of.Goals as goal
 
 pub loop-state-preserved : goal.loop-state-preserved

@@ -7,7 +7,8 @@ use Rattle.lalrpop_lr1_first.specs.NumberedGrammars.{table_names}
 use Rattle.lalrpop_lr1_first.proofs.ListLemmas.{get_slice, read_slice}
 use Rattle.lalrpop_lr1_first.proofs.TableLemmas.{get_mapped, long_map}
 use Rattle.lalrpop_lr1_build.specs.PublicStates.{AreGotos}
-use Rattle.lalrpop_lr1_build.proofs.EntryLemmas.{take_get, taken_all, taken_ascend}
+use Rattle.lalrpop_lr1_build.proofs.EntryLemmas.{taken_all, taken_ascend}
+use Rattle.lalrpop_lr1_build.proofs.ListLemmas.{take_get}
 use Rattle.lalrpop_lr1_build.proofs.MapEdgeLemmas.{gotos_less, gotos_more}
 use Rattle.lalrpop_lr1_build.proofs.map_edges.gotos_of.Goals.{else-edge-names, then-edge-names+in_ok-try_clone+in_ok-insert}
 use Rattle.lalrpop_lr1_build.proofs.map_edges.gotos_of.Goals as goal

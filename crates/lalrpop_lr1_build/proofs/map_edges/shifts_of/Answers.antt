@@ -7,7 +7,8 @@ use Rattle.lalrpop_lr1_theory.proofs.ListLemmas.{get_contains}
 use Rattle.lalrpop_lr1_first.specs.FirstNumbers.{name_count}
 use Rattle.lalrpop_lr1_first.proofs.ListLemmas.{get_slice, read_slice}
 use Rattle.lalrpop_lr1_build.specs.PublicStates.{AreShifts}
-use Rattle.lalrpop_lr1_build.proofs.EntryLemmas.{take_get, taken_all, taken_ascend}
+use Rattle.lalrpop_lr1_build.proofs.EntryLemmas.{taken_all, taken_ascend}
+use Rattle.lalrpop_lr1_build.proofs.ListLemmas.{take_get}
 use Rattle.lalrpop_lr1_build.proofs.MapEdgeLemmas.{shifts_less, shifts_more}
 use Rattle.lalrpop_lr1_build.proofs.map_edges.shifts_of.Goals.{else-edge-count, then-edge-count+in_ok-try_clone+in_ok-insert}
 use Rattle.lalrpop_lr1_build.proofs.map_edges.shifts_of.Goals as goal

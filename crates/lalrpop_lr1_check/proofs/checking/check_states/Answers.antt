@@ -2,7 +2,7 @@ use Rattle.std.proofs.Common.{◌≡◌, ◌∙◌, ◌↔◌, subst, sym, true,
 use Rattle.lalrpop_grammar_repr.specs.declared.terminal_set.TerminalSet.{TerminalSet}
 use Rattle.lalrpop_lr1_first.specs.NumberedGrammars.{IsSeenIn, table_productions}
 use Rattle.lalrpop_lr1_check.specs.StatesOver.{PassByTable}
-use Rattle.lalrpop_lr1_check.proofs.PassLemmas.{checked_edges, checked_handed, checked_reductions, checked_table, passed_checked}
+use Rattle.lalrpop_lr1_check.proofs.PassLemmas.{checked_edges, checked_propagated, checked_reductions, checked_table, passed_checked}
 use Rattle.lalrpop_lr1_check.proofs.checking.check_states.Goals as goal
 
 pub returns-then-not-reductions : goal.returns-then-not-reductions
@@ -49,6 +49,6 @@ returns c = λ over.
     ↔ PassByTable (IsSeenIn (table_productions t)) ts s all) c.in_ok-table.ensures.terminals c.in_ok-by_table.ensures in (
       λ e. passed_checked g g.terminals s all (table_productions t) c.in_ok-table.ensures.productions
           ((c.in_ok-reductions.ensures over).0 c.if-not-reductions.false) (c.in_ok-along_edges.ensures.0 c.if-not-along_edges.false)
-          (says.0 c.if-not-by_table.false) ((c.in_ok-handed.ensures over.items).0 e),
-      λ h. (c.in_ok-handed.ensures over.items).1 (checked_handed g g.terminals s all h),
+          (says.0 c.if-not-by_table.false) ((c.in_ok-propagated.ensures over.items).0 e),
+      λ h. (c.in_ok-propagated.ensures over.items).1 (checked_propagated g g.terminals s all h),
     )

@@ -1,7 +1,7 @@
 use Rattle.std.proofs.Common.{◌∙◌, ◌++◌, ap, map, sym}
 use Rattle.lalrpop_lr1_inline.specs.InlinedNames.{inlined_names}
 use Rattle.lalrpop_lr1_inline.specs.OrderSearches.{task_view, tasks_to_enter}
-use Rattle.lalrpop_lr1_inline.proofs.AmongLemmas.{append-none}
+use Rattle.lalrpop_grammar_language.proofs.StepOnceLemmas.{append-none}
 use Rattle.lalrpop_lr1_inline.proofs.NamedLemmas.{all_listed}
 use Rattle.lalrpop_lr1_inline.proofs.SearchLemmas.{turned_back}
 use Rattle.lalrpop_lr1_inline.proofs.order.first_tasks.Goals as goal

@@ -1,5 +1,5 @@
 use Rattle.std.proofs.Common.{rules}
-use Rattle.lalrpop_lr1_tests.proofs.ParsableLemmas.{are_parsable}
+use Rattle.lalrpop_plain_tables.proofs.ParsableLemmas.{are_parsable}
 use Rattle.lalrpop_lr1_tests.proofs.interprets.collapsed_states.Goals as goal
 
 pub returns-in-Ok : goal.returns-in-Ok

@@ -8,7 +8,7 @@ use Rattle.lalrpop_lr1_theory.specs.JoinedStates.{AreNumbersAsSeen}
 use Rattle.lalrpop_lr1_build.specs.StateCores.{core_in_state}
 use Rattle.lalrpop_lr1_build.specs.Renumbering.{HaveTargetsWithin}
 use Rattle.lalrpop_lr1_build.proofs.CollapseAnswerLemmas.{checked_of, lalr_of, lent_collapsed, some_targets}
-use Rattle.lalrpop_lr1_build.proofs.ListLemmas.{long_map}
+use Rattle.lalrpop_lr1_first.proofs.TableLemmas.{long_map}
 use Rattle.lalrpop_lr1_build.proofs.collapse.collapse.collapse_to_lalr_states.Goals as goal
 
 pub join_states-requires-clause-numbers : goal.join_states-requires-clause-numbers

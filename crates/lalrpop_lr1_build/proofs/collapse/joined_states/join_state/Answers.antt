@@ -2,7 +2,8 @@ use Rattle.std.proofs.Common.{◌∙◌, ◌<◌, ap, arith, length}
 use Rattle.lalrpop_lr1_build.specs.PublicStates.{finished_entries}
 use Rattle.lalrpop_lr1_build.specs.StateCores.{core_in_state}
 use Rattle.lalrpop_lr1_build.proofs.RenumberedEdgeLemmas.{targets_at}
-use Rattle.lalrpop_lr1_build.proofs.ListLemmas.{get_here, index_here, long_map}
+use Rattle.lalrpop_lr1_build.proofs.ListLemmas.{get_here, index_here}
+use Rattle.lalrpop_lr1_first.proofs.TableLemmas.{long_map}
 use Rattle.lalrpop_lr1_build.proofs.collapse.joined_states.join_state.Goals as goal
 
 pub bounds-numbers-place : goal.bounds-numbers-place

@@ -1,7 +1,8 @@
 use Rattle.std.proofs.Common.{◌≡◌, ◌∙◌, ◌+◌, ◌<◌, ◌≤◌, Some, ap, arith, get_or, length, subst, sym}
 use Rattle.lalrpop_lr1_build.specs.StateCores.{core_in_state}
 use Rattle.lalrpop_lr1_build.specs.JoinedStates.{AreJoinedByNumbers}
-use Rattle.lalrpop_lr1_build.proofs.ListLemmas.{index_here, long_map}
+use Rattle.lalrpop_lr1_build.proofs.ListLemmas.{index_here}
+use Rattle.lalrpop_lr1_first.proofs.TableLemmas.{long_map}
 use Rattle.lalrpop_lr1_build.proofs.StateLemmas.{by_numbers_done, by_numbers_more, by_numbers_skip, by_numbers_start}
 use Rattle.lalrpop_lr1_build.proofs.collapse.joined_states.join_states.Goals.{else-numbers-place, then-numbers-place+in_ok-join_state+in_ok-push}
 use Rattle.lalrpop_lr1_build.proofs.collapse.joined_states.join_states.Goals as goal

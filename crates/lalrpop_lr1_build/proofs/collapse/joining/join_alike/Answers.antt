@@ -4,7 +4,8 @@ use Rattle.lalrpop_lr1_core.specs.declared.state.State.{State}
 use Rattle.lalrpop_lr1_build.specs.StateCores.{core_in_state}
 use Rattle.lalrpop_lr1_build.specs.JoinedItems.{AreJoinedItems}
 use Rattle.lalrpop_lr1_build.proofs.ItemLemmas.{AreJoinedSoFar, joined_done, joined_more, joined_skip, joined_start, long_same}
-use Rattle.lalrpop_lr1_build.proofs.ListLemmas.{get_here, index_here, long_map}
+use Rattle.lalrpop_lr1_build.proofs.ListLemmas.{get_here, index_here}
+use Rattle.lalrpop_lr1_first.proofs.TableLemmas.{long_map}
 use Rattle.lalrpop_lr1_build.proofs.collapse.joining.join_alike.Goals.{else-numbers-other, then-numbers-other+in_ok-items-2}
 use Rattle.lalrpop_lr1_build.proofs.collapse.joining.join_alike.Goals as goal
 

@@ -1,7 +1,7 @@
 use Rattle.std.proofs.Common.{◌<◌, ◌≤◌, ℕ, List, Option, arith, length}
 use Rattle.lalrpop_lr1_check_lookaheads.proofs.GainLemmas.{each_fails, each_more, each_passes, first_none}
-use Rattle.lalrpop_lr1_check_lookaheads.specs.HandReductions.{DoesSlotReduce, option_set}
-use Rattle.lalrpop_lr1_check_lookaheads.specs.HandSlots.{slot_keys}
+use Rattle.lalrpop_lr1_check_lookaheads.specs.LookaheadReductions.{DoesSlotReduce, option_set}
+use Rattle.lalrpop_lr1_check_lookaheads.specs.LookaheadSlots.{slot_keys}
 use Rattle.lalrpop_lr1_check_lookaheads.proofs.lookaheads.reducing.all_reduce.Goals as goal
 
 pub loop-number-init : goal.loop-number-init

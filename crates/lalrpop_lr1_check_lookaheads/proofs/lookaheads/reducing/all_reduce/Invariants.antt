@@ -1,8 +1,8 @@
 use Rattle.std.proofs.Common.{ℕ, List}
 use Rattle.lalrpop_lr1_theory.specs.States.{LookaheadSet}
 use Rattle.lalrpop_lr1_check_lookaheads.specs.ListTests.{HoldsAtFirst}
-use Rattle.lalrpop_lr1_check_lookaheads.specs.HandReductions.{DoesSlotReduce, option_set}
-use Rattle.lalrpop_lr1_check_lookaheads.specs.HandSlots.{slot_keys}
+use Rattle.lalrpop_lr1_check_lookaheads.specs.LookaheadReductions.{DoesSlotReduce, option_set}
+use Rattle.lalrpop_lr1_check_lookaheads.specs.LookaheadSlots.{slot_keys}
 use Rattle.lalrpop_lr1_check_lookaheads.proofs.lookaheads.reducing.all_reduce.Given as goal
 
 abbrev pub invariant-loop-number : goal.invariant-loop-number

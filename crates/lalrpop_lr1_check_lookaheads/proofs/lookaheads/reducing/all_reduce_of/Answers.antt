@@ -2,7 +2,7 @@ use Rattle.std.proofs.Common.{◌≡◌}
 use Rattle.std.specs.Borrow.{Bor}
 use Rattle.lalrpop_grammar_repr.specs.declared.production.Production.{Production}
 use Rattle.lalrpop_lr1_check_lookaheads.proofs.GainLemmas.{each_fails, each_more, each_passes, first_none}
-use Rattle.lalrpop_lr1_check_lookaheads.specs.HandReductions.{ReducesAfter}
+use Rattle.lalrpop_lr1_check_lookaheads.specs.LookaheadReductions.{ReducesAfter}
 use Rattle.lalrpop_lr1_check_lookaheads.proofs.lookaheads.reducing.all_reduce_of.Goals as goal
 
 pub loop-production-init : goal.loop-production-init

@@ -3,7 +3,7 @@ use Rattle.std.specs.Borrow.{Bor}
 use Rattle.lalrpop_grammar_repr.specs.declared.production.Production.{Production}
 use Rattle.lalrpop_lr1_theory.specs.States.{LookaheadSet}
 use Rattle.lalrpop_lr1_check_lookaheads.specs.ListTests.{HoldsAtFirst}
-use Rattle.lalrpop_lr1_check_lookaheads.specs.HandReductions.{ReducesAfter}
+use Rattle.lalrpop_lr1_check_lookaheads.specs.LookaheadReductions.{ReducesAfter}
 use Rattle.lalrpop_lr1_check_lookaheads.proofs.lookaheads.reducing.all_reduce_of.Given as goal
 
 abbrev pub invariant-loop-production : goal.invariant-loop-production

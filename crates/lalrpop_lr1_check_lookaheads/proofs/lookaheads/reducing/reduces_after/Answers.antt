@@ -1,7 +1,7 @@
 use Rattle.std.proofs.Common.{◌≡◌, ◌↔◌, Some, map, subst}
 use Rattle.lalrpop_lr1_theory.specs.States.{HasEdge}
 use Rattle.lalrpop_lr1_core.specs.Views.{lr_state_view, production_symbol_view}
-use Rattle.lalrpop_lr1_theory.specs.HandedNexts.{LeadAlong}
+use Rattle.lalrpop_lr1_theory.specs.PropagatedNexts.{LeadAlong}
 use Rattle.lalrpop_lr1_check_lookaheads.proofs.ReduceLemmas.{after_none, after_some}
 use Rattle.lalrpop_lr1_check_lookaheads.proofs.lookaheads.reducing.reduces_after.Goals as goal
 

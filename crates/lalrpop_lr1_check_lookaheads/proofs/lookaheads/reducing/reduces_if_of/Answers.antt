@@ -1,6 +1,6 @@
 use Rattle.std.proofs.Common.{ap}
 use Rattle.lalrpop_grammar_symbols.specs.declared.names.NonterminalString.{NonterminalString}
-use Rattle.lalrpop_lr1_check_lookaheads.specs.HandReductions.{ReducesAfter}
+use Rattle.lalrpop_lr1_check_lookaheads.specs.LookaheadReductions.{ReducesAfter}
 use Rattle.lalrpop_lr1_check_lookaheads.proofs.ReduceLemmas.{other_name}
 use Rattle.lalrpop_lr1_check_lookaheads.proofs.lookaheads.reducing.reduces_if_of.Goals as goal
 

@@ -1,6 +1,6 @@
 use Rattle.std.proofs.Common.{◌≡◌, ◌∙◌, ◌↔◌, ap, subst, sym, true}
-use Rattle.lalrpop_lr1_check_lookaheads.specs.HandReductions.{DoesSlotReduce, ReducesAfter, option_set}
-use Rattle.lalrpop_lr1_check_lookaheads.specs.HandSlots.{slot_keys}
+use Rattle.lalrpop_lr1_check_lookaheads.specs.LookaheadReductions.{DoesSlotReduce, ReducesAfter, option_set}
+use Rattle.lalrpop_lr1_check_lookaheads.specs.LookaheadSlots.{slot_keys}
 use Rattle.lalrpop_lr1_check_lookaheads.proofs.NamedLemmas.{each_named}
 use Rattle.lalrpop_lr1_check_lookaheads.proofs.ReduceLemmas.{slot_some}
 use Rattle.lalrpop_lr1_check_lookaheads.proofs.lookaheads.reducing.slot_reduces.Goals as goal

@@ -1,7 +1,7 @@
 use Rattle.std.proofs.Common.{◌≡◌, ◌↔◌, subst, true}
 use Rattle.std.proofs.lemmas.List.{take_all}
 use Rattle.lalrpop_sets.specs.Bits.{has}
-use Rattle.lalrpop_lr1_check_lookaheads.specs.HandReductions.{ReducesBy}
+use Rattle.lalrpop_lr1_check_lookaheads.specs.LookaheadReductions.{ReducesBy}
 use Rattle.lalrpop_lr1_check_lookaheads.proofs.ReduceLemmas.{reduces_more}
 use Rattle.lalrpop_lr1_check_lookaheads.proofs.lookaheads.reducing.tokens_before.Goals as goal
 

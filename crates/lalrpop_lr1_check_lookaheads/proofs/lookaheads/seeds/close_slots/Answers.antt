@@ -2,7 +2,7 @@ use Rattle.std.proofs.Common.{◌∙◌, sym}
 use Rattle.lalrpop_lr1_first.specs.Listings.{lent}
 use Rattle.lalrpop_lr1_first.specs.NumberedGrammars.{table_productions}
 use Rattle.lalrpop_lr1_check_lookaheads.specs.Brought.{BeginBrings, OfSome}
-use Rattle.lalrpop_lr1_check_lookaheads.specs.HandSlots.{GainsSlotMarks, slot_key}
+use Rattle.lalrpop_lr1_check_lookaheads.specs.LookaheadSlots.{GainsSlotMarks, slot_key}
 use Rattle.lalrpop_lr1_check_lookaheads.proofs.BroughtLemmas.{closing_ends, closing_more, closing_starts, key_there, keys_past}
 use Rattle.lalrpop_lr1_check_lookaheads.proofs.NamedLemmas.{some_named}
 use Rattle.lalrpop_lr1_check_lookaheads.proofs.SlotLemmas.{gains_as}
@@ -18,12 +18,12 @@ loop-slot-preserved c =
     let all = table_productions c.args.named.now.table.now in
     let own = slot_key c.in-Some.slot in
     let listed = lent c.productions_of-productions.result.now in
-    let gain : GainsSlotMarks c.loop-slot.slots c.hand_begins.new.slots (OfSome (BeginBrings g own) all) =
-    gains_as c.loop-slot.slots c.hand_begins.new.slots (OfSome (BeginBrings g own) listed) (OfSome (BeginBrings g own) all)
+    let gain : GainsSlotMarks c.loop-slot.slots c.seed_begins.new.slots (OfSome (BeginBrings g own) all) =
+    gains_as c.loop-slot.slots c.seed_begins.new.slots (OfSome (BeginBrings g own) listed) (OfSome (BeginBrings g own) all)
     (λ key mark. some_named all listed c.in-Some.slot.name.now c.productions_of-productions.ensures
     (λ p. BeginBrings g own p key mark) (λ p b. b.0))
-    c.in_ok-hand_begins.ensures in
-    closing_more g all c.args.slots.now c.loop-slot.slots c.hand_begins.new.slots c.loop-slot.number own c.loop-slot.invariant
+    c.in_ok-seed_begins.ensures in
+    closing_more g all c.args.slots.now c.loop-slot.slots c.seed_begins.new.slots c.loop-slot.number own c.loop-slot.invariant
     (key_there c.loop-slot.slots c.loop-slot.number c.in-Some.slot (sym c.slot_at.ensures.slot ∙ c.in-Some.is)) gain
 
 pub returns : goal.returns

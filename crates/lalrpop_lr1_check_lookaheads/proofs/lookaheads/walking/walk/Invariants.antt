@@ -1,7 +1,7 @@
 use Rattle.std.proofs.Common.{◌↔◌, List, ℕ, drop, map}
 use Rattle.lalrpop_lr1_theory.specs.States.{HasEdge, LookaheadSet}
 use Rattle.lalrpop_lr1_core.specs.Views.{lr_state_view, production_symbol_view}
-use Rattle.lalrpop_lr1_theory.specs.HandedNexts.{LeadAlong}
+use Rattle.lalrpop_lr1_theory.specs.PropagatedNexts.{LeadAlong}
 use Rattle.lalrpop_lr1_check_lookaheads.proofs.lookaheads.walking.walk.Given as goal
 
 abbrev pub invariant-loop-symbol : goal.invariant-loop-symbol

@@ -6,7 +6,7 @@ use Rattle.lalrpop_grammar_repr.specs.declared.grammar.Grammar.{Grammar}
 use Rattle.lalrpop_lr1_theory.specs.States as theory
 use Rattle.lalrpop_lr1_core.specs.Views.{production_view}
 use Rattle.lalrpop_lr1_least_trees.specs.MoveViews.{tree_move_view}
-use Rattle.lalrpop_lr1_counterexamples.specs.ShiftPlaces.{IsShiftPlaceIf}
+use Rattle.lalrpop_lr1_counterexamples.specs.ShiftPositions.{IsShiftPositionIf}
 use Rattle.lalrpop_lr1_counterexamples.specs.ShownMoves.{AreSteppedStates, ShowsReduction, next_of}
 use Rattle.lalrpop_lr1_counterexamples.specs.ActionMoves.{ShowsAction}
 use Rattle.lalrpop_lr1_counterexamples.proofs.ActionLemmas.{shift_told}
@@ -35,6 +35,6 @@ returns-in-Some g c =
     (λ action. ShowsAction grammar s states c.args.any.now.ways.now c.args.number front x action
     (option_map (λ moves. map tree_move_view moves.items) found)) (sym c.in-Shift.is)
     (shift_told grammar s states c.args.any.now.ways.now c.args.number front (terminal_view c.in-Shift.terminal) c.in-Some.place
-    (subst (IsShiftPlaceIf states c.args.number (terminal_view c.in-Shift.terminal)) c.in-Some.is
-    (c.shift_place.ensures look states c.args.number at)) (option_map (λ moves. map tree_move_view moves.items) found)
+    (subst (IsShiftPositionIf states c.args.number (terminal_view c.in-Shift.terminal)) c.in-Some.is
+    (c.shift_position.ensures look states c.args.number at)) (option_map (λ moves. map tree_move_view moves.items) found)
     (h grammar s states are))) c.with_shift.ensures

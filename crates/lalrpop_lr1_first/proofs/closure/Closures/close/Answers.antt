@@ -99,12 +99,12 @@ returns-clause-tokens g c = λ tokens.
     ∙ ap (λ ss. started_items ss closures.numbered.rules.items) c.as_slice-4.ensures.value)
     tokens c.in_ok-flow.ensures.marks
 
-pub returns-then-brings_nothing-clause-closes : goal.returns-then-brings_nothing-clause-closes
-returns-then-brings_nothing-clause-closes g c =
+pub returns-then-has_empty_closure-clause-closes : goal.returns-then-has_empty_closure-clause-closes
+returns-then-has_empty_closure-clause-closes g c =
     let marks = g.L.ClosureLookahead.marks in
     let counts = g.L.ClosureLookahead.firsts in
     let closures = c.args.self.now in
-    let nothing = c.brings_nothing.ensures c.if-brings_nothing.true in
+    let nothing = c.has_empty_closure.ensures c.if-has_empty_closure.true in
     let empty = empties g.row.L.Denot (name_count closures.numbered) in
     subst (ClosesSeed marks counts closures.numbered c.args.seed.now) (sym c.new.ensures.items)
     (closes closures c.requires.closures marks counts c.args.seed.now c.requires.items empty empty

@@ -7,7 +7,8 @@ use Rattle.lalrpop_grammar_rules.specs.Views.{closed_view, closeds}
 use Rattle.lalrpop_grammar_rules.proofs.ArgumentLemmas.{closed_list-closeds}
 use Rattle.lalrpop_norm_macros.specs.AddedRules.{without_code}
 use Rattle.lalrpop_norm_macros.specs.RulesUnder.{AreAddedUnder}
-use Rattle.lalrpop_norm_macros.proofs.AddedLemmas.{added_rule, ok_from}
+use Rattle.lalrpop_norm_macros.proofs.AddedLemmas.{added_rule}
+use Rattle.lalrpop_grammar_symbols.proofs.BoolLemmas.{ok_from}
 use Rattle.lalrpop_norm_macros.proofs.key_rules.added.group_rule.Goals as goal
 
 pub returns : goal.returns

@@ -4,7 +4,7 @@ use Rattle.lalrpop_grammar_rules.specs.Views.{closed_view}
 use Rattle.lalrpop_norm_macros.specs.InstanceRules.{IsInstanceBy}
 use Rattle.lalrpop_norm_macros.specs.KeyNaming.{AreSymbolsFor}
 use Rattle.lalrpop_norm_macros.specs.WrittenRules.{arguments_view}
-use Rattle.lalrpop_norm_macros.proofs.AddedLemmas.{ok_from}
+use Rattle.lalrpop_grammar_symbols.proofs.BoolLemmas.{ok_from}
 use Rattle.lalrpop_norm_macros.proofs.key_rules.alternatives.held_alternative.Goals as goal
 
 pub returns : goal.returns

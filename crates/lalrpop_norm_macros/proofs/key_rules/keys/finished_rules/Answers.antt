@@ -2,7 +2,7 @@ use Rattle.std.proofs.Common.{map}
 use Rattle.lalrpop_grammar_symbols.specs.Views.{span_view}
 use Rattle.lalrpop_grammar.specs.Views.{grammar_view, nonterminal_view}
 use Rattle.lalrpop_grammar_rules.specs.Views.{closed_view}
-use Rattle.lalrpop_norm_macros.proofs.AddedLemmas.{ok_from}
+use Rattle.lalrpop_grammar_symbols.proofs.BoolLemmas.{ok_from}
 use Rattle.lalrpop_norm_macros.proofs.ConversionLemmas.{finished_of, told_of}
 use Rattle.lalrpop_norm_macros.proofs.key_rules.keys.finished_rules.Goals as goal
 

@@ -1,6 +1,6 @@
 use Rattle.std.proofs.Common.{◌∙◌}
 use Rattle.lalrpop_grammar.specs.Views.{nonterminal_view}
-use Rattle.lalrpop_norm_macros.proofs.AddedLemmas.{ok_from}
+use Rattle.lalrpop_grammar_symbols.proofs.BoolLemmas.{ok_from}
 use Rattle.lalrpop_norm_macros.proofs.CallRuleLemmas.{call_made, call_told, none_called}
 use Rattle.lalrpop_norm_macros.proofs.key_rules.rules.call_rule.Goals as goal
 

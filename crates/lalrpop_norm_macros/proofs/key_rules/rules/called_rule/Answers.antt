@@ -5,7 +5,7 @@ use Rattle.lalrpop_grammar_rules.specs.RuleTable.{rules_with}
 use Rattle.lalrpop_grammar_rules.specs.Views.{binding_of, closed_view, closeds}
 use Rattle.lalrpop_norm_macros.specs.RulesUnder.{IsInstanceRuleUnder}
 use Rattle.lalrpop_norm_macros.specs.WrittenRules.{arguments_view}
-use Rattle.lalrpop_norm_macros.proofs.AddedLemmas.{ok_from}
+use Rattle.lalrpop_grammar_symbols.proofs.BoolLemmas.{ok_from}
 use Rattle.lalrpop_norm_macros.proofs.key_rules.rules.called_rule.Goals as goal
 
 pub returns-clause-made : goal.returns-clause-made

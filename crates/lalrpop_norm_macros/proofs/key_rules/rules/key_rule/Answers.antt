@@ -5,7 +5,7 @@ use Rattle.lalrpop_grammar.specs.Views.{nonterminal_view}
 use Rattle.lalrpop_grammar_rules.specs.Views.{closed_view, closeds}
 use Rattle.lalrpop_grammar_rules.proofs.CallLemmas.{seen-Call}
 use Rattle.lalrpop_norm_macros.specs.WrittenKeys.{IsCallRule, IsRuleOfKey}
-use Rattle.lalrpop_norm_macros.proofs.AddedLemmas.{ok_from}
+use Rattle.lalrpop_grammar_symbols.proofs.BoolLemmas.{ok_from}
 use Rattle.lalrpop_norm_macros.proofs.CallRuleLemmas.{key_told}
 use Rattle.lalrpop_norm_macros.proofs.key_rules.rules.key_rule.Goals as goal
 

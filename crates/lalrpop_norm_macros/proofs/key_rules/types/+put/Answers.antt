@@ -4,7 +4,7 @@ use Rattle.lalrpop_grammar.specs.Views.{type_view}
 use Rattle.lalrpop_grammar_rules.specs.RuleTable.{rules_with}
 use Rattle.lalrpop_norm_keys.proofs.TableLemmas.{take_next}
 use Rattle.lalrpop_norm_macros.specs.KeyInstances.{instance_binding, instance_rule_view}
-use Rattle.lalrpop_norm_macros.proofs.AddedLemmas.{ok_from}
+use Rattle.lalrpop_grammar_symbols.proofs.BoolLemmas.{ok_from}
 use Rattle.lalrpop_norm_macros.proofs.DeclarationLemmas.{put_id, put_nominal, put_on, put_symbol, put_tuple}
 use Rattle.lalrpop_norm_macros.proofs.key_rules.types.+put.Goals as goal
 

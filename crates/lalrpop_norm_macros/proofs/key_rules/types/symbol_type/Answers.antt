@@ -1,7 +1,7 @@
 use Rattle.std.proofs.Common.{subst}
 use Rattle.lalrpop_grammar.specs.Views.{type_view}
 use Rattle.lalrpop_norm_macros.specs.KeyDeclarations.{IsSymbolTypeUnder}
-use Rattle.lalrpop_norm_macros.proofs.AddedLemmas.{ok_from}
+use Rattle.lalrpop_grammar_symbols.proofs.BoolLemmas.{ok_from}
 use Rattle.lalrpop_norm_macros.proofs.key_rules.types.symbol_type.Goals as goal
 
 pub returns : goal.returns

@@ -5,7 +5,8 @@ use Rattle.lalrpop_grammar_language.specs.Starts.{has_none}
 use Rattle.lalrpop_norm_precedence.specs.GivenNames.{given_table, taken_behind_rule}
 use Rattle.lalrpop_norm_precedence.specs.LevelTables.{rule_levels_view}
 use Rattle.lalrpop_norm_precedence.specs.TakenViews.{taken_times}
-use Rattle.lalrpop_norm_precedence.proofs.StepLemmas.{holds_anyway, plain_test}
+use Rattle.lalrpop_norm_precedence.proofs.StepLemmas.{plain_test}
+use Rattle.lalrpop_grammar_symbols.proofs.BoolLemmas.{holds_anyway}
 use Rattle.lalrpop_norm_precedence.proofs.level_names.names.named_rule.Goals as goal
 
 pub returns-then-is_macro_def-clause-named : goal.returns-then-is_macro_def-clause-named

@@ -8,7 +8,7 @@ use Rattle.lalrpop_norm_theory.specs.LeveledGrammar.{leveled_grammar}
 use Rattle.lalrpop_norm_precedence.specs.LevelTables.{AreNamedLevels}
 use Rattle.lalrpop_norm_precedence.specs.LevelExpansions.{HasPlainNames, IsLevelExpansion, StaysWithoutLevels}
 use Rattle.lalrpop_norm_precedence.proofs.LevelLawLemmas.{expanded_by_tables, stays_by_tables}
-use Rattle.lalrpop_norm_precedence.proofs.PutLemmas.{ok_from}
+use Rattle.lalrpop_grammar_symbols.proofs.BoolLemmas.{ok_from}
 use Rattle.lalrpop_norm_precedence.proofs.levels.expanding.expanded_by_tables.Goals as goal
 
 pub returns-clause-value : goal.returns-clause-value

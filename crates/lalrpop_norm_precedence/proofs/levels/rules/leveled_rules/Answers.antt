@@ -12,7 +12,7 @@ use Rattle.lalrpop_norm_precedence.specs.LevelBuckets.{bucket_at, of_level}
 use Rattle.lalrpop_norm_precedence.specs.RulesByNames.{all_rules_by_names}
 use Rattle.std.specs.Prelude.{List}
 use Rattle.lalrpop_norm_precedence.proofs.BucketLemmas.{bucket_of_rule}
-use Rattle.lalrpop_norm_precedence.proofs.PutLemmas.{ok_from}
+use Rattle.lalrpop_grammar_symbols.proofs.BoolLemmas.{ok_from}
 use Rattle.lalrpop_norm_precedence.proofs.RuleByNameLemmas.{bound_to_nothing, parted_as_named}
 use Rattle.lalrpop_norm_precedence.proofs.levels.rules.leveled_rules.Goals as goal
 

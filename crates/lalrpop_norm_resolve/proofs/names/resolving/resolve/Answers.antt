@@ -10,7 +10,8 @@ use Rattle.lalrpop_norm_theory.specs.Inlined.{SameInlined}
 use Rattle.lalrpop_norm_theory.specs.NameFaults.{HasRightNames}
 use Rattle.lalrpop_norm_theory.specs.Resolving.{resolved_grammar}
 use Rattle.lalrpop_norm_resolve.specs.FoundFaults.{IsResolvedFrom}
-use Rattle.lalrpop_norm_resolve.proofs.LawLemmas.{is_resolved, ok_from, right_still, same_expansion, same_inlined, stays}
+use Rattle.lalrpop_norm_resolve.proofs.LawLemmas.{is_resolved, right_still, same_expansion, same_inlined, stays}
+use Rattle.lalrpop_grammar_symbols.proofs.BoolLemmas.{ok_from}
 use Rattle.lalrpop_norm_resolve.proofs.names.resolving.resolve.Goals as goal
 
 pub returns-clause-value : goal.returns-clause-value

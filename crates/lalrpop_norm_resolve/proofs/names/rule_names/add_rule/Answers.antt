@@ -6,7 +6,8 @@ use Rattle.lalrpop_grammar_language.specs.Enabled.{has_text}
 use Rattle.lalrpop_grammar_rules.specs.RuleTable.{knows}
 use Rattle.lalrpop_norm_theory.specs.Resolving.{has_parameters}
 use Rattle.lalrpop_norm_resolve.specs.Searches.{macro_names, plain_names}
-use Rattle.lalrpop_norm_resolve.proofs.RuleNameLemmas.{holds_anyway, holds_where_ok, macro_test, named_macro, named_plain, no_macro, no_plain}
+use Rattle.lalrpop_norm_resolve.proofs.RuleNameLemmas.{holds_where_ok, macro_test, named_macro, named_plain, no_macro, no_plain}
+use Rattle.lalrpop_grammar_symbols.proofs.BoolLemmas.{holds_anyway}
 use Rattle.lalrpop_norm_resolve.proofs.names.rule_names.add_rule.Goals as goal
 
 pub returns-then-is_macro_def-clause-plain : goal.returns-then-is_macro_def-clause-plain

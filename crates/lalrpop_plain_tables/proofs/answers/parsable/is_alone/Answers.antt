@@ -1,4 +1,4 @@
-use Rattle.lalrpop_plain_tables.proofs.ParsableLemmas.{alone_seen}
+use Rattle.lalrpop_lr1_barren.proofs.AloneLemmas.{alone_seen}
 use Rattle.lalrpop_plain_tables.proofs.answers.parsable.is_alone.Goals as goal
 
 pub returns : goal.returns

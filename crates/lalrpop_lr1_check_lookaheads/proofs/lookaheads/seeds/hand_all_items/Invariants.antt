@@ -1,8 +1,0 @@
-use Rattle.lalrpop_lr1_check_lookaheads.specs.Brought.{ItemBrings, OfSome}
-use Rattle.lalrpop_lr1_check_lookaheads.specs.HandSlots.{GainsSlotMarks}
-use Rattle.lalrpop_lr1_check_lookaheads.proofs.BroughtLemmas.{OfFirst}
-use Rattle.lalrpop_lr1_check_lookaheads.proofs.lookaheads.seeds.hand_all_items.Given as goal
-
-abbrev pub invariant-loop-state : goal.invariant-loop-state
-invariant-loop-state l =
-    GainsSlotMarks l.fn.slots l.slots (OfFirst (λ n state. OfSome (ItemBrings l.grammar n) state.items.vec) l.states l.state)

@@ -1,8 +1,0 @@
-use Rattle.std.proofs.Common.{take}
-use Rattle.lalrpop_lr1_check_lookaheads.specs.Brought.{BeginBrings, OfSome}
-use Rattle.lalrpop_lr1_check_lookaheads.specs.HandSlots.{GainsSlotMarks, slot_key}
-use Rattle.lalrpop_lr1_check_lookaheads.proofs.lookaheads.seeds.hand_begins.Given as goal
-
-abbrev pub invariant-loop-production : goal.invariant-loop-production
-invariant-loop-production l =
-    GainsSlotMarks l.fn.slots l.slots (OfSome (λ p. BeginBrings l.grammar (slot_key l.slot) p.now) (take l.production-index l.productions))

@@ -1,7 +1,0 @@
-use Rattle.std.proofs.Common.{take}
-use Rattle.lalrpop_lr1_check_lookaheads.specs.Brought.{ItemBrings, OfSome}
-use Rattle.lalrpop_lr1_check_lookaheads.specs.HandSlots.{GainsSlotMarks}
-use Rattle.lalrpop_lr1_check_lookaheads.proofs.lookaheads.seeds.hand_items.Given as goal
-
-abbrev pub invariant-loop-item : goal.invariant-loop-item
-invariant-loop-item l = GainsSlotMarks l.fn.slots l.slots (OfSome (ItemBrings l.grammar l.state) (take l.item-index l.items))

@@ -1,0 +1,114 @@
+//! Whether states reduce before all that is propagated to the names of their productions.
+
+ghost use Rattle.std.specs.Prelude.{◌≡◌, ◌≤◌, ◌↔◌, ℕ, List, Contains, IfOk, IsTrue, Some, map};
+ghost use Rattle.lalrpop_sets.specs.Tokens.{eof_number};
+ghost use Rattle.lalrpop_lr1_theory.specs.States.{HasEdge, HasItem, Reduces};
+ghost use Rattle.lalrpop_lr1_core.specs.Views.{lr_state_view, token_lookahead};
+ghost use Rattle.lalrpop_lr1_theory.specs.PropagatedNexts.{ReducesBeforeLookaheads};
+ghost use Rattle.lalrpop_lr1_first.specs.FirstSetsOf.{AreFirstSetsOf, IsProductionOf};
+ghost use Rattle.lalrpop_lr1_first.specs.NumberedGrammars.{HasItsTerminals, IsNumberTableOf, table_productions};
+ghost use Rattle.lalrpop_lr1_barren.specs.NamedLists.{AreListedByName};
+ghost use Rattle.lalrpop_lr1_check_lookaheads.specs.LookaheadFlows.{AreFlown, AreSeeds, HaveKnownItems, IsSlotEdge};
+ghost use Rattle.lalrpop_lr1_check_lookaheads.specs.LookaheadSlots.{AreSlots, HasSlotMark};
+
+use crate::lookaheads::propagation::propagation_edges;
+use crate::lookaheads::reducing::all_reduce;
+use crate::lookaheads::seeds::{close_slots, seed_all_items};
+use crate::lookaheads::slots::{Slot, Slots};
+use lalrpop_grammar_repr::{Grammar, TerminalSet};
+use lalrpop_grammar_symbols::NonterminalString;
+use lalrpop_lr1_barren::reachable::NamedProductions;
+use lalrpop_lr1_core::Lr1State;
+use lalrpop_lr1_first::{Edge, FirstSets, Numbered, flow};
+use lalrpop_sets::TokenSet;
+use std::alloc::{AllocError, Global};
+
+/// The slots of the names that stand behind dots, each with what can come first behind them, and the start's with the end.
+fn seeded_slots<'g>(
+    alloc: Global,
+    grammar: &Grammar,
+    firsts: &FirstSets,
+    named: &NamedProductions<'_, 'g>,
+    start: &'g NonterminalString,
+    states: &[Lr1State<'g>],
+) -> Result<Slots<'g>, AllocError>
+    requires firsts { AreFirstSetsOf grammar.now firsts.now }
+    requires named { AreListedByName named.now }
+    ensures { IfOk result (λ slots. AreSeeds grammar.now (table_productions named.now.table.now) start.now.0 states.now slots) }
+{
+    let mut slots = Slots::new(alloc);
+    seed_all_items(alloc, grammar, firsts, states, &mut slots)?;
+    close_slots(alloc, grammar, firsts, named, &mut slots)?;
+    let end = TokenSet::eof(alloc, &grammar.terminals)?;
+    let first = Slot {
+        state: 0,
+        name: start,
+    };
+    slots.add(alloc, &grammar.terminals, first, &end)?;
+    Ok(slots)
+}
+
+/// Copies of the sets, as they flow along edges.
+fn option_sets(alloc: Global, sets: &[TokenSet]) -> Result<Vec<Option<TokenSet>>, AllocError>
+    ensures { IfOk result (λ copies. copies.items ≡ map Some sets.now) }
+{
+    let mut copies = Vec::new(alloc);
+    for set in sets {
+        copies.push(Some(set.try_clone()?))?;
+    }
+    Ok(copies)
+}
+
+/// The tokens of each slot, with those that come along the edges.
+fn flown_sets(
+    alloc: Global,
+    terminals: &TerminalSet,
+    slots: &Slots<'_>,
+    edges: &[Edge],
+) -> Result<Vec<Option<TokenSet>>, AllocError>
+    requires are { AreSlots slots.now }
+    requires tokens { (key : _) (k : ℕ) → HasSlotMark slots.now key (Some k) → k ≤ eof_number terminals.now }
+    requires edges { (e : _) → Contains edges.now e → IsSlotEdge slots.now e }
+    ensures { IfOk result (λ sets. AreFlown slots.now edges.now sets.items) }
+{
+    let mut firsts = Vec::new(alloc);
+    firsts.push(TokenSet::eof(alloc, terminals)?)?;
+    let mut sets = option_sets(alloc, slots.sets.as_slice())?;
+    flow(alloc, terminals, firsts.as_slice(), edges, &mut sets)?;
+    Ok(sets)
+}
+
+/// Whether each state to which a production leads reduces by it before all that is propagated to its name where it begins, for any
+/// states, in whose items stand terminals of the grammar alone. The table is the grammar's.
+///
+/// # Errors
+///
+/// Memory is refused.
+pub fn reduces_before_lookaheads<'g>(
+    alloc: Global,
+    grammar: &Grammar,
+    table: &Numbered<'g>,
+    start: &'g NonterminalString,
+    states: &[Lr1State<'g>],
+) -> Result<bool, AllocError>
+    requires grammar { HasItsTerminals grammar.now }
+    requires table { IsNumberTableOf grammar.now table.now }
+    ensures { IfOk result (λ reduces. let seen = map (lr_state_view (token_lookahead grammar.now.terminals)) states.now in
+        HaveKnownItems grammar.now.terminals states.now → IsTrue reduces
+        ↔ ReducesBeforeLookaheads (IsProductionOf grammar.now) start.now.0 (HasItem seen) (HasEdge seen) (Reduces seen)) }
+{
+    let firsts = FirstSets::new(alloc, grammar)?;
+    let named = NamedProductions::new(alloc, table)?;
+    let mut slots = seeded_slots(alloc, grammar, &firsts, &named, start, states)?;
+    let edges = propagation_edges(alloc, grammar, &firsts, states, &named, &mut slots)?;
+    let sets = flown_sets(alloc, &grammar.terminals, &slots, edges.as_slice())?;
+    let all = all_reduce(
+        alloc,
+        &grammar.terminals,
+        states,
+        &named,
+        &slots,
+        sets.as_slice(),
+    )?;
+    Ok(all)
+}

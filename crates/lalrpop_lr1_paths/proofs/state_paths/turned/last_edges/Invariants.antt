@@ -1,5 +1,0 @@
-use Rattle.lalrpop_lr1_paths.specs.TurnedGraphs.{AreLastEdges}
-use Rattle.lalrpop_lr1_paths.proofs.state_paths.turned.last_edges.Given as goal
-
-abbrev pub invariant-loop-state : goal.invariant-loop-state
-invariant-loop-state l = AreLastEdges l.edges l.paths l.state l.steps.items
