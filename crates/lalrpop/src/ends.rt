@@ -1,5 +1,6 @@
 //! Readers and writers that fail or are interrupted, and the bounds on them.
 
+use crate::check::check;
 use crate::grammars::{LISTS, MISSHAPEN, ONE_STEP, REFUSED};
 use crate::streams::{Blanks, Pieces, Room};
 use lalrpop_grammar_streams::Watched;
@@ -40,8 +41,8 @@ fn ends<R1: Read + Drop, R2: Read + Drop>(
         let mut writer = Watched::new(&mut out);
         run(alloc, &options, &mut grammar, &mut unread, &mut writer)
     };
-    assert_eq!(rt; found, status);
-    assert_eq!(rt; out.taken.as_slice(), text.as_bytes());
+    check(rt, found == status);
+    check(rt, out.taken.as_slice() == text.as_bytes());
 }
 
 /// That `judge` over this reader of the grammar and this writer ends so. The text's reader would fail.

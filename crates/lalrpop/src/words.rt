@@ -1,5 +1,6 @@
 //! What the words ask for, on worked lines.
 
+use crate::check::check;
 use lalrpop_run::{Method, Options, OptionsError, Task, options};
 use std::alloc::{AllocError, Global};
 use std::process::Abort;
@@ -17,6 +18,18 @@ fn options_of(rt: &impl Abort, alloc: Global, line: &str) -> Box<Options> {
     Box::new(alloc, found).expect(rt, "memory")
 }
 
+/// That what isn't given has its usual value, for `judge` of the start `S`.
+fn has_usual_values(rt: &impl Abort, found: &Options) {
+    check(rt, found.task == Task::Judge);
+    check(rt, found.start.as_str() == "S");
+    check(rt, found.text.as_str() == "");
+    check(rt, found.tree.is_none());
+    check(rt, found.features.len() == 0);
+    check(rt, found.macro_limit == 200);
+    check(rt, found.method == Method::Lane { copies: 10_000 });
+    check(rt, found.limit == 1_000_000);
+}
+
 // Between the commas of a list stand no features.
 #[test]
 fn what_is_not_given_has_its_usual_value(rt: HostRuntime) {
@@ -24,16 +37,28 @@ fn what_is_not_given_has_its_usual_value(rt: HostRuntime) {
         "lalrpop_run judge --start S",
         "r judge --start S --features ,,",
     ] {
-        let found = options_of(&rt, rt.alloc(), line);
-        assert_eq!(rt; found.task, Task::Judge);
-        assert_eq!(rt; found.start.as_str(), "S");
-        assert_eq!(rt; found.text.as_str(), "");
-        assert!(rt; found.tree.is_none());
-        assert_eq!(rt; found.features.len(), 0);
-        assert_eq!(rt; found.macro_limit, 200);
-        assert_eq!(rt; found.method, Method::Lane { copies: 10_000 });
-        assert_eq!(rt; found.limit, 1_000_000);
+        has_usual_values(&rt, &options_of(&rt, rt.alloc(), line));
     }
+}
+
+/// That these are the texts of the line below.
+fn has_texts(rt: &impl Abort, found: &Options) {
+    check(rt, found.task.word() == "judge");
+    check(rt, found.start.as_str() == "Expr");
+    check(rt, found.text.as_str() == "1+2");
+    check(rt, found.tree.as_deref() == Some("{}"));
+    let [first, second] = found.features.as_slice() else {
+        panic!(rt; "not two features");
+    };
+    check(rt, first.as_str() == "a");
+    check(rt, second.as_str() == "b");
+}
+
+/// That these are the numbers of the line below.
+fn has_numbers(rt: &impl Abort, found: &Options) {
+    check(rt, found.macro_limit == 65_535);
+    check(rt, found.method == Method::Lane { copies: 7 });
+    check(rt, found.limit == 18_446_744_073_709_551_615);
 }
 
 #[test]
@@ -41,79 +66,66 @@ fn each_option_is_read(rt: HostRuntime) {
     let line = "lalrpop_run --limit=18446744073709551615 --tree {} --macro-limit 65535 judge \
         --features a,,b --text 1+2 --start=Expr --copies=7 --method lane";
     let found = options_of(&rt, rt.alloc(), line);
-    assert_eq!(rt; found.task.word(), "judge");
-    assert_eq!(rt; found.start.as_str(), "Expr");
-    assert_eq!(rt; found.text.as_str(), "1+2");
-    assert_eq!(rt; found.tree.as_deref(), Some("{}"));
-    let [first, second] = found.features.as_slice() else {
-        panic!(rt; "not two features");
-    };
-    assert_eq!(rt; (first.as_str(), second.as_str()), ("a", "b"));
-    assert_eq!(rt; found.macro_limit, 65_535);
-    assert_eq!(rt; found.method, Method::Lane { copies: 7 });
-    assert_eq!(rt; found.limit, 18_446_744_073_709_551_615);
+    has_texts(&rt, &found);
+    has_numbers(&rt, &found);
 }
 
 #[test]
 fn the_canonical_way_has_no_copies(rt: HostRuntime) {
     let line = "lalrpop_run check --copies 7 --start S --method canonical";
     let found = options_of(&rt, rt.alloc(), line);
-    assert_eq!(rt; found.task, Task::Check);
-    assert_eq!(rt; found.method, Method::Canonical);
+    check(&rt, found.task == Task::Check);
+    check(&rt, found.method == Method::Canonical);
+}
+
+/// That the line's start, text and tree are these.
+fn asks_for(
+    rt: &impl Abort,
+    alloc: Global,
+    line: &str,
+    start: &str,
+    text: &str,
+    tree: Option<&str>,
+) {
+    let found = options_of(rt, alloc, line);
+    check(rt, found.start.as_str() == start);
+    check(rt, found.text.as_str() == text);
+    check(rt, found.tree.as_deref() == tree);
 }
 
 #[test]
 fn texts_and_trees_may_begin_with_dashes(rt: HostRuntime) {
-    let cases = [
-        (
-            "r judge --text --tree --start S --tree -1",
-            "S",
-            "--tree",
-            Some("-1"),
-        ),
-        (
-            "r --text=-x --start S --tree=-- judge",
-            "S",
-            "-x",
-            Some("--"),
-        ),
-        ("r judge --start  --text --", "", "--", None),
-    ];
-    for (line, start, text, tree) in cases {
-        let found = options_of(&rt, rt.alloc(), line);
-        assert_eq!(rt;
-            (
-                found.start.as_str(),
-                found.text.as_str(),
-                found.tree.as_deref()
-            ),
-            (start, text, tree),
-            "{line}"
-        );
+    let alloc = rt.alloc();
+    let line = "r judge --text --tree --start S --tree -1";
+    asks_for(&rt, alloc, line, "S", "--tree", Some("-1"));
+    let line = "r --text=-x --start S --tree=-- judge";
+    asks_for(&rt, alloc, line, "S", "-x", Some("--"));
+    asks_for(&rt, alloc, "r judge --start  --text --", "", "--", None);
+}
+
+/// The text of the fault of the line's words.
+fn fault_of(rt: &impl Abort, alloc: Global, line: &str) -> String {
+    let words = words(rt, alloc, line);
+    match options(alloc, words.as_slice()) {
+        Err(OptionsError::Words(error)) => { format!(in alloc; "{error}").expect(rt, "memory") }
+        _ => panic!(rt; "no fault"),
     }
+}
+
+/// That the fault of the line's words has this text, and tells of help.
+fn is_worded(rt: &impl Abort, alloc: Global, line: &str, wanted: &str) {
+    let found = fault_of(rt, alloc, line);
+    let whole = format!(in alloc; "{wanted}\nFor more information, try '--help'.\n");
+    let whole = whole.expect(rt, "memory");
+    check(rt, found.as_str() == whole.as_str());
 }
 
 #[test]
 fn faults_are_worded_by_clap(rt: HostRuntime) {
     let alloc = rt.alloc();
-    let cases = [
-        (
-            "r judge --start S --limit x",
-            "error: invalid value 'x' for '--limit <N>': invalid digit found in string\n",
-        ),
-        (
-            "r judge",
-            "error: the following required arguments were not provided:\n  --start <NAME>\n\n\
-                Usage: lalrpop_run --start <NAME> <COMMAND>\n",
-        ),
-    ];
-    for (line, wanted) in cases {
-        let words = words(&rt, alloc, line);
-        let Err(OptionsError::Words(error)) = options(alloc, words.as_slice()) else {
-            panic!(rt; "no fault");
-        };
-        let text = format!(in alloc; "{error}").expect(&rt, "memory");
-        let whole = format!(in alloc; "{wanted}\nFor more information, try '--help'.\n");
-        assert_eq!(rt; text.as_str(), whole.expect(&rt, "memory").as_str());
-    }
+    let wanted = "error: invalid value 'x' for '--limit <N>': invalid digit found in string\n";
+    is_worded(&rt, alloc, "r judge --start S --limit x", wanted);
+    let wanted = "error: the following required arguments were not provided:\n  --start <NAME>\n\n\
+        Usage: lalrpop_run --start <NAME> <COMMAND>\n";
+    is_worded(&rt, alloc, "r judge", wanted);
 }

@@ -22,9 +22,10 @@ struct Calls;
 impl TableCase for Calls {
     fn is_right<R: Alloc<A = Global> + Print>(rt: &R, case: &Value) -> Result<bool> {
         let fields = Fields::of(case, &KEYS)?;
-        let name = fields.text("name")?;
+        let name = fields.name()?;
+        let wanted = fields.value("wanted")?;
         let answer = answer_of(rt.alloc(), fields.value("call")?).context(format_args!("{name}"))?;
-        compare(rt, name, fields.value("wanted")?, &answer)
+        compare(rt, name, wanted, &answer)
     }
 }
 

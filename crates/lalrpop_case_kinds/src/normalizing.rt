@@ -47,6 +47,6 @@ fn answer_of(alloc: Global, case: &Case<'_>) -> Result<Value> {
         "fault" => fault(alloc, case),
         "nonterminals" => nonterminals(alloc, case),
         "productions" => productions(alloc, case),
-        _ => bail!("no such call"),
+        word => bail!("no such call: {word}"),
     }
 }

@@ -21,7 +21,7 @@ const KEYS: [&str; 12] = [
     "status",
 ];
 
-/// A case of the table: words, a grammar and a text, and what the program has to answer.
+/// A case of the table: words, what is given beside them, and what the program has to answer.
 #[derive(Clone, Copy)]
 pub(crate) struct Case<'v> {
     /// What the case is called.
@@ -30,6 +30,15 @@ pub(crate) struct Case<'v> {
     pub(crate) shows: &'v str,
     /// The words behind the program's name.
     pub(crate) words: &'v [Value],
+    /// What is given to it.
+    given: Given<'v>,
+    /// What has to come of it.
+    pub(crate) wanted: Wanted<'v>,
+}
+
+/// What a case gives to the program beside the words.
+#[derive(Clone, Copy)]
+struct Given<'v> {
     /// The grammar's JSON, or a text that stands for itself. Where it's left out nothing is read.
     grammar: Option<&'v Value>,
     /// The grammar's bytes in hex, where they are no text.
@@ -40,6 +49,11 @@ pub(crate) struct Case<'v> {
     text: Option<&'v str>,
     /// The text's bytes in hex, where they are no text.
     text_hex: Option<&'v str>,
+}
+
+/// What has to come of a case.
+#[derive(Clone, Copy)]
+pub(crate) struct Wanted<'v> {
     /// The kind of `clap`'s fault, where it refuses the words.
     pub(crate) fault: &'v str,
     /// What the program has to write.
@@ -58,21 +72,14 @@ impl<'v> Case<'v> {
             name: fields.text("name")?,
             shows: fields.text_if("shows")?.unwrap_or(""),
             words: fields.list("words")?,
-            grammar: fields.get("grammar"),
-            grammar_hex: fields.text_if("grammar_hex")?,
-            tree: fields.get("tree"),
-            text: fields.text_if("text")?,
-            text_hex: fields.text_if("text_hex")?,
-            fault: fields.text_if("fault")?.unwrap_or(""),
-            output: fields.text_if("output")?.unwrap_or(""),
-            lines: fields.list("lines")?,
-            status: u8::try_from(number_of(fields.value("status")?)?)?,
+            given: Given::of(&fields)?,
+            wanted: Wanted::of(&fields)?,
         })
     }
 
     /// The tree as a word, where there is one.
     pub(crate) fn tree_text(&self, alloc: Global) -> Result<Option<String>, AllocError> {
-        match self.tree {
+        match self.given.tree {
             Some(tree) => Ok(Some(text_of_value(alloc, tree)?)),
             None => Ok(None),
         }
@@ -80,7 +87,7 @@ impl<'v> Case<'v> {
 
     /// What the program reads as the grammar.
     pub(crate) fn grammar_bytes(&self, alloc: Global) -> Result<Vec<u8>> {
-        match (self.grammar, self.grammar_hex) {
+        match (self.given.grammar, self.given.grammar_hex) {
             (Some(_), Some(_)) => bail!("two grammars"),
             (Some(grammar), None) => Ok(text_of_value(alloc, grammar)?.into_bytes()),
             (None, Some(digits)) => Ok(hex::decode(alloc, digits)?),
@@ -90,13 +97,43 @@ impl<'v> Case<'v> {
 
     /// What the program reads as the text, which is usually the one that the words give.
     pub(crate) fn text_bytes(&self, alloc: Global, usual: &str) -> Result<Vec<u8>> {
-        match (self.text, self.text_hex) {
+        match (self.given.text, self.given.text_hex) {
             (Some(_), Some(_)) => bail!("two texts"),
             (Some(text), None) => Ok(text.as_bytes().to_vec(alloc)?),
             (None, Some(digits)) => Ok(hex::decode(alloc, digits)?),
             (None, None) => Ok(usual.as_bytes().to_vec(alloc)?),
         }
     }
+}
+
+impl<'v> Given<'v> {
+    /// What the members give.
+    fn of(fields: &Fields<'v>) -> Result<Given<'v>> {
+        Ok(Given {
+            grammar: fields.get("grammar"),
+            grammar_hex: fields.text_if("grammar_hex")?,
+            tree: fields.get("tree"),
+            text: fields.text_if("text")?,
+            text_hex: fields.text_if("text_hex")?,
+        })
+    }
+}
+
+impl<'v> Wanted<'v> {
+    /// What the members want.
+    fn of(fields: &Fields<'v>) -> Result<Wanted<'v>> {
+        Ok(Wanted {
+            fault: fields.text_if("fault")?.unwrap_or(""),
+            output: fields.text_if("output")?.unwrap_or(""),
+            lines: fields.list("lines")?,
+            status: status_of(fields.value("status")?)?,
+        })
+    }
+}
+
+/// The status that the value is.
+fn status_of(value: &Value) -> Result<u8> {
+    Ok(u8::try_from(number_of(value)?)?)
 }
 
 /// All words: the program's name, those of a case, and the tree's.

@@ -32,7 +32,15 @@ fn main(rt: HostRuntime) -> Result<ExitCode> {
 /// Reads the words, and answers them.
 fn respond<R: Alloc<A = Global> + Env + Files + Input + Print>(rt: &R) -> Result<u8> {
     let words: Vec<String> = env::args(rt)?.collect(rt.alloc())?;
-    match words.as_slice() {
+    respond_to(rt, words.as_slice())
+}
+
+/// Answers the words, the first of which names the program.
+fn respond_to<R: Alloc<A = Global> + Files + Input + Print>(
+    rt: &R,
+    words: &[String],
+) -> Result<u8> {
+    match words {
         [_, first, start, file] if first.as_str() == "tokens" => {
             answer_tokens(rt, start.as_str(), file.as_str())
         }

@@ -30,25 +30,25 @@ pub(crate) struct Outcome {
 impl Outcome {
     /// Whether the case wants this text.
     fn has_wanted_text(&self, case: &Case<'_>) -> Result<bool>
-        ensures { IfOk result (λ right. case.now.lines.now ≡ []
-            → (IsTrue right ↔ (string_bytes self.now.text ≡ case.now.output.now))) }
+        ensures { IfOk result (λ right. case.now.wanted.lines.now ≡ []
+            → (IsTrue right ↔ (string_bytes self.now.text ≡ case.now.wanted.output.now))) }
     {
-        if case.lines.is_empty() {
-            Ok(self.text.as_str() == case.output)
+        if case.wanted.lines.is_empty() {
+            Ok(self.text.as_str() == case.wanted.output)
         } else {
-            fit(case.lines, self.text.as_str())
+            fit(case.wanted.lines, self.text.as_str())
         }
     }
 
     /// Whether the case wants this outcome of its run.
     pub(crate) fn is_wanted(&self, case: &Case<'_>) -> Result<bool>
-        ensures { IfOk result (λ right. case.now.lines.now ≡ []
-            → (IsTrue right ↔ ((string_bytes self.now.text ≡ case.now.output.now)
-            × (self.now.status ≡ case.now.status)
-            × (string_bytes self.now.fault ≡ case.now.fault.now)))) }
+        ensures { IfOk result (λ right. case.now.wanted.lines.now ≡ []
+            → (IsTrue right ↔ ((string_bytes self.now.text ≡ case.now.wanted.output.now)
+            × (self.now.status ≡ case.now.wanted.status)
+            × (string_bytes self.now.fault ≡ case.now.wanted.fault.now)))) }
     {
         let right = self.has_wanted_text(case)?;
-        Ok(right && self.status == case.status && self.fault.as_str() == case.fault)
+        Ok(right && self.status == case.wanted.status && self.fault.as_str() == case.wanted.fault)
     }
 
     /// Whether the call over the values answers what the run does, where it was made.
@@ -71,20 +71,27 @@ pub(crate) fn outcome_of(alloc: Global, case: &Case<'_>) -> Result<Outcome> {
     let words = all_words(alloc, &*case.words, tree.as_deref())?;
     match options(alloc, words.as_slice()) {
         Ok(options) => outcome_under(alloc, &options, case),
-        Err(OptionsError::Words(error)) => Ok(Outcome {
-            text: String::new(alloc),
-            status: WRONG_WORDS,
-            fault: format!(in alloc; "{:?}", error.kind())?,
-            called: None,
-        }),
+        Err(OptionsError::Words(error)) => Ok(outcome_of_fault(alloc, &error)?),
         Err(OptionsError::Memory) => Err(AllocError.into()),
     }
+}
+
+/// The outcome where the words are wrong or call for help.
+fn outcome_of_fault(alloc: Global, error: &clap::Error) -> Result<Outcome, AllocError> {
+    let fault = format!(in alloc; "{:?}", error.kind())?;
+    Ok(Outcome {
+        text: String::new(alloc),
+        status: WRONG_WORDS,
+        fault,
+        called: None,
+    })
 }
 
 /// The outcome of the options over the case's grammar and text.
 fn outcome_under(alloc: Global, options: &Options, case: &Case<'_>) -> Result<Outcome> {
     let grammar = case.grammar_bytes(alloc)?;
     let text = case.text_bytes(alloc, options.text.as_str())?;
+    let called = answer_of_call(alloc, options, grammar.as_slice(), text.as_slice())?;
     let mut written = Vec::new(alloc);
     let status = written_by(
         alloc,
@@ -93,11 +100,12 @@ fn outcome_under(alloc: Global, options: &Options, case: &Case<'_>) -> Result<Ou
         text.as_slice(),
         &mut written,
     );
+    let text = String::from_utf8(written)?;
     Ok(Outcome {
-        text: String::from_utf8(written)?,
+        text,
         status,
         fault: String::new(alloc),
-        called: answer_of_call(alloc, options, grammar.as_slice(), text.as_slice())?,
+        called,
     })
 }
 
@@ -125,14 +133,31 @@ fn answer_of_call(
     let (Ok(json), Ok(text)) = (str::from_utf8(grammar), str::from_utf8(text)) else {
         return Ok(None);
     };
-    let value = match Value::from_str(alloc, json) {
-        Ok(value) => value,
-        Err(error) if error.is_memory() => return Err(AllocError.into()),
-        Err(_) => return Ok(None),
-    };
-    match read_grammar(alloc, &value) {
+    match json_of(alloc, json)? {
+        Some(value) => Ok(answer_of_value(alloc, options, &value, text)?),
+        None => Ok(None),
+    }
+}
+
+/// The value that the text is, where it is JSON.
+fn json_of(alloc: Global, text: &str) -> Result<Option<Value>, AllocError> {
+    match Value::from_str(alloc, text) {
+        Ok(value) => Ok(Some(value)),
+        Err(error) if error.is_memory() => Err(AllocError),
+        Err(_) => Ok(None),
+    }
+}
+
+/// What the call answers over the grammar, where the value spells one.
+fn answer_of_value(
+    alloc: Global,
+    options: &Options,
+    value: &Value,
+    text: &str,
+) -> Result<Option<Answer>, AllocError> {
+    match read_grammar(alloc, value) {
         Ok(grammar) => Ok(Some(answer(alloc, options, grammar, text)?)),
         Err(ReadError::Shape { .. }) => Ok(None),
-        Err(ReadError::Memory) => Err(AllocError.into()),
+        Err(ReadError::Memory) => Err(AllocError),
     }
 }

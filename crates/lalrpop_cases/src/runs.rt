@@ -18,12 +18,17 @@ impl TableCase for Runs {
             "the case {}",
             case.name
         ))?;
-        let right = outcome.is_wanted(&case)? && outcome.is_confirmed();
-        if !right {
-            tell(rt, &case, &outcome)?;
-        }
-        Ok(right)
+        compare(rt, &case, &outcome)
     }
+}
+
+/// Whether the outcome is the one that is wanted; if not, both are told.
+fn compare(rt: &impl Print, case: &Case<'_>, outcome: &Outcome) -> Result<bool> {
+    let right = outcome.is_wanted(case)? && outcome.is_confirmed();
+    if !right {
+        tell(rt, case, outcome)?;
+    }
+    Ok(right)
 }
 
 /// How many cases of the file pass; each of the others is told.
@@ -34,10 +39,18 @@ pub(crate) fn run_tally<R: Alloc<A = Global> + Files + Print>(rt: &R, file: &str
 /// Tells what was wanted and what came.
 fn tell(rt: &impl Print, case: &Case<'_>, outcome: &Outcome) -> Result<()> {
     println!(rt; "{} {}", case.name, case.shows)?;
-    println!(rt; "  wanted {:?} {} {}", case.output, case.status, case.fault)?;
-    for line in case.lines {
+    println!(rt;
+        "  wanted {:?} {} {}",
+        case.wanted.output, case.wanted.status, case.wanted.fault
+    )?;
+    for line in case.wanted.lines {
         println!(rt; "  line   {line}")?;
     }
+    tell_outcome(rt, outcome)
+}
+
+/// Tells what came.
+fn tell_outcome(rt: &impl Print, outcome: &Outcome) -> Result<()> {
     println!(rt;
         "  got    {:?} {} {}",
         outcome.text, outcome.status, outcome.fault

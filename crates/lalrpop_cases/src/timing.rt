@@ -40,10 +40,19 @@ fn answer_words<R: Alloc<A = Global> + Files + Input + Print>(
     file: &str,
 ) -> Result<u8> {
     let grammar = fs::read_to_string(rt, file).context(format_args!("reading {file}"))?;
+    Ok(answer_over(rt, words, grammar.as_str())?)
+}
+
+/// Answers the words over the grammar's JSON and standard input.
+fn answer_over<R: Alloc<A = Global> + Input + Print>(
+    rt: &R,
+    words: &[&str],
+    grammar: &str,
+) -> Result<u8, AllocError> {
     match options(rt.alloc(), words) {
-        Ok(found) => Ok(answer_options(rt, &found, grammar.as_str())),
+        Ok(found) => Ok(answer_options(rt, &found, grammar)),
         Err(OptionsError::Words(_)) => Ok(WRONG_WORDS),
-        Err(OptionsError::Memory) => Err(AllocError.into()),
+        Err(OptionsError::Memory) => Err(AllocError),
     }
 }
 

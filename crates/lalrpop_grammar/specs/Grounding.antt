@@ -5,6 +5,7 @@ use Rattle.lalrpop_grammar.specs.declared.types.type_ref.TypeRef.TheOpen as laye
 use Rattle.lalrpop_grammar.specs.declared.types.type_repr.TypeRepr.{TypeRepr}
 use Rattle.lalrpop_grammar.specs.declared.types.type_repr.TypeRepr.TheVariants as types
 use Rattle.lalrpop_grammar.specs.declared.types.type_repr.TypeRepr.TheViews.{roll-NominalTypeRepr}
+use Rattle.lalrpop_grammar_symbols.specs.Symbols.{Text}
 use Rattle.lalrpop_grammar.specs.TypeReprs.{named_type}
 
 -- one more type, where it and the others are there
@@ -18,11 +19,14 @@ abbrev pub all_types : List (Option TypeRepr) → Option (List TypeRepr)
 all_types [] = Some []
 all_types (t ∷ ts) = and_type t (all_types ts)
 
+-- the type of that name with these arguments
+abbrev pub nominal_of : Text → List TypeRepr → TypeRepr
+nominal_of path ts = types.Nominal (roll-NominalTypeRepr (record { path = path; types = ts }))
+
 -- the same shape; a name is the nominal of that name without arguments; none for the type of a symbol
 abbrev pub type_repr_step : layer.TypeRef-F (Option TypeRepr) → Option TypeRepr
 type_repr_step (layer.Tuple ts) = option_map types.Tuple (all_types ts)
-type_repr_step (layer.Nominal path ts) =
-    option_map (λ us. types.Nominal (roll-NominalTypeRepr (record { path = path; types = us }))) (all_types ts)
+type_repr_step (layer.Nominal path ts) = option_map (nominal_of path) (all_types ts)
 type_repr_step (layer.Id n) = Some (named_type n)
 type_repr_step (layer.OfSymbol s) = None
 type_repr_step (layer.Ref lifetime mutable t) = option_map (λ u. types.Ref lifetime mutable u) t

@@ -9,7 +9,7 @@ use lalrpop_grammar_symbols::{Atom, List, Span, Symbol, clone_symbols};
 use std::alloc::{AllocError, Global};
 
 /// What an alternative does when it is reduced.
-#[derive(Debug, PartialEq, Eq, Drop)]
+#[derive(PartialEq, Eq, Drop)]
 pub enum ActionKind {
     /// `=> code`.
     User(Atom),
@@ -22,7 +22,7 @@ pub enum ActionKind {
 }
 
 /// One alternative of a rule.
-#[derive(Debug, PartialEq, Eq, Drop)]
+#[derive(PartialEq, Eq, Drop)]
 pub struct Alternative {
     /// Where it is written.
     pub span: Span,
@@ -57,13 +57,17 @@ impl Alternative {
     pub fn try_clone(&self, alloc: Global) -> Result<Alternative, AllocError>
         ensures { IfOk result (λ copy. copy ≡ self.now) }
     {
+        let expr = clone_symbols(alloc, self.expr.as_slice())?;
+        let attributes = clone_attributes(alloc, self.attributes.as_slice())?;
+        let origin = self.origin.try_clone(alloc)?;
+        let condition = clone_condition(&self.condition)?;
         Ok(Alternative {
             span: self.span,
-            expr: clone_symbols(alloc, self.expr.as_slice())?,
-            condition: clone_condition(&self.condition)?,
+            expr,
+            condition,
             action: clone_action(&self.action)?,
-            attributes: clone_attributes(alloc, self.attributes.as_slice())?,
-            origin: self.origin.try_clone(alloc)?,
+            attributes,
+            origin,
         })
     }
 }

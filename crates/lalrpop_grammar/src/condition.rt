@@ -6,7 +6,7 @@ use lalrpop_grammar_symbols::{Atom, NonterminalString, Span};
 use std::alloc::AllocError;
 
 /// How a condition compares.
-#[derive(Clone, Copy, Debug, PartialEq, Eq, PartialOrd, Ord, Hash)]
+#[derive(Clone, Copy, PartialEq, Eq, PartialOrd, Ord, Hash)]
 pub enum ConditionOp {
     /// `==`: the texts are equal.
     Equals,
@@ -19,7 +19,7 @@ pub enum ConditionOp {
 }
 
 /// `if K == "text"` behind an alternative of a macro.
-#[derive(Debug, PartialEq, Eq, Drop)]
+#[derive(PartialEq, Eq, Drop)]
 pub struct Condition {
     /// Where it is written.
     pub span: Span,

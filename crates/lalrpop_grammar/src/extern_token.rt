@@ -7,7 +7,7 @@ use lalrpop_grammar_symbols::{Atom, List, Span, TerminalString};
 use std::alloc::{AllocError, Global};
 
 /// `type Location = usize;` in an extern block.
-#[derive(Debug, PartialEq, Eq, Drop)]
+#[derive(PartialEq, Eq, Drop)]
 pub struct AssociatedType {
     /// The name that is given a type.
     pub name: Atom,
@@ -16,7 +16,7 @@ pub struct AssociatedType {
 }
 
 /// `"+" => Token::Plus` in an extern block's enum.
-#[derive(Debug, PartialEq, Eq, Drop)]
+#[derive(PartialEq, Eq, Drop)]
 pub struct Conversion {
     /// The terminal.
     pub from: TerminalString,
@@ -25,7 +25,7 @@ pub struct Conversion {
 }
 
 /// `enum Token { .. }` in an extern block.
-#[derive(Debug, PartialEq, Eq, Drop)]
+#[derive(PartialEq, Eq, Drop)]
 pub struct EnumToken {
     /// The conversions, in order.
     pub conversions: List<Conversion>,
@@ -34,7 +34,7 @@ pub struct EnumToken {
 }
 
 /// An extern block.
-#[derive(Debug, PartialEq, Eq, Drop)]
+#[derive(PartialEq, Eq, Drop)]
 pub struct ExternToken {
     /// Where it is written.
     pub span: Span,

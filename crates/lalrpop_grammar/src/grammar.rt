@@ -11,7 +11,7 @@ use lalrpop_grammar_symbols::{Atom, List, Span};
 use std::alloc::{AllocError, Global};
 
 /// One item of a grammar.
-#[derive(Debug, PartialEq, Eq, Drop)]
+#[derive(PartialEq, Eq, Drop)]
 pub enum GrammarItem {
     /// A match block.
     MatchToken(MatchToken),
@@ -26,7 +26,7 @@ pub enum GrammarItem {
 }
 
 /// A grammar as it is written.
-#[derive(Debug, PartialEq, Eq, Drop)]
+#[derive(PartialEq, Eq, Drop)]
 pub struct Grammar {
     /// A run of underscores with which no name of the grammar begins.
     pub prefix: Atom,

@@ -7,7 +7,7 @@ use lalrpop_grammar_symbols::{List, TerminalLiteral};
 use std::alloc::{AllocError, Global};
 
 /// One entry of a tokenizer.
-#[derive(Debug, PartialEq, Eq, Drop)]
+#[derive(PartialEq, Eq, Drop)]
 pub struct MatchEntry {
     /// Which entry wins where two match the same text: the greater.
     pub precedence: usize,
@@ -18,7 +18,7 @@ pub struct MatchEntry {
 }
 
 /// The entries of a tokenizer.
-#[derive(Debug, PartialEq, Eq, Drop)]
+#[derive(PartialEq, Eq, Drop)]
 pub struct InternToken {
     /// The entries, in order.
     pub match_entries: List<MatchEntry>,

@@ -12,7 +12,7 @@ use std::alloc::{AllocError, Global};
 use std::slice;
 
 /// A token at a leaf of a tree.
-#[derive(Clone, Copy, Debug, PartialEq, Eq)]
+#[derive(Clone, Copy, PartialEq, Eq)]
 pub struct Leaf<'t> {
     /// Its terminal.
     pub terminal: &'t TerminalString,

@@ -6,7 +6,7 @@ use lalrpop_grammar_symbols::{List, Span, TerminalLiteral, TerminalString};
 use std::alloc::{AllocError, Global};
 
 /// What an entry's matches become.
-#[derive(Debug, PartialEq, Eq, Drop)]
+#[derive(PartialEq, Eq, Drop)]
 pub enum MatchMapping {
     /// Tokens with this terminal.
     Terminal(TerminalString),
@@ -15,7 +15,7 @@ pub enum MatchMapping {
 }
 
 /// One entry of a match block.
-#[derive(Debug, PartialEq, Eq, Drop)]
+#[derive(PartialEq, Eq, Drop)]
 pub enum MatchItem {
     /// `_`: all literals that aren't listed.
     CatchAll(Span),
@@ -26,14 +26,14 @@ pub enum MatchItem {
 }
 
 /// One group of entries, which share a precedence.
-#[derive(Debug, PartialEq, Eq, Drop)]
+#[derive(PartialEq, Eq, Drop)]
 pub struct MatchContents {
     /// The entries, in order.
     pub items: List<MatchItem>,
 }
 
 /// A match block.
-#[derive(Debug, PartialEq, Eq, Drop)]
+#[derive(PartialEq, Eq, Drop)]
 pub struct MatchToken {
     /// The groups, the first with the greatest precedence.
     pub contents: List<MatchContents>,

@@ -8,7 +8,7 @@ use lalrpop_grammar_symbols::{Atom, List, NonterminalString, Span};
 use std::alloc::{AllocError, Global};
 
 /// Who may use a rule as a start.
-#[derive(Debug, PartialEq, Eq, Drop)]
+#[derive(PartialEq, Eq, Drop)]
 pub enum Visibility {
     /// `pub`.
     Pub,
@@ -19,7 +19,7 @@ pub enum Visibility {
 }
 
 /// A rule, or a macro where it has parameters.
-#[derive(Debug, PartialEq, Eq, Drop)]
+#[derive(PartialEq, Eq, Drop)]
 pub struct NonterminalData {
     /// Who may use it.
     pub visibility: Visibility,
@@ -74,13 +74,18 @@ impl NonterminalData {
     pub fn try_clone(&self, alloc: Global) -> Result<NonterminalData, AllocError>
         ensures { IfOk result (λ copy. copy ≡ self.now) }
     {
+        let name = self.name.try_clone()?;
+        let args = clone_names(alloc, self.args.as_slice())?;
+        let attributes = clone_attributes(alloc, self.attributes.as_slice())?;
+        let alternatives = clone_alternatives(alloc, self.alternatives.as_slice())?;
+        let visibility = self.visibility.try_clone()?;
         Ok(NonterminalData {
-            visibility: self.visibility.try_clone()?,
-            name: self.name.try_clone()?,
+            visibility,
+            name,
             span: self.span,
-            args: clone_names(alloc, self.args.as_slice())?,
-            attributes: clone_attributes(alloc, self.attributes.as_slice())?,
-            alternatives: clone_alternatives(alloc, self.alternatives.as_slice())?,
+            args,
+            attributes,
+            alternatives,
             type_decl: clone_type(alloc, &self.type_decl)?,
         })
     }

@@ -6,7 +6,7 @@ use lalrpop_grammar_symbols::{List, NonterminalString, Symbol, clone_symbols};
 use std::alloc::{AllocError, Global};
 
 /// The written choice that an alternative or a production stands for.
-#[derive(Debug, PartialEq, Eq, Drop)]
+#[derive(PartialEq, Eq, Drop)]
 pub enum Origin {
     /// The production that is added for a public rule.
     Start,

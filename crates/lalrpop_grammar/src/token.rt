@@ -6,7 +6,7 @@ use lalrpop_grammar_symbols::{Span, TerminalString};
 use std::alloc::AllocError;
 
 /// A token of a text.
-#[derive(Debug, PartialEq, Eq, Drop)]
+#[derive(PartialEq, Eq, Drop)]
 pub struct ScanToken<'t> {
     /// Its terminal.
     pub terminal: TerminalString,

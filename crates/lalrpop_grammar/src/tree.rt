@@ -12,7 +12,7 @@ use std::alloc::{AllocError, Global};
 use std::mem;
 
 /// A parse tree over the written grammar.
-#[derive(Debug, PartialEq, Eq)]
+#[derive(PartialEq, Eq)]
 pub enum WrittenTree {
     /// A rule, by one of its alternatives.
     Rule {
@@ -142,20 +142,24 @@ impl WrittenTree {
                 args,
                 place,
                 children,
-            } => Ok(WrittenTree::Rule {
-                rule: rule.try_clone()?,
-                args: clone_symbols(alloc, args.as_slice())?,
-                place: *place,
-                children: clone_trees(alloc, children.as_slice())?,
-            }),
+            } => {
+                let rule = rule.try_clone()?;
+                let args = clone_symbols(alloc, args.as_slice())?;
+                let children = clone_trees(alloc, children.as_slice())?;
+                Ok(WrittenTree::Rule {
+                    rule,
+                    args,
+                    place: *place,
+                    children,
+                })
+            }
             WrittenTree::List(trees) => Ok(WrittenTree::List(clone_trees(
                 alloc,
                 trees.as_slice(),
             )?)),
             WrittenTree::Opt(None) => Ok(WrittenTree::Opt(None)),
             WrittenTree::Opt(Some(tree)) => {
-                let copy = tree.get().try_clone(alloc)?;
-                Ok(WrittenTree::Opt(Some(Boxed::new(alloc, copy)?)))
+                Ok(WrittenTree::Opt(Some(clone_boxed(alloc, tree)?)))
             }
             WrittenTree::Group(trees) => {
                 Ok(WrittenTree::Group(clone_trees(alloc, trees.as_slice())?))
@@ -164,14 +168,26 @@ impl WrittenTree {
                 terminal,
                 text,
                 span,
-            } => Ok(WrittenTree::Terminal {
-                terminal: terminal.try_clone()?,
-                text: text.try_clone()?,
-                span: *span,
-            }),
+            } => {
+                let text = text.try_clone()?;
+                Ok(WrittenTree::Terminal {
+                    terminal: terminal.try_clone()?,
+                    text,
+                    span: *span,
+                })
+            }
             WrittenTree::Look => Ok(WrittenTree::Look),
         }
     }
+}
+
+/// A copy of the boxed tree.
+#[cycle(try_clone_trees)]
+fn clone_boxed(alloc: Global, tree: &Boxed<WrittenTree>) -> Result<Boxed<WrittenTree>, AllocError>
+    ensures { IfOk result (λ copy. copy ≡ tree.now) }
+{
+    let copy = tree.get().try_clone(alloc)?;
+    Boxed::new(alloc, copy)
 }
 
 /// Copies of the trees, in order.

@@ -67,12 +67,17 @@ impl Grammar {
     pub fn try_clone(&self, alloc: Global) -> Result<Grammar, AllocError>
         ensures { IfOk result (λ copy. copy ≡ self.now) }
     {
+        let prefix = self.prefix.try_clone()?;
+        let action_fn_defns = clone_actions(alloc, self.action_fn_defns.as_slice())?;
+        let nonterminals = self.nonterminals.try_clone(alloc)?;
+        let start_nonterminals = self.start_nonterminals.try_clone(alloc)?;
+        let terminals = self.terminals.try_clone(alloc)?;
         Ok(Grammar {
-            prefix: self.prefix.try_clone()?,
-            terminals: self.terminals.try_clone(alloc)?,
-            nonterminals: self.nonterminals.try_clone(alloc)?,
-            start_nonterminals: self.start_nonterminals.try_clone(alloc)?,
-            action_fn_defns: clone_actions(alloc, self.action_fn_defns.as_slice())?,
+            prefix,
+            terminals,
+            nonterminals,
+            start_nonterminals,
+            action_fn_defns,
             types: self.types.try_clone(alloc)?,
             algorithm: self.algorithm,
         })

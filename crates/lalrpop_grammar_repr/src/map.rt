@@ -91,13 +91,22 @@ impl<K: Ord + Drop, V: Drop> Map<K, V> {
 }
 
 impl<K: Ord + Drop + TryClone, V: Drop + TryClone> Map<K, V> {
+    /// Puts a copy of the value at a copy of the key.
+    fn insert_copy(&mut self, alloc: Global, key: &K, value: &V) -> Result<(), AllocError>
+        ensures { OnOk result (self.new ≡ insert_entry K.cmp self.old key.now value.now) }
+    {
+        let value = value.try_clone_in(alloc)?;
+        let key = key.try_clone_in(alloc)?;
+        self.insert(key, value)
+    }
+
     /// A copy that equals it.
     pub fn try_clone(&self, alloc: Global) -> Result<Map<K, V>, AllocError>
         ensures { IfOk result (λ copy. copy ≡ self.now) }
     {
         let mut copy = Map::new(alloc);
         for (key, value) in self.iter() {
-            copy.insert(key.try_clone_in(alloc)?, value.try_clone_in(alloc)?)?;
+            copy.insert_copy(alloc, key, value)?;
         }
         Ok(copy)
     }

@@ -1,11 +1,12 @@
 //! What may be wrong with a written grammar.
 
-ghost use Rattle.std.specs.Prelude.{◌≡◌, IfOk, Some, string_bytes};
+ghost use Rattle.std.specs.Prelude.{◌≡◌, ◌++◌, IfOk, Some, string_bytes};
+ghost use Rattle.std.specs.Fmt.{WritesOnOk};
 ghost use Rattle.lalrpop_grammar_repr.specs.NormErrorTexts.{norm_error_text};
 
 use lalrpop_grammar::{Atom, NonterminalString, Span, TerminalLiteral};
 use std::error::Error;
-use std::fmt::{self, Display, Formatter, Write};
+use std::fmt::{self, Debug, Display, Formatter, Write};
 
 /// A fault of a written grammar, and where it stands.
 #[derive(Debug, PartialEq, Eq, Drop)]
@@ -17,7 +18,7 @@ pub struct NormError {
 }
 
 /// What is wrong with a written grammar. It prints its message.
-#[derive(Debug, PartialEq, Eq, Drop)]
+#[derive(PartialEq, Eq, Drop)]
 pub enum NormErrorKind {
     /// N1: two rules, a rule and a mapped bare name, or two parameters of a macro have this name.
     DuplicateDefinition(Atom),
@@ -75,10 +76,12 @@ impl Display for NormErrorKind {
     fn fmt<W: Write>(&self, f: &mut Formatter<W>) -> fmt::Result {
         match self {
             NormErrorKind::DuplicateDefinition(name) => {
-                write!(f, "duplicate definition of `{name}`")
+                write_name("duplicate definition of `", name, "`", f)
             }
             NormErrorKind::SecondMatchBlock => f.write_str("second match block"),
-            NormErrorKind::UnknownAttribute(name) => write!(f, "unknown attribute `{name}`"),
+            NormErrorKind::UnknownAttribute(name) => {
+                write_name("unknown attribute `", name, "`", f)
+            }
             NormErrorKind::PublicInline => f.write_str("public rules can't be inlined"),
             NormErrorKind::FirstWithoutLevel => {
                 f.write_str("the first alternative needs a level")
@@ -89,7 +92,9 @@ impl Display for NormErrorKind {
             NormErrorKind::ReservedPrefix => f.write_str("reserved prefix"),
             NormErrorKind::NamedNotAllowed => f.write_str("named symbol not allowed here"),
             NormErrorKind::EntryTwice => f.write_str("entry listed twice"),
-            NormErrorKind::NoDefinition(name) => write!(f, "no definition found for `{name}`"),
+            NormErrorKind::NoDefinition(name) => {
+                write_name("no definition found for `", name, "`", f)
+            }
             NormErrorKind::WrongNumberOfArguments => f.write_str("wrong number of arguments"),
             NormErrorKind::MacroAsRule => { f.write_str("macro used as a rule or rule as a macro") }
             NormErrorKind::MacroDepth(limit) => write!(f, "macro depth above {limit}"),
@@ -105,13 +110,31 @@ impl Display for NormErrorKind {
                 write!(f, "{first} and {second} match the same text")
             }
             NormErrorKind::TypesDisagree => f.write_str("alternatives disagree in type"),
-            NormErrorKind::NoType(name) => write!(f, "no type for `{name}`"),
+            NormErrorKind::NoType(name) => write_name("no type for `", &name.0, "`", f),
             NormErrorKind::TooManyActions => f.write_str("too many actions"),
-            NormErrorKind::CyclicInline(name) => write!(
+            NormErrorKind::CyclicInline(name) => write_name(
+                "cyclic inline directive: `",
+                &name.0,
+                "` would have to be inlined into itself",
                 f,
-                "cyclic inline directive: `{name}` would have to be inlined into itself"
             ),
         }
+    }
+}
+
+/// Writes the name with a text before and behind it.
+fn write_name<W: Write>(front: &str, name: &Atom, back: &str, f: &mut Formatter<W>) -> fmt::Result
+    ensures { WritesOnOk W.write_str_gives f.old result (front.now ++ name.now ++ back.now) f.new }
+{
+    f.write_str(front)?;
+    f.write_str(name.as_str())?;
+    f.write_str(back)
+}
+
+/// Prints the message.
+impl Debug for NormErrorKind {
+    fn fmt<W: Write>(&self, f: &mut Formatter<W>) -> fmt::Result {
+        Display::fmt(self, f)
     }
 }
 

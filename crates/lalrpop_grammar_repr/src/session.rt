@@ -10,7 +10,7 @@ use std::error::Error;
 use std::fmt::{self, Display, Formatter, Write};
 
 /// What a grammar is normalized under.
-#[derive(Debug, PartialEq, Eq, Drop)]
+#[derive(PartialEq, Eq, Drop)]
 pub struct Session {
     /// The features that are on.
     pub features: Vec<Atom>,

@@ -28,7 +28,7 @@ pub const INLINE: &str = "inline";
 
 /// Which occurrences of a rule in one of its alternatives may have the alternative's own level. It is read from `left`,
 /// `right`, `none` or `all`.
-#[derive(Clone, Copy, Debug, PartialEq, Eq)]
+#[derive(Clone, Copy, PartialEq, Eq)]
 pub enum Assoc {
     /// The first.
     Left,
@@ -41,7 +41,7 @@ pub enum Assoc {
 }
 
 /// The level of an alternative, and its side.
-#[derive(Clone, Copy, Debug, PartialEq, Eq)]
+#[derive(Clone, Copy, PartialEq, Eq)]
 pub struct Rank {
     /// The level.
     pub level: u32,

@@ -15,7 +15,7 @@ use crate::table::Rules;
 use lalrpop_grammar::{Atom, Grammar, NonterminalData, Visibility};
 
 /// Whether a name can be a start.
-#[derive(Clone, Copy, Debug, PartialEq, Eq)]
+#[derive(Clone, Copy, PartialEq, Eq)]
 pub enum Start {
     /// No enabled rule of that name is one without parameters.
     Unknown,

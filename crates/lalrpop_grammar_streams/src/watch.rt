@@ -14,7 +14,7 @@ pub const MAX_CALLS: u64 = 33_554_432;
 
 /// What is remembered of the calls: whether one has failed, how many are left and how many bytes, whether a reader has
 /// ended, and whether it was called behind its end or with no room.
-#[derive(Clone, Copy, Debug, PartialEq, Eq)]
+#[derive(Clone, Copy, PartialEq, Eq)]
 pub struct Watch {
     pub(crate) failed: bool,
     pub(crate) calls: u64,

@@ -11,7 +11,7 @@ use std::fmt::{self, Display, Formatter, Write};
 pub struct NonterminalString(pub Atom);
 
 /// The name that a symbol is given for the user's action, as in `<mut x:Expr>`.
-#[derive(Debug, PartialEq, Eq, PartialOrd, Ord, Hash, Drop)]
+#[derive(PartialEq, Eq, PartialOrd, Ord, Hash, Drop)]
 pub struct Name {
     /// Whether `mut` stands before it.
     pub mutable: bool,

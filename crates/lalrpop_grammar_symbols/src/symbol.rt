@@ -12,7 +12,7 @@ use std::alloc::{AllocError, Global};
 
 /// A symbol and where it is written.
 #[cycle(symbol)]
-#[derive(Debug, PartialEq, Eq, Drop)]
+#[derive(PartialEq, Eq, Drop)]
 pub struct Symbol {
     /// Where it is written.
     pub span: Span,
@@ -22,7 +22,7 @@ pub struct Symbol {
 
 /// What a symbol is.
 #[cycle(symbol)]
-#[derive(Debug, PartialEq, Eq, Drop)]
+#[derive(PartialEq, Eq, Drop)]
 pub enum SymbolKind {
     /// `(A B)`: a group of symbols.
     Expr(ExprSymbol),
@@ -50,7 +50,7 @@ pub enum SymbolKind {
 
 /// The symbols of a group.
 #[cycle(symbol)]
-#[derive(Debug, PartialEq, Eq, Drop)]
+#[derive(PartialEq, Eq, Drop)]
 pub struct ExprSymbol {
     /// The symbols, in order.
     pub symbols: List<Symbol>,
@@ -58,7 +58,7 @@ pub struct ExprSymbol {
 
 /// A call of a macro.
 #[cycle(symbol)]
-#[derive(Debug, PartialEq, Eq, Drop)]
+#[derive(PartialEq, Eq, Drop)]
 pub struct MacroSymbol {
     /// The macro that is called.
     pub name: NonterminalString,
@@ -67,7 +67,7 @@ pub struct MacroSymbol {
 }
 
 /// How often a repeated symbol stands.
-#[derive(Clone, Copy, Debug, PartialEq, Eq, PartialOrd, Ord, Hash)]
+#[derive(Clone, Copy, PartialEq, Eq, PartialOrd, Ord, Hash)]
 pub enum RepeatOp {
     /// `*`: any number of times.
     Star,
@@ -79,7 +79,7 @@ pub enum RepeatOp {
 
 /// A repeated symbol.
 #[cycle(symbol)]
-#[derive(Debug, PartialEq, Eq, Drop)]
+#[derive(PartialEq, Eq, Drop)]
 pub struct RepeatSymbol {
     /// How often.
     pub op: RepeatOp,
@@ -130,24 +130,38 @@ impl SymbolKind {
             SymbolKind::Terminal(terminal) => Ok(SymbolKind::Terminal(terminal.try_clone()?)),
             SymbolKind::Nonterminal(name) => Ok(SymbolKind::Nonterminal(name.try_clone()?)),
             SymbolKind::Macro(call) => Ok(SymbolKind::Macro(call.try_clone(alloc)?)),
-            SymbolKind::Repeat(repeat) => {
-                let copy = repeat.get().try_clone(alloc)?;
-                Ok(SymbolKind::Repeat(Boxed::new(alloc, copy)?))
-            }
-            SymbolKind::Choose(symbol) => {
-                let copy = symbol.get().try_clone(alloc)?;
-                Ok(SymbolKind::Choose(Boxed::new(alloc, copy)?))
-            }
+            SymbolKind::Repeat(repeat) => Ok(SymbolKind::Repeat(clone_repeat(alloc, repeat)?)),
+            SymbolKind::Choose(symbol) => Ok(SymbolKind::Choose(clone_boxed(alloc, symbol)?)),
             SymbolKind::Name(name, symbol) => {
                 let name = name.try_clone()?;
-                let copy = symbol.get().try_clone(alloc)?;
-                Ok(SymbolKind::Name(name, Boxed::new(alloc, copy)?))
+                Ok(SymbolKind::Name(name, clone_boxed(alloc, symbol)?))
             }
             SymbolKind::Lookahead => Ok(SymbolKind::Lookahead),
             SymbolKind::Lookbehind => Ok(SymbolKind::Lookbehind),
             SymbolKind::Error => Ok(SymbolKind::Error),
         }
     }
+}
+
+/// A copy of the boxed symbol.
+#[cycle(try_clone)]
+fn clone_boxed(alloc: Global, symbol: &Boxed<Symbol>) -> Result<Boxed<Symbol>, AllocError>
+    ensures { IfOk result (λ copy. copy ≡ symbol.now) }
+{
+    let copy = symbol.get().try_clone(alloc)?;
+    Boxed::new(alloc, copy)
+}
+
+/// A copy of the boxed repeat.
+#[cycle(try_clone)]
+fn clone_repeat(
+    alloc: Global,
+    repeat: &Boxed<RepeatSymbol>,
+) -> Result<Boxed<RepeatSymbol>, AllocError>
+    ensures { IfOk result (λ copy. copy ≡ repeat.now) }
+{
+    let copy = repeat.get().try_clone(alloc)?;
+    Boxed::new(alloc, copy)
 }
 
 impl ExprSymbol {

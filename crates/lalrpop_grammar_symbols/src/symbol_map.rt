@@ -61,7 +61,12 @@ fn group_at(span: Span, symbols: List<Symbol>) -> Symbol
 }
 
 /// A repeated symbol, written there.
-fn repeat_at(alloc: Global, span: Span, op: RepeatOp, symbol: Symbol) -> Result<Symbol, AllocError>
+fn repeat_at<E: From<AllocError>>(
+    alloc: Global,
+    span: Span,
+    op: RepeatOp,
+    symbol: Symbol,
+) -> Result<Symbol, E>
     ensures { IfOk result (λ made.
         symbol_view made ≡ Sym.repeat (span_view span) (repeat_op_view op) (symbol_view symbol)) }
 {
@@ -73,7 +78,7 @@ fn repeat_at(alloc: Global, span: Span, op: RepeatOp, symbol: Symbol) -> Result<
 }
 
 /// A chosen symbol, written there.
-fn chosen_at(alloc: Global, span: Span, symbol: Symbol) -> Result<Symbol, AllocError>
+fn chosen_at<E: From<AllocError>>(alloc: Global, span: Span, symbol: Symbol) -> Result<Symbol, E>
     ensures { IfOk result (λ made. symbol_view made ≡ Sym.choose (span_view span) (symbol_view symbol)) }
 {
     let chosen = Boxed::new(alloc, symbol)?;
@@ -84,7 +89,12 @@ fn chosen_at(alloc: Global, span: Span, symbol: Symbol) -> Result<Symbol, AllocE
 }
 
 /// A symbol with a name, written there.
-fn named_at(alloc: Global, span: Span, name: &Name, symbol: Symbol) -> Result<Symbol, AllocError>
+fn named_at<E: From<AllocError>>(
+    alloc: Global,
+    span: Span,
+    name: &Name,
+    symbol: Symbol,
+) -> Result<Symbol, E>
     ensures { IfOk result (λ made. symbol_view made
         ≡ Sym.name (span_view span) name.now.mutable name.now.name (symbol_view symbol)) }
 {
@@ -93,6 +103,13 @@ fn named_at(alloc: Global, span: Span, name: &Name, symbol: Symbol) -> Result<Sy
         span,
         kind: SymbolKind::Name(name.try_clone()?, named),
     })
+}
+
+/// A copy of the symbol.
+fn copy_of<E: From<AllocError>>(alloc: Global, symbol: &Symbol) -> Result<Symbol, E>
+    ensures { IfOk result (λ copy. copy ≡ symbol.now) }
+{
+    Ok(symbol.try_clone(alloc)?)
 }
 
 impl Symbol {
@@ -122,20 +139,20 @@ impl Symbol {
             SymbolKind::Repeat(repeat) => {
                 let repeat = repeat.get();
                 let symbol = repeat.symbol.map(alloc, map)?;
-                Ok(repeat_at(alloc, span, repeat.op, symbol)?)
+                repeat_at(alloc, span, repeat.op, symbol)
             }
             SymbolKind::Choose(chosen) => {
                 let symbol = chosen.get().map(alloc, map)?;
-                Ok(chosen_at(alloc, span, symbol)?)
+                chosen_at(alloc, span, symbol)
             }
             SymbolKind::Name(name, named) => {
                 let symbol = named.get().map(alloc, map)?;
-                Ok(named_at(alloc, span, name, symbol)?)
+                named_at(alloc, span, name, symbol)
             }
             SymbolKind::Terminal(_)
             | SymbolKind::Lookahead
             | SymbolKind::Lookbehind
-            | SymbolKind::Error => Ok(self.try_clone(alloc)?),
+            | SymbolKind::Error => copy_of(alloc, self),
         }
     }
 }

@@ -74,7 +74,7 @@ fn copies_of_origins(rt: HostRuntime) {
         Origin::Look,
     ];
     for origin in &origins {
-        assert!(rt; is_copied(&rt, rt.alloc(), origin), "{origin:?}");
+        check(&rt, is_copied(&rt, rt.alloc(), origin));
     }
 }
 

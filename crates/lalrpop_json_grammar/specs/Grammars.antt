@@ -1,5 +1,6 @@
 -- How grammars are read.
 use Rattle.std.specs.Prelude.{[], ◌∷◌, Result, Ok}
+use Rattle.lalrpop_json_grammar.specs.declared.grammar.Heading.{Heading}
 use Rattle.serde_json.specs.Data.{Data}
 use Rattle.lalrpop_grammar.specs.declared.grammar.Grammar.{Grammar}
 use Rattle.lalrpop_json_values.specs.declared.fault.Fault.{Fault}
@@ -12,6 +13,20 @@ use Rattle.lalrpop_json_symbols.specs.Attributes.{attribute_at}
 use Rattle.lalrpop_json_items.specs.Items.{item_at}
 use Rattle.lalrpop_json_values.specs.Prefix.{longest_of, prefix_past}
 use Rattle.lalrpop_json_values.specs.Strings.{strings}
+
+-- what stands at the head of a grammar, and its place in the text
+unfoldable pub heading_at : Data → Result Heading Fault
+heading_at d = do
+  parameters ← field_at key.Parameters text_at d
+  span ← field_at key.Span span_at d
+  type_parameters ← field_at key.TypeParameters text_at d
+  where_clauses ← field_at key.WhereClauses text_at d
+  Ok (record {
+    parameters = parameters;
+    span = span;
+    type_parameters = type_parameters;
+    where_clauses = where_clauses;
+  })
 
 -- the prefix is longer than each run of underscores in the value's strings
 unfoldable pub grammar_at : Data → Result Grammar Fault

@@ -2,11 +2,17 @@
 use Rattle.std.specs.Prelude.{ℕ, List, [], ◌∷◌}
 use Rattle.serde_json.specs.Data.{Data, string}
 use Rattle.lalrpop_grammar.specs.declared.grammar.Grammar.{Grammar}
+use Rattle.lalrpop_json_values.specs.declared.key.Key.{Key}
 use Rattle.lalrpop_json_values.specs.declared.key.Key.TheVariants as key
 use Rattle.lalrpop_json_values.specs.Spelled.{list_json, object_of, span_json}
 use Rattle.lalrpop_json_symbols.specs.Spelling.{attribute_json}
 use Rattle.lalrpop_json_items.specs.Spelling.{item_json}
 use Rattle.lalrpop_json_values.specs.Strings.{strings}
+
+-- up to the items
+abbrev pub first_members : Grammar → List (Key × Data)
+first_members g =
+    (key.Attributes, list_json attribute_json g.attributes) ∷ (key.Items, list_json item_json g.items) ∷ []
 
 -- the prefix isn't written
 abbrev pub spelling : Grammar → Data

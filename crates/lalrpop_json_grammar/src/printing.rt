@@ -20,7 +20,7 @@ use std::slice;
 ///
 /// However deep the tree is, printing takes no more of the stack: what is still to come stands on the heap. Where memory
 /// for that is refused, `fmt` fails.
-#[derive(Clone, Copy, Debug)]
+#[derive(Clone, Copy)]
 pub struct TreeText<'t>(pub &'t WrittenTree);
 
 impl Display for TreeText<'_> {
@@ -124,12 +124,20 @@ fn write_rows<W: Write>(alloc: Global, outermost: Row<'_>, f: &mut Formatter<W>)
             f.write_str(row.closing)?;
             continue;
         };
-        f.write_str(row.before)?;
-        write_opening(first, f)?;
+        write_first(row, first, f)?;
         open_row(&mut pending, row_after(row, others))?;
         open_row(&mut pending, row_below(first))?;
     }
     Ok(())
+}
+
+/// Writes what comes before the first tree of a row, and this tree up to its opening bracket.
+fn write_first<W: Write>(row: Row<'_>, first: &WrittenTree, f: &mut Formatter<W>) -> fmt::Result
+    ensures { WritesOnOk W.write_str_gives f.old result
+        (row.entry.before.now ++ opening_text (tree_view first.now)) f.new }
+{
+    f.write_str(row.before)?;
+    write_opening(first, f)
 }
 
 /// Puts a row on the stack.

@@ -1,6 +1,8 @@
 -- How the alternatives of a rule are read.
 use Rattle.std.specs.Prelude.{ℕ, ◌^◌, List, [], ◌∷◌, Result, Ok, Err, Option, Some, None, is_some, nat_lt, if◌then◌else◌}
 use Rattle.serde_json.specs.Find.{as_null, as_str}
+use Rattle.lalrpop_grammar_symbols.specs.declared.span.Span.{Span}
+use Rattle.lalrpop_grammar_symbols.specs.declared.symbol.Symbol.{Symbol}
 use Rattle.lalrpop_grammar.specs.declared.alternative.ActionKind.{ActionKind}
 use Rattle.lalrpop_grammar.specs.declared.alternative.ActionKind.TheVariants as actions
 use Rattle.lalrpop_grammar.specs.declared.alternative.Alternative.{Alternative}
@@ -9,6 +11,7 @@ use Rattle.lalrpop_grammar.specs.declared.condition.ConditionOp.{ConditionOp}
 use Rattle.lalrpop_grammar.specs.declared.condition.ConditionOp.TheVariants as tests
 use Rattle.lalrpop_grammar.specs.declared.origin.Origin.{Origin}
 use Rattle.lalrpop_grammar.specs.declared.origin.Origin.TheVariants as origins
+use Rattle.lalrpop_grammar.specs.declared.types.attribute.Attribute.{Attribute}
 use Rattle.serde_json.specs.Data.{Data}
 use Rattle.lalrpop_json_values.specs.declared.fault.Fault.{Fault}
 use Rattle.lalrpop_json_values.specs.declared.fault.FaultKind.TheVariants as fault
@@ -82,6 +85,21 @@ place_at i = if nat_lt i (2 ^ 32) then Ok i else Err (here fault.WrongShape)
 
 abbrev pub written_origin : List ℕ → ℕ → Origin
 written_origin rule place = origins.Alternative (record { 0 = rule }) [] place
+
+-- what an alternative does, and its attributes
+unfoldable pub action_and_attributes_at : Data → Result (Option ActionKind × List Attribute) Fault
+action_and_attributes_at d = do
+  action ← field_at key.Action action_at d
+  attributes ← field_at key.Attributes (list_at (λ _. attribute_at)) d
+  Ok (action, attributes)
+
+-- when an alternative is there, its symbols and its place in the text
+unfoldable pub condition_and_symbols_at : Data → Result (Option Condition × List Symbol × Span) Fault
+condition_and_symbols_at d = do
+  condition ← field_at key.Condition (optional condition_at) d
+  expr ← field_at key.Expr (list_at (λ _. symbol_at)) d
+  span ← field_at key.Span span_at d
+  Ok (condition, expr, span)
 
 unfoldable pub alternative_at_place : List ℕ → ℕ → Data → Result Alternative Fault
 alternative_at_place rule place d = do

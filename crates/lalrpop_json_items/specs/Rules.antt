@@ -3,9 +3,11 @@ use Rattle.std.specs.Prelude.{ℕ, List, [], ◌∷◌, Result, Ok, Err, Option,
 use Rattle.std.specs.Prelude.{unwrap_or}
 use Rattle.serde_json.specs.Find.{as_str, get}
 use Rattle.lalrpop_grammar_symbols.specs.declared.names.NonterminalString.{NonterminalString}
+use Rattle.lalrpop_grammar_symbols.specs.declared.span.Span.{Span}
 use Rattle.lalrpop_grammar.specs.declared.nonterminal.NonterminalData.{NonterminalData}
 use Rattle.lalrpop_grammar.specs.declared.nonterminal.Visibility.{Visibility}
 use Rattle.lalrpop_grammar.specs.declared.nonterminal.Visibility.TheVariants as visible
+use Rattle.lalrpop_grammar.specs.declared.types.type_ref.TypeRef.{TypeRef}
 use Rattle.serde_json.specs.Data.{Data}
 use Rattle.lalrpop_json_values.specs.declared.fault.Fault.{Fault}
 use Rattle.lalrpop_json_values.specs.declared.fault.FaultKind.TheVariants as fault
@@ -61,6 +63,21 @@ parameter_at d = do
 -- the name that stands in a rule, to which its alternatives belong
 unfoldable pub name_in : Data → List ℕ
 name_in d = unwrap_or (option_and_then as_str (get (key_text key.Name) d)) []
+
+-- a rule's name and its place in the text
+unfoldable pub name_and_span_at : Data → Result (List ℕ × Span) Fault
+name_and_span_at d = do
+  _ ← field_at key.Kind (word_at word.Rule) d
+  name ← field_at key.Name name_at d
+  span ← field_at key.Span span_at d
+  Ok (name, span)
+
+-- a rule's declared type, and who may use the rule
+unfoldable pub declaration_at : Data → Result (Option TypeRef × Visibility) Fault
+declaration_at d = do
+  declared ← field_at key.DeclaredType (optional type_at) d
+  visibility ← field_at key.Visibility visibility_at d
+  Ok (declared, visibility)
 
 unfoldable pub rule_at : Data → Result NonterminalData Fault
 rule_at d = do

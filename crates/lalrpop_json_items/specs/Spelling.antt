@@ -1,5 +1,5 @@
 -- The one JSON value of an item of a grammar.
-use Rattle.std.specs.Prelude.{[], ◌∷◌, Option, Some, None}
+use Rattle.std.specs.Prelude.{List, [], ◌∷◌, Option, Some, None}
 use Rattle.serde_json.specs.Data.{Data, null, string}
 use Rattle.lalrpop_grammar_symbols.specs.declared.names.NonterminalString.{NonterminalString}
 use Rattle.lalrpop_grammar.specs.declared.alternative.ActionKind.{ActionKind}
@@ -23,6 +23,7 @@ use Rattle.lalrpop_grammar.specs.declared.match_token.MatchToken.{MatchToken}
 use Rattle.lalrpop_grammar.specs.declared.nonterminal.NonterminalData.{NonterminalData}
 use Rattle.lalrpop_grammar.specs.declared.nonterminal.Visibility.{Visibility}
 use Rattle.lalrpop_grammar.specs.declared.nonterminal.Visibility.TheVariants as visible
+use Rattle.lalrpop_json_values.specs.declared.key.Key.{Key}
 use Rattle.lalrpop_json_values.specs.declared.key.Key.TheVariants as key
 use Rattle.lalrpop_json_values.specs.declared.word.Word.TheVariants as word
 use Rattle.lalrpop_json_values.specs.Spelled.{list_json, object_of, option_json, span_json, word_json}
@@ -48,6 +49,12 @@ abbrev pub condition_json : Condition → Data
 condition_json c = object_of
     ((key.Lhs, string c.lhs.0) ∷ (key.Op, test_json c.op) ∷ (key.Rhs, string c.rhs) ∷ (key.Span, span_json c.span) ∷ [])
 
+-- up to the condition
+abbrev pub first_alternative_members : Alternative → List (Key × Data)
+first_alternative_members a =
+    (key.Action, action_json a.action) ∷ (key.Attributes, list_json attribute_json a.attributes)
+    ∷ (key.Condition, option_json condition_json a.condition) ∷ []
+
 abbrev pub alternative_json : Alternative → Data
 alternative_json a =
     object_of ((key.Action, action_json a.action) ∷ (key.Attributes, list_json attribute_json a.attributes)
@@ -63,6 +70,12 @@ visibility_json (visible.PubIn path) = object_of ((key.PubIn, string path) ∷ [
 
 abbrev pub parameter_json : NonterminalString → Data
 parameter_json n = string n.0
+
+-- up to the name
+abbrev pub first_rule_members : NonterminalData → List (Key × Data)
+first_rule_members r =
+    (key.Alternatives, list_json alternative_json r.alternatives) ∷ (key.Args, list_json parameter_json r.args)
+    ∷ (key.Attributes, list_json attribute_json r.attributes) ∷ (key.Kind, word_json word.Rule) ∷ (key.Name, string r.name.0) ∷ []
 
 abbrev pub rule_json : NonterminalData → Data
 rule_json r =

@@ -6,11 +6,12 @@ ghost use Rattle.lalrpop_json_values.specs.Gives.{Gives, within};
 ghost use Rattle.lalrpop_json_values.specs.Lists.{list_at};
 ghost use Rattle.lalrpop_json_values.specs.Objects.{field_at};
 ghost use Rattle.lalrpop_json_values.specs.Scalars.{optional};
-ghost use Rattle.lalrpop_json_items.specs.Alternatives.{action_at, alternative_at, alternatives_at, condition_at, fallible_at, place_at, test_at, user_at};
+ghost use Rattle.lalrpop_json_items.specs.Alternatives.{action_and_attributes_at, action_at, alternative_at, alternatives_at, condition_and_symbols_at, condition_at, fallible_at, place_at, test_at, user_at};
 ghost use Rattle.lalrpop_json_values.specs.declared.fault.Step.TheVariants as step;
 
+use lalrpop_grammar::types::Attribute;
 use lalrpop_grammar::{ActionKind, Alternative, Condition, ConditionOp, Origin};
-use lalrpop_grammar_symbols::{Atom, List, NonterminalString};
+use lalrpop_grammar_symbols::{Atom, List, NonterminalString, Span, Symbol};
 use lalrpop_json_document::JsonValue;
 use lalrpop_json_symbols::{attributes_field, symbols_field};
 use lalrpop_json_values::{
@@ -157,8 +158,35 @@ fn place_of(alloc: Global, index: usize) -> Result<u32, ReadError>
     }
 }
 
+/// What an alternative does, and its attributes.
+#[tactic(auto, unfolding(crate::specs::Alternatives::action_and_attributes_at))]
+fn action_and_attributes_of(
+    alloc: Global,
+    value: &JsonValue<'_>,
+) -> Result<(Option<ActionKind>, List<Attribute>), ReadError>
+    ensures { Gives result (action_and_attributes_at (view value.now)) }
+{
+    let action = action_field(alloc, value, Key::Action)?;
+    let attributes = attributes_field(alloc, value, Key::Attributes)?;
+    Ok((action, attributes))
+}
+
+/// When an alternative is there, its symbols and its place in the text.
+#[tactic(auto, unfolding(crate::specs::Alternatives::condition_and_symbols_at))]
+fn condition_and_symbols_of(
+    alloc: Global,
+    value: &JsonValue<'_>,
+) -> Result<(Option<Condition>, List<Symbol>, Span), ReadError>
+    ensures { Gives result (condition_and_symbols_at (view value.now)) }
+{
+    let condition = condition_field(alloc, value, Key::Condition)?;
+    let expr = symbols_field(alloc, value, Key::Expr)?;
+    let span = span_field(alloc, value, Key::Span)?;
+    Ok((condition, expr, span))
+}
+
 /// The alternative at a place of a rule.
-#[tactic(auto, unfolding(crate::specs::Alternatives::alternative_at, crate::specs::Alternatives::alternative_at_place))]
+#[tactic(auto, unfolding(crate::specs::Alternatives::alternative_at, crate::specs::Alternatives::alternative_at_place, crate::specs::Alternatives::action_and_attributes_at, crate::specs::Alternatives::condition_and_symbols_at))]
 fn alternative_of(
     alloc: Global,
     value: &JsonValue<'_>,
@@ -179,12 +207,9 @@ fn alternative_of(
             Key::Span,
         ],
     )?;
-    let action = action_field(alloc, value, Key::Action)?;
-    let attributes = attributes_field(alloc, value, Key::Attributes)?;
-    let condition = condition_field(alloc, value, Key::Condition)?;
-    let expr = symbols_field(alloc, value, Key::Expr)?;
-    let span = span_field(alloc, value, Key::Span)?;
     let rule = NonterminalString(rule.try_clone()?);
+    let (action, attributes) = action_and_attributes_of(alloc, value)?;
+    let (condition, expr, span) = condition_and_symbols_of(alloc, value)?;
     let origin = Origin::Alternative {
         rule,
         args: List::new(alloc),

@@ -5,12 +5,15 @@ ghost use Rattle.lalrpop_json_document.specs.DocumentViews.{view};
 ghost use Rattle.lalrpop_json_values.specs.Gives.{Gives, within};
 ghost use Rattle.lalrpop_json_values.specs.Lists.{list_at};
 ghost use Rattle.lalrpop_json_values.specs.Objects.{field_at};
-ghost use Rattle.lalrpop_json_items.specs.Rules.{name_in, parameter_at, pub_in_at, rule_at, visibility_at, visibility_of};
+ghost use Rattle.lalrpop_json_items.specs.Alternatives.{alternatives_at};
+ghost use Rattle.lalrpop_json_items.specs.Rules.{declaration_at, name_and_span_at, name_in, parameter_at, pub_in_at, rule_at, visibility_at, visibility_of};
 ghost use Rattle.lalrpop_json_values.specs.declared.fault.Step.TheVariants as step;
+ghost use Rattle.lalrpop_json_values.specs.declared.key.Key.TheVariants as key;
 
 use crate::alternative::alternatives_field;
-use lalrpop_grammar::{NonterminalData, Visibility};
-use lalrpop_grammar_symbols::{Atom, List, NonterminalString};
+use lalrpop_grammar::types::TypeRef;
+use lalrpop_grammar::{Alternative, NonterminalData, Visibility};
+use lalrpop_grammar_symbols::{Atom, List, NonterminalString, Span};
 use lalrpop_json_document::JsonValue;
 use lalrpop_json_symbols::{attributes_field, type_field};
 use lalrpop_json_values::{
@@ -126,8 +129,40 @@ fn name_in<'t>(value: &JsonValue<'t>) -> &'t str
     }
 }
 
+/// The alternatives of a rule, which belong to the name that stands in it.
+fn own_alternatives(alloc: Global, value: &JsonValue<'_>) -> Result<List<Alternative>, ReadError>
+    ensures { let d = view value.now in Gives result (field_at key.Alternatives (alternatives_at (name_in d)) d) }
+{
+    let belongs_to = Atom::new(alloc, name_in(value))?;
+    alternatives_field(alloc, value, Key::Alternatives, &belongs_to)
+}
+
+/// The name of a rule and its place in the text.
+#[tactic(auto, unfolding(crate::specs::Rules::name_and_span_at))]
+fn name_and_span_of(alloc: Global, value: &JsonValue<'_>) -> Result<(Atom, Span), ReadError>
+    ensures { Gives result (name_and_span_at (view value.now)) }
+{
+    word_field(alloc, value, Key::Kind, Word::Rule)?;
+    let name = name_field(alloc, value, Key::Name)?;
+    let span = span_field(alloc, value, Key::Span)?;
+    Ok((name, span))
+}
+
+/// The declared type of a rule, and who may use the rule.
+#[tactic(auto, unfolding(crate::specs::Rules::declaration_at))]
+fn declaration_of(
+    alloc: Global,
+    value: &JsonValue<'_>,
+) -> Result<(Option<TypeRef>, Visibility), ReadError>
+    ensures { Gives result (declaration_at (view value.now)) }
+{
+    let type_decl = type_field(alloc, value, Key::DeclaredType)?;
+    let visibility = visibility_field(alloc, value, Key::Visibility)?;
+    Ok((type_decl, visibility))
+}
+
 /// A rule.
-#[tactic(auto, unfolding(crate::specs::Rules::rule_at))]
+#[tactic(auto, unfolding(crate::specs::Rules::rule_at, crate::specs::Rules::name_and_span_at, crate::specs::Rules::declaration_at))]
 pub fn rule_of(alloc: Global, value: &JsonValue<'_>) -> Result<NonterminalData, ReadError>
     ensures { Gives result (rule_at (view value.now)) }
 {
@@ -145,15 +180,11 @@ pub fn rule_of(alloc: Global, value: &JsonValue<'_>) -> Result<NonterminalData, 
             Key::Visibility,
         ],
     )?;
-    let belongs_to = Atom::new(alloc, name_in(value))?;
-    let alternatives = alternatives_field(alloc, value, Key::Alternatives, &belongs_to)?;
+    let alternatives = own_alternatives(alloc, value)?;
     let args = parameters_field(alloc, value, Key::Args)?;
     let attributes = attributes_field(alloc, value, Key::Attributes)?;
-    word_field(alloc, value, Key::Kind, Word::Rule)?;
-    let name = name_field(alloc, value, Key::Name)?;
-    let span = span_field(alloc, value, Key::Span)?;
-    let type_decl = type_field(alloc, value, Key::DeclaredType)?;
-    let visibility = visibility_field(alloc, value, Key::Visibility)?;
+    let (name, span) = name_and_span_of(alloc, value)?;
+    let (type_decl, visibility) = declaration_of(alloc, value)?;
     Ok(NonterminalData {
         visibility,
         name: NonterminalString(name),

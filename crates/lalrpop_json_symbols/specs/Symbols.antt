@@ -72,6 +72,13 @@ literal_symbol_at d = do
   literal ← field_at key.Terminal literal_at d
   Ok (written_symbol span (kinds.Terminal (terminals.Literal literal)))
 
+-- the span of `@L`, `@R` or `!`
+unfoldable pub look_span_at : Word → Data → Result Span Fault
+look_span_at w d = do
+  _ ← keys_at (key.Kind ∷ key.Span ∷ []) d
+  _ ← field_at key.Kind (word_at w) d
+  field_at key.Span span_at d
+
 -- `@L`, `@R` and `!`
 unfoldable pub look_at : Word → SymbolKind → Data → Result Symbol Fault
 look_at w kind d = do

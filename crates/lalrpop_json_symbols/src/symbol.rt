@@ -5,13 +5,13 @@ ghost use Rattle.lalrpop_json_document.specs.DocumentViews.{view};
 ghost use Rattle.lalrpop_json_values.specs.Gives.{Gives, within};
 ghost use Rattle.lalrpop_json_values.specs.Lists.{list_at};
 ghost use Rattle.lalrpop_json_values.specs.Objects.{field_at};
-ghost use Rattle.lalrpop_json_symbols.specs.Symbols.{form_of_symbol, look_at, choose_at, group_at, id_at, literal_symbol_at, macro_at, named_at, op_at, repeat_at, symbol_at};
+ghost use Rattle.lalrpop_json_symbols.specs.Symbols.{form_of_symbol, look_at, look_span_at, choose_at, group_at, id_at, literal_symbol_at, macro_at, named_at, op_at, repeat_at, symbol_at};
 ghost use Rattle.lalrpop_json_values.specs.declared.fault.Step.TheVariants as step;
 
 use crate::literal::literal_field;
 use lalrpop_grammar_symbols::{
-    Boxed, ExprSymbol, List, MacroSymbol, Name, NonterminalString, RepeatOp, RepeatSymbol, Symbol,
-    SymbolKind, TerminalString,
+    Boxed, ExprSymbol, List, MacroSymbol, Name, NonterminalString, RepeatOp, RepeatSymbol, Span,
+    Symbol, SymbolKind, TerminalString,
 };
 use lalrpop_json_document::JsonValue;
 use lalrpop_json_values::{
@@ -76,8 +76,18 @@ fn literal_symbol_of(alloc: Global, value: &JsonValue<'_>) -> Result<Symbol, Rea
     })
 }
 
+/// The span of a symbol that has no parts.
+#[tactic(auto, unfolding(crate::specs::Symbols::look_span_at))]
+fn look_span(alloc: Global, value: &JsonValue<'_>, word: Word) -> Result<Span, ReadError>
+    ensures { Gives result (look_span_at word (view value.now)) }
+{
+    keys(alloc, value, &[Key::Kind, Key::Span])?;
+    word_field(alloc, value, Key::Kind, word)?;
+    span_field(alloc, value, Key::Span)
+}
+
 /// A symbol that has no parts.
-#[tactic(auto, unfolding(crate::specs::Symbols::look_at))]
+#[tactic(auto, unfolding(crate::specs::Symbols::look_at, crate::specs::Symbols::look_span_at))]
 fn look_of(
     alloc: Global,
     value: &JsonValue<'_>,
@@ -86,9 +96,7 @@ fn look_of(
 ) -> Result<Symbol, ReadError>
     ensures { Gives result (look_at word kind (view value.now)) }
 {
-    keys(alloc, value, &[Key::Kind, Key::Span])?;
-    word_field(alloc, value, Key::Kind, word)?;
-    let span = span_field(alloc, value, Key::Span)?;
+    let span = look_span(alloc, value, word)?;
     Ok(Symbol { span, kind })
 }
 

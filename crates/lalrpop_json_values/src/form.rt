@@ -9,7 +9,7 @@ use crate::word::Word;
 use lalrpop_json_document::JsonValue;
 
 /// A form of a value that has several.
-#[derive(Clone, Copy, Debug, PartialEq, Eq)]
+#[derive(Clone, Copy, PartialEq, Eq)]
 pub enum Form {
     /// A terminal that is a bare name.
     Bare,

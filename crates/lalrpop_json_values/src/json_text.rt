@@ -9,7 +9,7 @@ ghost use Rattle.lalrpop_json_values.specs.JsonText.{json_text, stands};
 use std::fmt::{self, Display, Formatter, Write};
 
 /// A text that is printed as a JSON string: in quotes and with JSON's escapes.
-#[derive(Clone, Copy, Debug)]
+#[derive(Clone, Copy)]
 pub struct JsonText<'t>(pub &'t str);
 
 impl Display for JsonText<'_> {

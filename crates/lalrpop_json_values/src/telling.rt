@@ -10,7 +10,7 @@ use std::error::Error;
 use std::fmt::{self, Display, Formatter, Write};
 
 /// A path that is printed: a slash before each key and each index.
-#[derive(Clone, Copy, Debug)]
+#[derive(Clone, Copy)]
 pub struct PathText<'p>(pub &'p [Step]);
 
 impl Display for Step {

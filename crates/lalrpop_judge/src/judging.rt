@@ -3,10 +3,12 @@
 ghost use Rattle.std.specs.Prelude.{◌≡◌, ◌↔◌, IfErr, IfOk, IsTrue, map};
 ghost use Rattle.lalrpop_grammar.specs.Trees.{leaves};
 ghost use Rattle.lalrpop_grammar.specs.Views.{grammar_view, token_view, tree_view};
+ghost use Rattle.lalrpop_grammar_symbols.specs.Symbols.{Closed, Closeds};
 ghost use Rattle.lalrpop_grammar_language.specs.Admitting.{AdmitsFrom, AdmitsStart};
 ghost use Rattle.lalrpop_grammar_language.specs.Enabled.{enabled_grammar};
 ghost use Rattle.lalrpop_grammar_rules.specs.RuleTable.{IsTable, rules_with};
 ghost use Rattle.lalrpop_grammar_rules.specs.Search.{finds};
+ghost use Rattle.lalrpop_grammar_rules.specs.Views.{closed_view};
 ghost use Rattle.lalrpop_judge.specs.Faults.{HasSearch, OnlyWhere};
 
 use crate::error::JudgeError;
@@ -16,7 +18,7 @@ use crate::walk::admits;
 use lalrpop_grammar::{Atom, Grammar, List, ScanToken, WrittenTree};
 use lalrpop_grammar_rules::Rules;
 use lalrpop_grammar_rules::closed::{ClosedSymbol, Shared};
-use std::alloc::Global;
+use std::alloc::{AllocError, Global};
 
 /// Whether the grammar that the features enable admits the tree from the start, with exactly these tokens.
 ///
@@ -78,6 +80,15 @@ pub fn judge_tree(
     Ok(yes)
 }
 
+/// The start as a call of its rule, with no arguments, of at most that level.
+fn start_symbol(alloc: Global, start: &Atom, level: Option<u32>) -> Result<ClosedSymbol, AllocError>
+    ensures { IfOk result (λ symbol. closed_view symbol ≡ Closed.call start.now Closeds.none level) }
+{
+    let name = start.try_clone()?;
+    let args = Shared::new(alloc, List::new(alloc))?;
+    Ok(ClosedSymbol::Call(name, args, level))
+}
+
 /// Whether the start admits the tree over its own leaves.
 fn admits_start(
     alloc: Global,
@@ -97,9 +108,6 @@ fn admits_start(
     if !rule.written.args.is_empty() {
         return Ok(false);
     }
-    let name = start.try_clone()?;
-    let args = Shared::new(alloc, List::new(alloc))?;
-    let symbol = ClosedSymbol::Call(name, args, rule.loosest);
-    let yes = admits(alloc, rules, patterns, tree, &symbol)?;
-    Ok(yes)
+    let symbol = start_symbol(alloc, start, rule.loosest)?;
+    admits(alloc, rules, patterns, tree, &symbol)
 }

@@ -11,7 +11,7 @@ use crate::state::State;
 use std::marker::Model;
 
 /// An automaton that tells which of several patterns a text begins with. It starts in its state 0.
-#[derive(Debug, Drop)]
+#[derive(Drop)]
 pub struct Dfa {
     pub(crate) states: Vec<State>,
     // For each state its edges to other states, ascending.

@@ -9,7 +9,7 @@ use lalrpop_lexer_nfa::Test;
 use std::alloc::AllocError;
 
 /// An edge of a state: the characters that it reads, and the state that it leads to.
-#[derive(Clone, Copy, Debug)]
+#[derive(Clone, Copy)]
 pub struct DfaEdge {
     /// The characters that it reads.
     pub test: Test,

@@ -17,7 +17,7 @@ impl NfaIndex {
 }
 
 /// A state's number within its automaton.
-#[derive(Clone, Copy, Debug, PartialEq, Eq, PartialOrd, Ord, Hash)]
+#[derive(Clone, Copy, PartialEq, Eq, PartialOrd, Ord, Hash)]
 pub struct DfaStateIndex(pub usize);
 
 impl DfaStateIndex {

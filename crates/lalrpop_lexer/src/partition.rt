@@ -13,7 +13,7 @@ use std::alloc::{AllocError, Global};
 const ROOM: usize = 16;
 
 /// What became of the pieces of a group that edges between two states read.
-#[derive(Clone, Copy, Debug)]
+#[derive(Clone, Copy)]
 pub(crate) struct Split {
     /// The state that the edges come from.
     pub(crate) from: usize,

@@ -7,7 +7,7 @@ use std::alloc::{AllocError, Global};
 use std::marker::Model;
 
 /// Lists one behind another in one vector: a short one takes no block of its own.
-#[derive(Debug, Drop)]
+#[derive(Drop)]
 pub(crate) struct Slices<T> {
     items: Vec<T>,
     // Where each list ends.

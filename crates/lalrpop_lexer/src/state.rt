@@ -4,7 +4,7 @@ use crate::kind::NfaIndex;
 
 /// A state of an automaton: the pattern that the words which lead to it belong to, if any. Where its edges lead stands in the
 /// automaton's tables.
-#[derive(Debug, Drop)]
+#[derive(Drop)]
 pub struct State {
     pub(crate) accepts: Option<NfaIndex>,
 }

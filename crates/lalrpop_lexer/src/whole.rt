@@ -1,19 +1,23 @@
 //! All states of the automaton with their transitions: the subset construction.
 
-ghost use Rattle.std.specs.Prelude.{◌≡◌, length, IfOk};
+ghost use Rattle.std.specs.Prelude.{◌≡◌, ◌++◌, ◌∷◌, [], length, IfOk, OnOk};
 ghost use Rattle.lalrpop_lexer_nfa.specs.Paths.{nfa_view};
+ghost use Rattle.lalrpop_lexer.specs.Explore.{AreClassesOf, edges_view};
+ghost use Rattle.lalrpop_lexer.specs.Groups.{AreGroups};
+ghost use Rattle.lalrpop_lexer.specs.Simulation.{AreApart};
 ghost use Rattle.lalrpop_lexer.specs.StateViews.{edges_in};
 ghost use Rattle.lalrpop_lexer.specs.Tables.{AreTables};
 ghost use Rattle.lalrpop_lexer.specs.Automaton.{IsAutomaton};
 
 use crate::alike::groups_of;
 use crate::edge::DfaEdge;
+use crate::groups::Groups;
 use crate::kernels::Kernels;
 use crate::pieces::pieces_of;
 use crate::row::row_of;
 use crate::slices::Slices;
 use crate::states::States;
-use lalrpop_lexer_nfa::{Nfa, START, StateSet};
+use lalrpop_lexer_nfa::{Nfa, START, StateSet, Test};
 use std::alloc::{AllocError, Global};
 
 /// All states of the automaton, before it is known what they accept.
@@ -27,13 +31,36 @@ pub(crate) struct Whole {
     pub(crate) sets: Slices<usize>,
 }
 
-/// The states that the automaton's words lead to, numbered as they are first seen.
-pub(crate) fn all_states(alloc: Global, nfa: &Nfa) -> Result<Whole, AllocError>
+/// Adds a state's edges, and their row.
+fn push_state(
+    alloc: Global,
+    out: &[DfaEdge],
+    edges: &mut Slices<DfaEdge>,
+    rows: &mut Slices<Option<usize>>,
+) -> Result<(), AllocError>
+    requires apart { AreApart (edges_view out.now) }
+    requires tables { AreTables (length edges.old) edges.old rows.old }
+    ensures edges { OnOk result (edges.new ≡ edges.old ++ out.now ∷ []) }
+    ensures tables { OnOk result (AreTables (length edges.new) edges.new rows.new) }
+{
+    let row = row_of(alloc, out)?;
+    edges.push(out)?;
+    rows.push(&row)?;
+    Ok(())
+}
+
+/// The states that words lead to, explored one by one as they are first seen.
+fn explored_states(
+    alloc: Global,
+    nfa: &Nfa,
+    pieces: &[Test],
+    groups: &Groups,
+) -> Result<Whole, AllocError>
+    requires pieces { AreClassesOf (nfa_view nfa.now) pieces.now }
+    requires groups { AreGroups (nfa_view nfa.now) pieces.now groups.now.numbers.items groups.now.firsts.items }
     ensures states { IfOk result (λ whole. IsAutomaton (nfa_view nfa.now) START.0 whole.sets (edges_in whole.edges) (length whole.sets)) }
     ensures tables { IfOk result (λ whole. AreTables (length whole.sets) whole.edges whole.rows) }
 {
-    let pieces = pieces_of(alloc, nfa)?;
-    let groups = groups_of(alloc, nfa, &pieces)?;
     let mut scratch = StateSet::new(alloc, nfa.state_count())?;
     let numbers = Kernels::new(alloc, nfa.state_count())?;
     let mut known = States {
@@ -44,14 +71,23 @@ pub(crate) fn all_states(alloc: Global, nfa: &Nfa) -> Result<Whole, AllocError>
     let mut edges = Slices::new(alloc);
     let mut rows = Slices::new(alloc);
     'states: while edges.len() < known.sets.len() {
-        let out = known.explore(alloc, nfa, &pieces, &groups, edges.len(), &mut scratch)?;
-        let row = row_of(alloc, &out)?;
-        edges.push(&out)?;
-        rows.push(&row)?;
+        let out = known.explore(alloc, nfa, pieces, groups, edges.len(), &mut scratch)?;
+        push_state(alloc, &out, &mut edges, &mut rows)?;
     }
     Ok(Whole {
         edges,
         rows,
         sets: known.sets,
     })
+}
+
+/// The states that the automaton's words lead to, numbered as they are first seen.
+pub(crate) fn all_states(alloc: Global, nfa: &Nfa) -> Result<Whole, AllocError>
+    ensures states { IfOk result (λ whole. IsAutomaton (nfa_view nfa.now) START.0 whole.sets (edges_in whole.edges) (length whole.sets)) }
+    ensures tables { IfOk result (λ whole. AreTables (length whole.sets) whole.edges whole.rows) }
+{
+    let pieces = pieces_of(alloc, nfa)?;
+    let groups = groups_of(alloc, nfa, &pieces)?;
+    let whole = explored_states(alloc, nfa, &pieces, &groups)?;
+    Ok(whole)
 }

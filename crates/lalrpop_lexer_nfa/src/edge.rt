@@ -1,11 +1,11 @@
 //! Labelled edges between states, and the numbers of states.
 
 /// A state's number within its automaton.
-#[derive(Clone, Copy, Debug, PartialEq, Eq, PartialOrd, Ord, Hash)]
+#[derive(Clone, Copy, PartialEq, Eq, PartialOrd, Ord, Hash)]
 pub struct NfaStateIndex(pub usize);
 
 /// An edge from one state to another, with what it reads.
-#[derive(Clone, Copy, Debug)]
+#[derive(Clone, Copy)]
 pub struct Edge<L> {
     /// The state that it comes from.
     pub from: NfaStateIndex,
@@ -16,9 +16,9 @@ pub struct Edge<L> {
 }
 
 /// The label of an epsilon edge, which reads nothing.
-#[derive(Clone, Copy, Debug, PartialEq, Eq)]
+#[derive(Clone, Copy, PartialEq, Eq)]
 pub struct Noop;
 
 /// The label of an edge that reads a character which no test of its state holds.
-#[derive(Clone, Copy, Debug, PartialEq, Eq)]
+#[derive(Clone, Copy, PartialEq, Eq)]
 pub struct Other;

@@ -7,7 +7,7 @@ use crate::test::Test;
 use std::alloc::Global;
 
 /// What a state says of the words that lead to it.
-#[derive(Clone, Copy, Debug, PartialEq, Eq)]
+#[derive(Clone, Copy, PartialEq, Eq)]
 pub enum StateKind {
     /// They are accepted.
     Accept,
@@ -18,7 +18,7 @@ pub enum StateKind {
 }
 
 /// A state: its kind, and where its edges begin in each list.
-#[derive(Clone, Copy, Debug)]
+#[derive(Clone, Copy)]
 pub struct State {
     pub(crate) kind: StateKind,
     pub(crate) first_noop_edge: usize,
@@ -44,7 +44,7 @@ impl State {
 }
 
 /// The edges of an automaton by their kinds.
-#[derive(Debug, Drop)]
+#[derive(Drop)]
 pub struct Edges {
     pub(crate) noop_edges: Vec<Edge<Noop>>,
     pub(crate) test_edges: Vec<Edge<Test>>,

@@ -9,7 +9,7 @@ use std::ops::RangeInclusive;
 /// The numbers from `start` to `end`, both included; none where `end` is below `start`.
 ///
 /// Tests are ordered by their start, then by their end.
-#[derive(Clone, Copy, Debug, PartialEq, Eq, PartialOrd, Ord, Hash)]
+#[derive(Clone, Copy, PartialEq, Eq, PartialOrd, Ord, Hash)]
 pub struct Test {
     pub(crate) start: u32,
     pub(crate) end: u32,

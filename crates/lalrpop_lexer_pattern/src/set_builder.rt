@@ -15,7 +15,7 @@ const MIN_ROOM: usize = 1024;
 ///
 /// Ranges are gathered as they come, and sorted and joined each time that they have become twice as many. So many sets
 /// take near linear time, and no more room than their union does.
-#[derive(Debug, Drop)]
+#[derive(Drop)]
 pub struct CharacterSetBuilder {
     /// The ranges of the sets, in any order.
     ranges: Vec<Range>,

@@ -7,7 +7,7 @@ ghost use Rattle.lalrpop_lexer_regex.specs.FlagSyntax.{flags_from};
 use crate::classes::{PatternError, PatternFaultKind, first, syntax};
 
 /// How characters and dots are read.
-#[derive(Clone, Copy, Debug, PartialEq, Eq)]
+#[derive(Clone, Copy, PartialEq, Eq)]
 pub(crate) struct Flags {
     /// A character stands for all that share a simple case folding with it, `i`.
     pub(crate) insensitive: bool,

@@ -12,7 +12,7 @@ use lalrpop_grammar_symbols::Span;
 use std::alloc::{AllocError, Global};
 
 /// Tokens of a text, and the numbers of their entries.
-#[derive(Debug, Drop)]
+#[derive(Drop)]
 pub struct EntryTokens<'t> {
     /// The tokens.
     pub tokens: Vec<ScanToken<'t>>,

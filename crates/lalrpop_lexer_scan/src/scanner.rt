@@ -12,7 +12,7 @@ use lalrpop_grammar_symbols::TerminalString;
 use lalrpop_lexer::dfa::Dfa;
 
 /// Cuts texts into tokens.
-#[derive(Debug, Drop)]
+#[derive(Drop)]
 pub struct Scanner {
     // Which entry a text begins with.
     pub(crate) dfa: Dfa,

@@ -22,27 +22,37 @@ fn regex(rt: &impl Abort, alloc: Global, text: &str) -> Regex {
     parse_regex(alloc, text).expect(rt, "a pattern")
 }
 
+/// That the start is of no kind, and the two states that end are of theirs.
+fn has_kinds(rt: &impl Abort, nfa: &Nfa) {
+    check(rt, nfa.kind(START) == StateKind::Neither);
+    check(
+        rt,
+        nfa.is_accepting_state(ACCEPT) && !nfa.is_accepting_state(START),
+    );
+    check(
+        rt,
+        nfa.is_rejecting_state(REJECT) && !nfa.is_rejecting_state(START),
+    );
+}
+
+/// That from the start one reads nothing, then the one character, and is at the end.
+fn reads_one_character(rt: &impl Abort, nfa: &Nfa) {
+    check(rt, nfa.edges::<Test>(START).count() == 0);
+    check(rt, nfa.edges::<Other>(START).count() == 0);
+    let first = nfa.edges::<Noop>(START).next().expect(rt, "an edge");
+    check(rt, first.to.0 < nfa.state_count());
+    let mut read = nfa.edges::<Test>(first.to);
+    let edge = read.next().expect(rt, "an edge that reads");
+    check(rt, (edge.label, edge.to) == (Test::char('a'), ACCEPT));
+    check(rt, read.next().is_none());
+}
+
 #[test]
 fn states_and_edges_of_one_character(rt: HostRuntime) {
     let alloc = rt.alloc();
     let nfa = Nfa::from_re(alloc, &literal(&rt, alloc, "a")).expect(&rt, "an automaton");
-    check(&rt, nfa.kind(START) == StateKind::Neither);
-    check(
-        &rt,
-        nfa.is_accepting_state(ACCEPT) && !nfa.is_accepting_state(START),
-    );
-    check(
-        &rt,
-        nfa.is_rejecting_state(REJECT) && !nfa.is_rejecting_state(START),
-    );
-    check(&rt, nfa.edges::<Test>(START).count() == 0);
-    check(&rt, nfa.edges::<Other>(START).count() == 0);
-    let first = nfa.edges::<Noop>(START).next().expect(&rt, "an edge");
-    check(&rt, first.to.0 < nfa.state_count());
-    let mut read = nfa.edges::<Test>(first.to);
-    let edge = read.next().expect(&rt, "an edge that reads");
-    check(&rt, (edge.label, edge.to) == (Test::char('a'), ACCEPT));
-    check(&rt, read.next().is_none());
+    has_kinds(&rt, &nfa);
+    reads_one_character(&rt, &nfa);
 }
 
 /// The list and the place of one kind are changed, and the others stay.
@@ -69,42 +79,51 @@ fn count_of(rt: &impl Abort, alloc: Global, pattern: &str) -> usize {
     nfa.state_count()
 }
 
-/// Plus signs share one automaton, and of the copies that may be left out only the next one is entered.
+/// Of the copies that may be left out only the next one is entered.
+fn enters_the_next_copy(rt: &impl Abort, alloc: Global, counted: &Nfa) {
+    let mut set = StateSet::new(alloc, counted.state_count()).expect(rt, "memory");
+    let mut next = StateSet::new(alloc, set.limit()).expect(rt, "memory");
+    let fresh = set.insert(START.0).expect(rt, "memory");
+    let again = set.insert(START.0).expect(rt, "memory");
+    check(rt, fresh && !again);
+    counted.close(&mut set).expect(rt, "memory");
+    check(rt, set.members().len() == 4);
+    counted.step(&set, 97, &mut next).expect(rt, "memory");
+    check(rt, next.members().len() == 3);
+}
+
+/// Plus signs share one automaton, and copies that may be left out stand in a row.
 #[test]
 fn repetitions_stay_small(rt: HostRuntime) {
     let alloc = rt.alloc();
     check(&rt, count_of(&rt, alloc, "a++++++++++++++++") == 20);
     let counted = Nfa::from_re(alloc, &regex(&rt, alloc, "a{0,1000}")).expect(&rt, "an automaton");
-    let mut set = StateSet::new(alloc, counted.state_count()).expect(&rt, "memory");
-    let mut next = StateSet::new(alloc, set.limit()).expect(&rt, "memory");
-    let fresh = set.insert(START.0).expect(&rt, "memory");
-    let again = set.insert(START.0).expect(&rt, "memory");
-    check(&rt, fresh && !again);
-    counted.close(&mut set).expect(&rt, "memory");
-    check(&rt, set.members().len() == 4);
-    counted.step(&set, 97, &mut next).expect(&rt, "memory");
-    check(&rt, next.members().len() == 3);
+    enters_the_next_copy(&rt, alloc, &counted);
 }
 
-/// Two patterns at once: what `b` leads to from the start.
+/// That `b` leads from the start to the second pattern's end.
+fn reads_the_second(rt: &impl Abort, alloc: Global, nfa: &Nfa) {
+    let mut set = StateSet::new(alloc, nfa.state_count()).expect(rt, "memory");
+    let mut next = StateSet::new(alloc, nfa.state_count()).expect(rt, "memory");
+    set.insert(START.0).expect(rt, "memory");
+    nfa.close(&mut set).expect(rt, "memory");
+    check(rt, set.members().len() == 3);
+    nfa.step(&set, 98, &mut next).expect(rt, "memory");
+    check(
+        rt,
+        next.contains(FIRST_ACCEPT + 1) && !next.contains(FIRST_ACCEPT),
+    );
+    next.clear();
+    check(rt, next.members().len() == 0);
+}
+
 #[test]
 fn one_automaton_for_several(rt: HostRuntime) {
     let alloc = rt.alloc();
     let patterns = vec![in alloc; literal(&rt, alloc, "a"), literal(&rt, alloc, "b")];
     let patterns = patterns.expect(&rt, "memory");
     let nfa = Nfa::from_all(alloc, &patterns).expect(&rt, "an automaton");
-    let mut set = StateSet::new(alloc, nfa.state_count()).expect(&rt, "memory");
-    let mut next = StateSet::new(alloc, nfa.state_count()).expect(&rt, "memory");
-    set.insert(START.0).expect(&rt, "memory");
-    nfa.close(&mut set).expect(&rt, "memory");
-    check(&rt, set.members().len() == 3);
-    nfa.step(&set, 98, &mut next).expect(&rt, "memory");
-    check(
-        &rt,
-        next.contains(FIRST_ACCEPT + 1) && !next.contains(FIRST_ACCEPT),
-    );
-    next.clear();
-    check(&rt, next.members().len() == 0);
+    reads_the_second(&rt, alloc, &nfa);
 }
 
 /// Whether the automaton of the pattern is refused for this.

@@ -5,7 +5,7 @@ ghost use Rattle.std.specs.Prelude.{◌≡◌, [], None};
 use lalrpop_grammar_repr::Symbol;
 
 /// The symbols of a right side: those before the dot, the one behind it, and those behind that one.
-#[derive(Clone, Copy, Debug, PartialEq, Eq)]
+#[derive(Clone, Copy, PartialEq, Eq)]
 pub struct SymbolSets<'g> {
     /// The symbols before the dot.
     pub prefix: &'g [Symbol],

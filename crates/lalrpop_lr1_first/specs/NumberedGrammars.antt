@@ -11,12 +11,12 @@ use Rattle.lalrpop_lr1_core.specs.Views.{production_view}
 use Rattle.lalrpop_lr1_first.specs.Listings.{HoldSame, lent}
 use Rattle.lalrpop_lr1_core.specs.TheoryGrammars.{productions_of_grammar}
 use Rattle.lalrpop_lr1_first.specs.Tables.{AreLaid, HaveNumberedTerminals, IsTerminalSet, pairs_from}
-use Rattle.lalrpop_lr1_first.specs.declared.names.Names.{Names}
+use Rattle.lalrpop_lr1_first.specs.declared.names.NumberedNames.{NumberedNames}
 use Rattle.lalrpop_lr1_first.specs.declared.numbered.Numbered.{Numbered}
 use Rattle.lalrpop_lr1_first.specs.declared.place.NumberedRule.{NumberedRule}
 
 -- the names are numbered by their places
-abbrev pub NamesAreNumbered : Names → Type 0
+abbrev pub NamesAreNumbered : NumberedNames → Type 0
 NamesAreNumbered names = names.numbers ≡ pairs_from 0 (lent names.listed.items)
 
 -- the grammar's terminals are numbered by their places, and each terminal on a right side is one of them

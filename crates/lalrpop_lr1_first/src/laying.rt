@@ -15,7 +15,7 @@ ghost use Rattle.lalrpop_lr1_first.specs.Tables.{
   symbol_of_number,
 };
 
-use crate::names::Names;
+use crate::names::NumberedNames;
 use crate::place::{NumberedRule, Place};
 use lalrpop_grammar_repr::{Production, Symbol, TerminalSet};
 use lalrpop_grammar_symbols::TerminalString;
@@ -44,7 +44,7 @@ fn terminal_number(terminals: &TerminalSet, terminal: &TerminalString) -> usize
 }
 
 /// The number of a symbol whose name or terminal is known.
-fn symbol_number(names: &Names<'_>, terminals: &TerminalSet, symbol: &Symbol) -> usize
+fn symbol_number(names: &NumberedNames<'_>, terminals: &TerminalSet, symbol: &Symbol) -> usize
     requires numbered { NamesAreNumbered names.now }
     requires places { NumbersArePlaces terminals.now }
     requires known { IsKnownSymbol (lent names.now.listed.items) terminals.now symbol.now }
@@ -58,7 +58,7 @@ fn symbol_number(names: &Names<'_>, terminals: &TerminalSet, symbol: &Symbol) ->
 
 /// Lays the symbols behind what was laid.
 fn lay_symbols(
-    names: &Names<'_>,
+    names: &NumberedNames<'_>,
     terminals: &TerminalSet,
     symbols: &[Symbol],
     places: &mut Vec<Place>,
@@ -76,7 +76,7 @@ fn lay_symbols(
 
 /// Lays the production behind what was laid.
 fn lay_rule(
-    names: &Names<'_>,
+    names: &NumberedNames<'_>,
     terminals: &TerminalSet,
     production: &Production,
     rules: &mut Vec<NumberedRule>,
@@ -100,7 +100,7 @@ fn lay_rule(
 
 /// Lays the productions, in order.
 pub(crate) fn lay_rules(
-    names: &Names<'_>,
+    names: &NumberedNames<'_>,
     terminals: &TerminalSet,
     productions: &[&Production],
     rules: &mut Vec<NumberedRule>,

@@ -13,19 +13,19 @@ use std::collections::BTreeSet;
 
 /// Names in order, with the number of each.
 #[derive(Drop)]
-pub(crate) struct Names<'g> {
+pub(crate) struct NumberedNames<'g> {
     // The names, ascending, each once.
     pub(crate) listed: Vec<&'g NonterminalString>,
     // The place of each.
     pub(crate) numbers: Map<NonterminalString, usize>,
 }
 
-impl<'g> Names<'g> {
+impl<'g> NumberedNames<'g> {
     /// The names of the set, numbered in order.
     pub(crate) fn new(
         alloc: Global,
         set: &BTreeSet<&'g NonterminalString>,
-    ) -> Result<Names<'g>, AllocError>
+    ) -> Result<NumberedNames<'g>, AllocError>
         ensures listed { IfOk result (λ names. names.listed.items ≡ set.now.keys) }
         ensures ordered { IfOk result (λ names. IsStrictlySortedBy (names_order.ghosts).cmp (lent names.listed.items)) }
         ensures numbered { IfOk result (λ names. names.numbers ≡ pairs_from 0 (lent set.now.keys)) }
@@ -37,7 +37,7 @@ impl<'g> Names<'g> {
             numbers.insert(name.try_clone()?, number)?;
             listed.push(*name)?;
         }
-        Ok(Names { listed, numbers })
+        Ok(NumberedNames { listed, numbers })
     }
 
     /// The number of a name, which is one of them.

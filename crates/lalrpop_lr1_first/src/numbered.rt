@@ -5,7 +5,7 @@ ghost use Rattle.lalrpop_lr1_first.specs.NumberedGrammars.{HasItsTerminals, IsNu
 
 use crate::laying::lay_rules;
 use crate::listing::{list_productions, names_in, productions_in};
-use crate::names::Names;
+use crate::names::NumberedNames;
 use crate::place::{NumberedRule, Place};
 use lalrpop_grammar_repr::{Grammar, Production, TerminalSet};
 use lalrpop_grammar_symbols::NonterminalString;
@@ -29,7 +29,7 @@ impl<'g> Numbered<'g> {
         ensures { IfOk result (λ table. IsNumberTableOf grammar.now table) }
     {
         let productions = list_productions(alloc, &productions_in(alloc, grammar)?)?;
-        let names = Names::new(alloc, &names_in(alloc, productions.as_slice())?)?;
+        let names = NumberedNames::new(alloc, &names_in(alloc, productions.as_slice())?)?;
         let mut rules = Vec::new(alloc);
         let mut places = Vec::new(alloc);
         lay_rules(

@@ -17,7 +17,7 @@ use Rattle.lalrpop_lr1_least_trees.proofs.RuleLemmas.{views_long}
 use Rattle.lalrpop_lr1_least_trees.specs.MoveViews.{SpellsMoves}
 use Rattle.lalrpop_lr1_least_trees.proofs.SpellLemmas.{StandFor, spells-append}
 use Rattle.lalrpop_lr1_least_trees.specs.declared.begin_trees.derived.Derived.{Derived}
-use Rattle.lalrpop_lr1_least_trees.specs.declared.begin_trees.derived.Origin.{Origin}
+use Rattle.lalrpop_lr1_least_trees.specs.declared.begin_trees.derived.DerivedOrigin.{DerivedOrigin}
 use Rattle.lalrpop_lr1_least_trees.specs.BeginForests.{IsWanted}
 use Rattle.lalrpop_lr1_least_trees.specs.DerivedRules.{AreDerived, IsBeginOf, IsDerived, IsEmptyOf, IsWholeOf, begin_side, begin_symbol}
 use Rattle.lalrpop_lr1_least_trees.specs.DerivedRules.{all_names, down, empty_symbol, whole_symbol}
@@ -45,14 +45,14 @@ module _ (at : ℕ → Option Symbol) (names : ℕ) (rules : List NumberRule) (p
 
   -- the production of a derived rule
   abbrev pub production_of : ℕ → Option Production
-  production_of k = option_and_then (λ (o : Origin). slice_get productions o.rule) (slice_get derived.origins.items k)
+  production_of k = option_and_then (λ (o : DerivedOrigin). slice_get productions o.rule) (slice_get derived.origins.items k)
 
   abbrev pub DerivedBuilds : List ℕ → List NumberMove → Type 0
   DerivedBuilds = Builds (rule_views derived.rules.items) (all_names names) true
 
   -- what a derived rule is derived from
   pub record HasSource (k : ℕ) (d : NumberRule) : Type 0 where
-    pub origin : Origin
+    pub origin : DerivedOrigin
     pub rule : NumberRule
     pub production : Production
     pub at_origin : slice_get derived.origins.items k ≡ Some origin
@@ -82,7 +82,7 @@ module _ (at : ℕ → Option Symbol) (names : ℕ) (rules : List NumberRule) (p
 
   pub source_production : (k : ℕ) (d : NumberRule) (s : HasSource k d) → production_of k ≡ Some s.production
   source_production k d s =
-      ap (option_and_then (λ (o : Origin). slice_get productions o.rule)) s.at_origin ∙ s.at_production
+      ap (option_and_then (λ (o : DerivedOrigin). slice_get productions o.rule)) s.at_origin ∙ s.at_production
 
   source_left : (k : ℕ) (d : NumberRule) (s : HasSource k d) → at s.rule.left ≡ Some (nonterminal s.production.left)
   source_left k d s = stand.left s.origin.rule s.rule s.production s.at_rule s.at_production

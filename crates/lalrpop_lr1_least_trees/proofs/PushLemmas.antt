@@ -13,7 +13,7 @@ use Rattle.lalrpop_lr1_theory.proofs.StepLemmas.{some_same}
 use Rattle.lalrpop_lr1_least_trees.specs.NumberedTrees.{NumberRule, rule_views}
 use Rattle.lalrpop_lr1_least_trees.proofs.RuleLemmas.{views_long}
 use Rattle.lalrpop_lr1_least_trees.specs.declared.begin_trees.derived.Derived.{Derived}
-use Rattle.lalrpop_lr1_least_trees.specs.declared.begin_trees.derived.Origin.{Origin}
+use Rattle.lalrpop_lr1_least_trees.specs.declared.begin_trees.derived.DerivedOrigin.{DerivedOrigin}
 use Rattle.lalrpop_lr1_least_trees.specs.DerivedRules.{AddsDerived, AreDerived, AreNames, HasDerived, HaveOrigins, IsBeginAt}
 use Rattle.lalrpop_lr1_least_trees.specs.DerivedRules.{IsBeginBelow, IsBeginOf, IsDerived, IsEmptyOf, IsDerivedPushed, IsWantedAt}
 use Rattle.lalrpop_lr1_least_trees.specs.DerivedRules.{IsWholeOf, MayBegin}
@@ -50,7 +50,7 @@ adds_none r Told old none = record {
 }
 
 -- one rule was pushed
-pub adds_one : (r : ℕ) (Told : ℕ → NumberRule → Type 0) (rule : NumberRule) (origin : Origin) (old new : Derived) → HaveOrigins
+pub adds_one : (r : ℕ) (Told : ℕ → NumberRule → Type 0) (rule : NumberRule) (origin : DerivedOrigin) (old new : Derived) → HaveOrigins
     old →
     IsDerivedPushed rule origin old new → origin.rule ≡ r → Told origin.place rule →
     ((place : ℕ) (d : NumberRule) → Told place d → (origin.place ≡ place) × (rule ≡ d)) → AddsDerived r Told old new
@@ -67,8 +67,8 @@ adds_one r Told rule origin old new have pushed rule_is told only = record {
       let same : rule ≡ d = only_first rule d a.0 a.2 in
       let here : origin ≡ o = only_first origin o b.0 b.2 in
       inr (
-        ap (λ (x : Origin). x.rule) (sym here) ∙ rule_is,
-        subst (λ (x : Origin). Told x.place d) here (subst (Told origin.place) same told),
+        ap (λ (x : DerivedOrigin). x.rule) (sym here) ∙ rule_is,
+        subst (λ (x : DerivedOrigin). Told x.place d) here (subst (Told origin.place) same told),
       ))
       (get_split old.origins.items (origin ∷ []) k o (ap (λ l. slice_get l k) (sym pushed.origins) ∙ s.at_origin)))
       (get_split (rule_views old.rules.items) (rule ∷ []) k d (ap (λ l. slice_get l k) (sym pushed.rules) ∙ s.at_rule));
@@ -161,7 +161,7 @@ module _ (names wanted : ℕ) (rules : List NumberRule) where
           (adds.all place d (subst (λ (x : NumberRule). IsDerived names wanted x place d) same t))
 
 -- one rule that is told exactly
-pub adds_exact : (r place : ℕ) (x rule : NumberRule) (origin : Origin) (old new : Derived) → HaveOrigins old →
+pub adds_exact : (r place : ℕ) (x rule : NumberRule) (origin : DerivedOrigin) (old new : Derived) → HaveOrigins old →
     IsDerivedPushed rule origin old new → origin.rule ≡ r → origin.place ≡ place → rule ≡ x →
     AddsDerived r (λ p d. (p ≡ place) × (d ≡ x)) old new
 adds_exact r place x rule origin old new have pushed rule_is place_is same =

@@ -18,7 +18,7 @@ use Rattle.lalrpop_lr1_least_trees.specs.GrammarTrees.{AreLeastTrees, number_rul
 use Rattle.lalrpop_lr1_least_trees.specs.MoveViews.{IsNumberedMove}
 use Rattle.lalrpop_lr1_least_trees.specs.declared.begin_trees.begin_trees.BeginTrees.{BeginTrees}
 use Rattle.lalrpop_lr1_least_trees.specs.declared.begin_trees.derived.Derived.{Derived}
-use Rattle.lalrpop_lr1_least_trees.specs.declared.begin_trees.derived.Origin.{Origin}
+use Rattle.lalrpop_lr1_least_trees.specs.declared.begin_trees.derived.DerivedOrigin.{DerivedOrigin}
 use Rattle.lalrpop_lr1_least_trees.specs.BeginForests.{IsWanted}
 use Rattle.lalrpop_lr1_least_trees.specs.DerivedRules.{AreDerived, all_names, begin_symbol, down}
 
@@ -36,7 +36,7 @@ derived_symbol_by table s = symbols_by table (down (name_count table) s)
 
 abbrev pub derived_production_by : Numbered → Derived → ℕ → Option theory.Production
 derived_production_by table derived k =
-    option_and_then (λ (o : Origin). production_by table o.rule) (slice_get derived.origins.items k)
+    option_and_then (λ (o : DerivedOrigin). production_by table o.rule) (slice_get derived.origins.items k)
 
 -- the number is some terminal's, the rules are derived from those of the least trees' grammar, and the entries are least trees by them
 pub record AreBeginTrees (it : BeginTrees) : Type 0 where

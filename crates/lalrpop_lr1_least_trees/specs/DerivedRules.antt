@@ -5,7 +5,7 @@ use Rattle.std.specs.Prelude.{if◌then◌else◌}
 use Rattle.std.specs.Prelude.{◌≡◌, ◌⊎◌, Contains, Some, slice_get, slice_index_or}
 use Rattle.lalrpop_lr1_least_trees.specs.NumberedTrees.{NumberRule, rule_views}
 use Rattle.lalrpop_lr1_least_trees.specs.declared.begin_trees.derived.Derived.{Derived}
-use Rattle.lalrpop_lr1_least_trees.specs.declared.begin_trees.derived.Origin.{Origin}
+use Rattle.lalrpop_lr1_least_trees.specs.declared.begin_trees.derived.DerivedOrigin.{DerivedOrigin}
 
 -- the numbers of a symbol: for its trees without leaves, for those that begin with the terminal, and for all
 abbrev pub empty_symbol : ℕ → ℕ → ℕ
@@ -74,14 +74,14 @@ IsDerived names wanted rule place d =
     IsWholeOf names rule place d ⊎ (IsEmptyOf names rule place d ⊎ IsBeginOf names wanted rule place d)
 
 -- a rule is there with its origin
-pub record StandsAt (derived : Derived) (k : ℕ) (d : NumberRule) (o : Origin) : Type 0 where
+pub record StandsAt (derived : Derived) (k : ℕ) (d : NumberRule) (o : DerivedOrigin) : Type 0 where
   pub at_rule : slice_get (rule_views derived.rules.items) k ≡ Some d
   pub at_origin : slice_get derived.origins.items k ≡ Some o
 
 -- a rule is there, derived from the rule with this number at this place
 pub record HasDerived (derived : Derived) (r place : ℕ) (d : NumberRule) : Type 0 where
   pub number : ℕ
-  pub origin : Origin
+  pub origin : DerivedOrigin
   pub stands : StandsAt derived number d origin
   pub rule_is : origin.rule ≡ r
   pub place_is : origin.place ≡ place
@@ -91,14 +91,14 @@ abbrev pub HaveOrigins : Derived → Type 0
 HaveOrigins derived = length derived.rules.items ≡ length derived.origins.items
 
 -- a rule was added
-pub record IsDerivedPushed (rule : NumberRule) (origin : Origin) (old new : Derived) : Type 0 where
+pub record IsDerivedPushed (rule : NumberRule) (origin : DerivedOrigin) (old new : Derived) : Type 0 where
   pub rules : rule_views new.rules.items ≡ rule_views old.rules.items ++ rule ∷ []
   pub origins : new.origins.items ≡ old.origins.items ++ origin ∷ []
 
 -- those rules were added that are told, derived from the rule with this number
 pub record AddsDerived (r : ℕ) (Told : ℕ → NumberRule → Type 0) (old new : Derived) : Type 0 where
   pub origins : HaveOrigins old → HaveOrigins new
-  pub sound : HaveOrigins old → (k : ℕ) (d : NumberRule) (o : Origin) → StandsAt new k d o →
+  pub sound : HaveOrigins old → (k : ℕ) (d : NumberRule) (o : DerivedOrigin) → StandsAt new k d o →
       StandsAt old k d o ⊎ ((o.rule ≡ r) × Told o.place d)
   pub kept : (q place : ℕ) (d : NumberRule) → HasDerived old q place d → HasDerived new q place d
   pub all : (place : ℕ) (d : NumberRule) → Told place d → HasDerived new r place d
@@ -106,7 +106,7 @@ pub record AddsDerived (r : ℕ) (Told : ℕ → NumberRule → Type 0) (old new
 -- the rules are derived from the first of these, and all that are, are there
 pub record AreDerived (names wanted : ℕ) (rules : List NumberRule) (count : ℕ) (derived : Derived) : Type 0 where
   pub origins : HaveOrigins derived
-  pub sound : (k : ℕ) (d : NumberRule) (o : Origin) → StandsAt derived k d o →
+  pub sound : (k : ℕ) (d : NumberRule) (o : DerivedOrigin) → StandsAt derived k d o →
       (rule : NumberRule) × (slice_get rules o.rule ≡ Some rule) × IsDerived names wanted rule o.place d
   pub all : (r place : ℕ) (rule d : NumberRule) → r < count → slice_get rules r ≡ Some rule → IsDerived names wanted rule place
       d →

@@ -26,30 +26,21 @@ impl Kernel for Letter {
     }
 }
 
+/// That the kernel has this number, now if it had none.
+fn has_number(rt: &impl Abort, kernels: &mut KernelSet<Letter>, kernel: char, number: usize) {
+    let found = kernels.add_state(Letter(kernel)).expect(rt, "memory");
+    check(rt, found == StateIndex(number));
+}
+
 #[test]
 fn equal_kernels_have_one_number(rt: HostRuntime) {
     let mut kernels = KernelSet::new(rt.alloc());
-    check(
-        &rt,
-        kernels.add_state(Letter('a')).expect(&rt, "memory") == StateIndex(0),
-    );
-    check(
-        &rt,
-        kernels.add_state(Letter('b')).expect(&rt, "memory") == StateIndex(1),
-    );
-    check(
-        &rt,
-        kernels.add_state(Letter('a')).expect(&rt, "memory") == StateIndex(0),
-    );
+    has_number(&rt, &mut kernels, 'a', 0);
+    has_number(&rt, &mut kernels, 'b', 1);
+    has_number(&rt, &mut kernels, 'a', 0);
     check(&rt, kernels.next() == Some(Letter('a')));
-    check(
-        &rt,
-        kernels.add_state(Letter('a')).expect(&rt, "memory") == StateIndex(0),
-    );
-    check(
-        &rt,
-        kernels.add_state(Letter('c')).expect(&rt, "memory") == StateIndex(2),
-    );
+    has_number(&rt, &mut kernels, 'a', 0);
+    has_number(&rt, &mut kernels, 'c', 2);
     check(&rt, kernels.next() == Some(Letter('b')));
     check(&rt, kernels.next() == Some(Letter('c')));
     check(&rt, kernels.next().is_none());

@@ -2,7 +2,9 @@
 
 use crate::check::check;
 use lalrpop_sets::{Collection, Multimap, Nil};
+use std::alloc::Global;
 use std::collections::BTreeSet;
+use std::process::Abort;
 
 #[test]
 fn a_push_says_whether_a_set_grew(rt: HostRuntime) {
@@ -26,20 +28,28 @@ fn a_push_says_whether_a_key_came(rt: HostRuntime) {
     check(&rt, !map.push(0, ()).expect(&rt, "memory"));
 }
 
+/// A map of one character at 1 and of two at 3.
+fn two_keys(rt: &impl Abort, alloc: Global) -> Multimap<u32, Vec<char>> {
+    let mut pairs = Vec::new(alloc);
+    pairs.push((3u32, 'c')).expect(rt, "memory");
+    pairs.push((1, 'a')).expect(rt, "memory");
+    pairs.push((3, 'd')).expect(rt, "memory");
+    Multimap::from_pairs(alloc, pairs).expect(rt, "memory")
+}
+
+/// That these are the keys, in order.
+fn has_keys(rt: &impl Abort, alloc: Global, map: &Multimap<u32, Vec<char>>, wanted: &[u32]) {
+    let mut keys = Vec::new(alloc);
+    for (key, _) in map.iter() {
+        keys.push(*key).expect(rt, "memory");
+    }
+    check(rt, keys.as_slice() == wanted);
+}
+
 #[test]
 fn entries_stand_in_order_of_their_keys(rt: HostRuntime) {
-    let mut pairs = Vec::new(rt.alloc());
-    pairs.push((3u32, 'c')).expect(&rt, "memory");
-    pairs.push((1, 'a')).expect(&rt, "memory");
-    pairs.push((3, 'd')).expect(&rt, "memory");
-    let map: Multimap<u32, Vec<char>> = Multimap::from_pairs(rt.alloc(), pairs).expect(
-        &rt, "memory",
-    );
-    let mut keys = Vec::new(rt.alloc());
-    for (key, _) in map.iter() {
-        keys.push(*key).expect(&rt, "memory");
-    }
-    check(&rt, keys.as_slice() == [1, 3].as_slice());
+    let map = two_keys(&rt, rt.alloc());
+    has_keys(&rt, rt.alloc(), &map, &[1, 3]);
     let mut lengths = Vec::new(rt.alloc());
     for (_, list) in map {
         lengths.push(list.len()).expect(&rt, "memory");

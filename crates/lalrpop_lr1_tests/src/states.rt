@@ -161,11 +161,22 @@ fn conflicts_with_lookaheads(rt: HostRuntime) {
     conflicts_of_three(&rt, rt.alloc(), &grammar);
 }
 
+/// Whether a copy of the conflict equals it.
+fn equals_its_copy(rt: &impl Abort, conflict: &Lr1Conflict<'_>) -> bool {
+    let copy = conflict.try_clone().expect(rt, "memory");
+    copy == *conflict
+}
+
+/// Whether a copy of the conflict's action equals it.
+fn copies_its_action(rt: &impl Abort, conflict: &Lr1Conflict<'_>) -> bool {
+    let copy = conflict.action.try_clone().expect(rt, "memory");
+    copy == conflict.action
+}
+
 /// Whether copies of the conflicts equal them, and copies of their actions these.
 fn equal_copies(rt: &impl Abort, conflicts: &[Lr1Conflict<'_>]) -> bool {
     for conflict in conflicts {
-        let copy = conflict.try_clone().expect(rt, "memory");
-        if copy != *conflict || copy.action.try_clone().expect(rt, "memory") != conflict.action {
+        if !equals_its_copy(rt, conflict) || !copies_its_action(rt, conflict) {
             return false;
         }
     }
@@ -280,6 +291,19 @@ fn reduced_before<'g>(
     Some(production.nonterminal.0.as_str())
 }
 
+/// That before this terminal the state reduces this nonterminal, or none.
+fn reduces_before(
+    rt: &impl Abort,
+    alloc: Global,
+    state: &Lr1State<'_>,
+    terminals: &TerminalSet,
+    before: &str,
+    wanted: Option<&str>,
+) {
+    let token = token_of(rt, alloc, before);
+    check(rt, reduced_before(state, &token, terminals) == wanted);
+}
+
 fn reduces(rt: &impl Abort, alloc: Global, grammar: &Grammar) {
     let state = three_reductions(rt, alloc, grammar);
     let terminals = &grammar.terminals;
@@ -287,14 +311,8 @@ fn reduces(rt: &impl Abort, alloc: Global, grammar: &Grammar) {
         rt,
         reduced_before(&state, &Token::Eof, terminals) == Some("C"),
     );
-    check(
-        rt,
-        reduced_before(&state, &token_of(rt, alloc, "y"), terminals) == Some("A"),
-    );
-    check(
-        rt,
-        reduced_before(&state, &token_of(rt, alloc, "a"), terminals).is_none(),
-    );
+    reduces_before(rt, alloc, &state, terminals, "y", Some("A"));
+    reduces_before(rt, alloc, &state, terminals, "a", None);
 }
 
 #[test]

@@ -3,6 +3,7 @@
 use crate::check::check;
 use crate::grammars::{grammar_of, terminal_of, token_of};
 use lalrpop_grammar_repr::TerminalSet;
+use lalrpop_grammar_symbols::TerminalString;
 use lalrpop_sets::{Collection, Token, TokenRef, TokenSet};
 use std::alloc::Global;
 use std::process::Abort;
@@ -196,12 +197,23 @@ fn tokens_come_in_order(rt: HostRuntime) {
     iterates(&rt, rt.alloc(), &grammar.terminals);
 }
 
+/// That it is the terminal `c`.
+fn is_c(rt: &impl Abort, alloc: Global, terminal: &TerminalString) {
+    check(rt, *terminal == terminal_of(rt, alloc, "c"));
+}
+
+/// That a copy of the token equals it.
+fn token_is_copied(rt: &impl Abort, token: &Token) {
+    let copy = token.try_clone().expect(rt, "memory");
+    check(rt, copy == *token);
+}
+
 #[test]
 fn a_token_and_its_copy(rt: HostRuntime) {
     let alloc = rt.alloc();
     let c = Token::Terminal(terminal_of(&rt, alloc, "c"));
-    check(&rt, *c.unwrap_terminal() == terminal_of(&rt, alloc, "c"));
-    check(&rt, c.try_clone().expect(&rt, "memory") == c);
+    is_c(&rt, alloc, c.unwrap_terminal());
+    token_is_copied(&rt, &c);
     let text = format!(in alloc; "{c:?} {:?}", TokenRef::Eof).expect(&rt, "memory");
     check(&rt, text.as_str() == "\"c\" Eof");
 }

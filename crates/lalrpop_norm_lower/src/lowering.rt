@@ -33,7 +33,7 @@ use lalrpop_grammar_symbols::{Atom, List, NonterminalString};
 use std::alloc::{AllocError, Global};
 
 /// A lowered grammar, with what its productions stand for and how its tokens are read.
-#[derive(Debug, Drop)]
+#[derive(Drop)]
 pub struct Normalized {
     /// The grammar of plain productions.
     pub grammar: LoweredGrammar,

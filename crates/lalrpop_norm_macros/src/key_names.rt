@@ -5,7 +5,6 @@
 
 mod laws;
 mod names;
-mod taken;
 
 pub use laws::{grammars_are_nameable, key_names_name_expansions};
 pub use names::key_names;

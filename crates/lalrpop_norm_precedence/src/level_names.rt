@@ -11,3 +11,4 @@ mod taken;
 
 pub use levels::{NamedLevel, RuleLevels};
 pub use names::level_names;
+pub use taken::TakenTexts;

@@ -18,7 +18,7 @@ ghost use Rattle.lalrpop_norm_resolve.specs.Left.{enabled_alternatives as pure_a
 use lalrpop_grammar::types::{Attribute, AttributeArg};
 use lalrpop_grammar::{Alternative, Grammar, GrammarItem, NonterminalData};
 use lalrpop_grammar_repr::Session;
-use lalrpop_grammar_symbols::List;
+use lalrpop_grammar_symbols::{Boxed, List};
 use std::alloc::{AllocError, Global};
 
 /// Whether the attributes leave what they stand on enabled: each `cfg` attribute holds under the session's features. It
@@ -140,6 +140,8 @@ fn enabled_rule(
         type_decl,
         alternatives,
     } = rule;
+    // (large, so it waits in a box)
+    let type_decl = Boxed::new(alloc, type_decl)?;
     let attributes = attributes_without_cfg(alloc, attributes)?;
     let alternatives = enabled_alternatives(alloc, session, alternatives)?;
     Ok(NonterminalData {
@@ -148,9 +150,23 @@ fn enabled_rule(
         attributes,
         span,
         args,
-        type_decl,
+        type_decl: type_decl.into_inner(),
         alternatives,
     })
+}
+
+/// Puts what is left of the enabled rule behind the other items.
+fn keep_enabled_rule(
+    alloc: Global,
+    session: &Session,
+    rule: NonterminalData,
+    kept: &mut List<GrammarItem>,
+) -> Result<(), AllocError>
+    ensures { OnOk result (map item_view kept.new ≡ map item_view kept.old
+        ++ WrittenItem.nonterminal (enabled_part session.now.features.items (nonterminal_view rule)) ∷ []) }
+{
+    let rule = enabled_rule(alloc, session, rule)?;
+    kept.push(GrammarItem::Nonterminal(rule))
 }
 
 /// Puts the rule behind the other items, where it is enabled.
@@ -166,8 +182,7 @@ fn keep_rule(
     if !cfg_active(session, rule.attributes.as_slice()) {
         return Ok(());
     }
-    let rule = enabled_rule(alloc, session, rule)?;
-    kept.push(GrammarItem::Nonterminal(rule))
+    keep_enabled_rule(alloc, session, rule, kept)
 }
 
 /// Puts the item behind the others, unless it is a disabled rule.

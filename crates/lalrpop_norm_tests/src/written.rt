@@ -41,7 +41,7 @@ fn leaves_the_rest(rt: &impl Abort, alloc: Global) -> bool {
 fn features_decide_what_is_there(rt: HostRuntime) {
     check(&rt, leaves_the_rest(&rt, rt.alloc()));
     let grammar = grammar_of(&rt, rt.alloc(), FEATURED);
-    check(&rt, prevalidate::validate(rt.alloc(), &grammar) == Ok(()));
+    check(&rt, prevalidate::validate(rt.alloc(), &grammar).is_ok());
     asks_for(&rt, &grammar, &plain_session(rt.alloc()), "Id", "D");
     asks_for(&rt, &grammar, &featured_session(&rt, rt.alloc()), "D", "Id");
 }
@@ -154,16 +154,16 @@ fn each_level_becomes_a_rule_without_levels(rt: HostRuntime) {
 
 #[test]
 fn sides_and_attributes_by_their_words(rt: HostRuntime) {
-    for (text, side) in [
-        ("left", Ok(Assoc::Left)),
-        ("right", Ok(Assoc::Right)),
-        ("none", Ok(Assoc::NonAssoc)),
-        ("all", Ok(Assoc::FullyAssoc)),
-        ("Left", Err(ParseAssocError)),
-        ("", Err(ParseAssocError)),
-    ] {
-        assert!(rt; Assoc::from_str(text) == side, "{text}");
-    }
+    check(&rt, Assoc::from_str("left") == Ok(Assoc::Left));
+    check(&rt, Assoc::from_str("right") == Ok(Assoc::Right));
+    check(&rt, Assoc::from_str("none") == Ok(Assoc::NonAssoc));
+    check(&rt, Assoc::from_str("all") == Ok(Assoc::FullyAssoc));
+    check(&rt, Assoc::from_str("Left") == Err(ParseAssocError));
+    check(&rt, Assoc::from_str("") == Err(ParseAssocError));
+}
+
+#[test]
+fn words_of_attributes(rt: HostRuntime) {
     check(&rt, (PREC_ATTR, LVL_ARG) == ("precedence", "level"));
     check(&rt, (ASSOC_ATTR, SIDE_ARG) == ("assoc", "side"));
     check(&rt, INLINE == "inline");

@@ -15,7 +15,7 @@ use lalrpop_lexer_scan::{UsedLiteral, entries_of};
 use std::alloc::{AllocError, Global};
 
 /// Where each literal stands first in a written grammar whose disabled parts are gone. Expansion loses that order.
-#[derive(Debug, Drop)]
+#[derive(Drop)]
 pub struct LiteralPlaces {
     // Each literal once.
     uses: Vec<UsedLiteral>,

@@ -46,23 +46,18 @@ view-written_id n = ap type_view (sym (written.rolls-Id n)) ∙ fold-roll-TypeRe
 
 module _ (k : KnownNames) (table : RuleTypes) where
   -- the type of a name with arguments
-  pub nominal_found : (w : TypeRef) (path p : Text) (ys : List TypeRef) (ts : List TypeRepr)
-      → w ≡ written.Nominal path ys → p ≡ path
-      → Some (map type_repr_view ts) ≡ written_ground_types k table (tys (map type_view ys))
-      → Some (type_repr_view (types.Nominal (roll-NominalTypeRepr (record { path = p; types = ts }))))
-      ≡ written_ground_type k table (type_view w)
-  nominal_found w path p ys ts is same found =
-      ap Some (view-nominal p ts ∙ ap (λ q. GroundType.nominal q (ground_types (map type_repr_view ts))) same)
-      ∙ ap (option_map (λ us. GroundType.nominal path (ground_types us))) found
+  pub nominal_found : (w : TypeRef) (path : Text) (ys : List TypeRef) (o : Option (List GroundType)) → w ≡ written.Nominal path ys
+      → o ≡ written_ground_types k table (tys (map type_view ys))
+      → option_map (λ ts. GroundType.nominal path (ground_types ts)) o ≡ written_ground_type k table (type_view w)
+  nominal_found w path ys o is found =
+      ap (option_map (λ ts. GroundType.nominal path (ground_types ts))) found
       ∙ sym (ap (written_ground_type k table) (ap type_view is ∙ view-written_nominal path ys))
 
   -- the type of a name
-  pub id_found : (w : TypeRef) (n p : Text) (ts : List TypeRepr) → w ≡ written.Id n → p ≡ n → ts ≡ []
-      → Some (type_repr_view (types.Nominal (roll-NominalTypeRepr (record { path = p; types = ts }))))
-      ≡ written_ground_type k table (type_view w)
-  id_found w n p ts is same none =
-      ap Some (view-nominal p ts ∙ ap (λ q. GroundType.nominal q (ground_types (map type_repr_view ts))) same
-      ∙ ap (λ us. GroundType.nominal n (ground_types (map type_repr_view us))) none)
+  pub id_found : (w : TypeRef) (n : Text) (ts : List TypeRepr) → w ≡ written.Id n → ts ≡ []
+      → Some (GroundType.nominal n (ground_types (map type_repr_view ts))) ≡ written_ground_type k table (type_view w)
+  id_found w n ts is none =
+      ap (λ us. Some (GroundType.nominal n (ground_types (map type_repr_view us)))) none
       ∙ sym (ap (written_ground_type k table) (ap type_view is ∙ view-written_id n))
 
   -- the type by those of the symbols that count

@@ -5,8 +5,8 @@ ghost use Rattle.std.specs.List.{list_any};
 ghost use Rattle.std.specs.Option.{option_copied};
 ghost use Rattle.lalrpop_grammar_symbols.specs.Views.{symbol_view, terminal_view};
 ghost use Rattle.lalrpop_grammar.specs.Views.{type_view, tys};
-ghost use Rattle.lalrpop_norm_theory.specs.Types.{text_type as text_ground_type};
-ghost use Rattle.lalrpop_norm_tyinfer.specs.GroundViews.{type_repr_view};
+ghost use Rattle.lalrpop_norm_theory.specs.Types.{GroundType, text_type as text_ground_type};
+ghost use Rattle.lalrpop_norm_tyinfer.specs.GroundViews.{ground_types, type_repr_view};
 ghost use Rattle.lalrpop_norm_tyinfer.specs.TypesByTable.{counts_for, each_ground_type, is_chosen_symbol, name_ground_type};
 ghost use Rattle.lalrpop_norm_tyinfer.specs.TypesByTable.{symbol_ground_type, symbols_ground_type, terminal_ground_type, tuple_of_types};
 ghost use Rattle.lalrpop_norm_tyinfer.specs.TypesByTable.{written_ground_type, written_ground_types};
@@ -210,6 +210,55 @@ fn clone_lifetime(lifetime: &Option<Atom>) -> Result<Option<Atom>, AllocError>
     }
 }
 
+/// The tuple of the types, where they are there.
+fn tuple_of(types: Option<List<TypeRepr>>) -> Option<TypeRepr>
+    ensures { option_map type_repr_view result
+        ≡ option_map (λ ts. GroundType.tuple (ground_types ts)) (option_map (map type_repr_view) types) }
+{
+    match types {
+        None => None,
+        Some(types) => Some(TypeRepr::Tuple(types)),
+    }
+}
+
+/// The name with the types as its arguments, where they are there.
+fn nominal_of(path: &Atom, types: Option<List<TypeRepr>>) -> Result<Option<TypeRepr>, AllocError>
+    ensures { IfOk result (λ found. option_map type_repr_view found
+        ≡ option_map (λ ts. GroundType.nominal path.now (ground_types ts)) (option_map (map type_repr_view) types)) }
+{
+    match types {
+        None => Ok(None),
+        Some(types) => {
+            let path = path.try_clone()?;
+            Ok(Some(TypeRepr::Nominal(NominalTypeRepr { path, types })))
+        }
+    }
+}
+
+/// The reference to the type, where that is there.
+fn reference_to(
+    alloc: Global,
+    lifetime: &Option<Atom>,
+    mutable: bool,
+    referent: Option<TypeRepr>,
+) -> Result<Option<TypeRepr>, AllocError>
+    ensures { IfOk result (λ found. option_map type_repr_view found
+        ≡ option_map (GroundType.ref lifetime.now mutable) (option_map type_repr_view referent)) }
+{
+    match referent {
+        None => Ok(None),
+        Some(referent) => {
+            let referent = Boxed::new(alloc, referent)?;
+            let lifetime = clone_lifetime(lifetime)?;
+            Ok(Some(TypeRepr::Ref {
+                lifetime,
+                mutable,
+                referent,
+            }))
+        }
+    }
+}
+
 /// The type that the written one stands for, by the table.
 #[cycle(written_types)]
 fn written_type(
@@ -222,39 +271,24 @@ fn written_type(
         ≡ written_ground_type (names_view names.now) (rule_types table.now) (type_view written.now)) }
 {
     match written {
-        TypeRef::Tuple(types) => match written_types(alloc, names, table, types.as_slice())? {
-            None => Ok(None),
-            Some(types) => Ok(Some(TypeRepr::Tuple(types))),
-        },
-        TypeRef::Nominal { path, types } => {
-            match written_types(alloc, names, table, types.as_slice())? {
-                None => Ok(None),
-                Some(types) => Ok(Some(TypeRepr::Nominal(NominalTypeRepr {
-                    path: path.try_clone()?,
-                    types,
-                }))),
-            }
+        TypeRef::Tuple(types) => {
+            let types = written_types(alloc, names, table, types.as_slice())?;
+            Ok(tuple_of(types))
         }
-        TypeRef::Id(name) => Ok(Some(TypeRepr::Nominal(NominalTypeRepr {
-            path: name.try_clone()?,
-            types: List::new(alloc),
-        }))),
+        TypeRef::Nominal { path, types } => {
+            let types = written_types(alloc, names, table, types.as_slice())?;
+            nominal_of(path, types)
+        }
+        TypeRef::Id(name) => nominal_of(name, Some(List::new(alloc))),
         TypeRef::OfSymbol(symbol) => symbol_type(alloc, names, table, symbol),
         TypeRef::Ref {
             lifetime,
             mutable,
             referent,
-        } => match written_type(alloc, names, table, referent.get())? {
-            None => Ok(None),
-            Some(found) => {
-                let mutable = *mutable;
-                Ok(Some(TypeRepr::Ref {
-                    lifetime: clone_lifetime(lifetime)?,
-                    mutable,
-                    referent: Boxed::new(alloc, found)?,
-                }))
-            }
-        },
+        } => {
+            let referent = written_type(alloc, names, table, referent.get())?;
+            reference_to(alloc, lifetime, *mutable, referent)
+        }
         TypeRef::Opaque(text) => Ok(Some(TypeRepr::Opaque(text.try_clone()?))),
     }
 }

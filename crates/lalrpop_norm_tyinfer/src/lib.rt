@@ -9,6 +9,7 @@ mod equations;
 mod ground;
 mod infer;
 mod names;
+mod progress;
 mod same;
 mod search;
 mod terminals;

@@ -5,13 +5,14 @@ ghost use Rattle.lalrpop_grammar_language.specs.Among.{Among};
 ghost use Rattle.lalrpop_grammar.specs.Views.{nonterminal_view};
 ghost use Rattle.lalrpop_norm_tyinfer.specs.GroundViews.{type_repr_view};
 ghost use Rattle.lalrpop_norm_tyinfer.specs.Equations.{Agrees, AllAgree, GivesType, type_equations, untyped_equations};
-ghost use Rattle.lalrpop_norm_tyinfer.specs.Searching.{IsDisagreement, IsNewType, IsOpenEquation, work_left};
+ghost use Rattle.lalrpop_norm_tyinfer.specs.Searching.{AreGivenEquations, IsDisagreement, IsNewType, IsOpenEquation, IsRightSoFar, left_to_search};
 ghost use Rattle.lalrpop_norm_tyinfer.specs.TypeFaults.{IsTypeFault};
 ghost use Rattle.lalrpop_norm_tyinfer.specs.ProgramViews.{AreEquations, IsRightTable, equation_view, grammar_of, names_view, rule_types};
 
 use crate::equations::Equation;
 use crate::ground::{RuleTypes, source_type};
 use crate::names::Names;
+use crate::progress::{GrammarEquations, Progress};
 use crate::same::same_type;
 use crate::waiting::Waiting;
 use lalrpop_grammar::NonterminalData;
@@ -65,44 +66,42 @@ fn check_equation(
 
 /// Puts the type that the equation gives into the table, and its rule to those whose types are new.
 fn put_type<'g>(
-    names: &Names<'g>,
+    given: GrammarEquations<'_, 'g>,
     equation: &Equation<'g>,
     ty: TypeRepr,
-    table: &mut RuleTypes,
-    typed: &mut Vec<&'g Atom>,
+    progress: &mut Progress<'g>,
 ) -> Result<(), AllocError>
-    requires of_grammar { Among (type_equations (grammar_of names.now)) (equation_view equation.now) }
-    requires right { IsRightTable (grammar_of names.now) (rule_types table.old) }
-    requires gives { GivesType (names_view names.now) (rule_types table.old) (equation_view equation.now) (type_repr_view ty) }
-    ensures right { OnOk result (IsRightTable (grammar_of names.now) (rule_types table.new)) }
-    ensures fewer { OnOk result (untyped_equations (rule_types table.new) (type_equations (grammar_of names.now)) + 1
-        ≤ untyped_equations (rule_types table.old) (type_equations (grammar_of names.now))) }
-    ensures one { OnOk result (vec_len typed.new ≡ vec_len typed.old + 1) }
+    requires of_grammar { Among (type_equations (grammar_of given.names.now)) (equation_view equation.now) }
+    requires right { IsRightSoFar given progress.old }
+    requires gives { GivesType (names_view given.names.now) (rule_types progress.old.table) (equation_view equation.now)
+        (type_repr_view ty) }
+    ensures right { OnOk result (IsRightSoFar given.entry progress.new) }
+    ensures fewer { OnOk result (untyped_equations (rule_types progress.new.table) (type_equations (grammar_of given.entry.names.now)) + 1
+        ≤ untyped_equations (rule_types progress.old.table) (type_equations (grammar_of given.entry.names.now))) }
+    ensures one { OnOk result (vec_len progress.new.typed ≡ vec_len progress.old.typed + 1) }
 {
-    table.insert(equation.rule.name.try_clone()?, ty)?;
-    typed.push(&equation.rule.name.0)?;
+    progress.table.insert(equation.rule.name.try_clone()?, ty)?;
+    progress.typed.push(&equation.rule.name.0)?;
     Ok(())
 }
 
 /// Puts the type that the equation gives into the table, where its rule has none yet.
 fn settle<'g>(
     alloc: Global,
-    names: &Names<'g>,
+    given: GrammarEquations<'_, 'g>,
     equation: &Equation<'g>,
-    table: &mut RuleTypes,
-    typed: &mut Vec<&'g Atom>,
+    progress: &mut Progress<'g>,
 ) -> Result<(), NormFault>
-    requires of_grammar { Among (type_equations (grammar_of names.now)) (equation_view equation.now) }
-    requires right { IsRightTable (grammar_of names.now) (rule_types table.old) }
-    ensures right { OnOk result (IsRightTable (grammar_of names.now) (rule_types table.new)) }
-    ensures work { OnOk result (work_left (grammar_of names.now) (rule_types table.new) (vec_len typed.new)
-        ≤ work_left (grammar_of names.now) (rule_types table.old) (vec_len typed.old)) }
-    ensures fault { IfErr result (IsTypeFault (grammar_of names.now)) }
+    requires of_grammar { Among (type_equations (grammar_of given.names.now)) (equation_view equation.now) }
+    requires right { IsRightSoFar given progress.old }
+    ensures right { OnOk result (IsRightSoFar given.entry progress.new) }
+    ensures work { OnOk result (left_to_search given.entry progress.new ≤ left_to_search given.entry progress.old) }
+    ensures fault { IfErr result (IsTypeFault (grammar_of given.entry.names.now)) }
 {
-    match check_equation(alloc, names, equation, table)? {
+    match check_equation(alloc, given.names, equation, &progress.table)? {
         None => Ok(()),
         Some(ty) => {
-            put_type(names, equation, ty, table, typed)?;
+            put_type(given, equation, ty, progress)?;
             Ok(())
         }
     }
@@ -111,50 +110,42 @@ fn settle<'g>(
 /// Asks the equation of this number, or lets it wait for a rule without type that it names.
 fn visit<'g>(
     alloc: Global,
-    names: &Names<'g>,
-    equations: &[Equation<'g>],
+    given: GrammarEquations<'_, 'g>,
     number: usize,
-    waiting: &mut Waiting<'g>,
-    table: &mut RuleTypes,
-    typed: &mut Vec<&'g Atom>,
+    progress: &mut Progress<'g>,
 ) -> Result<(), NormFault>
-    requires of_grammar { AreEquations names.now equations.now }
-    requires right { IsRightTable (grammar_of names.now) (rule_types table.old) }
-    ensures right { OnOk result (IsRightTable (grammar_of names.now) (rule_types table.new)) }
-    ensures work { OnOk result (work_left (grammar_of names.now) (rule_types table.new) (vec_len typed.new)
-        ≤ work_left (grammar_of names.now) (rule_types table.old) (vec_len typed.old)) }
-    ensures fault { IfErr result (IsTypeFault (grammar_of names.now)) }
+    requires of_grammar { AreGivenEquations given }
+    requires right { IsRightSoFar given progress.old }
+    ensures right { OnOk result (IsRightSoFar given.entry progress.new) }
+    ensures work { OnOk result (left_to_search given.entry progress.new ≤ left_to_search given.entry progress.old) }
+    ensures fault { IfErr result (IsTypeFault (grammar_of given.entry.names.now)) }
 {
-    if let Some(name) = waiting.next_missing(number, table)? {
-        waiting.add(alloc, name, number)?;
+    if let Some(name) = progress.waiting.next_missing(number, &progress.table)? {
+        progress.waiting.add(alloc, name, number)?;
         return Ok(());
     }
-    match equations.get(number) {
+    match given.equations.get(number) {
         None => Ok(()),
-        Some(equation) => settle(alloc, names, equation, table, typed),
+        Some(equation) => settle(alloc, given, equation, progress),
     }
 }
 
 /// Asks the equations that waited for the rule.
 fn wake<'g>(
     alloc: Global,
-    names: &Names<'g>,
-    equations: &[Equation<'g>],
+    given: GrammarEquations<'_, 'g>,
     name: &Atom,
-    waiting: &mut Waiting<'g>,
-    table: &mut RuleTypes,
-    typed: &mut Vec<&'g Atom>,
+    progress: &mut Progress<'g>,
 ) -> Result<(), NormFault>
-    requires of_grammar { AreEquations names.now equations.now }
-    requires right { IsRightTable (grammar_of names.now) (rule_types table.old) }
-    ensures right { OnOk result (IsRightTable (grammar_of names.now) (rule_types table.new)) }
-    ensures work { OnOk result (work_left (grammar_of names.now) (rule_types table.new) (vec_len typed.new)
-        ≤ work_left (grammar_of names.now) (rule_types table.old) (vec_len typed.old)) }
-    ensures fault { IfErr result (IsTypeFault (grammar_of names.now)) }
+    requires of_grammar { AreGivenEquations given }
+    requires right { IsRightSoFar given progress.old }
+    ensures right { OnOk result (IsRightSoFar given.entry progress.new) }
+    ensures work { OnOk result (left_to_search given.entry progress.new ≤ left_to_search given.entry progress.old) }
+    ensures fault { IfErr result (IsTypeFault (grammar_of given.entry.names.now)) }
 {
-    if let Some(numbers) = waiting.take(name) {
+    if let Some(numbers) = progress.waiting.take(name) {
         for number in numbers.as_slice() {
-            visit(alloc, names, equations, *number, waiting, table, typed)?;
+            visit(alloc, given, *number, progress)?;
         }
     }
     Ok(())
@@ -163,22 +154,18 @@ fn wake<'g>(
 /// Goes on from the rules whose types are new, until none is.
 fn spread<'g>(
     alloc: Global,
-    names: &Names<'g>,
-    equations: &[Equation<'g>],
-    waiting: &mut Waiting<'g>,
-    table: &mut RuleTypes,
-    typed: &mut Vec<&'g Atom>,
+    given: GrammarEquations<'_, 'g>,
+    progress: &mut Progress<'g>,
 ) -> Result<(), NormFault>
-    requires of_grammar { AreEquations names.now equations.now }
-    requires right { IsRightTable (grammar_of names.now) (rule_types table.old) }
-    ensures right { OnOk result (IsRightTable (grammar_of names.now) (rule_types table.new)) }
-    ensures work { OnOk result (work_left (grammar_of names.now) (rule_types table.new) (vec_len typed.new)
-        ≤ work_left (grammar_of names.now) (rule_types table.old) (vec_len typed.old)) }
-    ensures done { OnOk result (vec_len typed.new ≡ 0) }
-    ensures fault { IfErr result (IsTypeFault (grammar_of names.now)) }
+    requires of_grammar { AreGivenEquations given }
+    requires right { IsRightSoFar given progress.old }
+    ensures right { OnOk result (IsRightSoFar given.entry progress.new) }
+    ensures work { OnOk result (left_to_search given.entry progress.new ≤ left_to_search given.entry progress.old) }
+    ensures done { OnOk result (vec_len progress.new.typed ≡ 0) }
+    ensures fault { IfErr result (IsTypeFault (grammar_of given.entry.names.now)) }
 {
-    while let Some(name) = typed.pop() {
-        wake(alloc, names, equations, name, waiting, table, typed)?;
+    while let Some(name) = progress.typed.pop() {
+        wake(alloc, given, name, progress)?;
     }
     Ok(())
 }
@@ -186,19 +173,16 @@ fn spread<'g>(
 /// Asks each equation once.
 fn visit_all<'g>(
     alloc: Global,
-    names: &Names<'g>,
-    equations: &[Equation<'g>],
-    waiting: &mut Waiting<'g>,
-    table: &mut RuleTypes,
-    typed: &mut Vec<&'g Atom>,
+    given: GrammarEquations<'_, 'g>,
+    progress: &mut Progress<'g>,
 ) -> Result<(), NormFault>
-    requires of_grammar { AreEquations names.now equations.now }
-    requires right { IsRightTable (grammar_of names.now) (rule_types table.old) }
-    ensures right { OnOk result (IsRightTable (grammar_of names.now) (rule_types table.new)) }
-    ensures fault { IfErr result (IsTypeFault (grammar_of names.now)) }
+    requires of_grammar { AreGivenEquations given }
+    requires right { IsRightSoFar given progress.old }
+    ensures right { OnOk result (IsRightSoFar given.entry progress.new) }
+    ensures fault { IfErr result (IsTypeFault (grammar_of given.entry.names.now)) }
 {
-    for number in 0..equations.len() {
-        visit(alloc, names, equations, number, waiting, table, typed)?;
+    for number in 0..given.equations.len() {
+        visit(alloc, given, number, progress)?;
     }
     Ok(())
 }
@@ -206,19 +190,18 @@ fn visit_all<'g>(
 /// The first equation that gives its rule a type that has none by the table, with that type.
 fn open_equation<'g>(
     alloc: Global,
-    names: &Names<'g>,
-    equations: &[Equation<'g>],
+    given: GrammarEquations<'_, 'g>,
     table: &RuleTypes,
 ) -> Result<Option<(Equation<'g>, TypeRepr)>, NormFault>
-    requires of_grammar { AreEquations names.now equations.now }
-    requires right { IsRightTable (grammar_of names.now) (rule_types table.now) }
+    requires of_grammar { AreGivenEquations given }
+    requires right { IsRightTable (grammar_of given.names.now) (rule_types table.now) }
     ensures found { IfOk result (λ found. MatchOption found
-        (AllAgree (names_view names.now) (rule_types table.now) (type_equations (grammar_of names.now)))
-        (λ found. IsOpenEquation names.now (rule_types table.now) found.0 (type_repr_view found.1))) }
-    ensures fault { IfErr result (IsTypeFault (grammar_of names.now)) }
+        (AllAgree (names_view given.entry.names.now) (rule_types table.now) (type_equations (grammar_of given.entry.names.now)))
+        (λ found. IsOpenEquation given.entry.names.now (rule_types table.now) found.0 (type_repr_view found.1))) }
+    ensures fault { IfErr result (IsTypeFault (grammar_of given.entry.names.now)) }
 {
-    for equation in equations {
-        if let Some(ty) = check_equation(alloc, names, equation, table)? {
+    for equation in given.equations {
+        if let Some(ty) = check_equation(alloc, given.names, equation, table)? {
             return Ok(Some((*equation, ty)));
         }
     }
@@ -229,25 +212,23 @@ fn open_equation<'g>(
 /// is found open here but where one was missed.
 fn settle_all<'g>(
     alloc: Global,
-    names: &Names<'g>,
-    equations: &[Equation<'g>],
-    waiting: &mut Waiting<'g>,
-    table: &mut RuleTypes,
-    typed: &mut Vec<&'g Atom>,
+    given: GrammarEquations<'_, 'g>,
+    progress: &mut Progress<'g>,
 ) -> Result<(), NormFault>
-    requires of_grammar { AreEquations names.now equations.now }
-    requires right { IsRightTable (grammar_of names.now) (rule_types table.old) }
-    requires done { vec_len typed.old ≡ 0 }
-    ensures right { OnOk result (IsRightTable (grammar_of names.now) (rule_types table.new)) }
-    ensures agree { OnOk result (AllAgree (names_view names.now) (rule_types table.new) (type_equations (grammar_of names.now))) }
-    ensures fault { IfErr result (IsTypeFault (grammar_of names.now)) }
+    requires of_grammar { AreGivenEquations given }
+    requires right { IsRightSoFar given progress.old }
+    requires done { vec_len progress.old.typed ≡ 0 }
+    ensures right { OnOk result (IsRightSoFar given.entry progress.new) }
+    ensures agree { OnOk result (AllAgree (names_view given.entry.names.now) (rule_types progress.new.table)
+        (type_equations (grammar_of given.entry.names.now))) }
+    ensures fault { IfErr result (IsTypeFault (grammar_of given.entry.names.now)) }
 {
     'settling: loop {
-        match open_equation(alloc, names, equations, table)? {
+        match open_equation(alloc, given, &progress.table)? {
             None => return Ok(()),
             Some((equation, ty)) => {
-                put_type(names, &equation, ty, table, typed)?;
-                spread(alloc, names, equations, waiting, table, typed)?;
+                put_type(given, &equation, ty, progress)?;
+                spread(alloc, given, progress)?;
             }
         }
     }
@@ -265,32 +246,14 @@ pub(crate) fn inferred_types<'g>(
         AllAgree (names_view names.now) (rule_types table) (type_equations (grammar_of names.now))) }
     ensures fault { IfErr result (IsTypeFault (grammar_of names.now)) }
 {
-    let mut waiting = Waiting::new(alloc, names, equations)?;
-    let mut typed = Vec::new(alloc);
-    let mut table = RuleTypes::new(alloc);
-    visit_all(
-        alloc,
-        names,
-        equations,
-        &mut waiting,
-        &mut table,
-        &mut typed,
-    )?;
-    spread(
-        alloc,
-        names,
-        equations,
-        &mut waiting,
-        &mut table,
-        &mut typed,
-    )?;
-    settle_all(
-        alloc,
-        names,
-        equations,
-        &mut waiting,
-        &mut table,
-        &mut typed,
-    )?;
-    Ok(table)
+    let given = GrammarEquations { names, equations };
+    let mut progress = Progress {
+        table: RuleTypes::new(alloc),
+        typed: Vec::new(alloc),
+        waiting: Waiting::new(alloc, names, equations)?,
+    };
+    visit_all(alloc, given, &mut progress)?;
+    spread(alloc, given, &mut progress)?;
+    settle_all(alloc, given, &mut progress)?;
+    Ok(progress.table)
 }

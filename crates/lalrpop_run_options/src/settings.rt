@@ -3,7 +3,7 @@ use crate::Task;
 use lalrpop_grammar_repr::methods::Method;
 
 /// What the words ask for.
-#[derive(Debug, Drop)]
+#[derive(Drop)]
 pub struct Options {
     /// What to do: the positional word.
     pub task: Task,

@@ -2,5 +2,6 @@
 #![tactic(auto)]
 
 pub mod flat_labels;
+mod records;
 pub mod tree_parts;
 pub mod written_trees;

@@ -15,7 +15,7 @@ use std::collections::btree_map::{IntoIter, Iter};
 use std::marker::Model;
 
 /// A map that keeps a collection at each of its keys, in order of the keys.
-#[derive(Debug, Drop)]
+#[derive(Drop)]
 pub struct Multimap<K: Ord, C> {
     alloc: Global,
     map: BTreeMap<K, C>,

@@ -2,7 +2,8 @@
 
 ghost use Rattle.lalrpop_lr1_first.specs.NumberedGrammars.{HasItsTerminals};
 
-use crate::case::Case;
+use crate::call::Call;
+use crate::case::{Case, Question};
 use crate::checks::{check_text, text_of_written};
 use crate::conflicts::{canonical_conflicts, collapsed_conflicts};
 use crate::firsts::first_text;
@@ -51,11 +52,12 @@ fn text_of(alloc: Global, lines: &[Value]) -> Result<String> {
 fn answer_under(alloc: Global, case: &Case<'_>, grammar: &Grammar) -> Result<String>
     requires { HasItsTerminals grammar.now }
 {
-    let start = start_of(alloc, case.start)?;
-    if let Some(states) = case.states {
-        return check_written(alloc, case, grammar, &start, states);
+    let question = &case.question;
+    let start = start_of(alloc, question.start)?;
+    if let Some(states) = question.checked.states {
+        return check_written(alloc, question.checked.others, grammar, &start, states);
     }
-    match answer_call(alloc, case, grammar, &start) {
+    match answer_call(alloc, question, grammar, &start) {
         Ok(text) => Ok(text),
         Err(fault) => fault_text(alloc, fault),
     }
@@ -64,55 +66,44 @@ fn answer_under(alloc: Global, case: &Case<'_>, grammar: &Grammar) -> Result<Str
 /// Whether the states that the case writes may be parsed with, as text.
 fn check_written(
     alloc: Global,
-    case: &Case<'_>,
+    others: &[Value],
     grammar: &Grammar,
     start: &NonterminalString,
     states: &[Value],
 ) -> Result<String>
     requires { HasItsTerminals grammar.now }
 {
-    let lines = text_of(alloc, case.others)?;
+    let lines = text_of(alloc, others)?;
     match read_productions(alloc, lines.as_str()) {
         Ok(others) => text_of_written(alloc, grammar, &others, start, states),
         Err(fault) => fault_text(alloc, fault),
     }
 }
 
-/// The answer to the call.
-///
-/// - `counts`: how many states and conflicts there are.
-/// - `tree`: the tree of the tokens, or where they are stuck.
-/// - `parse`: how many leaves and nodes the tree of the tokens has within the limit, or why there is none.
-/// - `onto`: what is made of the tokens within the limit, leaf by leaf and node by node, or why that ends.
-/// - `check`: whether states may be parsed with: those that are written, or the canonical ones, changed.
-/// - `conflicts`: the conflicts of the canonical states.
-/// - `collapsed_conflicts`: the conflicts of the states into which these collapse.
-/// - `first`: the first set of the names.
-/// - `least`: the start's least tree: how many leaves and nodes, and its moves.
-/// - `empty`: its least tree without leaves.
-/// - `begin`: a tree of it that begins with the first token, and the place of its production at which it does.
+/// The answer to the question; what is asked of states is asked of the grammar's own.
 fn answer_call(
     alloc: Global,
-    case: &Case<'_>,
+    question: &Question<'_>,
     grammar: &Grammar,
     start: &NonterminalString,
 ) -> Result<String, AnswerFault>
     requires { HasItsTerminals grammar.now }
 {
-    match case.call {
-        "counts" => Ok(counts_text(alloc, grammar, start)?),
-        "tree" => tree_text(alloc, grammar, start, case.tokens),
-        "parse" => parse_text(alloc, grammar, start, case.tokens, case.limit),
-        "onto" => onto_text(alloc, grammar, start, case.tokens, case.limit),
-        "check" => Ok(check_text(alloc, grammar, start, case.change)?),
-        "conflicts" => Ok(canonical_conflicts(alloc, grammar, start)?),
-        "collapsed_conflicts" => Ok(collapsed_conflicts(alloc, grammar, start)?),
-        "first" => Ok(first_text(alloc, grammar, case.names)?),
-        "least" => Ok(least_text(alloc, grammar, start)?),
-        "empty" => Ok(empty_text(alloc, grammar, start)?),
-        "begin" => begin_text(alloc, grammar, start, case.tokens),
-        _ => Ok(String::from_str(alloc, "no such call")?),
-    }
+    let Question { tokens, limit, .. } = *question;
+    let text = match question.call {
+        Call::Tree => return tree_text(alloc, grammar, start, tokens),
+        Call::Parse => return parse_text(alloc, grammar, start, tokens, limit),
+        Call::Onto => return onto_text(alloc, grammar, start, tokens, limit),
+        Call::Begin => return begin_text(alloc, grammar, start, tokens),
+        Call::Counts => counts_text(alloc, grammar, start),
+        Call::Check => check_text(alloc, grammar, start, question.checked.change),
+        Call::Conflicts => canonical_conflicts(alloc, grammar, start),
+        Call::CollapsedConflicts => collapsed_conflicts(alloc, grammar, start),
+        Call::First => first_text(alloc, grammar, question.names),
+        Call::Least => least_text(alloc, grammar, start),
+        Call::Empty => empty_text(alloc, grammar, start),
+    };
+    Ok(text?)
 }
 
 /// How many states and conflicts there are, as text.

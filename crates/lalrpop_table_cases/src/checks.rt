@@ -2,6 +2,7 @@
 
 ghost use Rattle.lalrpop_lr1_first.specs.NumberedGrammars.{HasItsTerminals};
 
+use crate::call::Change;
 use crate::states::states_of;
 use anyhow::Result;
 use lalrpop_grammar_repr::{Grammar, Map, Production, TerminalSet};
@@ -30,15 +31,14 @@ fn some_not_at_end(reductions: &[Reduction<'_>], terminals: &TerminalSet) -> boo
 }
 
 /// Whether the state has what is to be changed.
-fn has_it(state: &Lr1State<'_>, change: &str, terminals: &TerminalSet) -> bool {
+fn has_it(state: &Lr1State<'_>, change: Change, terminals: &TerminalSet) -> bool {
     match change {
-        "no shifts" => !state.shifts.is_empty(),
-        "no gotos" => !state.gotos.is_empty(),
-        "no reductions" | "before all tokens" => !state.reductions.is_empty(),
-        "before the end too" => some_not_at_end(state.reductions.as_slice(), terminals),
-        "no items" => !state.items.vec.is_empty(),
-        "another number" => true,
-        _ => false,
+        Change::NoShifts => !state.shifts.is_empty(),
+        Change::NoGotos => !state.gotos.is_empty(),
+        Change::NoReductions | Change::BeforeAllTokens => !state.reductions.is_empty(),
+        Change::BeforeTheEndToo => some_not_at_end(state.reductions.as_slice(), terminals),
+        Change::NoItems => !state.items.vec.is_empty(),
+        Change::AnotherNumber => true,
     }
 }
 
@@ -73,14 +73,16 @@ fn before_the_end<'g>(
 fn change_reductions<'g>(
     alloc: Global,
     reductions: List<Reduction<'g>>,
-    change: &str,
+    change: Change,
     terminals: &TerminalSet,
 ) -> Result<List<Reduction<'g>>, AllocError> {
     match change {
-        "no reductions" => Ok(List::new(alloc)),
-        "before all tokens" => before_all(alloc, reductions, terminals),
-        "before the end too" => before_the_end(alloc, reductions, terminals),
-        _ => Ok(reductions),
+        Change::NoReductions => Ok(List::new(alloc)),
+        Change::BeforeAllTokens => before_all(alloc, reductions, terminals),
+        Change::BeforeTheEndToo => before_the_end(alloc, reductions, terminals),
+        Change::NoShifts | Change::NoGotos | Change::NoItems | Change::AnotherNumber => {
+            Ok(reductions)
+        }
     }
 }
 
@@ -88,7 +90,7 @@ fn change_reductions<'g>(
 fn change_state<'g>(
     alloc: Global,
     state: Lr1State<'g>,
-    change: &str,
+    change: Change,
     terminals: &TerminalSet,
 ) -> Result<Lr1State<'g>, AllocError> {
     let State {
@@ -100,15 +102,15 @@ fn change_state<'g>(
     } = state;
     let reductions = change_reductions(alloc, reductions, change, terminals)?;
     match change {
-        "another number" => index = OTHER_NUMBER,
-        "no shifts" => shifts = Map::new(alloc),
-        "no gotos" => gotos = Map::new(alloc),
-        "no items" => {
+        Change::AnotherNumber => index = OTHER_NUMBER,
+        Change::NoShifts => shifts = Map::new(alloc),
+        Change::NoGotos => gotos = Map::new(alloc),
+        Change::NoItems => {
             items = Items {
                 vec: List::new(alloc),
             }
         }
-        _ => {}
+        Change::NoReductions | Change::BeforeAllTokens | Change::BeforeTheEndToo => {}
     }
     Ok(State {
         index,
@@ -119,21 +121,22 @@ fn change_state<'g>(
     })
 }
 
-/// The states, with the change in the first that has what is to be changed.
+/// The states, with the change, where there is one, in the first that has what is to be changed.
 fn change_first<'g>(
     alloc: Global,
     states: Vec<Lr1State<'g>>,
-    change: &str,
+    change: Option<Change>,
     terminals: &TerminalSet,
 ) -> Result<Vec<Lr1State<'g>>, AllocError> {
     let mut changed = Vec::new(alloc);
-    let mut is_done = false;
+    let mut left = change;
     for state in states {
-        if !is_done && has_it(&state, change, terminals) {
-            changed.push(change_state(alloc, state, change, terminals)?)?;
-            is_done = true;
-        } else {
-            changed.push(state)?;
+        match left {
+            Some(change) if has_it(&state, change, terminals) => {
+                changed.push(change_state(alloc, state, change, terminals)?)?;
+                left = None;
+            }
+            _ => changed.push(state)?,
         }
     }
     Ok(changed)
@@ -144,7 +147,7 @@ pub(crate) fn check_text(
     alloc: Global,
     grammar: &Grammar,
     start: &NonterminalString,
-    change: &str,
+    change: Option<Change>,
 ) -> Result<String, AllocError>
     requires { HasItsTerminals grammar.now }
 {

@@ -1,9 +1,12 @@
 //! Least trees and trees that begin with a terminal, as text: how many leaves and nodes, and the moves that build them.
 
 ghost use Rattle.lalrpop_lr1_first.specs.NumberedGrammars.{HasItsTerminals};
+ghost use Rattle.lalrpop_lr1_least_trees.specs.BeginTables.{AreBeginTrees};
+ghost use Rattle.lalrpop_lr1_least_trees.specs.GrammarTrees.{AreLeastTrees};
+ghost use Rattle.lalrpop_lr1_least_trees.specs.LeastExpanded.{HasTableGrammar};
 
 use lalrpop_grammar_repr::Grammar;
-use lalrpop_grammar_symbols::NonterminalString;
+use lalrpop_grammar_symbols::{NonterminalString, TerminalString};
 use lalrpop_lr1_interpret::parse::ExpandedTree;
 use lalrpop_lr1_least_trees::begin_trees::BeginTrees;
 use lalrpop_lr1_least_trees::made_trees::{begin_tree, empty_tree, least_tree};
@@ -24,11 +27,23 @@ pub(crate) fn least_text(
     requires { HasItsTerminals grammar.now }
 {
     let trees = LeastTrees::new(alloc, grammar)?;
-    let made = least_tree(alloc, &trees, name, 0)?;
-    match (trees.count(name), trees.moves(alloc, name)?, made) {
+    least_text_among(alloc, &trees, name)
+}
+
+/// The nonterminal's tree among the least ones.
+fn least_text_among(
+    alloc: Global,
+    trees: &LeastTrees<'_>,
+    name: &NonterminalString,
+) -> Result<String, AllocError>
+    requires trees { AreLeastTrees trees.now }
+    requires grammar { HasTableGrammar trees.now }
+{
+    let count = trees.count(name);
+    let moves = trees.moves(alloc, name)?;
+    match (count, moves, least_tree(alloc, trees, name, 0)?) {
         (Some(count), Some(moves), Some(tree)) => {
-            let text = moves_text(alloc, &tree, moves.as_slice())?;
-            Ok(format!(in alloc; "{count}; {text}")?)
+            counted_text(alloc, count, &tree, moves.as_slice())
         }
         _ => String::from_str(alloc, NO_TREE),
     }
@@ -43,11 +58,21 @@ pub(crate) fn empty_text(
     requires { HasItsTerminals grammar.now }
 {
     let trees = LeastTrees::new(alloc, grammar)?;
-    match (
-        empty_tree(alloc, &trees, name)?,
-        trees.empty_moves(alloc, name)?,
-    ) {
-        (Some(tree), Some(moves)) => moves_text(alloc, &tree, moves.as_slice()),
+    empty_text_among(alloc, &trees, name)
+}
+
+/// Its tree without leaves among the least ones.
+fn empty_text_among(
+    alloc: Global,
+    trees: &LeastTrees<'_>,
+    name: &NonterminalString,
+) -> Result<String, AllocError>
+    requires trees { AreLeastTrees trees.now }
+    requires grammar { HasTableGrammar trees.now }
+{
+    let moves = trees.empty_moves(alloc, name)?;
+    match (moves, empty_tree(alloc, trees, name)?) {
+        (Some(moves), Some(tree)) => moves_text(alloc, &tree, moves.as_slice()),
         _ => String::from_str(alloc, NO_TREE),
     }
 }
@@ -62,19 +87,66 @@ pub(crate) fn begin_text(
     requires { HasItsTerminals grammar.now }
 {
     let tokens = read_tokens(alloc, tokens)?;
-    let Some(terminal) = tokens.first() else {
-        return Ok(String::from_str(alloc, NO_TREE)?);
+    let text = match tokens.first() {
+        Some(terminal) => begin_text_with(alloc, grammar, name, terminal),
+        None => String::from_str(alloc, NO_TREE),
     };
+    Ok(text?)
+}
+
+/// A tree of it that begins with the terminal, and the place at which it does.
+fn begin_text_with(
+    alloc: Global,
+    grammar: &Grammar,
+    name: &NonterminalString,
+    terminal: &TerminalString,
+) -> Result<String, AllocError>
+    requires { HasItsTerminals grammar.now }
+{
     let trees = LeastTrees::new(alloc, grammar)?;
     let begins = BeginTrees::new(alloc, &trees, terminal)?;
-    let made = begin_tree(alloc, &begins, name, 0)?;
-    match (begins.production(name), begins.moves(alloc, name)?, made) {
+    begin_text_among(alloc, &begins, name)
+}
+
+/// Its tree among those that begin with a terminal, and the place at which it does.
+fn begin_text_among(
+    alloc: Global,
+    begins: &BeginTrees<'_, '_>,
+    name: &NonterminalString,
+) -> Result<String, AllocError>
+    requires begins { AreBeginTrees begins.now }
+    requires grammar { HasTableGrammar begins.now.trees.now }
+{
+    let production = begins.production(name);
+    let moves = begins.moves(alloc, name)?;
+    match (production, moves, begin_tree(alloc, begins, name, 0)?) {
         (Some((_, place)), Some(moves), Some(tree)) => {
-            let text = moves_text(alloc, &tree, moves.as_slice())?;
-            Ok(format!(in alloc; "at {place}; {text}")?)
+            placed_text(alloc, place, &tree, moves.as_slice())
         }
-        _ => Ok(String::from_str(alloc, NO_TREE)?),
+        _ => String::from_str(alloc, NO_TREE),
     }
+}
+
+/// How many leaves and nodes the tree has by another count, and its moves.
+fn counted_text(
+    alloc: Global,
+    count: usize,
+    tree: &ExpandedTree<'_>,
+    moves: &[TreeMove<'_>],
+) -> Result<String, AllocError> {
+    let text = moves_text(alloc, tree, moves)?;
+    Ok(format!(in alloc; "{count}; {text}")?)
+}
+
+/// The place at which the tree begins, and its moves.
+fn placed_text(
+    alloc: Global,
+    place: usize,
+    tree: &ExpandedTree<'_>,
+    moves: &[TreeMove<'_>],
+) -> Result<String, AllocError> {
+    let text = moves_text(alloc, tree, moves)?;
+    Ok(format!(in alloc; "at {place}; {text}")?)
 }
 
 /// How many leaves and nodes the tree has, and the moves, a terminal for each shift and a name for each reduction.

@@ -1,5 +1,6 @@
 //! The answers: counts, or the tree of tokens.
 
+ghost use Rattle.std.specs.Prelude.{IfOk};
 ghost use Rattle.lalrpop_lr1_first.specs.NumberedGrammars.{HasItsTerminals};
 
 use crate::sentence::tell_sentence;
@@ -21,18 +22,37 @@ pub(crate) fn answer<R: Alloc<A = Global> + Clock + Eprint + Files + Input + Pri
     rt: &R,
     matches: &ArgMatches<'_>,
 ) -> Result<()> {
-    let alloc = rt.alloc();
-    let text = io::read_to_string(alloc, rt.reader())?;
-    let grammar = read_productions(alloc, text.as_str())?;
-    let start = start_of(alloc, matches.get_str("start").unwrap_or(""))?;
+    let start = start_of(rt.alloc(), matches.get_str("start").unwrap_or(""))?;
+    let grammar = read_grammar(rt)?;
+    tell(rt, matches, &grammar, &start)
+}
+
+/// The grammar whose productions stand on standard input.
+fn read_grammar<R: Alloc<A = Global> + Input>(rt: &R) -> Result<Grammar>
+    ensures { IfOk result HasItsTerminals }
+{
+    let text = io::read_to_string(rt.alloc(), rt.reader())?;
+    let grammar = read_productions(rt.alloc(), text.as_str())?;
+    Ok(grammar)
+}
+
+/// Tells what the words ask for of the grammar.
+fn tell<R: Alloc<A = Global> + Clock + Eprint + Files + Print>(
+    rt: &R,
+    matches: &ArgMatches<'_>,
+    grammar: &Grammar,
+    start: &NonterminalString,
+) -> Result<()>
+    requires { HasItsTerminals grammar.now }
+{
     let timed = matches.get_flag("time");
     if let Some(tokens) = matches.get_str("tokens") {
-        return tell_tree(rt, &grammar, &start, tokens, timed);
+        return tell_tree(rt, grammar, start, tokens, timed);
     }
     match matches.get_str("sentence") {
-        Some(file) => tell_sentence(rt, &grammar, &start, file, timed),
-        None if matches.get_flag("check") => tell_check(rt, &grammar, &start, timed),
-        None => tell_counts(rt, &grammar, &start, timed),
+        Some(file) => tell_sentence(rt, grammar, start, file, timed),
+        None if matches.get_flag("check") => tell_check(rt, grammar, start, timed),
+        None => tell_counts(rt, grammar, start, timed),
     }
 }
 

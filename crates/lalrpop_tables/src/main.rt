@@ -30,7 +30,16 @@ fn respond<R: Alloc<A = Global> + Clock + Env + Eprint + Files + Input + Print>(
         .iter()
         .map(|word| word.as_str())
         .collect(rt.alloc())?;
-    match command(rt.alloc())?.try_get_matches_from(words.as_slice()) {
+    respond_to(rt, words.as_slice())
+}
+
+/// Answers the words, the first of which names the program.
+fn respond_to<R: Alloc<A = Global> + Clock + Eprint + Files + Input + Print>(
+    rt: &R,
+    words: &[&str],
+) -> Result<u8> {
+    let command = command(rt.alloc())?;
+    match command.try_get_matches_from(words) {
         Ok(matches) => {
             answer(rt, &matches)?;
             Ok(0)

@@ -1,12 +1,14 @@
 //! Whether tokens are a sentence, by a parse that makes no tree: what the moves alone take.
 
 ghost use Rattle.lalrpop_lr1_first.specs.NumberedGrammars.{HasItsTerminals};
+ghost use Rattle.lalrpop_lr1_interpret.specs.Parses.{AreParsable};
 
 use crate::answer::tell_time;
 use anyhow::{Context, Result};
 use lalrpop_grammar::ScanToken;
-use lalrpop_grammar_repr::Grammar;
+use lalrpop_grammar_repr::{Grammar, TerminalSet};
 use lalrpop_grammar_symbols::{NonterminalString, Span, TerminalString};
+use lalrpop_lr1_core::Lr1State;
 use lalrpop_lr1_interpret::parse::{ActionTable, NoTrees, Stop};
 use lalrpop_plain_tables::answers::parsable_states;
 use lalrpop_plain_tables::lines::read_tokens;
@@ -25,12 +27,40 @@ pub(crate) fn tell_sentence<R: Alloc<A = Global> + Clock + Eprint + Files + Prin
 ) -> Result<()>
     requires { HasItsTerminals grammar.now }
 {
-    let text = fs::read_to_string(rt, file).context(format_args!("reading {file}"))?;
-    let tokens = tokens_of(rt.alloc(), read_tokens(rt.alloc(), text.as_str())?)?;
+    let tokens = read_sentence(rt, file)?;
     let states = parsable_states(rt.alloc(), grammar, start)?;
-    let table = ActionTable::new(rt.alloc(), states.as_slice(), &grammar.terminals)?;
+    tell_parse(
+        rt,
+        states.as_slice(),
+        &grammar.terminals,
+        tokens.as_slice(),
+        timed,
+    )
+}
+
+/// The tokens between blanks in the file.
+fn read_sentence<R: Alloc<A = Global> + Files>(
+    rt: &R,
+    file: &str,
+) -> Result<Vec<ScanToken<'static>>> {
+    let text = fs::read_to_string(rt, file).context(format_args!("reading {file}"))?;
+    let terminals = read_tokens(rt.alloc(), text.as_str())?;
+    Ok(tokens_of(rt.alloc(), terminals)?)
+}
+
+/// Tells how the parse of the tokens by the states ends.
+fn tell_parse<R: Alloc<A = Global> + Clock + Eprint + Print>(
+    rt: &R,
+    states: &[Lr1State<'_>],
+    terminals: &TerminalSet,
+    tokens: &[ScanToken<'_>],
+    timed: bool,
+) -> Result<()>
+    requires { AreParsable terminals.now states.now }
+{
+    let table = ActionTable::new(rt.alloc(), states, terminals)?;
     let began = Instant::now(rt)?;
-    let parsed = table.parse_onto(rt.alloc(), tokens.as_slice(), u64::MAX, &mut NoTrees);
+    let parsed = table.parse_onto(rt.alloc(), tokens, u64::MAX, &mut NoTrees);
     tell_time(rt, began, timed)?;
     tell_parsed(rt, parsed, tokens.len())
 }

@@ -3,7 +3,7 @@
 use crate::calls::automata::{dfa_answer, longest_front, matched_words, pieces};
 use crate::calls::grammars::{symbol_text, terminal_text, tree_text, written_grammar};
 use crate::calls::pattern::{regex_fault, regex_tree};
-use crate::files::fields::{Fields, list_of, only_member, text_of};
+use crate::files::fields::{list_of, only_member, text_of};
 use anyhow::{Result, bail};
 use serde_json::Value;
 use std::alloc::Global;
@@ -38,18 +38,9 @@ pub(crate) fn answer_of(alloc: Global, call: &Value) -> Result<Value> {
 /// The same of the calls that ask automata.
 fn automata_answer(alloc: Global, word: &str, of: &Value) -> Result<Value> {
     match word {
-        "matched_words" => {
-            let fields = Fields::of(of, &["pattern", "words"])?;
-            matched_words(alloc, fields.text("pattern")?, fields.list("words")?)
-        }
-        "longest_front" => {
-            let fields = Fields::of(of, &["pattern", "text"])?;
-            longest_front(alloc, fields.text("pattern")?, fields.text("text")?)
-        }
-        "build_dfa" => {
-            let fields = Fields::of(of, &["patterns", "texts"])?;
-            dfa_answer(alloc, fields.list("patterns")?, fields.list("texts")?)
-        }
-        _ => bail!("no such call"),
+        "matched_words" => matched_words(alloc, of),
+        "longest_front" => longest_front(alloc, of),
+        "build_dfa" => dfa_answer(alloc, of),
+        _ => bail!("no such call: {word}"),
     }
 }

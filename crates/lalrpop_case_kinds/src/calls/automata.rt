@@ -1,6 +1,6 @@
 //! What automata find.
 
-use crate::files::fields::{count_of, list_of, number_of, text_of};
+use crate::files::fields::{Fields, count_of, list_of, number_of, text_of};
 use crate::files::values::{number, object, object_of_two, pair, text};
 use anyhow::{Result, bail};
 use lalrpop_lexer::dfa::{Dfa, DfaConstructionError, Precedence, build_dfa, remove_overlap};
@@ -44,9 +44,11 @@ impl Automata {
     }
 }
 
-/// The words that the pattern matches.
-pub(crate) fn matched_words(alloc: Global, pattern: &str, words: &[Value]) -> Result<Value> {
-    let automata = Automata::new(alloc, pattern)?;
+/// The words that a pattern matches, of those that are listed with it.
+pub(crate) fn matched_words(alloc: Global, of: &Value) -> Result<Value> {
+    let fields = Fields::of(of, &["pattern", "words"])?;
+    let words = fields.list("words")?;
+    let automata = Automata::new(alloc, fields.text("pattern")?)?;
     words_of(alloc, &automata, words)
 }
 
@@ -61,13 +63,19 @@ fn words_of(alloc: Global, automata: &Automata, words: &[Value]) -> Result<Value
     Ok(Value::Array(matched))
 }
 
-/// The longest front of the text that the pattern matches.
-pub(crate) fn longest_front(alloc: Global, pattern: &str, of: &str) -> Result<Value> {
-    let automata = Automata::new(alloc, pattern)?;
-    match automata.front(alloc, of)? {
+/// The longest front of a text that a pattern matches.
+pub(crate) fn longest_front(alloc: Global, of: &Value) -> Result<Value> {
+    let fields = Fields::of(of, &["pattern", "text"])?;
+    match front_of(alloc, fields.text("pattern")?, fields.text("text")?)? {
         Some(front) => Ok(text(alloc, front)?),
         None => Ok(Value::Null),
     }
+}
+
+/// The longest front of the text that the pattern matches, where there is one.
+fn front_of<'t>(alloc: Global, pattern: &str, text: &'t str) -> Result<Option<&'t str>> {
+    let automata = Automata::new(alloc, pattern)?;
+    automata.front(alloc, text)
 }
 
 /// The text of a pattern, and its precedence.
@@ -78,8 +86,18 @@ fn pattern_of(value: &Value) -> Result<(&str, usize)> {
     }
 }
 
-/// What the automaton of the patterns finds at the front of each text, or why there is none.
-pub(crate) fn dfa_answer(alloc: Global, patterns: &[Value], texts: &[Value]) -> Result<Value> {
+/// What the automaton of patterns finds at the front of each text, or why there is none.
+pub(crate) fn dfa_answer(alloc: Global, of: &Value) -> Result<Value> {
+    let fields = Fields::of(of, &["patterns", "texts"])?;
+    let texts = fields.list("texts")?;
+    match dfa_of(alloc, fields.list("patterns")?)? {
+        Ok(dfa) => winners(alloc, &dfa, texts),
+        Err(error) => Ok(refusal(alloc, error)?),
+    }
+}
+
+/// The automaton of the patterns.
+fn dfa_of(alloc: Global, patterns: &[Value]) -> Result<Result<Dfa, DfaConstructionError>> {
     let mut trees = Vec::new(alloc);
     let mut precedences = Vec::new(alloc);
     for pattern in patterns {
@@ -87,10 +105,7 @@ pub(crate) fn dfa_answer(alloc: Global, patterns: &[Value], texts: &[Value]) -> 
         trees.push(parse_regex(alloc, text)?)?;
         precedences.push(Precedence(precedence))?;
     }
-    match build_dfa(alloc, &trees, &precedences) {
-        Ok(dfa) => winners(alloc, &dfa, texts),
-        Err(error) => Ok(refusal(alloc, error)?),
-    }
+    Ok(build_dfa(alloc, &trees, &precedences))
 }
 
 /// Why there is no automaton.

@@ -2,7 +2,7 @@
 
 use crate::files::values::{number, pair, text};
 use anyhow::{Result, bail};
-use lalrpop_grammar::Grammar;
+use lalrpop_grammar::{Grammar, Symbol, TerminalString};
 use lalrpop_json_document::lend_value;
 use lalrpop_json_grammar::writer::write_grammar;
 use lalrpop_json_grammar::{print_tree, read_grammar, read_tree};
@@ -12,21 +12,33 @@ use std::alloc::Global;
 
 /// The text of the symbol.
 pub(crate) fn symbol_text(alloc: Global, symbol: &Value) -> Result<Value> {
-    let document = lend_value(alloc, symbol)?;
-    let Ok(symbol) = symbol_of(alloc, &document) else {
-        bail!("no symbol");
-    };
+    let symbol = spelled_symbol(alloc, symbol)?;
     Ok(Value::from(symbol.canonical_form(alloc)?))
+}
+
+/// The symbol that the value spells.
+fn spelled_symbol(alloc: Global, value: &Value) -> Result<Symbol> {
+    let document = lend_value(alloc, value)?;
+    match symbol_of(alloc, &document) {
+        Ok(symbol) => Ok(symbol),
+        Err(_) => bail!("no symbol"),
+    }
 }
 
 /// The text of the terminal, and the number of bytes that it says to have.
 pub(crate) fn terminal_text(alloc: Global, terminal: &Value) -> Result<Value> {
-    let document = lend_value(alloc, terminal)?;
-    let Ok(terminal) = terminal_of(alloc, &document) else {
-        bail!("no terminal");
-    };
+    let terminal = spelled_terminal(alloc, terminal)?;
     let written = Value::from(terminal.canonical_form(alloc)?);
     Ok(pair(alloc, written, number(terminal.display_len()))?)
+}
+
+/// The terminal that the value spells.
+fn spelled_terminal(alloc: Global, value: &Value) -> Result<TerminalString> {
+    let document = lend_value(alloc, value)?;
+    match terminal_of(alloc, &document) {
+        Ok(terminal) => Ok(terminal),
+        Err(_) => bail!("no terminal"),
+    }
 }
 
 /// The text of the tree.
@@ -47,12 +59,24 @@ pub(crate) fn grammar_of(alloc: Global, value: &Value) -> Result<Grammar> {
 
 /// What the grammar is written as, `"itself"` where that is the value that it was read from.
 pub(crate) fn written_grammar(alloc: Global, value: &Value) -> Result<Value> {
-    let grammar = grammar_of(alloc, value)?;
-    let Ok(written) = write_grammar(alloc, &grammar) else {
-        bail!("not written");
-    };
-    if written == *value && written.to_string(alloc)? == value.to_string(alloc)? {
-        return Ok(text(alloc, "itself")?);
+    let written = written_value(alloc, value)?;
+    if is_same(alloc, &written, value)? {
+        Ok(text(alloc, "itself")?)
+    } else {
+        Ok(written)
     }
-    Ok(written)
+}
+
+/// What the grammar that the value spells is written as.
+fn written_value(alloc: Global, value: &Value) -> Result<Value> {
+    let grammar = grammar_of(alloc, value)?;
+    match write_grammar(alloc, &grammar) {
+        Ok(written) => Ok(written),
+        Err(_) => bail!("not written"),
+    }
+}
+
+/// Whether the values are the same, and written in the same order.
+fn is_same(alloc: Global, one: &Value, other: &Value) -> Result<bool> {
+    Ok(*one == *other && one.to_string(alloc)? == other.to_string(alloc)?)
 }

@@ -35,8 +35,9 @@ pub fn run_cases<C: TableCase, R: Alloc<A = Global> + Files + Print>(
 /// The same of the cases that the value lists.
 fn run_values<C: TableCase, R: Alloc<A = Global> + Print>(rt: &R, cases: &Value) -> Result<Tally> {
     let mut tally = Tally::new();
-    for case in list_of(cases)? {
-        tally = tally.and(C::is_right(rt, case)?);
+    for (place, case) in list_of(cases)?.iter().enumerate() {
+        let passed = C::is_right(rt, case).context(format_args!("case {place}, counted from 0"))?;
+        tally = tally.and(passed);
     }
     Ok(tally)
 }

@@ -1,6 +1,6 @@
 //! What a case says under its keys, lent by the value that its file is.
 
-use anyhow::{Result, bail};
+use anyhow::{Context, Result, bail};
 use serde_json::{Map, Value};
 
 /// The members of an object.
@@ -19,7 +19,7 @@ impl<'v> Fields<'v> {
         let members = members_of(value)?;
         for (key, _) in members.iter() {
             if !(&*keys).contains(&key.as_str()) {
-                bail!("an unknown key");
+                bail!("the key {} is unknown", key.as_str());
             }
         }
         Ok(Fields { members })
@@ -34,19 +34,19 @@ impl<'v> Fields<'v> {
     pub fn value(&self, key: &str) -> Result<&'v Value> {
         match self.get(key) {
             Some(value) => Ok(value),
-            None => bail!("a key is missing"),
+            None => bail!("the key {key} is missing"),
         }
     }
 
     /// The text under the key.
     pub fn text(&self, key: &str) -> Result<&'v str> {
-        text_of(self.value(key)?)
+        text_under(key, self.value(key)?)
     }
 
     /// The text under the key, where there is one.
     pub fn text_if(&self, key: &str) -> Result<Option<&'v str>> {
         match self.get(key) {
-            Some(value) => Ok(Some(text_of(value)?)),
+            Some(value) => Ok(Some(text_under(key, value)?)),
             None => Ok(None),
         }
     }
@@ -54,18 +54,34 @@ impl<'v> Fields<'v> {
     /// The number under the key, where there is one.
     pub fn number_if(&self, key: &str) -> Result<Option<u64>> {
         match self.get(key) {
-            Some(value) => Ok(Some(number_of(value)?)),
+            Some(value) => Ok(Some(number_of(value).context(format_args!("the key {key}"))?)),
+            None => Ok(None),
+        }
+    }
+
+    /// The list under the key, where there is one.
+    pub fn list_if(&self, key: &str) -> Result<Option<&'v [Value]>> {
+        match self.get(key) {
+            Some(value) => Ok(Some(list_of(value).context(format_args!("the key {key}"))?)),
             None => Ok(None),
         }
     }
 
     /// The list under the key, empty where there is none.
     pub fn list(&self, key: &str) -> Result<&'v [Value]> {
-        match self.get(key) {
-            Some(value) => list_of(value),
-            None => Ok(&[]),
-        }
+        Ok(self.list_if(key)?.unwrap_or(&[]))
     }
+
+    /// What the case is called. What it shows, for who reads it, is a text too, where it says it.
+    pub fn name(&self) -> Result<&'v str> {
+        self.text_if("shows")?;
+        self.text("name")
+    }
+}
+
+/// The text that the value under the key is.
+fn text_under<'v>(key: &str, value: &'v Value) -> Result<&'v str> {
+    Ok(text_of(value).context(format_args!("the key {key}"))?)
 }
 
 fn members_of(value: &Value) -> Result<&Map<String, Value>> {

@@ -21,7 +21,7 @@ const KEYS: [&str; 8] = [
     "wanted",
 ];
 
-/// A grammar, and under what it is looked at.
+/// A grammar, what is asked of it, and the answer.
 #[derive(Clone, Copy)]
 pub(crate) struct Case<'v> {
     /// What the case shows.
@@ -30,29 +30,45 @@ pub(crate) struct Case<'v> {
     pub(crate) call: &'v str,
     /// The grammar.
     pub(crate) grammar: &'v Value,
+    /// Under what it is looked at.
+    pub(crate) setting: Setting<'v>,
+    /// The answer.
+    pub(crate) wanted: &'v Value,
+}
+
+/// Under what a grammar is looked at.
+#[derive(Clone, Copy)]
+pub(crate) struct Setting<'v> {
     /// The features that are on.
     pub(crate) features: &'v [Value],
     /// The prefix, where it isn't the one that reading finds.
     pub(crate) prefix: Option<&'v str>,
     /// How deep macros may stand in macros.
     pub(crate) macro_limit: u16,
-    /// The answer.
-    pub(crate) wanted: &'v Value,
 }
 
 impl<'v> Case<'v> {
     /// The case that the value spells.
     pub(crate) fn of(value: &'v Value) -> Result<Case<'v>> {
         let fields = Fields::of(value, &KEYS)?;
-        let limit = fields.number_if("macro_limit")?.unwrap_or(MACRO_LIMIT);
         Ok(Case {
-            name: fields.text("name")?,
+            name: fields.name()?,
             call: fields.text("call")?,
             grammar: fields.value("grammar")?,
+            setting: Setting::of(&fields)?,
+            wanted: fields.value("wanted")?,
+        })
+    }
+}
+
+impl<'v> Setting<'v> {
+    /// The setting that the members spell.
+    fn of(fields: &Fields<'v>) -> Result<Setting<'v>> {
+        let limit = fields.number_if("macro_limit")?.unwrap_or(MACRO_LIMIT);
+        Ok(Setting {
             features: fields.list("features")?,
             prefix: fields.text_if("prefix")?,
             macro_limit: u16::try_from(limit)?,
-            wanted: fields.value("wanted")?,
         })
     }
 }

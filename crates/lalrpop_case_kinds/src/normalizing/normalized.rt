@@ -21,7 +21,7 @@ pub(crate) fn fault(alloc: Global, case: &Case<'_>) -> Result<Value> {
 /// The names of the nonterminals, in order; or the fault.
 pub(crate) fn nonterminals(alloc: Global, case: &Case<'_>) -> Result<Value> {
     match normal(alloc, case)? {
-        Ok(made) => Ok(names_value(alloc, &made)?),
+        Ok(made) => names_value(alloc, &made),
         Err(fault) => fault_value(alloc, fault),
     }
 }
@@ -41,7 +41,7 @@ fn normal(alloc: Global, case: &Case<'_>) -> Result<NormResult<Normalized>> {
     Ok(normalize(alloc, &session, grammar))
 }
 
-fn names_value(alloc: Global, made: &Normalized) -> Result<Value, AllocError> {
+fn names_value(alloc: Global, made: &Normalized) -> Result<Value> {
     let mut names = Vec::new(alloc);
     for (name, _) in made.grammar.nonterminals.iter() {
         names.push(Value::from(name.to_string(alloc)?))?;

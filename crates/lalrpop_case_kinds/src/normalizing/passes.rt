@@ -5,7 +5,7 @@ use crate::files::values::triple;
 use crate::normalizing::case::Case;
 use anyhow::{Result, bail};
 use lalrpop_grammar::{Atom, Grammar, NonterminalData, Symbol};
-use lalrpop_grammar_repr::{NormFault, NormResult, Session};
+use lalrpop_grammar_repr::{NormError, NormFault, NormResult, Session};
 use lalrpop_json_grammar::read_grammar;
 use lalrpop_norm_precedence::levels::{expand_precedence, level_fault};
 use lalrpop_norm_prevalidate::prevalidate::validate;
@@ -41,7 +41,7 @@ pub(crate) fn leveled_rules(alloc: Global, case: &Case<'_>) -> Result<Value> {
     let grammar = grammar_of_case(alloc, case)?;
     let session = session_of(alloc, case)?;
     match expand_levels(alloc, &session, grammar) {
-        Ok(grammar) => Ok(rules_value(alloc, &grammar)?),
+        Ok(grammar) => rules_value(alloc, &grammar),
         Err(fault) => fault_value(alloc, fault),
     }
 }
@@ -51,7 +51,7 @@ pub(crate) fn grammar_of_case(alloc: Global, case: &Case<'_>) -> Result<Grammar>
     let Ok(mut grammar) = read_grammar(alloc, case.grammar) else {
         bail!("no grammar");
     };
-    if let Some(prefix) = case.prefix {
+    if let Some(prefix) = case.setting.prefix {
         grammar.prefix = Atom::new(alloc, prefix)?;
     }
     Ok(grammar)
@@ -60,20 +60,23 @@ pub(crate) fn grammar_of_case(alloc: Global, case: &Case<'_>) -> Result<Grammar>
 /// The text of the fault behind its span.
 pub(crate) fn fault_value(alloc: Global, fault: NormFault) -> Result<Value> {
     match fault {
-        NormFault::Norm(error) => {
-            let text = format!(in alloc; "{}..{}: {error}", error.span.0, error.span.1)?;
-            Ok(Value::from(text))
-        }
+        NormFault::Norm(error) => Ok(error_value(alloc, &error)?),
         NormFault::ConditionLimit => bail!("condition limit"),
         NormFault::Memory => Err(AllocError.into()),
     }
 }
 
+/// The text of the error behind its span.
+fn error_value(alloc: Global, error: &NormError) -> Result<Value, AllocError> {
+    let text = format!(in alloc; "{}..{}: {error}", error.span.0, error.span.1)?;
+    Ok(Value::from(text))
+}
+
 /// The features that are on, and how deep macros may stand in macros.
 pub(crate) fn session_of(alloc: Global, case: &Case<'_>) -> Result<Session> {
     Ok(Session {
-        features: features_of(alloc, case.features)?,
-        macro_recursion_limit: case.macro_limit,
+        features: features_of(alloc, case.setting.features)?,
+        macro_recursion_limit: case.setting.macro_limit,
     })
 }
 
@@ -111,7 +114,7 @@ fn check_tokens(alloc: Global, session: &Session, grammar: Grammar) -> NormResul
 }
 
 /// The rules, each by its name and its alternatives.
-fn rules_value(alloc: Global, grammar: &Grammar) -> Result<Value, AllocError> {
+fn rules_value(alloc: Global, grammar: &Grammar) -> Result<Value> {
     let mut rules = Vec::new(alloc);
     for rule in grammar.rules() {
         rules.push(rule_value(alloc, rule)?)?;

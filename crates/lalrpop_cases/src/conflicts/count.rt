@@ -26,8 +26,15 @@ fn shown_count(alloc: Global, prepared: &Prepared) -> Result<usize, Difference> 
 fn conflicts_of(alloc: Global, prepared: &Prepared) -> Result<Vec<Certificate<'_>>, Difference> {
     match generate(alloc, prepared, Method::Canonical) {
         Ok(_) => Ok(Vec::new(alloc)),
-        Err(GenerateError::Conflicts(certificates)) => Ok(certificates),
-        Err(_) => Err(Difference::Refused),
+        Err(error) => certificates_in(error),
+    }
+}
+
+/// The certificates for which a grammar is refused.
+fn certificates_in(error: GenerateError<'_>) -> Result<Vec<Certificate<'_>>, Difference> {
+    match error {
+        GenerateError::Conflicts(certificates) => Ok(certificates),
+        _ => Err(Difference::Refused),
     }
 }
 

@@ -1,14 +1,15 @@
 //! Types that a written rule declares.
 
-ghost use Rattle.std.specs.Prelude.{◌≡◌, IfOk, map};
-ghost use Rattle.lalrpop_grammar.specs.Grounding.{all_types, type_repr_of};
+ghost use Rattle.std.specs.Prelude.{◌≡◌, IfOk, map, option_map};
+ghost use Rattle.lalrpop_grammar.specs.Grounding.{all_types, nominal_of, type_repr_of};
+ghost use Rattle.lalrpop_grammar.specs.declared.types.type_repr.TypeRepr.TheVariants as variants;
 
 use crate::types::type_repr::{NominalTypeRepr, TypeRepr};
 use lalrpop_grammar_symbols::{Atom, Boxed, List, Symbol};
 use std::alloc::{AllocError, Global};
 
 /// A type as it is written.
-#[derive(Debug, PartialEq, Eq, Drop)]
+#[derive(PartialEq, Eq, Drop)]
 pub enum TypeRef {
     /// `(A, B)`.
     Tuple(List<TypeRef>),
@@ -44,10 +45,11 @@ impl TypeRef {
     {
         match self {
             TypeRef::Tuple(types) => Ok(TypeRef::Tuple(clone_types(alloc, types.as_slice())?)),
-            TypeRef::Nominal { path, types } => Ok(TypeRef::Nominal {
-                path: path.try_clone()?,
-                types: clone_types(alloc, types.as_slice())?,
-            }),
+            TypeRef::Nominal { path, types } => {
+                let path = path.try_clone()?;
+                let types = clone_types(alloc, types.as_slice())?;
+                Ok(TypeRef::Nominal { path, types })
+            }
             TypeRef::Id(name) => Ok(TypeRef::Id(name.try_clone()?)),
             TypeRef::OfSymbol(symbol) => Ok(TypeRef::OfSymbol(symbol.try_clone(alloc)?)),
             TypeRef::Ref {
@@ -55,12 +57,11 @@ impl TypeRef {
                 mutable,
                 referent,
             } => {
-                let lifetime = clone_lifetime(lifetime)?;
-                let copy = referent.get().try_clone(alloc)?;
+                let referent = clone_boxed(alloc, referent)?;
                 Ok(TypeRef::Ref {
-                    lifetime,
+                    lifetime: clone_lifetime(lifetime)?,
                     mutable: *mutable,
-                    referent: Boxed::new(alloc, copy)?,
+                    referent,
                 })
             }
             TypeRef::Opaque(text) => Ok(TypeRef::Opaque(text.try_clone()?)),
@@ -74,38 +75,61 @@ impl TypeRef {
         ensures { IfOk result (λ found. found ≡ type_repr_of self.now) }
     {
         match self {
-            TypeRef::Tuple(types) => match type_reprs(alloc, types.as_slice())? {
-                None => Ok(None),
-                Some(types) => Ok(Some(TypeRepr::Tuple(types))),
-            },
-            TypeRef::Nominal { path, types } => match type_reprs(alloc, types.as_slice())? {
-                None => Ok(None),
-                Some(types) => Ok(Some(TypeRepr::Nominal(NominalTypeRepr {
-                    path: path.try_clone()?,
-                    types,
-                }))),
-            },
-            TypeRef::Id(name) => Ok(Some(TypeRepr::Nominal(NominalTypeRepr {
-                path: name.try_clone()?,
-                types: List::new(alloc),
-            }))),
+            TypeRef::Tuple(types) => Ok(tuple_repr(type_reprs(alloc, types.as_slice())?)),
+            TypeRef::Nominal { path, types } => {
+                nominal_repr(path, type_reprs(alloc, types.as_slice())?)
+            }
+            TypeRef::Id(name) => nominal_repr(name, Some(List::new(alloc))),
             TypeRef::OfSymbol(_) => Ok(None),
             TypeRef::Ref {
                 lifetime,
                 mutable,
                 referent,
-            } => match referent.get().type_repr(alloc)? {
-                None => Ok(None),
-                Some(found) => {
-                    let mutable = *mutable;
-                    Ok(Some(TypeRepr::Ref {
-                        lifetime: clone_lifetime(lifetime)?,
-                        mutable,
-                        referent: Boxed::new(alloc, found)?,
-                    }))
-                }
-            },
+            } => ref_repr(alloc, lifetime, *mutable, referent.get().type_repr(alloc)?),
             TypeRef::Opaque(text) => Ok(Some(TypeRepr::Opaque(text.try_clone()?))),
+        }
+    }
+}
+
+/// The tuple of the types, where there are some.
+fn tuple_repr(types: Option<List<TypeRepr>>) -> Option<TypeRepr>
+    ensures { result ≡ option_map variants.Tuple types }
+{
+    Some(TypeRepr::Tuple(types?))
+}
+
+/// The type of that name with these arguments, where there are some.
+fn nominal_repr(path: &Atom, types: Option<List<TypeRepr>>) -> Result<Option<TypeRepr>, AllocError>
+    ensures { IfOk result (λ found. found ≡ option_map (nominal_of path.now) types) }
+{
+    match types {
+        None => Ok(None),
+        Some(types) => {
+            let path = path.try_clone()?;
+            Ok(Some(TypeRepr::Nominal(NominalTypeRepr { path, types })))
+        }
+    }
+}
+
+/// The reference to that type, where there is one.
+fn ref_repr(
+    alloc: Global,
+    lifetime: &Option<Atom>,
+    mutable: bool,
+    referent: Option<TypeRepr>,
+) -> Result<Option<TypeRepr>, AllocError>
+    ensures { IfOk result (λ found. found ≡ option_map (variants.Ref lifetime.now mutable) referent) }
+{
+    match referent {
+        None => Ok(None),
+        Some(referent) => {
+            let referent = Boxed::new(alloc, referent)?;
+            let lifetime = clone_lifetime(lifetime)?;
+            Ok(Some(TypeRepr::Ref {
+                lifetime,
+                mutable,
+                referent,
+            }))
         }
     }
 }
@@ -117,6 +141,15 @@ fn clone_lifetime(lifetime: &Option<Atom>) -> Result<Option<Atom>, AllocError>
         None => Ok(None),
         Some(name) => Ok(Some(name.try_clone()?)),
     }
+}
+
+/// A copy of the boxed type.
+#[cycle(try_clone_types)]
+fn clone_boxed(alloc: Global, type_ref: &Boxed<TypeRef>) -> Result<Boxed<TypeRef>, AllocError>
+    ensures { IfOk result (λ copy. copy ≡ type_ref.now) }
+{
+    let copy = type_ref.get().try_clone(alloc)?;
+    Boxed::new(alloc, copy)
 }
 
 /// Copies of the types, in order.

@@ -10,7 +10,7 @@ use std::alloc::AllocError;
 
 /// A symbol without macro parameters and spans. A copy of it shares the parts.
 #[cycle(closed)]
-#[derive(Debug, PartialEq, Eq, Drop)]
+#[derive(PartialEq, Eq, Drop)]
 pub enum ClosedSymbol {
     /// A terminal.
     Terminal(TerminalString),

@@ -147,6 +147,28 @@ impl Closing {
             ClosedSymbol::Faulty
         }
     }
+
+    /// The same, for several owners.
+    fn into_shared(self, alloc: Global) -> Result<SharedClosing, AllocError>
+        ensures { IfOk result (λ shared. (shared.symbol ≡ self.symbol)
+            × (shared.is_sound ≡ self.is_sound) × (shared.next ≡ self.next)) }
+    {
+        Ok(SharedClosing {
+            symbol: Shared::new(alloc, self.symbol)?,
+            is_sound: self.is_sound,
+            next: self.next,
+        })
+    }
+}
+
+/// A closed symbol that several may own.
+#[derive(Drop)]
+struct SharedClosing {
+    symbol: Shared<ClosedSymbol>,
+    /// Whether no part of it is faulty.
+    is_sound: bool,
+    /// How many occurrences of the owner stand up to its end.
+    next: u64,
 }
 
 /// Closed symbols.
@@ -185,8 +207,8 @@ fn close(
             })
         }
         SymbolKind::AmbiguousId(name) => {
-            let symbol = close_name(alloc, scope, before, name)?;
             let next = sum(before, owner_count(scope.binding, scope.owner, name))?;
+            let symbol = close_name(alloc, scope, before, name)?;
             Ok(Closing {
                 is_sound: is_sound_name(scope.has_sound_args, &symbol),
                 symbol,
@@ -194,8 +216,8 @@ fn close(
             })
         }
         SymbolKind::Nonterminal(name) => {
-            let symbol = close_rule(alloc, scope, before, &name.0)?;
             let next = sum(before, rule_count(scope.owner, &name.0))?;
+            let symbol = close_rule(alloc, scope, before, &name.0)?;
             Ok(Closing {
                 is_sound: symbol.is_sound(),
                 symbol,
@@ -221,26 +243,26 @@ fn close(
             })
         }
         SymbolKind::Repeat(repeat) => {
-            let inside = close(alloc, scope, before, &repeat.get().symbol)?;
+            let inside = close(alloc, scope, before, &repeat.get().symbol)?.into_shared(alloc)?;
             Ok(Closing {
-                symbol: ClosedSymbol::Repeat(repeat.get().op, Shared::new(alloc, inside.symbol)?),
+                symbol: ClosedSymbol::Repeat(repeat.get().op, inside.symbol),
                 is_sound: inside.is_sound,
                 next: inside.next,
             })
         }
         SymbolKind::Choose(chosen) => {
-            let inside = close(alloc, scope, before, chosen.get())?;
+            let inside = close(alloc, scope, before, chosen.get())?.into_shared(alloc)?;
             Ok(Closing {
-                symbol: ClosedSymbol::Choose(Shared::new(alloc, inside.symbol)?),
+                symbol: ClosedSymbol::Choose(inside.symbol),
                 is_sound: inside.is_sound,
                 next: inside.next,
             })
         }
         SymbolKind::Name(name, named) => {
-            let inside = close(alloc, scope, before, named.get())?;
             let name = name.try_clone()?;
+            let inside = close(alloc, scope, before, named.get())?.into_shared(alloc)?;
             Ok(Closing {
-                symbol: ClosedSymbol::Name(name, Shared::new(alloc, inside.symbol)?),
+                symbol: ClosedSymbol::Name(name, inside.symbol),
                 is_sound: inside.is_sound,
                 next: inside.next,
             })

@@ -19,7 +19,7 @@ use lalrpop_grammar_symbols::{Atom, TerminalLiteral, TerminalString};
 use std::alloc::{AllocError, AllocFailed, Global};
 
 /// What a search for a pattern in a text says.
-#[derive(Clone, Copy, Debug, PartialEq, Eq)]
+#[derive(Clone, Copy, PartialEq, Eq)]
 pub enum Finding {
     /// The pattern is found somewhere.
     Found,

@@ -4,13 +4,11 @@ ghost use Rattle.std.specs.Prelude.{◌≡◌, IfOk};
 
 use lalrpop_grammar_symbols::List;
 use std::alloc::{AllocError, Global};
-use std::cmp::Ordering;
-use std::hash::{Hash, Hasher};
 use std::marker::Model;
 use std::rc::Rc;
 
 /// An `Rc` that contracts see as its value.
-#[derive(Debug, Drop)]
+#[derive(Drop)]
 pub struct Shared<T> {
     inner: Rc<T>,
 }
@@ -72,38 +70,4 @@ impl<T: PartialEq> PartialEq for Shared<T> {
 
 impl<T: Eq> Eq for Shared<T> {
     ghost laws = { T.Eq.laws };
-}
-
-impl<T: PartialOrd> PartialOrd for Shared<T> {
-    ghost partial_cmp = { T.partial_cmp };
-
-    ghost laws = { T.PartialOrd.laws };
-
-    fn partial_cmp(&self, other: &Self) -> Option<Ordering> {
-        self.get().partial_cmp(other.get())
-    }
-}
-
-impl<T: Ord> Ord for Shared<T> {
-    ghost cmp = { T.cmp };
-
-    ghost total = { T.total };
-
-    ghost matches_partial_cmp = { T.matches_partial_cmp };
-
-    ghost matches_eq = { T.matches_eq };
-
-    fn cmp(&self, other: &Self) -> Ordering {
-        self.get().cmp(other.get())
-    }
-}
-
-impl<T: Hash> Hash for Shared<T> {
-    ghost hash_input = { T.hash_input };
-
-    ghost respects_eq = { T.respects_eq };
-
-    fn hash<H: Hasher>(&self, state: &mut H) {
-        self.get().hash(state);
-    }
 }

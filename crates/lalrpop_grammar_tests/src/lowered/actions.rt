@@ -16,6 +16,12 @@ fn numbers_of_actions(rt: HostRuntime) {
     check(&rt, ActionFn::new(9) < ActionFn::new(10));
 }
 
+/// Whether a copy of the action equals it.
+fn equals_its_copy(rt: &impl Abort, alloc: Global, action: &ActionFnDefn) -> bool {
+    let copy = action.try_clone(alloc).expect(rt, "memory");
+    copy == *action
+}
+
 /// Whether a copy of an action of the kind equals it.
 fn is_copied(rt: &impl Abort, alloc: Global, kind: ActionFnDefnKind) -> bool {
     let action = ActionFnDefn {
@@ -23,8 +29,7 @@ fn is_copied(rt: &impl Abort, alloc: Global, kind: ActionFnDefnKind) -> bool {
         ret_type: TypeRepr::usize(alloc).expect(rt, "memory"),
         kind,
     };
-    let copy = action.try_clone(alloc).expect(rt, "memory");
-    copy == action
+    equals_its_copy(rt, alloc, &action)
 }
 
 #[test]

@@ -5,16 +5,21 @@ use crate::lowered::parts::name_of;
 use lalrpop_grammar_repr::{NormError, NormErrorKind, NormFault, NormResult};
 use lalrpop_grammar_symbols::Span;
 use std::alloc::{AllocError, AllocFailed, Global};
+use std::fmt::Display;
 use std::process::Abort;
+
+/// Whether this is what it prints.
+fn is_shown_as<T: Display>(rt: &impl Abort, alloc: Global, fault: &T, text: &str) -> bool {
+    let shown = format!(in alloc; "{fault}").expect(rt, "memory");
+    shown.as_str() == text
+}
 
 /// That the fault of this kind prints this, and where it stands isn't printed.
 fn prints(rt: &impl Abort, alloc: Global, kind: NormErrorKind, text: &str) {
-    let shown = format!(in alloc; "{kind}").expect(rt, "memory");
-    assert!(rt; shown.as_str() == text, "{text}");
+    let is_shown = is_shown_as(rt, alloc, &kind, text);
     let span = Span(40, 44);
     let fault = NormFault::Norm(NormError { kind, span });
-    let shown = format!(in alloc; "{fault}").expect(rt, "memory");
-    assert!(rt; shown.as_str() == text, "{text}");
+    check(rt, is_shown && is_shown_as(rt, alloc, &fault, text));
 }
 
 #[test]
@@ -54,13 +59,27 @@ fn not_stored() -> NormResult<()> {
     Err(AllocFailed { value: 7u64 })?
 }
 
+/// Whether it is that memory was wanting.
+fn is_memory(answer: &NormResult<()>) -> bool {
+    matches!(answer, Err(NormFault::Memory))
+}
+
+/// Whether it is a fault of the grammar.
+fn is_norm(answer: &NormResult<()>) -> bool {
+    matches!(answer, Err(NormFault::Norm(_)))
+}
+
 #[test]
-fn faults_by_a_question_mark(rt: HostRuntime) {
+fn a_fault_of_the_grammar_by_a_question_mark(rt: HostRuntime) {
     let error = NormError {
         kind: NormErrorKind::TooManyActions,
         span: Span(0, 1),
     };
-    check(&rt, fault_of(error).is_err());
-    check(&rt, without_memory() == Err(NormFault::Memory));
-    check(&rt, not_stored() == Err(NormFault::Memory));
+    check(&rt, is_norm(&fault_of(error)));
+}
+
+#[test]
+fn refused_memory_by_a_question_mark(rt: HostRuntime) {
+    check(&rt, is_memory(&without_memory()));
+    check(&rt, is_memory(&not_stored()));
 }

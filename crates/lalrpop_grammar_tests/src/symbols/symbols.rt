@@ -97,14 +97,18 @@ fn the_text_of_a_repeat(rt: HostRuntime) {
     check(&rt, text.as_str() == "a+");
 }
 
+/// The text of the symbol behind another.
+fn text_behind(rt: &impl Abort, alloc: Global, front: &str, symbol: &Symbol) -> String {
+    let mut out = String::from_str(alloc, front).expect(rt, "memory");
+    symbol.write_text(alloc, &mut out).expect(rt, "memory");
+    out
+}
+
 #[test]
 fn the_text_of_a_name_behind_another(rt: HostRuntime) {
-    let mut out = String::from_str(rt.alloc(), "= ").expect(&rt, "memory");
     let symbol = symbol_of_name(&rt, rt.alloc(), "a");
-    symbol
-        .write_text(rt.alloc(), &mut out)
-        .expect(&rt, "memory");
-    check(&rt, out.as_str() == "= a");
+    let text = text_behind(&rt, rt.alloc(), "= ", &symbol);
+    check(&rt, text.as_str() == "= a");
 }
 
 #[test]
@@ -121,13 +125,22 @@ fn a_terminal_may_hold_a_literal(rt: HostRuntime) {
     check(&rt, TerminalString::Error.as_literal().is_none());
 }
 
+/// Whether the symbol of a literal is a terminal.
+fn quoted_is_terminal(rt: &impl Abort, alloc: Global) -> bool {
+    let text = Atom::new(alloc, "a").expect(rt, "memory");
+    let kind = SymbolKind::Terminal(TerminalString::quoted(text));
+    Symbol::new(Span(0, 0), kind).is_terminal()
+}
+
+/// Whether the symbol of a name is a terminal.
+fn name_is_terminal(rt: &impl Abort, alloc: Global) -> bool {
+    symbol_of_name(rt, alloc, "a").is_terminal()
+}
+
 #[test]
 fn a_symbol_may_be_a_terminal(rt: HostRuntime) {
-    let terminal = TerminalString::quoted(Atom::new(rt.alloc(), "a").expect(&rt, "memory"));
-    let symbol = Symbol::new(Span(0, 0), SymbolKind::Terminal(terminal));
-    check(&rt, symbol.is_terminal());
-    let other = symbol_of_name(&rt, rt.alloc(), "a");
-    check(&rt, !other.is_terminal());
+    check(&rt, quoted_is_terminal(&rt, rt.alloc()));
+    check(&rt, !name_is_terminal(&rt, rt.alloc()));
 }
 
 #[test]

@@ -2,11 +2,12 @@
 
 ghost use Rattle.std.specs.Prelude.{◌≡◌, ◌↔◌, Ok, IfOk, IsTrue};
 ghost use Rattle.serde_json.specs.Data.{Data};
-ghost use Rattle.serde_json.specs.View.{view};
+ghost use Rattle.serde_json.specs.View.{members_view, view};
 ghost use Rattle.lalrpop_json_values.specs.Prefix.{IsFreePrefix};
+ghost use Rattle.lalrpop_json_values.specs.Spelled.{members_from};
 ghost use Rattle.lalrpop_json_values.specs.Strings.{strings};
 ghost use Rattle.lalrpop_json_grammar.specs.Grammars.{grammar_at};
-ghost use Rattle.lalrpop_json_grammar.specs.Spelling.{spelling};
+ghost use Rattle.lalrpop_json_grammar.specs.Spelling.{first_members, spelling};
 ghost use Rattle.lalrpop_json_grammar.specs.Written.{AreReadableParts, WritesGrammar, WritesAgain};
 
 use crate::writer::fault::WriteError;
@@ -40,10 +41,10 @@ fn is_free_prefix(alloc: Global, prefix: &Atom, value: &Value) -> Result<bool, A
     Ok(wanted == *prefix)
 }
 
-/// The grammar as an object. The prefix isn't written.
+/// The first members of a grammar's object, up to its items.
 #[tactic(auto, unfolding(lalrpop_json_values::specs::Key::key_text))]
-fn grammar_value(alloc: Global, grammar: &Grammar) -> Result<Value, AllocError>
-    ensures { IfOk result (λ value. view value ≡ spelling grammar.now) }
+fn first_members(alloc: Global, grammar: &Grammar) -> Result<JsonObject, AllocError>
+    ensures { IfOk result (λ object. members_view object.members.entries ≡ members_from (first_members grammar.now)) }
 {
     let mut object = JsonObject::new(alloc);
     object.put(
@@ -51,6 +52,15 @@ fn grammar_value(alloc: Global, grammar: &Grammar) -> Result<Value, AllocError>
         attributes_value(alloc, grammar.attributes.as_slice())?,
     )?;
     object.put(Key::Items, items_value(alloc, grammar.items.as_slice())?)?;
+    Ok(object)
+}
+
+/// The grammar as an object. The prefix isn't written.
+#[tactic(auto, unfolding(lalrpop_json_values::specs::Key::key_text))]
+fn grammar_value(alloc: Global, grammar: &Grammar) -> Result<Value, AllocError>
+    ensures { IfOk result (λ value. view value ≡ spelling grammar.now) }
+{
+    let mut object = first_members(alloc, grammar)?;
     object.put_text(Key::Parameters, grammar.parameters.as_str())?;
     object.put(Key::Span, span_value(alloc, grammar.span)?)?;
     object.put_text(Key::TypeParameters, grammar.type_parameters.as_str())?;

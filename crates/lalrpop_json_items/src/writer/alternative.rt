@@ -2,11 +2,11 @@
 
 ghost use Rattle.std.specs.Prelude.{◌≡◌, ◌↔◌, IfOk, IsTrue, Some};
 ghost use Rattle.serde_json.specs.Data.{string};
-ghost use Rattle.serde_json.specs.View.{view};
-ghost use Rattle.lalrpop_json_values.specs.Spelled.{EachFrom, IfSome, IsSpan, list_json, option_json};
+ghost use Rattle.serde_json.specs.View.{members_view, view};
+ghost use Rattle.lalrpop_json_values.specs.Spelled.{EachFrom, IfSome, IsSpan, list_json, members_from, option_json};
 ghost use Rattle.lalrpop_json_symbols.specs.Readable.{AreReadableAttributes, AreReadableSymbols};
 ghost use Rattle.lalrpop_json_items.specs.Readable.{IsReadableAction, IsReadableAlternative, IsReadableCondition};
-ghost use Rattle.lalrpop_json_items.specs.Spelling.{action_json, alternative_json, condition_json, test_json};
+ghost use Rattle.lalrpop_json_items.specs.Spelling.{action_json, alternative_json, condition_json, first_alternative_members, test_json};
 ghost use Rattle.lalrpop_json_items.specs.Origins.{IsWrittenAt};
 
 use lalrpop_grammar::{ActionKind, Alternative, Condition, ConditionOp, Origin};
@@ -151,9 +151,11 @@ fn condition_value(alloc: Global, condition: &Option<Condition>) -> Result<Value
     Ok(object.into_value())
 }
 
+/// The first members of an alternative's object, up to its condition.
 #[tactic(auto, unfolding(lalrpop_json_values::specs::Key::key_text))]
-fn alternative_value(alloc: Global, alternative: &Alternative) -> Result<Value, AllocError>
-    ensures { IfOk result (λ value. view value ≡ alternative_json alternative.now) }
+fn first_members(alloc: Global, alternative: &Alternative) -> Result<JsonObject, AllocError>
+    ensures { IfOk result (λ object. members_view object.members.entries
+        ≡ members_from (first_alternative_members alternative.now)) }
 {
     let mut object = JsonObject::new(alloc);
     object.put(Key::Action, action_value(alloc, &alternative.action)?)?;
@@ -165,6 +167,15 @@ fn alternative_value(alloc: Global, alternative: &Alternative) -> Result<Value, 
         Key::Condition,
         condition_value(alloc, &alternative.condition)?,
     )?;
+    Ok(object)
+}
+
+/// The alternative as an object.
+#[tactic(auto, unfolding(lalrpop_json_values::specs::Key::key_text))]
+fn alternative_value(alloc: Global, alternative: &Alternative) -> Result<Value, AllocError>
+    ensures { IfOk result (λ value. view value ≡ alternative_json alternative.now) }
+{
+    let mut object = first_members(alloc, alternative)?;
     object.put(
         Key::Expr,
         symbols_value(alloc, alternative.expr.as_slice())?,

@@ -1,10 +1,10 @@
 //! Which rules have a spelling, and the JSON value of each.
 
 ghost use Rattle.std.specs.Prelude.{◌≡◌, ◌↔◌, IfOk, IsTrue};
-ghost use Rattle.serde_json.specs.View.{view};
-ghost use Rattle.lalrpop_json_values.specs.Spelled.{EachFrom, list_json};
+ghost use Rattle.serde_json.specs.View.{members_view, view};
+ghost use Rattle.lalrpop_json_values.specs.Spelled.{EachFrom, list_json, members_from};
 ghost use Rattle.lalrpop_json_items.specs.Readable.{IsReadableParameter, IsReadableRule};
-ghost use Rattle.lalrpop_json_items.specs.Spelling.{parameter_json, rule_json, visibility_json};
+ghost use Rattle.lalrpop_json_items.specs.Spelling.{first_rule_members, parameter_json, rule_json, visibility_json};
 
 use crate::writer::alternative::{alternatives_value, are_readable_alternatives};
 use lalrpop_grammar::{NonterminalData, Visibility};
@@ -66,10 +66,10 @@ fn parameters_value(alloc: Global, parameters: &[NonterminalString]) -> Result<V
     Ok(Value::Array(values))
 }
 
-/// The rule as an object. That of a rule without a spelling isn't read as this rule.
+/// The first members of a rule's object, up to its name.
 #[tactic(auto, unfolding(lalrpop_json_values::specs::Key::key_text, lalrpop_json_values::specs::Word::word_text))]
-pub(crate) fn rule_value(alloc: Global, rule: &NonterminalData) -> Result<Value, AllocError>
-    ensures { IfOk result (λ value. view value ≡ rule_json rule.now) }
+fn first_members(alloc: Global, rule: &NonterminalData) -> Result<JsonObject, AllocError>
+    ensures { IfOk result (λ object. members_view object.members.entries ≡ members_from (first_rule_members rule.now)) }
 {
     let mut object = JsonObject::new(alloc);
     object.put(
@@ -83,6 +83,15 @@ pub(crate) fn rule_value(alloc: Global, rule: &NonterminalData) -> Result<Value,
     )?;
     object.put_text(Key::Kind, "rule")?;
     object.put_text(Key::Name, rule.name.0.as_str())?;
+    Ok(object)
+}
+
+/// The rule as an object. That of a rule without a spelling isn't read as this rule.
+#[tactic(auto, unfolding(lalrpop_json_values::specs::Key::key_text, lalrpop_json_values::specs::Word::word_text))]
+pub(crate) fn rule_value(alloc: Global, rule: &NonterminalData) -> Result<Value, AllocError>
+    ensures { IfOk result (λ value. view value ≡ rule_json rule.now) }
+{
+    let mut object = first_members(alloc, rule)?;
     object.put(Key::Span, span_value(alloc, rule.span)?)?;
     object.put(
         Key::DeclaredType,

@@ -4,7 +4,7 @@ use lalrpop_grammar_repr::ActionFn;
 use lalrpop_grammar_symbols::TerminalString;
 
 /// A move of a parser, as it is named.
-#[derive(Debug, PartialEq, Eq, Drop)]
+#[derive(PartialEq, Eq, Drop)]
 pub enum Move {
     /// The shift of this terminal.
     Shift(TerminalString),

@@ -1,6 +1,6 @@
 //! The machine: it runs a table over tokens, and its stack makes what is to be made.
 
-ghost use Rattle.std.specs.Prelude.{◌≡◌, ◌++◌, ◌∷◌, [], List, OnOk, map};
+ghost use Rattle.std.specs.Prelude.{◌≡◌, ◌++◌, ◌∷◌, [], IfOk, List, MatchResult, OnOk, map};
 ghost use Rattle.lalrpop_grammar_symbols.specs.Symbols.{Text};
 ghost use Rattle.lalrpop_grammar_symbols.specs.Views.{span_view, terminal_view};
 ghost use Rattle.lalrpop_lr1_theory.specs.CheckedStates.{AreCheckedStates, IsStartAlone};
@@ -8,7 +8,7 @@ ghost use Rattle.lalrpop_lr1_theory.specs.Productions.{Production};
 ghost use Rattle.lalrpop_lr1_theory.specs.Spans.{none_at};
 ghost use Rattle.lalrpop_lr1_theory.specs.States.{State};
 ghost use Rattle.lalrpop_lr1_interpret.specs.Columns.{TellNumbers};
-ghost use Rattle.lalrpop_lr1_interpret.specs.Ends.{IsEndOfRun, MayRun};
+ghost use Rattle.lalrpop_lr1_interpret.specs.Ends.{IsDone, IsEndOfRun, MayRun};
 ghost use Rattle.lalrpop_lr1_interpret.specs.Tables.{IsTableOf};
 
 use crate::parse::action_table::ActionTable;
@@ -52,6 +52,74 @@ fn push_number(numbers: &mut Vec<usize>, number: usize) -> Result<(), AllocError
     Ok(())
 }
 
+/// The number of state 0 alone.
+fn first_numbers(alloc: Global) -> Result<Vec<usize>, AllocError>
+    ensures { IfOk result (λ numbers. numbers.items ≡ 0 ∷ []) }
+{
+    let mut numbers = Vec::new(alloc);
+    push_number(&mut numbers, 0)?;
+    Ok(numbers)
+}
+
+/// Makes the moves of the table over the tokens from state 0, whose number alone stands there, and from no tree: until it accepts,
+/// or, where the parse isn't to be whole, until all tokens are shifted. The numbers are then those of the states on the stack.
+fn make_moves<'g, S: TreeStack<'g>>(
+    table: &ActionTable<'g>,
+    tokens: &[ScanToken<'_>],
+    found: TokenNumbers<'_>,
+    limit: u64,
+    whole: bool,
+    numbers: &mut Vec<usize>,
+    stack: &mut S,
+) -> Result<(), Halt>
+    requires checked { MayRun table.now }
+    requires found { TellNumbers found table.now tokens.now }
+    requires first { numbers.old.items ≡ 0 ∷ [] }
+    requires empty { S.stands stack.old none_at [] }
+    ensures ends { (grammar : List Production) (s : Text) (states : List State) → IsStartAlone grammar s
+        → AreCheckedStates grammar s states → IsTableOf table.now states
+        → MatchResult result (λ _. IsDone states s tokens.now limit (S.stands stack.new) numbers.new.items whole)
+        (λ halt. IsEndOfRun states s tokens.now limit whole (S.stands stack.new) (Err halt)) }
+    ensures same { S.given stack.new ≡ S.given stack.old }
+{
+    let mut at = 0;
+    let mut left = limit;
+    let mut next = found.next_number(table, tokens, 0);
+    'moves: loop {
+        if !whole && at == tokens.len() {
+            return Ok(());
+        }
+        let state = numbers[numbers.len() - 1];
+        match table.action_before(state, next) {
+            Some(TableAction::Shift(target)) => {
+                if left == 0 {
+                    return Err(Halt::Limit);
+                }
+                left -= 1;
+                let token = &tokens[at];
+                stack.leaf(token)?;
+                push_number(numbers, target)?;
+                at += 1;
+                next = found.next_number(table, tokens, at);
+            }
+            Some(TableAction::Reduce(by)) => {
+                if left == 0 {
+                    return Err(Halt::Limit);
+                }
+                left -= 1;
+                stack.node(by.production)?;
+                let kept = numbers.len() - by.length;
+                numbers.truncate(kept);
+                match table.goto(numbers[kept - 1], by.nonterminal) {
+                    Some(target) => push_number(numbers, target)?,
+                    None => return Ok(()),
+                }
+            }
+            None => return Err(Halt::Stuck { at, state }),
+        }
+    }
+}
+
 /// Runs the table over the tokens, whose numbers are so found, from no tree: until it accepts, where the parse is to be whole, or else
 /// until all tokens are shifted. What is made stands on the stack, which keeps what it was given. Answers the states on the stack, by
 /// their numbers.
@@ -72,42 +140,7 @@ pub fn run<'g, S: TreeStack<'g>>(
         → IsEndOfRun states s tokens.now limit whole (S.stands stack.new) result }
     ensures same { S.given stack.new ≡ S.given stack.old }
 {
-    let mut numbers = Vec::new(alloc);
-    push_number(&mut numbers, 0)?;
-    let mut at = 0;
-    let mut left = limit;
-    let mut next = found.next_number(table, tokens, 0);
-    'moves: loop {
-        if !whole && at == tokens.len() {
-            return Ok(numbers);
-        }
-        let state = numbers[numbers.len() - 1];
-        match table.action_before(state, next) {
-            Some(TableAction::Shift(target)) => {
-                if left == 0 {
-                    return Err(Halt::Limit);
-                }
-                left -= 1;
-                let token = &tokens[at];
-                stack.leaf(token)?;
-                push_number(&mut numbers, target)?;
-                at += 1;
-                next = found.next_number(table, tokens, at);
-            }
-            Some(TableAction::Reduce(by)) => {
-                if left == 0 {
-                    return Err(Halt::Limit);
-                }
-                left -= 1;
-                stack.node(by.production)?;
-                let kept = numbers.len() - by.length;
-                numbers.truncate(kept);
-                match table.goto(numbers[kept - 1], by.nonterminal) {
-                    Some(target) => push_number(&mut numbers, target)?,
-                    None => return Ok(numbers),
-                }
-            }
-            None => return Err(Halt::Stuck { at, state }),
-        }
-    }
+    let mut numbers = first_numbers(alloc)?;
+    make_moves(table, tokens, found, limit, whole, &mut numbers, stack)?;
+    Ok(numbers)
 }

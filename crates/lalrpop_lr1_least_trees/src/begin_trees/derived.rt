@@ -22,7 +22,7 @@ use std::alloc::{AllocError, Global};
 
 /// Where a derived rule comes from.
 #[derive(Clone, Copy)]
-pub(crate) struct Origin {
+pub(crate) struct DerivedOrigin {
     /// The number of the rule.
     pub(crate) rule: usize,
     /// The place of its right side at which trees begin with the terminal, where it is derived for these.
@@ -35,7 +35,7 @@ pub(crate) struct Derived {
     /// The rules.
     pub(crate) rules: Vec<Rule>,
     /// Where each comes from.
-    pub(crate) origins: Vec<Origin>,
+    pub(crate) origins: Vec<DerivedOrigin>,
 }
 
 impl Derived {
@@ -53,7 +53,7 @@ impl Derived {
     }
 
     /// Adds a rule.
-    fn push(&mut self, rule: Rule, origin: Origin) -> Result<(), AllocError>
+    fn push(&mut self, rule: Rule, origin: DerivedOrigin) -> Result<(), AllocError>
         ensures { OnOk result (IsDerivedPushed (rule_view rule) origin self.old self.new) }
     {
         self.rules.push(rule)?;
@@ -77,7 +77,7 @@ impl Derived {
         let left = rule.left;
         self.push(
             Rule { left, right },
-            Origin {
+            DerivedOrigin {
                 rule: number,
                 place: 0,
             },
@@ -104,7 +104,7 @@ impl Derived {
         let left = sum(names, rule.left)?;
         self.push(
             Rule { left, right },
-            Origin {
+            DerivedOrigin {
                 rule: number,
                 place: 0,
             },
@@ -130,7 +130,7 @@ impl Derived {
         let left = begin_symbol(names, rule.left)?;
         self.push(
             Rule { left, right },
-            Origin {
+            DerivedOrigin {
                 rule: number,
                 place,
             },

@@ -116,10 +116,10 @@ fn lead_to_end(rt: &impl Abort, alloc: Global, ways: &CompletionGraphs<'_, '_>)
 fn moves_to_c(rt: &impl Abort, alloc: Global, out: &AnyCompletion<'_, '_, '_>, name: &str) -> String
     requires { IsAnyCompletion out.now }
 {
+    let name = name_of(rt, alloc, name);
     let terminal = TerminalString::quoted(Atom::new(alloc, "c").expect(rt, "memory"));
     let steps = WantedSteps::new(alloc, out, &terminal).expect(rt, "memory");
     let wanted = WantedCompletion::new(alloc, &steps).expect(rt, "memory");
-    let name = name_of(rt, alloc, name);
     let found = wanted.moves(alloc, 0, &name).expect(rt, "memory");
     moves_text(rt, alloc, found)
 }

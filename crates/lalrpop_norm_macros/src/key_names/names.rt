@@ -15,11 +15,11 @@ ghost use Rattle.lalrpop_norm_macros.specs.OrderedNames.{key_name, key_names_fro
 ghost use Rattle.lalrpop_norm_macros.specs.OrderedNames.{taken_behind_key, taken_behind_keys};
 ghost use Rattle.lalrpop_norm_macros.specs.TextTimes.{times_of_texts};
 
-use crate::key_names::taken::TakenTexts;
 use lalrpop_grammar::{Grammar, NonterminalData};
 use lalrpop_grammar_rules::closed::ClosedSymbol;
 use lalrpop_grammar_symbols::{Atom, List};
 use lalrpop_norm_keys::key_table::{KeyTable, key_text};
+use lalrpop_norm_precedence::level_names::TakenTexts;
 use std::alloc::{AllocError, Global};
 
 /// The name without its tail from the first tilde on.
@@ -84,7 +84,7 @@ fn text_as_name(
 {
     let printed = key_text(alloc, key)?;
     let text = Atom::new(alloc, printed.as_str())?;
-    let before = taken.take(&text)?;
+    let before = taken.take(&text)? - 1;
     name_for(alloc, text, before)
 }
 

@@ -11,6 +11,7 @@ ghost use Rattle.lalrpop_grammar.specs.Views.{
   origin_view,
   type_view,
 };
+ghost use Rattle.lalrpop_grammar.specs.WrittenGrammar.{Action, Origin as WrittenOrigin};
 ghost use Rattle.lalrpop_grammar_rules.specs.Views.{closed_view, closeds};
 ghost use Rattle.lalrpop_norm_keys.specs.Tables.{IsKeyIndex};
 ghost use Rattle.lalrpop_norm_macros.specs.AddedRules.{IsAddedAlternative, added_choices, inline_attributes};
@@ -95,6 +96,21 @@ fn two_symbols(
     Ok(made)
 }
 
+/// `X+ X`.
+fn more_alternative(
+    alloc: Global,
+    added: &Added<'_>,
+    inside: &ClosedSymbol,
+) -> Result<Alternative, AllocError>
+    requires { IsKeyIndex added.now.names.now.keys.now }
+    ensures { IfOk result (λ made. IsAddedAlternative (AreSymbolsFor added.now.names.now) (span_view added.now.span) Action.default
+        WrittenOrigin.plus_more (Closed.repeat Op.plus (closed_view inside.now) ∷ closed_view inside.now ∷ [])
+        (alternative_view made)) }
+{
+    let side = two_symbols(alloc, plus_of(alloc, inside)?, inside.try_clone()?)?;
+    added_alternative(alloc, added, None, Origin::PlusMore, side.as_slice())
+}
+
 /// `X`, and `X+ X`.
 fn plus_alternatives(
     alloc: Global,
@@ -106,9 +122,22 @@ fn plus_alternatives(
         (added_choices (Closed.repeat Op.plus (closed_view inside.now))) (map alternative_view made)) }
 {
     let one = added_alternative(alloc, added, None, Origin::PlusOne, slice::from_ref(inside))?;
-    let side = two_symbols(alloc, plus_of(alloc, inside)?, inside.try_clone()?)?;
-    let more = added_alternative(alloc, added, None, Origin::PlusMore, side.as_slice())?;
+    let more = more_alternative(alloc, added, inside)?;
     two_alternatives(alloc, one, more)
+}
+
+/// `X+`.
+fn some_alternative(
+    alloc: Global,
+    added: &Added<'_>,
+    inside: &ClosedSymbol,
+) -> Result<Alternative, AllocError>
+    requires { IsKeyIndex added.now.names.now.keys.now }
+    ensures { IfOk result (λ made. IsAddedAlternative (AreSymbolsFor added.now.names.now) (span_view added.now.span) Action.default
+        WrittenOrigin.star_some (Closed.repeat Op.plus (closed_view inside.now) ∷ []) (alternative_view made)) }
+{
+    let plus = plus_of(alloc, inside)?;
+    added_alternative(alloc, added, None, Origin::StarSome, slice::from_ref(&plus))
 }
 
 /// Nothing, and `X+`.
@@ -122,8 +151,7 @@ fn star_alternatives(
         (added_choices (Closed.repeat Op.star (closed_view inside.now))) (map alternative_view made)) }
 {
     let none = added_alternative(alloc, added, None, Origin::StarNone, &[])?;
-    let plus = plus_of(alloc, inside)?;
-    let some = added_alternative(alloc, added, None, Origin::StarSome, slice::from_ref(&plus))?;
+    let some = some_alternative(alloc, added, inside)?;
     two_alternatives(alloc, none, some)
 }
 
@@ -246,8 +274,8 @@ pub(crate) fn repeat_rule(
         RepeatOp::Plus => false,
         RepeatOp::Star | RepeatOp::Question => true,
     };
-    let declared = repeat_type(alloc, added.names, added.span, op, inside)?;
     let alternatives = repeat_alternatives(alloc, added, op, inside)?;
+    let declared = repeat_type(alloc, added.names, added.span, op, inside)?;
     private_rule(alloc, added, name, is_inline, Some(declared), alternatives)
 }
 

@@ -19,7 +19,7 @@ use crate::key_rules::added::{
 use crate::key_rules::alternatives::{Instance, instance_alternatives};
 use crate::key_rules::types::put_declaration;
 use crate::key_symbols::{KeyNames, WrittenRules, arguments, find_written};
-use lalrpop_grammar::types::clone_attributes;
+use lalrpop_grammar::types::{Attribute, clone_attributes};
 use lalrpop_grammar::{NonterminalData, Visibility};
 use lalrpop_grammar_repr::NormFault;
 use lalrpop_grammar_rules::closed::{ClosedSymbol, Finder};
@@ -49,6 +49,36 @@ fn visibility_of(args: &[ClosedSymbol], visibility: &Visibility) -> Result<Visib
     }
 }
 
+/// Who may use a rule, its name and its attributes.
+#[derive(Drop)]
+struct RuleHead {
+    visibility: Visibility,
+    name: NonterminalString,
+    attributes: List<Attribute>,
+}
+
+/// Those of the rule of a call of the rule, under that name.
+fn rule_head(
+    alloc: Global,
+    args: &[ClosedSymbol],
+    written: &NonterminalData,
+    name: &Atom,
+) -> Result<RuleHead, AllocError>
+    ensures public { IfOk result (λ head. is_public head.visibility
+        ≡ stays_public (closeds (map closed_view args.now)) (is_public written.now.visibility)) }
+    ensures name { IfOk result (λ head. head.name.0 ≡ name.now) }
+    ensures attributes { IfOk result (λ head. head.attributes ≡ written.now.attributes) }
+{
+    let attributes = clone_attributes(alloc, written.attributes.as_slice())?;
+    let name = NonterminalString(name.try_clone()?);
+    let visibility = visibility_of(args, &written.visibility)?;
+    Ok(RuleHead {
+        visibility,
+        name,
+        attributes,
+    })
+}
+
 /// The rule in an instance, under that name.
 fn instance_rule<F: Finder>(
     alloc: Global,
@@ -71,11 +101,15 @@ fn instance_rule<F: Finder>(
         instance,
         written.alternatives.as_slice(),
     )?;
+    let RuleHead {
+        visibility,
+        name,
+        attributes,
+    } = rule_head(alloc, instance.args, written, name)?;
     let type_decl = put_declaration(alloc, instance, &written.type_decl)?;
-    let attributes = clone_attributes(alloc, written.attributes.as_slice())?;
     Ok(NonterminalData {
-        visibility: visibility_of(instance.args, &written.visibility)?,
-        name: NonterminalString(name.try_clone()?),
+        visibility,
+        name,
         attributes,
         span: written.span,
         args: List::new(alloc),

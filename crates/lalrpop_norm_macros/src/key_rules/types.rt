@@ -5,6 +5,7 @@ ghost use Rattle.lalrpop_grammar_symbols.specs.Symbols.{Closed, Text};
 ghost use Rattle.lalrpop_grammar_symbols.specs.Views.{repeat_op_view, symbol_view};
 ghost use Rattle.lalrpop_grammar.specs.Views.{alternative_view, type_view};
 ghost use Rattle.lalrpop_grammar.specs.WrittenGrammar.{Ty, Tys};
+ghost use Rattle.lalrpop_grammar.specs.declared.types.type_ref.TypeRef.TheVariants.{Ref as ref_type};
 ghost use Rattle.lalrpop_grammar_language.specs.Closing.{close, parameter_value, sound_or_faulty};
 ghost use Rattle.lalrpop_grammar_rules.specs.RuleTable.{rules_with};
 ghost use Rattle.lalrpop_grammar_rules.specs.Views.{closed_view};
@@ -138,6 +139,26 @@ fn symbol_type(
     type_or_left(alloc, instance.names, &closed, symbol)
 }
 
+/// Error recovery, written where the instance's rule is: it has no type.
+fn error_in(instance: &Instance<'_, '_>) -> Symbol
+    ensures { IsLeftAsWritten (symbol_view result) }
+{
+    Symbol::new(instance.rule.written.span, SymbolKind::Error)
+}
+
+/// The type of the symbol that is written for the closed one, or else that of error recovery.
+fn type_or_error(
+    alloc: Global,
+    instance: &Instance<'_, '_>,
+    symbol: &ClosedSymbol,
+) -> Result<TypeRef, AllocError>
+    requires { IsReady instance.now }
+    ensures { IfOk result (λ made. IsSymbolTypeUnder instance.now.names.now (closed_view symbol.now) (type_view made)) }
+{
+    let other = error_in(instance);
+    type_or_left(alloc, instance.names, symbol, &other)
+}
+
 /// The type that a name stands for: a parameter's is that of the symbol that it is bound to.
 fn named_type(
     alloc: Global,
@@ -148,11 +169,10 @@ fn named_type(
     ensures { IfOk result (λ made. IsNamedTypeUnder instance.now.names.now name.now
         (parameter_value (instance_binding instance.now) name.now) (type_view made)) }
 {
-    let nothing = Symbol::new(instance.rule.written.span, SymbolKind::Error);
     match bound_to(binding_in(instance), name) {
         Bound::Free => Ok(TypeRef::Id(name.try_clone()?)),
-        Bound::To(symbol) => type_or_left(alloc, instance.names, symbol, &nothing),
-        Bound::Unclear => Ok(TypeRef::OfSymbol(nothing)),
+        Bound::To(symbol) => type_or_error(alloc, instance, symbol),
+        Bound::Unclear => Ok(TypeRef::OfSymbol(error_in(instance))),
     }
 }
 
@@ -163,6 +183,24 @@ fn clone_lifetime(lifetime: &Option<Atom>) -> Result<Option<Atom>, AllocError>
         None => Ok(None),
         Some(name) => Ok(Some(name.try_clone()?)),
     }
+}
+
+/// The reference to the type.
+fn reference_to(
+    alloc: Global,
+    lifetime: &Option<Atom>,
+    mutable: bool,
+    referent: TypeRef,
+) -> Result<TypeRef, AllocError>
+    ensures { IfOk result (λ made. made ≡ ref_type lifetime.now mutable referent) }
+{
+    let referent = Boxed::new(alloc, referent)?;
+    let lifetime = clone_lifetime(lifetime)?;
+    Ok(TypeRef::Ref {
+        lifetime,
+        mutable,
+        referent,
+    })
 }
 
 /// The declared type with its parameters put in, and its symbols by the names of their keys.
@@ -196,13 +234,8 @@ fn put_type(
             mutable,
             referent,
         } => {
-            let mutable = *mutable;
             let referent = put_type(alloc, referent.get(), instance)?;
-            Ok(TypeRef::Ref {
-                lifetime: clone_lifetime(lifetime)?,
-                mutable,
-                referent: Boxed::new(alloc, referent)?,
-            })
+            Ok(reference_to(alloc, lifetime, *mutable, referent)?)
         }
         TypeRef::Opaque(text) => Ok(TypeRef::Opaque(text.try_clone()?)),
     }

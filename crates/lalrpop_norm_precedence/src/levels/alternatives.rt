@@ -135,9 +135,9 @@ fn leveled_alternative(
 {
     let alternative = ranked.alternative;
     let expr = renamed_symbols(alloc, names, ranked.rank.side, alternative.expr.as_slice())?;
-    let condition = clone_condition(&alternative.condition)?;
-    let action = clone_action(&alternative.action)?;
     let attributes = without_ranks(alloc, alternative.attributes.as_slice())?;
+    let action = clone_action(&alternative.action)?;
+    let condition = clone_condition(&alternative.condition)?;
     let origin = alternative.origin.try_clone(alloc)?;
     Ok(Alternative {
         span: alternative.span,

@@ -1,16 +1,23 @@
 //! A grammar in which each level of a rule has a rule of its own.
 
-ghost use Rattle.std.specs.Prelude.{◌≡◌, [], ◌∷◌, ◌++◌, ℕ, Bool, IfErr, IfOk, OnOk, Option, flat_map, map};
+ghost use Rattle.std.specs.Prelude.{◌≡◌, [], ◌∷◌, ◌++◌, ℕ, Bool, true, IfErr, IfOk, OnOk, Option, flat_map, map};
 ghost use Rattle.lalrpop_grammar_symbols.specs.Symbols.{Text};
 ghost use Rattle.lalrpop_grammar.specs.Views.{grammar_view, item_view, nonterminal_view};
 ghost use Rattle.lalrpop_grammar.specs.WrittenGrammar.{WrittenItem, rules_of};
+ghost use Rattle.lalrpop_grammar_language.specs.Levels.{has_levels};
 ghost use Rattle.lalrpop_norm_theory.specs.Between.{rule_between};
-ghost use Rattle.lalrpop_norm_theory.specs.LeveledGrammar.{leveled_grammar, leveled_item, levels_in_order};
+ghost use Rattle.lalrpop_norm_theory.specs.LeveledGrammar.{
+  leveled_grammar,
+  leveled_item,
+  leveled_rules as leveled_rules_of,
+  levels_in_order,
+};
 ghost use Rattle.lalrpop_norm_theory.specs.LevelFaults.{HasRightLevels};
 ghost use Rattle.lalrpop_norm_precedence.specs.LevelTables.{
   AreNamedLevels,
   HoldLevelNames,
   levels_alone,
+  named_level_view,
   named_levels,
   rule_levels_view,
 };
@@ -23,7 +30,7 @@ ghost use Rattle.lalrpop_norm_precedence.specs.LevelExpansions.{
 ghost use Rattle.lalrpop_norm_precedence.specs.PutItems.{PutsLeveled};
 
 use crate::level_faults::{has_prec_attr, level_fault};
-use crate::level_names::{RuleLevels, level_names};
+use crate::level_names::{NamedLevel, RuleLevels, level_names};
 use crate::levels::rules::leveled_rules;
 use lalrpop_grammar::{Grammar, GrammarItem, NonterminalData};
 use lalrpop_grammar_repr::NormFault;
@@ -41,6 +48,19 @@ fn put_rules(rules: List<NonterminalData>, items: &mut List<GrammarItem>) -> Res
     Ok(())
 }
 
+/// The rules into which a rule with these levels is parted, in its place.
+fn level_rules(
+    alloc: Global,
+    rule: NonterminalData,
+    levels: &[NamedLevel],
+) -> Result<List<NonterminalData>, AllocError>
+    ensures { IfOk result (λ made. (f : Text → ℕ → Text) → has_levels (rule_between (nonterminal_view rule)) ≡ true
+        → map named_level_view levels.now ≡ named_levels f (nonterminal_view rule)
+        → map nonterminal_view made ≡ leveled_rules_of f (nonterminal_view rule)) }
+{
+    leveled_rules(alloc, &rule, levels)
+}
+
 /// Puts the rule behind the items, one with levels as the rules of its levels.
 fn put_leveled_rule(
     alloc: Global,
@@ -55,7 +75,7 @@ fn put_leveled_rule(
     if !has_prec_attr(&rule) {
         return items.push(GrammarItem::Nonterminal(rule));
     }
-    let rules = leveled_rules(alloc, &rule, levels.levels.as_slice())?;
+    let rules = level_rules(alloc, rule, levels.levels.as_slice())?;
     put_rules(rules, items)
 }
 

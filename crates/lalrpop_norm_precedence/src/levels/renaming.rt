@@ -2,7 +2,7 @@
 
 ghost use Rattle.std.specs.Prelude.{◌≡◌, ◌+◌, IfOk, map};
 ghost use Rattle.lalrpop_grammar_symbols.specs.Symbols.{Sym, syms};
-ghost use Rattle.lalrpop_grammar_symbols.specs.Views.{span_view, symbol_view};
+ghost use Rattle.lalrpop_grammar_symbols.specs.Views.{repeat_op_view, span_view, symbol_view};
 ghost use Rattle.lalrpop_grammar_language.specs.Closing.{occurrences as occurrences_seen, occurrences_in};
 ghost use Rattle.lalrpop_grammar_rules.specs.Scopes.{binding_view};
 ghost use Rattle.lalrpop_norm_precedence.specs.Occurrences.{called_at, inside_under, name_under, symbol_under, symbols_under};
@@ -10,8 +10,8 @@ ghost use Rattle.lalrpop_norm_precedence.specs.Occurrences.{called_at, inside_un
 use lalrpop_grammar_rules::Assoc;
 use lalrpop_grammar_rules::closed::{Binding, owner_count, rule_count, sum};
 use lalrpop_grammar_symbols::{
-    Atom, Boxed, ExprSymbol, List, MacroSymbol, NonterminalString, RepeatSymbol, Span, Symbol,
-    SymbolKind,
+    Atom, Boxed, ExprSymbol, List, MacroSymbol, Name, NonterminalString, RepeatOp, RepeatSymbol,
+    Span, Symbol, SymbolKind,
 };
 use std::alloc::{AllocError, Global};
 
@@ -78,24 +78,103 @@ fn renamed_name(
     }
 }
 
-/// A group, written there.
-fn group_at(span: Span, symbols: List<Symbol>) -> Symbol
-    ensures { symbol_view result ≡ Sym.expr (span_view span) (syms (map symbol_view symbols)) }
+/// A copy of the symbol, with so many occurrences up to its end.
+fn copy_of(alloc: Global, symbol: &Symbol, next: u64) -> Result<Renaming, AllocError>
+    ensures symbol { IfOk result (λ r. r.symbol ≡ symbol.now) }
+    ensures count { IfOk result (λ r. r.next ≡ next) }
 {
-    Symbol {
-        span,
-        kind: SymbolKind::Expr(ExprSymbol { symbols }),
-    }
+    let symbol = symbol.try_clone(alloc)?;
+    Ok(Renaming { symbol, next })
 }
 
-/// A call of a macro, written there.
-fn call_at(span: Span, name: NonterminalString, args: List<Symbol>) -> Symbol
-    ensures { symbol_view result ≡ Sym.macro (span_view span) name.0 (syms (map symbol_view args)) }
+/// A group of the symbols, written there.
+fn group_of(span: Span, inside: Renamings) -> Renaming
+    ensures symbol { symbol_view result.symbol ≡ Sym.expr (span_view span) (syms (map symbol_view inside.symbols)) }
+    ensures count { result.next ≡ inside.next }
 {
-    Symbol {
+    let Renamings { symbols, next } = inside;
+    let symbol = Symbol {
+        span,
+        kind: SymbolKind::Expr(ExprSymbol { symbols }),
+    };
+    Renaming { symbol, next }
+}
+
+/// The rule of that name, written there.
+fn rule_of(span: Span, name: NonterminalString, next: u64) -> Renaming
+    ensures symbol { symbol_view result.symbol ≡ Sym.nonterminal (span_view span) name.0 }
+    ensures count { result.next ≡ next }
+{
+    let symbol = Symbol::new(span, SymbolKind::Nonterminal(name));
+    Renaming { symbol, next }
+}
+
+/// A call of a macro with the symbols as its arguments, written there.
+fn call_of(span: Span, name: NonterminalString, inside: Renamings) -> Renaming
+    ensures symbol { symbol_view result.symbol ≡ Sym.macro (span_view span) name.0 (syms (map symbol_view inside.symbols)) }
+    ensures count { result.next ≡ inside.next }
+{
+    let Renamings {
+        symbols: args,
+        next,
+    } = inside;
+    let symbol = Symbol {
         span,
         kind: SymbolKind::Macro(MacroSymbol { name, args }),
-    }
+    };
+    Renaming { symbol, next }
+}
+
+/// A repeat of the symbol, written there.
+fn repeat_of(
+    alloc: Global,
+    span: Span,
+    op: RepeatOp,
+    inside: Renaming,
+) -> Result<Renaming, AllocError>
+    ensures symbol { IfOk result (λ r.
+        symbol_view r.symbol ≡ Sym.repeat (span_view span) (repeat_op_view op) (symbol_view inside.symbol)) }
+    ensures count { IfOk result (λ r. r.next ≡ inside.next) }
+{
+    let Renaming { symbol, next } = inside;
+    let repeat = Boxed::new(alloc, RepeatSymbol { op, symbol })?;
+    Ok(Renaming {
+        symbol: Symbol::new(span, SymbolKind::Repeat(repeat)),
+        next,
+    })
+}
+
+/// The symbol as a chosen one, written there.
+fn choice_of(alloc: Global, span: Span, inside: Renaming) -> Result<Renaming, AllocError>
+    ensures symbol { IfOk result (λ r. symbol_view r.symbol ≡ Sym.choose (span_view span) (symbol_view inside.symbol)) }
+    ensures count { IfOk result (λ r. r.next ≡ inside.next) }
+{
+    let Renaming { symbol, next } = inside;
+    let chosen = Boxed::new(alloc, symbol)?;
+    Ok(Renaming {
+        symbol: Symbol::new(span, SymbolKind::Choose(chosen)),
+        next,
+    })
+}
+
+/// The symbol as one with that name, written there.
+fn named_of(
+    alloc: Global,
+    span: Span,
+    name: &Name,
+    inside: Renaming,
+) -> Result<Renaming, AllocError>
+    ensures symbol { IfOk result (λ r.
+        symbol_view r.symbol ≡ Sym.name (span_view span) name.now.mutable name.now.name (symbol_view inside.symbol)) }
+    ensures count { IfOk result (λ r. r.next ≡ inside.next) }
+{
+    let Renaming { symbol, next } = inside;
+    let named = Boxed::new(alloc, symbol)?;
+    let name = name.try_clone()?;
+    Ok(Renaming {
+        symbol: Symbol::new(span, SymbolKind::Name(name, named)),
+        next,
+    })
 }
 
 /// The symbol with each occurrence renamed, where so many stand before it.
@@ -114,70 +193,40 @@ fn rename(
     match &symbol.kind {
         SymbolKind::Expr(group) => {
             let inside = rename_all(alloc, occurrences, before, group.symbols.as_slice())?;
-            Ok(Renaming {
-                symbol: group_at(span, inside.symbols),
-                next: inside.next,
-            })
+            Ok(group_of(span, inside))
         }
         SymbolKind::AmbiguousId(name) => {
             let own = owner_count(occurrences.binding, occurrences.owner, name);
-            Ok(Renaming {
-                symbol: symbol.try_clone(alloc)?,
-                next: sum(before, own)?,
-            })
+            copy_of(alloc, symbol, sum(before, own)?)
         }
         SymbolKind::Nonterminal(name) => {
             let own = rule_count(occurrences.owner, &name.0);
-            let kind = SymbolKind::Nonterminal(renamed_name(occurrences, before, name)?);
-            Ok(Renaming {
-                symbol: Symbol::new(span, kind),
-                next: sum(before, own)?,
-            })
+            let next = sum(before, own)?;
+            let name = renamed_name(occurrences, before, name)?;
+            Ok(rule_of(span, name, next))
         }
         SymbolKind::Macro(call) => {
             let own = owner_count(occurrences.binding, occurrences.owner, &call.name.0);
-            let name = renamed_name(occurrences, before, &call.name)?;
             let inside = rename_all(alloc, occurrences, sum(before, own)?, call.args.as_slice())?;
-            Ok(Renaming {
-                symbol: call_at(span, name, inside.symbols),
-                next: inside.next,
-            })
+            let name = renamed_name(occurrences, before, &call.name)?;
+            Ok(call_of(span, name, inside))
         }
         SymbolKind::Repeat(repeat) => {
             let inside = rename(alloc, occurrences, before, &repeat.get().symbol)?;
-            let repeat = RepeatSymbol {
-                op: repeat.get().op,
-                symbol: inside.symbol,
-            };
-            let kind = SymbolKind::Repeat(Boxed::new(alloc, repeat)?);
-            Ok(Renaming {
-                symbol: Symbol::new(span, kind),
-                next: inside.next,
-            })
+            repeat_of(alloc, span, repeat.get().op, inside)
         }
         SymbolKind::Choose(chosen) => {
             let inside = rename(alloc, occurrences, before, chosen.get())?;
-            let kind = SymbolKind::Choose(Boxed::new(alloc, inside.symbol)?);
-            Ok(Renaming {
-                symbol: Symbol::new(span, kind),
-                next: inside.next,
-            })
+            choice_of(alloc, span, inside)
         }
         SymbolKind::Name(name, named) => {
             let inside = rename(alloc, occurrences, before, named.get())?;
-            let kind = SymbolKind::Name(name.try_clone()?, Boxed::new(alloc, inside.symbol)?);
-            Ok(Renaming {
-                symbol: Symbol::new(span, kind),
-                next: inside.next,
-            })
+            named_of(alloc, span, name, inside)
         }
         SymbolKind::Terminal(_)
         | SymbolKind::Lookahead
         | SymbolKind::Lookbehind
-        | SymbolKind::Error => Ok(Renaming {
-            symbol: symbol.try_clone(alloc)?,
-            next: before,
-        }),
+        | SymbolKind::Error => copy_of(alloc, symbol, before),
     }
 }
 

@@ -71,9 +71,9 @@ fn resolved_alternative(
         ≡ resolved_alternative (scope_names scope.now) (scope_parameters scope.now) (alternative_view alternative.now)) }
 {
     let expr = resolved_symbols(alloc, scope, alternative.expr.as_slice())?;
-    let condition = clone_condition(&alternative.condition)?;
-    let action = clone_action(&alternative.action)?;
     let attributes = clone_attributes(alloc, alternative.attributes.as_slice())?;
+    let action = clone_action(&alternative.action)?;
+    let condition = clone_condition(&alternative.condition)?;
     let origin = alternative.origin.try_clone(alloc)?;
     Ok(Alternative {
         span: alternative.span,
@@ -123,12 +123,12 @@ pub(crate) fn rewritten_rule(
         nonterminal_view made ≡ resolved_rule (scope_names scope.now) (nonterminal_view scope.now.rule.now)) }
 {
     let rule = scope.rule;
-    let visibility = rule.visibility.try_clone()?;
     let name = rule.name.try_clone()?;
     let attributes = clone_attributes(alloc, rule.attributes.as_slice())?;
     let args = clone_names(alloc, rule.args.as_slice())?;
-    let type_decl = resolved_declared(alloc, scope, &rule.type_decl)?;
     let alternatives = resolved_alternatives(alloc, scope, rule.alternatives.as_slice())?;
+    let visibility = rule.visibility.try_clone()?;
+    let type_decl = resolved_declared(alloc, scope, &rule.type_decl)?;
     Ok(NonterminalData {
         visibility,
         name,

@@ -2,6 +2,7 @@
 
 ghost use Rattle.std.specs.Prelude.{◌≡◌, IfOk, map, option_map};
 ghost use Rattle.lalrpop_grammar.specs.Views.{type_view, tys};
+ghost use Rattle.lalrpop_grammar.specs.declared.types.type_ref.TypeRef.TheVariants.{Ref as ref_type};
 ghost use Rattle.lalrpop_norm_theory.specs.Premises.{symbols_of_type, symbols_of_types};
 ghost use Rattle.lalrpop_norm_theory.specs.Resolving.{resolved_type, resolved_types};
 ghost use Rattle.lalrpop_norm_theory.specs.NameFaults.{name_faults_in, name_faults_in_declared};
@@ -73,6 +74,24 @@ fn clone_lifetime(lifetime: &Option<Atom>) -> Result<Option<Atom>, AllocError>
     }
 }
 
+/// The reference to the type.
+fn reference_to(
+    alloc: Global,
+    lifetime: &Option<Atom>,
+    mutable: bool,
+    referent: TypeRef,
+) -> Result<TypeRef, AllocError>
+    ensures { IfOk result (λ made. made ≡ ref_type lifetime.now mutable referent) }
+{
+    let referent = Boxed::new(alloc, referent)?;
+    let lifetime = clone_lifetime(lifetime)?;
+    Ok(TypeRef::Ref {
+        lifetime,
+        mutable,
+        referent,
+    })
+}
+
 /// The type with the names in its symbols resolved.
 #[cycle(resolved_types)]
 fn resolved_type(
@@ -103,15 +122,8 @@ fn resolved_type(
             mutable,
             referent,
         } => {
-            let lifetime = clone_lifetime(lifetime)?;
-            let mutable = *mutable;
-            let made = resolved_type(alloc, scope, referent.get())?;
-            let referent = Boxed::new(alloc, made)?;
-            Ok(TypeRef::Ref {
-                lifetime,
-                mutable,
-                referent,
-            })
+            let referent = resolved_type(alloc, scope, referent.get())?;
+            Ok(reference_to(alloc, lifetime, *mutable, referent)?)
         }
         TypeRef::Opaque(text) => Ok(TypeRef::Opaque(text.try_clone()?)),
     }

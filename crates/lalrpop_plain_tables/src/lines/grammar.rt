@@ -170,25 +170,55 @@ fn grammar_of(alloc: Global, reading: Reading) -> Result<Grammar, AllocError> {
         terminals,
         actions,
     } = reading;
-    let mut nonterminals = Map::new(alloc);
-    let mut start_nonterminals = Map::new(alloc);
-    for (name, productions) in productions.into_iter() {
-        if let Some(rule) = name.0.as_str().strip_prefix(PREFIX) {
-            let rule = NonterminalString(Atom::new(alloc, rule)?);
-            start_nonterminals.insert(rule, name.try_clone()?)?;
-        }
-        let data = nonterminal_of(alloc, &name, productions)?;
-        nonterminals.insert(name, data)?;
-    }
+    let prefix = Atom::new(alloc, PREFIX)?;
+    let terminals = terminal_set(alloc, terminals)?;
+    let names = names_of(alloc, productions)?;
     Ok(Grammar {
-        prefix: Atom::new(alloc, PREFIX)?,
-        terminals: terminal_set(alloc, terminals)?,
-        nonterminals,
-        start_nonterminals,
+        prefix,
+        terminals,
+        nonterminals: names.nonterminals,
+        start_nonterminals: names.starts,
         action_fn_defns: actions,
         types: Types::new(alloc),
         algorithm: Algorithm { lalr: false },
     })
+}
+
+/// The nonterminals of a grammar, and those to start from.
+#[derive(Drop)]
+struct Names {
+    nonterminals: Map<NonterminalString, NonterminalData>,
+    starts: Map<NonterminalString, NonterminalString>,
+}
+
+/// The nonterminals with these productions, and among them those to start from, whose names begin with the prefix.
+fn names_of(
+    alloc: Global,
+    productions: BTreeMap<NonterminalString, Vec<Production>>,
+) -> Result<Names, AllocError> {
+    let mut names = Names {
+        nonterminals: Map::new(alloc),
+        starts: Map::new(alloc),
+    };
+    for (name, productions) in productions.into_iter() {
+        add_start(alloc, &name, &mut names.starts)?;
+        let data = nonterminal_of(alloc, &name, productions)?;
+        names.nonterminals.insert(name, data)?;
+    }
+    Ok(names)
+}
+
+/// Puts the nonterminal to those to start from, where its name begins with the prefix.
+fn add_start(
+    alloc: Global,
+    name: &NonterminalString,
+    starts: &mut Map<NonterminalString, NonterminalString>,
+) -> Result<(), AllocError> {
+    if let Some(rule) = name.0.as_str().strip_prefix(PREFIX) {
+        let rule = NonterminalString(Atom::new(alloc, rule)?);
+        starts.insert(rule, name.try_clone()?)?;
+    }
+    Ok(())
 }
 
 /// A nonterminal with these productions.

@@ -137,9 +137,9 @@ fn round_fault(rt: &impl Abort, alloc: Global) -> InlineFault {
 
 /// That this is why the rules have no order.
 fn has_no_order(rt: &impl Abort, alloc: Global, fault: &InlineFault) {
-    match order_of(rt, alloc, ROUND) {
+    match &order_of(rt, alloc, ROUND) {
         Ok(_) => panic!(rt; "an order"),
-        Err(found) => check(rt, found == *fault),
+        Err(found) => check(rt, *found == *fault),
     }
 }
 

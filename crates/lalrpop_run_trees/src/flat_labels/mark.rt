@@ -1,7 +1,7 @@
 //! Marks of flat labels.
 
 /// A mark of a flat label.
-#[derive(Clone, Copy, Debug, PartialEq, Eq, Hash)]
+#[derive(Clone, Copy, PartialEq, Eq, Hash)]
 pub enum LabelMark {
     /// The given action with this number.
     Given(usize),

@@ -1,27 +1,13 @@
 //! The flat label of an action.
 
-ghost use Rattle.std.specs.Prelude.{◌≡◌, ◌∷◌, IfOk, option_map, replicate};
-ghost use Rattle.lalrpop_run_trees.specs.FlatLabels.{entry_marks, flat_of, marks_in, put_marks, record_at};
+ghost use Rattle.std.specs.Prelude.{◌≡◌, ◌∷◌, IfOk, replicate};
+ghost use Rattle.lalrpop_run_trees.specs.FlatLabels.{entry_marks, flat_of, marks_in, put_marks};
 ghost use Rattle.lalrpop_run_trees.specs.declared.flat_labels.mark.LabelMark.TheVariants as marks;
 
 use crate::flat_labels::mark::LabelMark;
-use lalrpop_grammar_repr::{
-    ActionFn, ActionFnDefn, ActionFnDefnKind, InlineActionFnDefn, InlinedSymbol,
-};
+use crate::records::record_of;
+use lalrpop_grammar_repr::{ActionFn, ActionFnDefn, InlinedSymbol};
 use std::alloc::{AllocError, Global};
-
-/// The record of the action, where it has one.
-fn record_of(actions: &[ActionFnDefn], number: usize) -> Option<&InlineActionFnDefn>
-    ensures { option_map (λ i. i.now) result ≡ record_at actions.now number }
-{
-    match actions.get(number) {
-        Some(definition) => match &definition.kind {
-            ActionFnDefnKind::Inline(record) => Some(record),
-            _ => None,
-        },
-        None => None,
-    }
-}
 
 /// So many symbols, each of them kept, behind a given action.
 fn given_marks(alloc: Global, number: usize, count: usize) -> Result<Vec<LabelMark>, AllocError>
@@ -119,7 +105,7 @@ pub fn flat_label(
     if number < given {
         return Ok(Some(given_marks(alloc, number, count)?));
     }
-    match record_of(actions, number) {
+    match record_of(actions, action) {
         Some(record) if record.action.index() < number => {
             let symbols = record.symbols.as_slice();
             match flat_label(alloc, actions, given, record.action, symbols.len())? {

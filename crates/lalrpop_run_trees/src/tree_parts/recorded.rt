@@ -1,37 +1,21 @@
 //! The trees that an action's label keeps of a part of a written tree: a given action is a written choice; of one that inlining added, the
 //! record says which symbols of that choice were inlined, and by which actions.
 
-ghost use Rattle.std.specs.Prelude.{◌≡◌, ◌∷◌, [], ℕ, IfNone, IfOk, IfSome};
+ghost use Rattle.std.specs.Prelude.{◌∷◌, [], ℕ, IfOk};
 ghost use Rattle.lalrpop_grammar.specs.Views.{origin_view};
 ghost use Rattle.lalrpop_grammar_language.specs.Expansion.{Nonterminal};
 ghost use Rattle.lalrpop_grammar_language.specs.Labels.{Label};
-ghost use Rattle.lalrpop_grammar_repr.specs.declared.action.InlineActionFnDefn.{InlineActionFnDefn};
-ghost use Rattle.lalrpop_run_trees.specs.ActionLabels.{ChoiceInlinings, ChoiceLabel, IsRecordOf, TellEntries, TellsLabel};
+ghost use Rattle.lalrpop_run_trees.specs.ActionLabels.{ChoiceInlinings, ChoiceLabel, TellEntries, TellsLabel};
 ghost use Rattle.lalrpop_run_trees.specs.ActionLabels.{all_kept};
 ghost use Rattle.lalrpop_run_trees.specs.PartViews.{AllWithin, LieWithin, TellsAllKept, TellsKept};
 ghost use Rattle.lalrpop_run_trees.specs.declared.tree_parts.tree_part.TreePart.{TreePart};
 
+use crate::records::record_of;
 use crate::tree_parts::taking::{alone, parts_by_choice};
 use crate::tree_parts::tree_part::TreePart;
 use lalrpop_grammar::Origin;
-use lalrpop_grammar_repr::{
-    ActionFn, ActionFnDefn, ActionFnDefnKind, InlineActionFnDefn, InlinedSymbol,
-};
+use lalrpop_grammar_repr::{ActionFn, ActionFnDefn, InlinedSymbol};
 use std::alloc::{AllocError, Global};
-
-/// The record of the action, where it has one.
-fn record_of(actions: &[ActionFnDefn], action: ActionFn) -> Option<&InlineActionFnDefn>
-    ensures found { IfSome result (λ found. IsRecordOf actions.now action.0 found.now) }
-    ensures none { IfNone result ((other : InlineActionFnDefn) → IsRecordOf actions.now action.0 other → ⊥) }
-{
-    match actions.get(action.index()) {
-        Some(definition) => match &definition.kind {
-            ActionFnDefnKind::Inline(record) => Some(record),
-            _ => None,
-        },
-        None => None,
-    }
-}
 
 /// What is kept of the part by a symbol of a record whose actions are below this one: where the symbol was kept, the part; where it was
 /// inlined, what the label of its action keeps.

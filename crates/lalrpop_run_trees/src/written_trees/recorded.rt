@@ -1,36 +1,20 @@
 //! The written tree of a node by its action: a given action is a written choice; of one that inlining added, the record says how its
 //! children stand below the nodes that were inlined.
 
-ghost use Rattle.std.specs.Prelude.{◌≡◌, ◌≤◌, ◌∷◌, [], ℕ, IfNone, IfOk, IfSome, List, drop, length, map, take};
+ghost use Rattle.std.specs.Prelude.{◌≡◌, ◌≤◌, ◌∷◌, [], ℕ, IfOk, List, drop, length, map, take};
 ghost use Rattle.std.specs.Vec.Iter.{into_iter_items};
 ghost use Rattle.lalrpop_grammar.specs.Views.{tree_view};
 ghost use Rattle.lalrpop_grammar.specs.declared.tree.WrittenTree.{WrittenTree};
-ghost use Rattle.lalrpop_grammar_repr.specs.declared.action.InlineActionFnDefn.{InlineActionFnDefn};
-ghost use Rattle.lalrpop_run_trees.specs.ActionLabels.{ChoiceInlinings, ChoiceLabel, IsRecordOf, TellEntries, TellsLabel};
+ghost use Rattle.lalrpop_run_trees.specs.ActionLabels.{ChoiceInlinings, ChoiceLabel, TellEntries, TellsLabel};
 ghost use Rattle.lalrpop_run_trees.specs.ActionLabels.{symbols_after_entry};
 ghost use Rattle.lalrpop_run_trees.specs.LabelledTrees.{tree_by_label, trees_by_inlinings};
 
+use crate::records::record_of;
 use crate::written_trees::choosing::tree_of_choice;
 use lalrpop_grammar::{Origin, WrittenTree};
-use lalrpop_grammar_repr::{
-    ActionFn, ActionFnDefn, ActionFnDefnKind, InlineActionFnDefn, InlinedSymbol,
-};
+use lalrpop_grammar_repr::{ActionFn, ActionFnDefn, InlinedSymbol};
 use std::alloc::{AllocError, Global};
 use std::vec::IntoIter;
-
-/// The record of the action, where it has one.
-fn record_of(actions: &[ActionFnDefn], action: ActionFn) -> Option<&InlineActionFnDefn>
-    ensures found { IfSome result (λ found. IsRecordOf actions.now action.0 found.now) }
-    ensures none { IfNone result ((other : InlineActionFnDefn) → IsRecordOf actions.now action.0 other → ⊥) }
-{
-    match actions.get(action.index()) {
-        Some(definition) => match &definition.kind {
-            ActionFnDefnKind::Inline(record) => Some(record),
-            _ => None,
-        },
-        None => None,
-    }
-}
 
 /// The next tree; an option without its symbol where none is left.
 fn next_tree(rest: &mut IntoIter<WrittenTree>) -> WrittenTree

@@ -11,14 +11,13 @@ loop-row-preserved g c plain =
     let after = c.row_after in
     let below = c.row_below in
     let so_far = c.loop-row.invariant plain in
-    let before = c.in_ok-write_str-2.ensures.writes so_far.1.plain (search rules) in
-    let opening = c.write_opening.ensures before.plain (search rules) in
+    let first = c.write_first.ensures so_far.1.plain (search rules) in
     let same = opens-first c.loop-row.pending.items c.open_row-in-Some.new.pending.items c.open_row-in-Some-2.new.pending.items
     c.pop.new.self.items c.in-Some.row after.result below.result part.first.now part.others.now c.in-Some.ensures.items
     part.ensures.cases.0 after.ensures.before after.ensures.trees after.ensures.closing c.in_ok-open_row-2.ensures
     c.in_ok-open_row-3.ensures below.ensures.before below.ensures.trees below.ensures.closing in (
       so_far.0 ++ (c.in-Some.row.before.now ++ opening_text (tree_view part.first.now)),
-      has_written_append _ _ _ _ _ _ so_far.1 (has_written_append _ _ _ _ _ _ before opening),
+      has_written_append _ _ _ _ _ _ so_far.1 first,
       append_assoc so_far.0 _ _ ∙ ap (λ t. so_far.0 ++ t) (sym same) ∙ so_far.2,
     )
 

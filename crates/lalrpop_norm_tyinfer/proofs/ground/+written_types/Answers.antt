@@ -1,16 +1,21 @@
+use Rattle.std.proofs.Common.{◌≡◌, subst}
+use Rattle.std.specs.Prelude.{IfOk, Option, map, option_map}
+use Rattle.lalrpop_norm_theory.specs.Types.{GroundType}
+use Rattle.lalrpop_norm_tyinfer.specs.GroundViews.{type_repr_view}
 use Rattle.lalrpop_norm_tyinfer.specs.ProgramViews.{names_view, rule_types}
 use Rattle.lalrpop_norm_tyinfer.proofs.GroundLemmas.{id_found, nominal_found}
 use Rattle.lalrpop_norm_tyinfer.proofs.ground.+written_types.Goals as goal
 
-pub written_type-returns-in_ok-try_clone-in-Some-2 : goal.written_type-returns-in_ok-try_clone-in-Some-2
-written_type-returns-in_ok-try_clone-in-Some-2 t c =
-    let k = names_view c.args.names.now in
-    let table = rule_types c.args.table.now in
-    nominal_found k table c.args.written.now c.in-Nominal.path c.in_ok-try_clone-in-Some-2.field-0 c.in-Nominal.types
-    c.in-Some-2.types c.in-Nominal.is c.in_ok-try_clone-in-Some-2.ensures
-    (rw (c.in-Some-2.is, c.as_slice-in-Nominal.ensures) at c.in_ok-written_types-in-Nominal.ensures)
+pub written_type-returns-in_ok-types-in-Nominal : goal.written_type-returns-in_ok-types-in-Nominal
+written_type-returns-in_ok-types-in-Nominal t c =
+    subst (λ (g : Option GroundType). IfOk c.nominal_of.result (λ found. option_map type_repr_view found ≡ g))
+    (nominal_found (names_view c.args.names.now) (rule_types c.args.table.now) c.args.written.now c.in-Nominal.path c.in-Nominal.types
+    (option_map (map type_repr_view) c.in_ok-types-in-Nominal.types) c.in-Nominal.is
+    (rw c.as_slice-in-Nominal.ensures at c.in_ok-types-in-Nominal.ensures))
+    c.nominal_of.ensures
 
-pub written_type-returns-in_ok-try_clone-in-Id : goal.written_type-returns-in_ok-try_clone-in-Id
-written_type-returns-in_ok-try_clone-in-Id t c =
-    id_found (names_view c.args.names.now) (rule_types c.args.table.now) c.args.written.now c.in-Id.name
-    c.in_ok-try_clone-in-Id.field-0 c.new.result c.in-Id.is c.in_ok-try_clone-in-Id.ensures c.new.ensures
+pub written_type-returns-in-Id : goal.written_type-returns-in-Id
+written_type-returns-in-Id t c =
+    subst (λ (g : Option GroundType). IfOk c.nominal_of-in-Id.result (λ found. option_map type_repr_view found ≡ g))
+    (id_found (names_view c.args.names.now) (rule_types c.args.table.now) c.args.written.now c.in-Id.name c.new.result c.in-Id.is c.new.ensures)
+    c.nominal_of-in-Id.ensures

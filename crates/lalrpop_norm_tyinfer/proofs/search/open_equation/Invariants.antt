@@ -5,5 +5,5 @@ use Rattle.lalrpop_norm_tyinfer.proofs.search.open_equation.Given as goal
 
 abbrev pub invariant-loop-equation : goal.invariant-loop-equation
 invariant-loop-equation l =
-    AllAgree (names_view l.names) (rule_types l.table) (map equation_view (drop l.equation-index l.equations))
-    → AllAgree (names_view l.names) (rule_types l.table) (map equation_view l.equations)
+    AllAgree (names_view l.given.names.now) (rule_types l.table) (map equation_view (drop l.equation-index l.given.equations.now))
+    → AllAgree (names_view l.given.names.now) (rule_types l.table) (map equation_view l.given.equations.now)

@@ -1,11 +1,9 @@
-use Rattle.std.proofs.Common.{◌≤◌, vec_len}
-use Rattle.lalrpop_norm_tyinfer.specs.ProgramViews.{IsRightTable, grammar_of, rule_types}
-use Rattle.lalrpop_norm_tyinfer.specs.Searching.{work_left}
+use Rattle.std.proofs.Common.{◌≤◌}
+use Rattle.lalrpop_norm_tyinfer.specs.Searching.{IsRightSoFar, left_to_search}
 use Rattle.lalrpop_norm_tyinfer.proofs.search.wake.Given as goal
 
 abbrev pub invariant-loop-number : goal.invariant-loop-number
 invariant-loop-number l = record {
-  right : IsRightTable (grammar_of l.names) (rule_types l.table);
-  work : work_left (grammar_of l.names) (rule_types l.table) (vec_len l.typed)
-      ≤ work_left (grammar_of l.names) (rule_types l.fn.table) (vec_len l.fn.typed);
+  right : IsRightSoFar l.given l.progress;
+  work : left_to_search l.given l.progress ≤ left_to_search l.given l.fn.progress;
 }

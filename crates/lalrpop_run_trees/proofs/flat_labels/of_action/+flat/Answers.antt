@@ -23,7 +23,7 @@ flat_label-returns-in-Some-2 t c =
     let symbols = c.as_slice-symbols.result.now in
     let outer = c.as_slice.result.now in
     let record_is : record_at actions k ≡ Some i =
-    ap (record_at actions) (sym c.index-number.ensures) ∙ sym c.record_of.ensures
+    sym c.record_of.ensures.at
     ∙ ap (option_map (λ (r : Bor InlineActionFnDefn). r.now)) c.in-Some.is in
     let same : put_marks flat c.index-number.result symbols outer ≡ flat_of actions c.args.given k c.args.count =
     ap (λ n. put_marks flat n symbols outer) c.index-number.ensures
@@ -42,7 +42,7 @@ flat_label-returns-in-None t c =
     let k = c.args.action.0 in
     let i = c.in-Some.record.now in
     let record_is : record_at actions k ≡ Some i =
-    ap (record_at actions) (sym c.index-number.ensures) ∙ sym c.record_of.ensures
+    sym c.record_of.ensures.at
     ∙ ap (option_map (λ (r : Bor InlineActionFnDefn). r.now)) c.in-Some.is in
     let none : flat i.action.0 (length i.symbols) ≡ None =
     ap (λ (ss : List InlinedSymbol). flat i.action.0 (length ss)) (sym c.as_slice-symbols.ensures)

@@ -9,7 +9,7 @@ use Rattle.lalrpop_lr1_first.specs.NumberedGrammars.{table_productions}
 use Rattle.lalrpop_lr1_first.proofs.TableLemmas.{long_map}
 use Rattle.lalrpop_lr1_least_trees.specs.GrammarTrees.{productions_by}
 use Rattle.lalrpop_lr1_least_trees.proofs.AnswerLemmas.{nothing_there}
-use Rattle.lalrpop_lr1_least_trees.specs.declared.begin_trees.derived.Origin.{Origin}
+use Rattle.lalrpop_lr1_least_trees.specs.declared.begin_trees.derived.DerivedOrigin.{DerivedOrigin}
 use Rattle.lalrpop_lr1_least_trees.specs.BeginForests.{IsBeginRoot}
 use Rattle.lalrpop_lr1_least_trees.proofs.BeginAnswerLemmas.{begin_root, none_begins}
 use Rattle.lalrpop_lr1_least_trees.proofs.BeginLemmas.{entry_missing, entry_there}
@@ -35,7 +35,7 @@ production_at-requires c =
     c.index-origin.ensures ∙ get_or_from_slice_get it.derived.origins.items c.in-Some.tree.rule s.origin c.index-origin.result.now
     s.at_origin in
     let within = slice_get_within (productions_by it.trees.now.table) s.origin.rule s.production s.at_production in
-    let rule : c.index-origin.result.now.rule ≡ s.origin.rule = ap (λ (o : Origin). o.rule) origin in
+    let rule : c.index-origin.result.now.rule ≡ s.origin.rule = ap (λ (o : DerivedOrigin). o.rule) origin in
     let long : length c.table.result.now.productions.items ≡ length it.trees.now.table.productions.items =
     ap (λ (t : Numbered). length t.productions.items) c.table.ensures in
     omega (
@@ -67,6 +67,6 @@ returns-in-Some c = λ g t of w.
     let production : production_view c.production_at.result.now ≡ s.production =
     some_same (production_view c.production_at.result.now) s.production
     (sym c.production_at.ensures ∙ ap (λ (t : Numbered). slice_get (productions_by t) c.index-origin.result.now.rule) c.table.ensures
-    ∙ ap (λ (o : Origin). slice_get (productions_by it.trees.now.table) o.rule) origin ∙ s.at_production) in
+    ∙ ap (λ (o : DerivedOrigin). slice_get (productions_by it.trees.now.table) o.rule) origin ∙ s.at_production) in
     subst (λ p. IsBeginRoot (IsProductionOf g) n.0 t p c.index-origin.result.now.place) (sym production)
-    (subst (λ (o : Origin). IsBeginRoot (IsProductionOf g) n.0 t s.production o.place) (sym origin) (r.root g of))
+    (subst (λ (o : DerivedOrigin). IsBeginRoot (IsProductionOf g) n.0 t s.production o.place) (sym origin) (r.root g of))

@@ -5,7 +5,7 @@ use Rattle.lalrpop_lexer.specs.StateViews.{edges_in}
 use Rattle.lalrpop_lexer.specs.Tables.{AreTables}
 use Rattle.lalrpop_lexer.specs.States.{AreNumbered, AreInside}
 use Rattle.lalrpop_lexer.proofs.WholeLemmas.{IsExplored}
-use Rattle.lalrpop_lexer.proofs.whole.all_states.Given as goal
+use Rattle.lalrpop_lexer.proofs.whole.explored_states.Given as goal
 
 abbrev pub invariant-states : goal.invariant-states
 invariant-states l = record {

@@ -10,7 +10,7 @@ use Rattle.lalrpop_lexer.specs.Tables.{AreTables}
 use Rattle.lalrpop_lexer.proofs.WholeLemmas.{explored_start, explored_end}
 use Rattle.lalrpop_lexer.proofs.StateViewLemmas.{explored_push, tables_none, tables_push}
 use Rattle.lalrpop_lexer.proofs.KernelLemmas.{numbered_none, states_at_most}
-use Rattle.lalrpop_lexer.proofs.whole.all_states.Goals as goal
+use Rattle.lalrpop_lexer.proofs.whole.explored_states.Goals as goal
 
 pub states-init : goal.states-init
 states-init c = record {
@@ -27,21 +27,19 @@ states-preserved c =
     let t = nfa_view c.args.nfa.now in
     let table = c.states.edges in
     let out = c.in_ok-out.out.items in
-    let row = c.in_ok-row.row.items in
     let old = c.states.known.sets in
     let new = c.explore.new.self.sets in
     let P : ℕ → Type 0 = λ k. Explores t k old new (edges_view out) in
-    let R : List DfaEdge → Type 0 = λ es. IsRow (edges_view es) row in
     let less : length table < length old = omega (arith, c.states-test.true, c.len.ensures, c.len-in-states.ensures) in
-    rw (c.in_ok-push.ensures, c.in_ok-push-2.ensures, c.deref-in-states-3.ensures.value, c.deref-in-states-4.ensures.value) (record {
-      explored = explored_push t START.0 table out old new less c.states.invariant.explored
-          (subst P c.len-in-states-2.ensures c.in_ok-out.ensures.explored);
-      tables = tables_push table c.states.rows out row c.states.invariant.tables c.in_ok-out.ensures.apart
-          (subst R c.deref-in-states-2.ensures.value c.in_ok-row.ensures);
+    record {
+      explored = rw (c.in_ok-push_state.ensures.edges, c.deref.ensures.value)
+          (explored_push t START.0 table out old new less c.states.invariant.explored
+          (subst P c.len-in-states-2.ensures c.in_ok-out.ensures.explored));
+      tables = c.in_ok-push_state.ensures.tables;
       sets = c.in_ok-out.ensures.sets;
       numbered = c.in_ok-out.ensures.numbered;
       bound = c.explore.ensures.bound ∙ c.states.invariant.bound;
-    })
+    }
 
 pub returns-clause-states : goal.returns-clause-states
 returns-clause-states c =
@@ -67,6 +65,6 @@ states-smaller c =
       c.states-test.true,
       c.len.ensures,
       c.len-in-states.ensures,
-      ap length c.in_ok-push.ensures,
-      length_push c.states.edges c.deref-in-states-3.result.now,
+      ap length c.in_ok-push_state.ensures.edges,
+      length_push c.states.edges c.deref.result.now,
     )

@@ -1,7 +1,7 @@
 use Rattle.std.proofs.Common.{◌≡◌, ◌++◌, length}
 use Rattle.lalrpop_lr1_first.specs.Listings.{lent}
 use Rattle.lalrpop_lr1_first.specs.Tables.{pairs_from}
-use Rattle.lalrpop_lr1_first.proofs.names.Names.new.Given as goal
+use Rattle.lalrpop_lr1_first.proofs.names.NumberedNames.new.Given as goal
 
 abbrev pub invariant-loop-name : goal.invariant-loop-name
 invariant-loop-name l =

@@ -6,7 +6,7 @@ use Rattle.lalrpop_grammar_symbols.specs.contracts.names.NonterminalStringOrd.Th
 use Rattle.lalrpop_lr1_first.specs.Listings.{lent}
 use Rattle.lalrpop_lr1_first.specs.Tables.{pairs_from}
 use Rattle.lalrpop_lr1_first.proofs.NameLemmas.{copied_goes_on, lent_sorted, name_antisymm, pairs_keys}
-use Rattle.lalrpop_lr1_first.proofs.names.Names.new.Goals as goal
+use Rattle.lalrpop_lr1_first.proofs.names.NumberedNames.new.Goals as goal
 
 pub loop-name-preserved : goal.loop-name-preserved
 loop-name-preserved c =

@@ -4,7 +4,7 @@ use Rattle.lalrpop_grammar_repr.specs.Maps.{at_name}
 use Rattle.lalrpop_lr1_first.specs.Listings.{lent}
 use Rattle.lalrpop_lr1_first.specs.Tables.{pairs_from}
 use Rattle.lalrpop_lr1_first.proofs.NameLemmas.{pairs_sound, pairs_total}
-use Rattle.lalrpop_lr1_first.proofs.names.Names.number.Goals as goal
+use Rattle.lalrpop_lr1_first.proofs.names.NumberedNames.number.Goals as goal
 
 pub unreachable-requires : goal.unreachable-requires
 unreachable-requires c =

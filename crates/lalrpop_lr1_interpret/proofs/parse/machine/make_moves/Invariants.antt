@@ -1,6 +1,6 @@
 use Rattle.std.proofs.Common.{◌≡◌}
 use Rattle.lalrpop_lr1_interpret.proofs.RunLemmas.{IsRunning}
-use Rattle.lalrpop_lr1_interpret.proofs.parse.machine.run.Given as goal
+use Rattle.lalrpop_lr1_interpret.proofs.parse.machine.make_moves.Given as goal
 
 abbrev pub invariant-moves : goal.invariant-moves
 invariant-moves g l = record {

@@ -6,15 +6,14 @@ use Rattle.lalrpop_lr1_interpret.specs.Stacks.{HasChildren}
 use Rattle.lalrpop_lr1_interpret.specs.Tables.{IsActionBefore}
 use Rattle.lalrpop_lr1_interpret.proofs.RunLemmas.{as_read, behind_there, done, enough, has_children, is_stuck, not_both, read_behind}
 use Rattle.lalrpop_lr1_interpret.proofs.RunLemmas.{reduce_limit, reduce_on, running_start, shift_limit, shift_on, state_there}
-use Rattle.lalrpop_lr1_interpret.proofs.parse.machine.run.Goals as goal
-use Rattle.lalrpop_lr1_interpret.proofs.parse.machine.run.Goals.{else-not-whole-via-else-not-whole}
-use Rattle.lalrpop_lr1_interpret.proofs.parse.machine.run.Goals.{else-not-whole-via-then-not-whole+else-at-tokens}
+use Rattle.lalrpop_lr1_interpret.proofs.parse.machine.make_moves.Goals as goal
+use Rattle.lalrpop_lr1_interpret.proofs.parse.machine.make_moves.Goals.{else-not-whole-via-else-not-whole}
+use Rattle.lalrpop_lr1_interpret.proofs.parse.machine.make_moves.Goals.{else-not-whole-via-then-not-whole+else-at-tokens}
 
 pub moves-init : goal.moves-init
 moves-init g c = record {
   running = running_start c.args.table.now c.args.tokens.now c.args.limit c.args.whole (g.S.TreeStack.stands c.args.stack.now)
-      c.push_number.new.numbers.items c.next_number-next.result c.requires.empty
-      (c.in_ok-push_number.ensures ∙ ap (λ l. l ++ 0 ∷ []) c.new-numbers.ensures.items) c.next_number-next.ensures;
+      c.args.numbers.now.items c.next_number-next.result c.requires.empty c.requires.first c.next_number-next.ensures;
   same = refl;
 }
 
@@ -41,7 +40,7 @@ moves-preserved-in-Some-Shift g c = record {
       c.moves.left c.moves.next c.moves.invariant.running c.index-state.result.now
       (as_read c.moves.numbers.items c.index-state.result.now (c.len.result - 1) c.index-state.ensures
       (omega arith)) c.in-Some-Shift.target (c.moves.left - 1) (c.moves.at + 1)
-      c.push_number-in-Some-Shift.new.numbers.items
+      c.push_number.new.numbers.items
       c.index-tokens-at.result c.next_number-next-in-Some-Shift.result (g.S.TreeStack.stands c.leaf.new.self) (omega arith) (subst
       (IsActionBefore c.args.table.now c.index-state.result.now c.moves.next)
       (ap Some c.in-Some-Shift.field-0-is) c.in-Some-Shift.ensures)
