@@ -147,11 +147,17 @@ pub(crate) fn all_words<'a>(
     for word in own {
         words.push(text_of(word)?)?;
     }
+    add_tree(&mut words, tree)?;
+    Ok(words)
+}
+
+/// Puts the tree's words behind the others, where there is one.
+fn add_tree<'a>(words: &mut Vec<&'a str>, tree: Option<&'a str>) -> Result<(), AllocError> {
     if let Some(tree) = tree {
         words.push("--tree")?;
         words.push(tree)?;
     }
-    Ok(words)
+    Ok(())
 }
 
 /// A text as itself, and another value as compact JSON.

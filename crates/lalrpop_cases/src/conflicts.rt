@@ -10,6 +10,7 @@ mod witnessed;
 
 use crate::conflicts::case::Case;
 use crate::conflicts::count::conflict_count;
+use crate::conflicts::difference::Difference;
 use anyhow::Result;
 use lalrpop_case_kinds::files::{TableCase, Tally, run_cases};
 use serde_json::Value;
@@ -22,19 +23,35 @@ struct Conflicts;
 impl TableCase for Conflicts {
     fn is_right<R: Alloc<A = Global> + Print>(rt: &R, case: &Value) -> Result<bool> {
         let case = Case::of(case)?;
-        let Case {
-            name,
-            shows,
-            wanted,
-            ..
-        } = case;
         match conflict_count(rt.alloc(), &case) {
-            Ok(count) if count == wanted => return Ok(true),
-            Ok(count) => println!(rt; "{name} {shows}: wanted {wanted}, got {count}")?,
-            Err(difference) => println!(rt; "{name} {shows}: {difference}")?,
+            Ok(count) => has_count(rt, &case, count),
+            Err(difference) => tell_difference(rt, &case, difference),
         }
-        Ok(false)
     }
+}
+
+/// Whether there are as many conflicts as are wanted; if not, both numbers are told.
+fn has_count(rt: &impl Print, case: &Case<'_>, count: usize) -> Result<bool> {
+    let right = count == case.wanted;
+    if !right {
+        tell_count(rt, case, count)?;
+    }
+    Ok(right)
+}
+
+/// Tells how many conflicts were wanted of the case and how many came.
+fn tell_count(rt: &impl Print, case: &Case<'_>, count: usize) -> Result<()> {
+    println!(rt;
+        "{} {}: wanted {}, got {count}",
+        case.name, case.shows, case.wanted
+    )?;
+    Ok(())
+}
+
+/// Tells what differs in the case, which is not right then.
+fn tell_difference(rt: &impl Print, case: &Case<'_>, difference: Difference) -> Result<bool> {
+    println!(rt; "{} {}: {difference}", case.name, case.shows)?;
+    Ok(false)
 }
 
 /// How many cases of the file pass; each of the others is told.

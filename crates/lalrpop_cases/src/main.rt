@@ -53,6 +53,13 @@ fn respond_to<R: Alloc<A = Global> + Files + Input + Print>(
 
 /// Runs the files that the words name, each as the kind says that is named before it, and tells how many cases differ.
 fn run_tables<R: Alloc<A = Global> + Files + Print>(rt: &R, words: &[String]) -> Result<u8> {
+    let all = run_files(rt, words)?;
+    println!(rt; "{} passed, {} failed", all.passed, all.failed)?;
+    Ok(if all.failed == 0 { 0 } else { DIFFERS })
+}
+
+/// How many cases of these files pass; each of the others is told.
+fn run_files<R: Alloc<A = Global> + Files + Print>(rt: &R, words: &[String]) -> Result<Tally> {
     let mut kind = None;
     let mut all = Tally::new();
     for word in words.iter().skip(1) {
@@ -61,8 +68,7 @@ fn run_tables<R: Alloc<A = Global> + Files + Print>(rt: &R, words: &[String]) ->
             None => all = all.with(run_file(rt, kind, word.as_str())?),
         }
     }
-    println!(rt; "{} passed, {} failed", all.passed, all.failed)?;
-    Ok(if all.failed == 0 { 0 } else { DIFFERS })
+    Ok(all)
 }
 
 /// How many cases of the file pass, where their kind is known; each of the others is told.

@@ -68,8 +68,18 @@ impl Outcome {
 /// The outcome of the case.
 pub(crate) fn outcome_of(alloc: Global, case: &Case<'_>) -> Result<Outcome> {
     let tree = case.tree_text(alloc)?;
-    let words = all_words(alloc, &*case.words, tree.as_deref())?;
-    match options(alloc, words.as_slice()) {
+    outcome_with(alloc, case, tree.as_deref())
+}
+
+/// The outcome of the case with this tree.
+fn outcome_with(alloc: Global, case: &Case<'_>, tree: Option<&str>) -> Result<Outcome> {
+    let words = all_words(alloc, &*case.words, tree)?;
+    outcome_of_words(alloc, words.as_slice(), case)
+}
+
+/// The outcome of all words over the case's grammar and text.
+fn outcome_of_words(alloc: Global, words: &[&str], case: &Case<'_>) -> Result<Outcome> {
+    match options(alloc, words) {
         Ok(options) => outcome_under(alloc, &options, case),
         Err(OptionsError::Words(error)) => Ok(outcome_of_fault(alloc, &error)?),
         Err(OptionsError::Memory) => Err(AllocError.into()),

@@ -9,7 +9,7 @@ use lalrpop_grammar_symbols::{Atom, List, Span, Symbol, clone_symbols};
 use std::alloc::{AllocError, Global};
 
 /// What an alternative does when it is reduced.
-#[derive(PartialEq, Eq, Drop)]
+#[derive(PartialEq, Eq)]
 pub enum ActionKind {
     /// `=> code`.
     User(Atom),
@@ -21,8 +21,20 @@ pub enum ActionKind {
     Lookbehind,
 }
 
+impl Drop for ActionKind {
+    /// Drops what it holds: where it is owned, that is one call.
+    fn drop(self) {
+        match self {
+            ActionKind::User(_part) => {}
+            ActionKind::Fallible(_part) => {}
+            ActionKind::Lookahead => {}
+            ActionKind::Lookbehind => {}
+        }
+    }
+}
+
 /// One alternative of a rule.
-#[derive(PartialEq, Eq, Drop)]
+#[derive(PartialEq, Eq)]
 pub struct Alternative {
     /// Where it is written.
     pub span: Span,
@@ -36,6 +48,20 @@ pub struct Alternative {
     pub attributes: List<Attribute>,
     /// The written choice that it stands for.
     pub origin: Origin,
+}
+
+impl Drop for Alternative {
+    /// Drops what it holds: where it is owned, that is one call.
+    fn drop(self) {
+        let Alternative {
+            span: _,
+            expr: _expr,
+            condition: _condition,
+            action: _action,
+            attributes: _attributes,
+            origin: _origin,
+        } = self;
+    }
 }
 
 impl ActionKind {

@@ -19,7 +19,7 @@ pub enum ConditionOp {
 }
 
 /// `if K == "text"` behind an alternative of a macro.
-#[derive(PartialEq, Eq, Drop)]
+#[derive(PartialEq, Eq)]
 pub struct Condition {
     /// Where it is written.
     pub span: Span,
@@ -29,6 +29,18 @@ pub struct Condition {
     pub rhs: Atom,
     /// The test.
     pub op: ConditionOp,
+}
+
+impl Drop for Condition {
+    /// Drops what it holds: where it is owned, that is one call.
+    fn drop(self) {
+        let Condition {
+            span: _,
+            lhs: _lhs,
+            rhs: _rhs,
+            op: _op,
+        } = self;
+    }
 }
 
 impl Condition {

@@ -25,7 +25,7 @@ pub struct Conversion {
 }
 
 /// `enum Token { .. }` in an extern block.
-#[derive(PartialEq, Eq, Drop)]
+#[derive(PartialEq, Eq)]
 pub struct EnumToken {
     /// The conversions, in order.
     pub conversions: List<Conversion>,
@@ -33,8 +33,18 @@ pub struct EnumToken {
     pub type_text: Atom,
 }
 
+impl Drop for EnumToken {
+    /// Drops what it holds: where it is owned, that is one call.
+    fn drop(self) {
+        let EnumToken {
+            conversions: _conversions,
+            type_text: _type_text,
+        } = self;
+    }
+}
+
 /// An extern block.
-#[derive(PartialEq, Eq, Drop)]
+#[derive(PartialEq, Eq)]
 pub struct ExternToken {
     /// Where it is written.
     pub span: Span,
@@ -42,6 +52,17 @@ pub struct ExternToken {
     pub associated_types: List<AssociatedType>,
     /// The user's own tokens, where it has them.
     pub enum_token: Option<EnumToken>,
+}
+
+impl Drop for ExternToken {
+    /// Drops what it holds: where it is owned, that is one call.
+    fn drop(self) {
+        let ExternToken {
+            span: _,
+            associated_types: _associated_types,
+            enum_token: _enum_token,
+        } = self;
+    }
 }
 
 impl AssociatedType {

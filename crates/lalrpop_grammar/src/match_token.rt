@@ -33,12 +33,22 @@ pub struct MatchContents {
 }
 
 /// A match block.
-#[derive(PartialEq, Eq, Drop)]
+#[derive(PartialEq, Eq)]
 pub struct MatchToken {
     /// The groups, the first with the greatest precedence.
     pub contents: List<MatchContents>,
     /// Where it is written.
     pub span: Span,
+}
+
+impl Drop for MatchToken {
+    /// Drops what it holds: where it is owned, that is one call.
+    fn drop(self) {
+        let MatchToken {
+            contents: _contents,
+            span: _,
+        } = self;
+    }
 }
 
 impl MatchMapping {

@@ -19,7 +19,7 @@ pub enum Visibility {
 }
 
 /// A rule, or a macro where it has parameters.
-#[derive(PartialEq, Eq, Drop)]
+#[derive(PartialEq, Eq)]
 pub struct NonterminalData {
     /// Who may use it.
     pub visibility: Visibility,
@@ -35,6 +35,21 @@ pub struct NonterminalData {
     pub type_decl: Option<TypeRef>,
     /// Its alternatives, in order.
     pub alternatives: List<Alternative>,
+}
+
+impl Drop for NonterminalData {
+    /// Drops what it holds: where it is owned, that is one call.
+    fn drop(self) {
+        let NonterminalData {
+            visibility: _visibility,
+            name: _name,
+            attributes: _attributes,
+            span: _,
+            args: _args,
+            type_decl: _type_decl,
+            alternatives: _alternatives,
+        } = self;
+    }
 }
 
 impl Visibility {

@@ -6,7 +6,7 @@ use lalrpop_grammar_symbols::{List, NonterminalString, Symbol, clone_symbols};
 use std::alloc::{AllocError, Global};
 
 /// The written choice that an alternative or a production stands for.
-#[derive(PartialEq, Eq, Drop)]
+#[derive(PartialEq, Eq)]
 pub enum Origin {
     /// The production that is added for a public rule.
     Start,
@@ -37,6 +37,29 @@ pub enum Origin {
     Group,
     /// `@L` or `@R`.
     Look,
+}
+
+impl Drop for Origin {
+    /// Drops what it holds: where it is owned, that is one call.
+    fn drop(self) {
+        match self {
+            Origin::Start => {}
+            Origin::Alternative {
+                rule: _rule,
+                args: _args,
+                place: _,
+            } => {}
+            Origin::PassDown => {}
+            Origin::PlusOne => {}
+            Origin::PlusMore => {}
+            Origin::StarNone => {}
+            Origin::StarSome => {}
+            Origin::OptNone => {}
+            Origin::OptSome => {}
+            Origin::Group => {}
+            Origin::Look => {}
+        }
+    }
 }
 
 impl Origin {

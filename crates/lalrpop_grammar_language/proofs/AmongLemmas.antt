@@ -1,5 +1,6 @@
 -- What stands among mapped and joined lists, and texts that are found among others.
-use Rattle.std.proofs.Common.{◌≡◌, List, [], ◌∷◌, ◌++◌, refl, ap, sym, subst, inl, inr, ◌⊎◌, Bool, true, false}
+use Rattle.std.proofs.Common.{◌≡◌, ℕ, zero, suc, ◌<◌, List, [], ◌∷◌, ◌++◌, refl, ap, sym, subst, inl, inr, ◌⊎◌, Bool, true, false}
+use Rattle.std.proofs.Common.{arith, length, get_or, Contains}
 use Rattle.std.specs.Prelude.{map, flat_map, ◌||◌}
 use Rattle.std.specs.Str.{bytes_eq}
 use Rattle.std.proofs.lemmas.Slice.Eq.{bytes_eq-Decides}
@@ -54,3 +55,19 @@ found_text n (m ∷ ms) h = go (bytes_eq n m) refl h (λ k. found_text n ms k)
         Among (m ∷ ms) n
     go true e h ih = inl (sym ((bytes_eq-Decides n m).0 e))
     go false e h ih = inr (ih h)
+
+-- what stands at an index is one of the list
+among_at : {A : Type 0} (xs : List A) (k : ℕ) (x : A) → k < length xs → get_or xs k x ≡ x → Among xs x
+among_at [] k x lt e = absurd (omega arith)
+among_at (y ∷ ys) zero x lt e = inl e
+among_at (y ∷ ys) (suc k) x lt e = inr (among_at ys k x (omega arith) e)
+
+-- what stands in a list at a place is one of it
+pub contains_among : {A : Type 0} (xs : List A) (x : A) → Contains xs x → Among xs x
+contains_among xs x h = among_at xs h.0 x h.1 h.2
+
+-- and one of a list stands in it at a place
+pub among_contains : {A : Type 0} (xs : List A) (x : A) → Among xs x → Contains xs x
+among_contains [] x h = absurd h
+among_contains (y ∷ ys) x (inl e) = (zero, omega arith, e)
+among_contains (y ∷ ys) x (inr h) = let w = among_contains ys x h in (suc w.0, (let lt = w.1 in omega (arith, lt)), w.2)

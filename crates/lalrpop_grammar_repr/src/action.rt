@@ -11,7 +11,7 @@ use std::alloc::{AllocError, Global};
 pub struct ActionFn(u32);
 
 /// What an action does.
-#[derive(Debug, PartialEq, Eq, Drop)]
+#[derive(Debug, PartialEq, Eq)]
 pub struct ActionFnDefn {
     /// Whether its code may fail, as behind `=>?`.
     pub fallible: bool,
@@ -19,6 +19,17 @@ pub struct ActionFnDefn {
     pub ret_type: TypeRepr,
     /// Where its code comes from.
     pub kind: ActionFnDefnKind,
+}
+
+impl Drop for ActionFnDefn {
+    /// Drops what it holds: where it is owned, that is one call.
+    fn drop(self) {
+        let ActionFnDefn {
+            fallible: _,
+            ret_type: _ret_type,
+            kind: _kind,
+        } = self;
+    }
 }
 
 /// Where an action's code comes from.

@@ -14,7 +14,7 @@ use lalrpop_grammar::{Atom, List, NonterminalString};
 use std::alloc::{AllocError, Global};
 
 /// A grammar of plain productions.
-#[derive(Debug, Drop)]
+#[derive(Debug)]
 pub struct Grammar {
     /// What no written name begins with.
     pub prefix: Atom,
@@ -30,6 +30,21 @@ pub struct Grammar {
     pub types: Types,
     /// How tables are built.
     pub algorithm: Algorithm,
+}
+
+impl Drop for Grammar {
+    /// Drops what it holds: where it is owned, that is one call.
+    fn drop(self) {
+        let Grammar {
+            prefix: _prefix,
+            terminals: _terminals,
+            nonterminals: _nonterminals,
+            start_nonterminals: _start_nonterminals,
+            action_fn_defns: _action_fn_defns,
+            types: _types,
+            algorithm: _,
+        } = self;
+    }
 }
 
 impl Grammar {

@@ -9,7 +9,7 @@ use std::error::Error;
 use std::fmt::{self, Debug, Display, Formatter, Write};
 
 /// A fault of a written grammar, and where it stands.
-#[derive(Debug, PartialEq, Eq, Drop)]
+#[derive(Debug, PartialEq, Eq)]
 pub struct NormError {
     /// What is wrong.
     pub kind: NormErrorKind,
@@ -17,8 +17,18 @@ pub struct NormError {
     pub span: Span,
 }
 
+impl Drop for NormError {
+    /// Drops what it holds: where it is owned, that is one call.
+    fn drop(self) {
+        let NormError {
+            kind: _kind,
+            span: _,
+        } = self;
+    }
+}
+
 /// What is wrong with a written grammar. It prints its message.
-#[derive(PartialEq, Eq, Drop)]
+#[derive(PartialEq, Eq)]
 pub enum NormErrorKind {
     /// N1: two rules, a rule and a mapped bare name, or two parameters of a macro have this name.
     DuplicateDefinition(Atom),
@@ -68,6 +78,38 @@ pub enum NormErrorKind {
     TooManyActions,
     /// N24: a rule that would have to be inlined into itself.
     CyclicInline(NonterminalString),
+}
+
+impl Drop for NormErrorKind {
+    /// Drops what it holds: where it is owned, that is one call.
+    fn drop(self) {
+        match self {
+            NormErrorKind::DuplicateDefinition(_part) => {}
+            NormErrorKind::SecondMatchBlock => {}
+            NormErrorKind::UnknownAttribute(_part) => {}
+            NormErrorKind::PublicInline => {}
+            NormErrorKind::FirstWithoutLevel => {}
+            NormErrorKind::LevelIsNoNumber => {}
+            NormErrorKind::SideOnTightestLevel => {}
+            NormErrorKind::UnknownSide => {}
+            NormErrorKind::ReservedPrefix => {}
+            NormErrorKind::NamedNotAllowed => {}
+            NormErrorKind::EntryTwice => {}
+            NormErrorKind::NoDefinition(_part) => {}
+            NormErrorKind::WrongNumberOfArguments => {}
+            NormErrorKind::MacroAsRule => {}
+            NormErrorKind::MacroDepth(_) => {}
+            NormErrorKind::ConditionOnOther => {}
+            NormErrorKind::ConditionPattern => {}
+            NormErrorKind::NotInMatchBlock(_part) => {}
+            NormErrorKind::PatternRefused(_part) => {}
+            NormErrorKind::SameText(_part, _other) => {}
+            NormErrorKind::TypesDisagree => {}
+            NormErrorKind::NoType(_part) => {}
+            NormErrorKind::TooManyActions => {}
+            NormErrorKind::CyclicInline(_part) => {}
+        }
+    }
 }
 
 impl Display for NormErrorKind {

@@ -16,7 +16,7 @@ pub enum Symbol {
 }
 
 /// A production. Productions are ordered by their fields, in this order.
-#[derive(Debug, PartialEq, Eq, PartialOrd, Ord, Hash, Drop)]
+#[derive(Debug, PartialEq, Eq, PartialOrd, Ord, Hash)]
 pub struct Production {
     /// Its left side.
     pub nonterminal: NonterminalString,
@@ -28,8 +28,20 @@ pub struct Production {
     pub span: Span,
 }
 
+impl Drop for Production {
+    /// Drops what it holds: where it is owned, that is one call.
+    fn drop(self) {
+        let Production {
+            nonterminal: _nonterminal,
+            symbols: _symbols,
+            action: _action,
+            span: _,
+        } = self;
+    }
+}
+
 /// A nonterminal with its productions.
-#[derive(Debug, PartialEq, Eq, Drop)]
+#[derive(Debug, PartialEq, Eq)]
 pub struct NonterminalData {
     /// Its name.
     pub name: NonterminalString,
@@ -39,6 +51,18 @@ pub struct NonterminalData {
     pub span: Span,
     /// Its productions, in order.
     pub productions: List<Production>,
+}
+
+impl Drop for NonterminalData {
+    /// Drops what it holds: where it is owned, that is one call.
+    fn drop(self) {
+        let NonterminalData {
+            name: _name,
+            attributes: _attributes,
+            span: _,
+            productions: _productions,
+        } = self;
+    }
 }
 
 impl Symbol {

@@ -7,12 +7,22 @@ use lalrpop_grammar::{List, TerminalString};
 use std::alloc::{AllocError, Global};
 
 /// The terminals of a grammar.
-#[derive(Debug, Drop)]
+#[derive(Debug)]
 pub struct TerminalSet {
     /// The terminals, ascending.
     pub all: List<TerminalString>,
     /// The place of each in the list.
     pub bits: Map<TerminalString, usize>,
+}
+
+impl Drop for TerminalSet {
+    /// Drops what it holds: where it is owned, that is one call.
+    fn drop(self) {
+        let TerminalSet {
+            all: _all,
+            bits: _bits,
+        } = self;
+    }
 }
 
 impl TerminalSet {

@@ -11,12 +11,22 @@ use lalrpop_grammar::{NonterminalString, TerminalString, TypeRepr};
 use std::alloc::{AllocError, Global};
 
 /// Which type each terminal and each nonterminal has.
-#[derive(Debug, Drop)]
+#[derive(Debug)]
 pub struct Types {
     /// Those of terminals.
     pub terminal_types: Map<TerminalString, TypeRepr>,
     /// Those of nonterminals.
     pub nonterminal_types: Map<NonterminalString, TypeRepr>,
+}
+
+impl Drop for Types {
+    /// Drops what it holds: where it is owned, that is one call.
+    fn drop(self) {
+        let Types {
+            terminal_types: _terminal_types,
+            nonterminal_types: _nonterminal_types,
+        } = self;
+    }
 }
 
 impl Types {

@@ -18,9 +18,15 @@ use std::marker::Model;
 use std::rc::RcStr;
 
 /// A shared text, compared by content.
-#[derive(Drop)]
 pub struct Atom {
     text: RcStr,
+}
+
+impl Drop for Atom {
+    /// Drops what it holds: where it is owned, that is one call.
+    fn drop(self) {
+        let Atom { text: _text } = self;
+    }
 }
 
 impl Model for Atom {

@@ -7,16 +7,33 @@ use std::alloc::AllocError;
 use std::fmt::{self, Display, Formatter, Write};
 
 /// The name of a rule, of a macro's parameter, or of a nonterminal.
-#[derive(Debug, PartialEq, Eq, PartialOrd, Ord, Hash, Drop)]
+#[derive(Debug, PartialEq, Eq, PartialOrd, Ord, Hash)]
 pub struct NonterminalString(pub Atom);
 
+impl Drop for NonterminalString {
+    /// Drops what it holds: where it is owned, that is one call.
+    fn drop(self) {
+        let NonterminalString(_text) = self;
+    }
+}
+
 /// The name that a symbol is given for the user's action, as in `<mut x:Expr>`.
-#[derive(PartialEq, Eq, PartialOrd, Ord, Hash, Drop)]
+#[derive(PartialEq, Eq, PartialOrd, Ord, Hash)]
 pub struct Name {
     /// Whether `mut` stands before it.
     pub mutable: bool,
     /// The name itself.
     pub name: Atom,
+}
+
+impl Drop for Name {
+    /// Drops what it holds: where it is owned, that is one call.
+    fn drop(self) {
+        let Name {
+            mutable: _,
+            name: _name,
+        } = self;
+    }
 }
 
 impl NonterminalString {
@@ -25,6 +42,14 @@ impl NonterminalString {
         ensures { result ≡ length self.now.0 }
     {
         self.0.as_str().len()
+    }
+
+    /// Its text.
+    pub fn into_atom(self) -> Atom
+        ensures { result ≡ self.0 }
+    {
+        let NonterminalString(text) = self;
+        text
     }
 
     /// A copy that equals it.

@@ -7,7 +7,7 @@ use crate::atom::Atom;
 use std::alloc::AllocError;
 
 /// A literal as it is written: a quoted text, or a regular expression.
-#[derive(Debug, PartialEq, Eq, PartialOrd, Ord, Hash, Drop)]
+#[derive(Debug, PartialEq, Eq, PartialOrd, Ord, Hash)]
 pub enum TerminalLiteral {
     /// `"class"`: the text itself.
     Quoted(Atom),
@@ -15,11 +15,21 @@ pub enum TerminalLiteral {
     Regex(Atom),
 }
 
+impl Drop for TerminalLiteral {
+    /// Drops what it holds: where it is owned, that is one call.
+    fn drop(self) {
+        match self {
+            TerminalLiteral::Quoted(_part) => {}
+            TerminalLiteral::Regex(_part) => {}
+        }
+    }
+}
+
 /// What an entry of a match block matches.
 pub type MatchSymbol = TerminalLiteral;
 
 /// A terminal of a grammar.
-#[derive(Debug, PartialEq, Eq, PartialOrd, Ord, Hash, Drop)]
+#[derive(Debug, PartialEq, Eq, PartialOrd, Ord, Hash)]
 pub enum TerminalString {
     /// A literal that names itself.
     Literal(TerminalLiteral),
@@ -27,6 +37,17 @@ pub enum TerminalString {
     Bare(Atom),
     /// The terminal of error recovery, `!`.
     Error,
+}
+
+impl Drop for TerminalString {
+    /// Drops what it holds: where it is owned, that is one call.
+    fn drop(self) {
+        match self {
+            TerminalString::Literal(_part) => {}
+            TerminalString::Bare(_part) => {}
+            TerminalString::Error => {}
+        }
+    }
 }
 
 impl TerminalLiteral {

@@ -1,6 +1,6 @@
 //! Grammars with each kind of part: copies and small questions.
 
-use crate::check::check;
+use crate::check::{check, equals};
 use lalrpop_grammar::{
     ActionKind, Atom, Attribute, Grammar, GrammarItem, InternToken, List, MatchContents,
     MatchEntry, MatchItem, MatchMapping, MatchToken, NonterminalString, Origin, Span,
@@ -42,8 +42,7 @@ fn full(rt: &impl Abort, alloc: Global) -> Box<Grammar> {
 
 /// Whether a copy of the grammar equals it.
 fn equals_its_copy(rt: &impl Abort, alloc: Global, grammar: &Grammar) -> bool {
-    let copy = grammar.try_clone(alloc).expect(rt, "memory");
-    copy == *grammar
+    equals(grammar, grammar.try_clone(alloc).expect(rt, "memory"))
 }
 
 #[test]
@@ -54,8 +53,7 @@ fn a_copy_of_a_grammar_equals_it(rt: HostRuntime) {
 
 /// Whether a copy of the origin equals it.
 fn is_copied(rt: &impl Abort, alloc: Global, origin: &Origin) -> bool {
-    let copy = origin.try_clone(alloc).expect(rt, "memory");
-    copy == *origin
+    equals(origin, origin.try_clone(alloc).expect(rt, "memory"))
 }
 
 // No grammar that is read holds origins.
@@ -87,16 +85,15 @@ fn a_copy_of_the_origin_of_an_alternative(rt: HostRuntime) {
     check(&rt, is_copied(&rt, rt.alloc(), &origin));
 }
 
+/// Whether a copy of the action equals it.
+fn action_is_copied(rt: &impl Abort, action: &ActionKind) -> bool {
+    equals(action, action.try_clone().expect(rt, "memory"))
+}
+
 #[test]
 fn copies_of_the_actions_of_places(rt: HostRuntime) {
-    check(
-        &rt,
-        ActionKind::Lookahead.try_clone().expect(&rt, "memory") == ActionKind::Lookahead,
-    );
-    check(
-        &rt,
-        ActionKind::Lookbehind.try_clone().expect(&rt, "memory") == ActionKind::Lookbehind,
-    );
+    check(&rt, action_is_copied(&rt, &ActionKind::Lookahead));
+    check(&rt, action_is_copied(&rt, &ActionKind::Lookbehind));
 }
 
 fn has_two_groups(grammar: &Grammar) -> bool {

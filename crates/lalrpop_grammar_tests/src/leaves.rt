@@ -1,6 +1,6 @@
 //! Leaves and tokens of trees.
 
-use crate::check::check;
+use crate::check::{check, equals};
 use lalrpop_grammar::{Atom, Leaf, ScanToken, Span, TerminalString, WrittenTree};
 use lalrpop_json_grammar::read_tree;
 use serde_json::Value;
@@ -47,10 +47,15 @@ fn leaves_from_left_to_right(rt: HostRuntime) {
     come_in_order(&rt, rt.alloc(), &tree);
 }
 
+/// The terminal of the bare name.
+fn bare(rt: &impl Abort, alloc: Global, name: &str) -> TerminalString {
+    TerminalString::Bare(Atom::new(alloc, name).expect(rt, "memory"))
+}
+
 /// The token of the bare name B at the second leaf.
 fn second_token(rt: &impl Abort, alloc: Global) -> ScanToken<'static> {
     ScanToken {
-        terminal: TerminalString::Bare(Atom::new(alloc, "B").expect(rt, "memory")),
+        terminal: bare(rt, alloc, "B"),
         text: "2",
         span: Span(2, 3),
     }
@@ -59,7 +64,7 @@ fn second_token(rt: &impl Abort, alloc: Global) -> ScanToken<'static> {
 fn has_tokens(rt: &impl Abort, alloc: Global, tree: &WrittenTree) {
     let tokens = tree.tokens(alloc).expect(rt, "memory");
     check(rt, tokens.len() == 3);
-    check(rt, tokens[1] == second_token(rt, alloc));
+    check(rt, equals(&tokens[1], second_token(rt, alloc)));
     check(rt, tokens[2].text == "3");
 }
 
@@ -71,8 +76,13 @@ fn tokens_of_the_leaves(rt: HostRuntime) {
 
 /// Whether a copy of the tree equals it.
 fn equals_its_copy(rt: &impl Abort, alloc: Global, tree: &WrittenTree) -> bool {
-    let copy = tree.try_clone(alloc).expect(rt, "memory");
-    copy == *tree
+    equals(tree, tree.try_clone(alloc).expect(rt, "memory"))
+}
+
+/// Whether a copy of the second leaf's token equals it.
+fn token_is_copied(rt: &impl Abort, alloc: Global) -> bool {
+    let token = second_token(rt, alloc);
+    equals(&token, token.try_clone().expect(rt, "memory"))
 }
 
 #[test]
@@ -80,34 +90,29 @@ fn copies_of_trees_and_tokens(rt: HostRuntime) {
     let alloc = rt.alloc();
     let tree = nested_tree(&rt, alloc);
     check(&rt, equals_its_copy(&rt, alloc, &tree));
-    let token = second_token(&rt, alloc);
-    check(&rt, token.try_clone().expect(&rt, "memory") == token);
+    check(&rt, token_is_copied(&rt, alloc));
+}
+
+/// The leaf of the terminal there.
+fn leaf_at(terminal: &TerminalString, span: Span) -> Leaf<'_> {
+    Leaf {
+        terminal,
+        text: "1",
+        span,
+    }
+}
+
+/// That leaves of these equal terminals are equal in one place, and not in two.
+fn compare_by_content(rt: &impl Abort, a: &TerminalString, b: &TerminalString) {
+    let leaf = leaf_at(a, Span(0, 1));
+    let copy = leaf;
+    check(rt, copy == leaf_at(b, Span(0, 1)));
+    check(rt, leaf != leaf_at(b, Span(0, 2)));
 }
 
 #[test]
 fn leaves_compare_by_content(rt: HostRuntime) {
-    let a = TerminalString::Bare(Atom::new(rt.alloc(), "A").expect(&rt, "memory"));
-    let b = TerminalString::Bare(Atom::new(rt.alloc(), "A").expect(&rt, "memory"));
-    let leaf = Leaf {
-        terminal: &a,
-        text: "1",
-        span: Span(0, 1),
-    };
-    let copy = leaf;
-    check(
-        &rt,
-        copy == Leaf {
-            terminal: &b,
-            text: "1",
-            span: Span(0, 1),
-        },
-    );
-    check(
-        &rt,
-        leaf != Leaf {
-            terminal: &b,
-            text: "1",
-            span: Span(0, 2),
-        },
-    );
+    let a = bare(&rt, rt.alloc(), "A");
+    let b = bare(&rt, rt.alloc(), "A");
+    compare_by_content(&rt, &a, &b);
 }

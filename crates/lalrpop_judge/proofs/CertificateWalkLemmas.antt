@@ -23,7 +23,7 @@ use Rattle.lalrpop_lr1_interpret.proofs.ExpandedLemmas.{expanded_at, nodes-besid
 use Rattle.lalrpop_lr1_interpret.proofs.StackLemmas.{beside-beside, beside-none, spans-beside, without-beside}
 use Rattle.lalrpop_judge.specs.LentTrees.{tree_views}
 use Rattle.lalrpop_judge.specs.Steps.{AreStepsOf, IsRootOver, IsStepOf, step_spans, step_view}
-use Rattle.lalrpop_judge.specs.declared.certificates.step.Step.{Step}
+use Rattle.lalrpop_judge.specs.declared.certificates.step.WalkStep.{WalkStep}
 
 -- a leaf or a node, and no other tree
 pub data IsOneTree : SpannedForest → Type 0 where
@@ -49,7 +49,7 @@ lent_more trees r =
 
 module _ (G : Production → Type 0) where
   -- trees that are walked but for some that are open still, with the moves made behind these, last first
-  pub record IsWalkedTo (whole opened : SpannedForest) (done : List Step) : Type 0 where
+  pub record IsWalkedTo (whole opened : SpannedForest) (done : List WalkStep) : Type 0 where
     pub forth : AreOver G (without_spans whole) → AreOver G (without_spans opened)
     pub back : AreOver G (without_spans opened) → AreOver G (without_spans whole)
     pub moves_are : moves (without_spans whole) ≡ moves (without_spans opened) ++ map step_view (reverse done)
@@ -64,13 +64,13 @@ module _ (G : Production → Type 0) where
   }
 
   -- what one step needs
-  record IsOpened (opened next : SpannedForest) (step : Step) : Type 0 where
+  record IsOpened (opened next : SpannedForest) (step : WalkStep) : Type 0 where
     forth : AreOver G (without_spans opened) → AreOver G (without_spans next)
     back : AreOver G (without_spans next) → AreOver G (without_spans opened)
     moves_are : moves (without_spans opened) ≡ moves (without_spans next) ++ step_view step ∷ []
     spans_are : leaf_spans opened ≡ leaf_spans next ++ step_spans step
 
-  on_by : (whole opened next : SpannedForest) (done : List Step) (step : Step) → IsOpened opened next step →
+  on_by : (whole opened next : SpannedForest) (done : List WalkStep) (step : WalkStep) → IsOpened opened next step →
       IsWalkedTo whole opened done →
       IsWalkedTo whole next (done ++ step ∷ [])
   on_by whole opened next done step o w =
@@ -86,7 +86,7 @@ module _ (G : Production → Type 0) where
             ∙ ap (λ d. leaf_spans next ++ flat_map step_spans d) (sym turned);
       }
 
-  opened_leaf : (rest : SpannedForest) (t : Terminal) (span : TextSpan) (step : Step) → step_view step ≡ shift t →
+  opened_leaf : (rest : SpannedForest) (t : Terminal) (span : TextSpan) (step : WalkStep) → step_view step ≡ shift t →
       step_spans step ≡ span ∷ [] → IsOpened (rest beside leaf_at t span none_at) (rest beside none_at) step
   opened_leaf rest t span step m sp =
       let r = without_spans rest in
@@ -101,7 +101,7 @@ module _ (G : Production → Type 0) where
             ∙ ap (λ ss. leaf_spans (rest beside none_at) ++ ss) (sym sp);
       }
 
-  opened_node : (rest : SpannedForest) (p : Production) (cs : SpannedForest) (step : Step) → step_view step ≡ reduce p →
+  opened_node : (rest : SpannedForest) (p : Production) (cs : SpannedForest) (step : WalkStep) → step_view step ≡ reduce p →
       step_spans step ≡ [] → G p → roots (without_spans cs) ≡ p.right →
       IsOpened (rest beside node_at p cs none_at) (rest beside cs) step
   opened_node rest p cs step m sp is roots_are =
@@ -125,7 +125,7 @@ module _ (G : Production → Type 0) where
       }
 
   -- the last of the open trees makes its move, and its children are open in its place
-  pub walked_on : (whole rest v : SpannedForest) (done : List Step) (step : Step) → IsOneTree v → IsRootOver G v → IsStepOf v step →
+  pub walked_on : (whole rest v : SpannedForest) (done : List WalkStep) (step : WalkStep) → IsOneTree v → IsRootOver G v → IsStepOf v step →
       IsWalkedTo whole (rest beside v) done → IsWalkedTo whole (rest beside root_children v) (done ++ step ∷ [])
   walked_on whole rest v done step (is_leaf t span) o s w =
       on_by whole (rest beside leaf_at t span none_at) (rest beside none_at) done step (opened_leaf rest t span step s.0 s.1) w
@@ -133,7 +133,7 @@ module _ (G : Production → Type 0) where
       on_by whole (rest beside node_at p cs none_at) (rest beside cs) done step (opened_node rest p cs step s.0 s.1 o.0 o.1) w
 
   -- an open tree whose root isn't over the grammar: so the whole isn't
-  pub walked_not : (whole rest v : SpannedForest) (done : List Step) → IsOneTree v → (IsRootOver G v → ⊥) →
+  pub walked_not : (whole rest v : SpannedForest) (done : List WalkStep) → IsOneTree v → (IsRootOver G v → ⊥) →
       IsWalkedTo whole (rest beside v) done → AreOver G (without_spans whole) → ⊥
   walked_not whole rest v done (is_leaf t span) o w h = o tt
   walked_not whole rest v done (is_node p cs) o w h =
@@ -142,7 +142,7 @@ module _ (G : Production → Type 0) where
       o (s.1.0, s.1.1)
 
   -- nothing is open
-  pub walked_all : (whole : SpannedForest) (done : List Step) → IsWalkedTo whole none_at done → AreStepsOf G whole (reverse done)
+  pub walked_all : (whole : SpannedForest) (done : List WalkStep) → IsWalkedTo whole none_at done → AreStepsOf G whole (reverse done)
   walked_all whole done w = record { over = w.back tt; moves_are = sym w.moves_are; spans_are = sym w.spans_are }
 
 -- fewer trees are open
@@ -255,13 +255,13 @@ opened_views old rest now r e o =
 
 module _ (G : Production → Type 0) (whole : SpannedForest) where
   -- the last of the open trees apart from the others
-  pub walked_from : (old rest : List TreeRef) (r : TreeRef) (done : List Step) → old ≡ rest ++ r ∷ [] →
+  pub walked_from : (old rest : List TreeRef) (r : TreeRef) (done : List WalkStep) → old ≡ rest ++ r ∷ [] →
       IsWalkedTo G whole (tree_views old) done → IsWalkedTo G whole (tree_views rest beside expanded_view r.tree.now) done
   walked_from old rest r done e w =
       subst (λ x. IsWalkedTo G whole x done) (ap tree_views e ∙ lent_more rest r) w
 
   -- a step of the walk
-  pub walked_next : (old rest now : List TreeRef) (r : TreeRef) (done more : List Step) (step : Step) → old ≡ rest ++ r ∷ [] →
+  pub walked_next : (old rest now : List TreeRef) (r : TreeRef) (done more : List WalkStep) (step : WalkStep) → old ≡ rest ++ r ∷ [] →
       IsRootOver G (expanded_view r.tree.now) → IsStepOf (expanded_view r.tree.now) step → more ≡ done ++ step ∷ [] →
       tree_views now ≡ tree_views rest beside root_children (expanded_view r.tree.now) →
       IsWalkedTo G whole (tree_views old) done → IsWalkedTo G whole (tree_views now) more

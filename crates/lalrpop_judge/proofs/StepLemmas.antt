@@ -10,12 +10,12 @@ use Rattle.lalrpop_lr1_theory.proofs.StepLemmas.{some_same}
 use Rattle.lalrpop_lr1_theory.proofs.TreeLemmas.{reduce_same}
 use Rattle.lalrpop_lr1_core.specs.Views.{production_view}
 use Rattle.lalrpop_judge.specs.Steps.{step_view}
-use Rattle.lalrpop_judge.specs.declared.certificates.step.Step.{Step}
-use Rattle.lalrpop_judge.specs.declared.certificates.step.Step.TheVariants as steps
+use Rattle.lalrpop_judge.specs.declared.certificates.step.WalkStep.{WalkStep}
+use Rattle.lalrpop_judge.specs.declared.certificates.step.WalkStep.TheVariants as steps
 use Rattle.lalrpop_lr1_core.proofs.ProductionViewLemmas.{same_production}
 
 -- two reductions are one where their productions are
-pub same_reductions : (a b : Step) (p q : Bor Production) (r : Bool) → a ≡ steps.Reduce p → b ≡ steps.Reduce q →
+pub same_reductions : (a b : WalkStep) (p q : Bor Production) (r : Bool) → a ≡ steps.Reduce p → b ≡ steps.Reduce q →
     (IsTrue r ↔ (p.now ≡ q.now)) → IsTrue r ↔ (step_view a ≡ step_view b)
 same_reductions a b p q r d e h = (
   λ t. ap step_view d ∙ ap (λ v. reduce (production_view v)) (h.0 t) ∙ sym (ap step_view e),
@@ -24,7 +24,7 @@ same_reductions a b p q r d e h = (
 )
 
 -- what is read in a list of moves
-read_move : (all : List Step) (i : ℕ) (a : Step) → i < length all → a ≡ get_or all i a →
+read_move : (all : List WalkStep) (i : ℕ) (a : WalkStep) → i < length all → a ≡ get_or all i a →
     slice_get (map step_view all) i ≡ Some (step_view a)
 read_move [] i a h e = absurd (omega arith)
 read_move (x ∷ all) zero a h e = ap (λ y. Some (step_view y)) (sym e)
@@ -37,7 +37,7 @@ take_get (x ∷ xs) (suc n) zero h = refl
 take_get (x ∷ xs) (suc n) (suc i) h = take_get xs n i (omega arith)
 
 -- at one place the moves are two, so the others aren't the front
-pub other_front : (all front : List Step) (i : ℕ) (a b : Step) → i < length front → length front ≤ length all →
+pub other_front : (all front : List WalkStep) (i : ℕ) (a b : WalkStep) → i < length front → length front ≤ length all →
     a ≡ get_or all i a → b ≡ get_or front i b → (step_view a ≡ step_view b → ⊥) →
     take (length front) (map step_view all) ≡ map step_view front → ⊥
 other_front all front i a b h l at_a at_b differ e =
@@ -53,7 +53,7 @@ take_on (x ∷ xs) (suc i) m e =
     ap (λ k. take k (x ∷ xs)) n ∙ ap (λ l. x ∷ l) (take_on xs i m e)
 
 -- one move more is the same
-pub front_more : (all front : List Step) (i : ℕ) (a b : Step) → i < length front → length front ≤ length all →
+pub front_more : (all front : List WalkStep) (i : ℕ) (a b : WalkStep) → i < length front → length front ≤ length all →
     a ≡ get_or all i a → b ≡ get_or front i b → step_view a ≡ step_view b →
     take i (map step_view all) ≡ take i (map step_view front) →
     take (i + 1) (map step_view all) ≡ take (i + 1) (map step_view front)

@@ -52,21 +52,21 @@ pub(crate) fn symbols_of_group(symbol: &ClosedSymbol) -> Option<&[ClosedSymbol]>
 
 /// A called rule, with arguments and a level.
 #[derive(Clone, Copy)]
-pub(crate) struct Called<'c> {
+pub(crate) struct AskedCall<'c> {
     pub(crate) name: &'c Atom,
     pub(crate) args: &'c [ClosedSymbol],
     pub(crate) level: Option<u32>,
 }
 
 /// The call that a symbol is.
-pub(crate) fn call_of(symbol: &ClosedSymbol) -> Option<Called<'_>>
+pub(crate) fn call_of(symbol: &ClosedSymbol) -> Option<AskedCall<'_>>
     ensures some { IfSome result (λ it.
         inner (closed_view symbol.now) ≡ Closed.call it.name.now (closeds (map closed_view it.args.now)) it.level) }
     ensures none { IfNone result ((n : Text) (given : Closeds) (level : Option ℕ) →
         inner (closed_view symbol.now) ≡ Closed.call n given level → ⊥) }
 {
     match symbol.inner() {
-        ClosedSymbol::Call(name, args, level) => Some(Called {
+        ClosedSymbol::Call(name, args, level) => Some(AskedCall {
             name,
             args: args.as_slice(),
             level: *level,

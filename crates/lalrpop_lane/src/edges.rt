@@ -4,7 +4,7 @@ ghost use Rattle.std.specs.Prelude.{◌≡◌, ◌<◌, All, IfOk, length};
 ghost use Rattle.lalrpop_lane.specs.GotoNumbers.{state_by_numbers};
 
 use lalrpop_lr1_build::collapse::renumber_edges;
-use lalrpop_lr1_core::{Lr1State, State, StateIndex};
+use lalrpop_lr1_core::{Lr1State, StateIndex};
 use std::alloc::{AllocError, Global};
 
 /// The state with this number, its edges by the numbers.
@@ -12,7 +12,7 @@ pub(crate) fn renumber_state<'g>(
     alloc: Global,
     numbers: &[usize],
     number: usize,
-    state: Lr1State<'g>,
+    mut state: Lr1State<'g>,
 ) -> Result<Lr1State<'g>, AllocError>
     requires shifts { All (λ e. e.1.0 < length numbers.now) state.shifts }
     requires gotos { All (λ e. e.1.0 < length numbers.now) state.gotos }
@@ -20,16 +20,8 @@ pub(crate) fn renumber_state<'g>(
 {
     let shifts = renumber_edges(alloc, &state.shifts, numbers)?;
     let gotos = renumber_edges(alloc, &state.gotos, numbers)?;
-    let State {
-        items,
-        reductions,
-        ..
-    } = state;
-    Ok(State {
-        index: StateIndex(number),
-        items,
-        shifts,
-        reductions,
-        gotos,
-    })
+    state.index = StateIndex(number);
+    state.shifts = shifts;
+    state.gotos = gotos;
+    Ok(state)
 }

@@ -1,13 +1,14 @@
 -- Barren names by trees and by marks, and the least of them: for the search.
 use Rattle.std.proofs.Common.{◌≡◌, ◌∙◌, ◌↔◌, ◌⊎◌, ℕ, zero, suc, ◌<◌, List, refl, ap, sym}
 use Rattle.std.proofs.Common.{subst, inl, inr, arith}
-use Rattle.std.proofs.Common.{Contains, Option, None, Some, slice_get}
+use Rattle.std.proofs.Common.{Bool, true, false, Contains, Option, None, Some, slice_get}
+use Rattle.std.specs.Prelude.{IsTrue, is_some, not}
 use Rattle.lalrpop_grammar_symbols.specs.Symbols.{Text}
 use Rattle.lalrpop_grammar_symbols.specs.contracts.names.NonterminalStringOrd.TheImpl as names_order
 use Rattle.lalrpop_grammar_symbols.specs.declared.names.NonterminalString.{NonterminalString}
 use Rattle.lalrpop_grammar_repr.specs.declared.grammar.Grammar.{Grammar}
 use Rattle.lalrpop_lr1_theory.specs.Productions as theory
-use Rattle.lalrpop_lr1_theory.specs.ValidItems.{IsBarren, Reaches, itself, onward}
+use Rattle.lalrpop_lr1_theory.specs.ValidItems.{IsBarren, NoneBarren, Reaches, itself, onward}
 use Rattle.lalrpop_lr1_theory.specs.Trees.{AreOver, Forest, leaf, node, none}
 use Rattle.lalrpop_lr1_theory.proofs.ListLemmas.{get_contains}
 use Rattle.lalrpop_lr1_theory.proofs.NameLemmas.{name_reached, none_barren_productive, productive_tree, reached_name, tree_productive}
@@ -151,3 +152,14 @@ module _ (table : Numbered) (is : IsNumberTable table) where
         go : (B : Text) → ((j : ℕ) × IsNumberOf table j B × IsMarked reached j × (IsMarked productive j → ⊥))
             → (B ≡ n.0) ⊎ NameBefore n.0 B
         go B (j, e, m, lacks) = order B j e (cases j k (λ l. lacks (h.before j l m)))
+
+-- a least barren nonterminal is there unless none is
+pub none_is_found : (G : theory.Production → Type 0) (s : Text) (found : Option NonterminalString) (none : Bool)
+    → is_some found ≡ not none → IsLeastBarren G s found → IsTrue none ↔ NoneBarren G s
+none_is_found G s None true e least = (λ h. least, λ h. refl)
+none_is_found G s None false e least = let w : ⊥ = cc in absurd w
+none_is_found G s (Some n) true e least = let w : ⊥ = cc in absurd w
+none_is_found G s (Some n) false e least = (
+  λ h. let w : ⊥ = cc in absurd w,
+  λ h. let t = h n.0 least.barren.0 in absurd (least.barren.1 t.0 t.1),
+)

@@ -67,18 +67,6 @@ module _ (table : Numbered) (is : IsNumberTable table) where
   abbrev side : NumberedRule → List ℕ
   side rule = rest_of table.places.items rule.start
 
-  -- a name's number
-  pub name_there : (s : ℕ) → s < name_count table → (A : Text) × IsNumberOf table s A
-  name_there s h =
-      go (table_names table) s (slice_get table.terminals.now.all (s - length (table_names table)))
-      (omega (arith, h, long_map (λ b. b.now) table.names.items))
-    where
-      go : (names : List NonterminalString) (k : ℕ) (other : Option TerminalString) → k < length names →
-          (A : Text) × (symbol_or (slice_get names k) other ≡ Some (theory.nonterminal A))
-      go [] k other l = absurd (omega (arith, l))
-      go (n ∷ names) zero other l = (n.0, refl)
-      go (n ∷ names) (suc k) other l = go names k other (omega (arith, l))
-
   -- the names on a rule's right side are those of the production
   pub record IsRuleThere (rule : NumberedRule) (p : theory.Production) : Type 0 where
     pub listed : Contains table.rules.items rule

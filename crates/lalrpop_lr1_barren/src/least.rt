@@ -1,6 +1,7 @@
 //! The least barren nonterminal by name.
 
-ghost use Rattle.std.specs.Prelude.{◌≡◌, Contains, IfOk, IsFalse, IsTrue};
+ghost use Rattle.std.specs.Prelude.{◌≡◌, ◌↔◌, Contains, IfOk, IsFalse, IsTrue};
+ghost use Rattle.lalrpop_lr1_theory.specs.ValidItems.{NoneBarren};
 ghost use Rattle.lalrpop_lr1_core.specs.TheoryGrammars.{theory_grammar};
 ghost use Rattle.lalrpop_lr1_barren.specs.Clauses.{IsMarked};
 ghost use Rattle.lalrpop_lr1_first.specs.NumberedGrammars.{HasItsTerminals, IsNumberTable, IsSeenIn, table_productions};
@@ -52,6 +53,23 @@ fn least_by_table(
             }
         }
     }
+}
+
+/// Whether nothing that the start reaches is barren: each nonterminal that it reaches, itself among them, has a finite tree.
+///
+/// # Errors
+///
+/// Memory is refused.
+pub fn none_is_barren(
+    alloc: Global,
+    table: &Numbered<'_>,
+    start: &NonterminalString,
+) -> Result<bool, AllocError>
+    requires { IsNumberTable table.now }
+    ensures { IfOk result (λ none. IsTrue none ↔ NoneBarren (IsSeenIn (table_productions table.now)) start.now.0) }
+{
+    let least = least_by_table(alloc, table, start)?;
+    Ok(least.is_none())
 }
 
 /// The barren nonterminal that is least by name: the start reaches it, itself among those that it reaches, and no finite tree has it

@@ -7,4 +7,4 @@
 mod least;
 pub mod reachable;
 
-pub use least::barren_nonterminal;
+pub use least::{barren_nonterminal, none_is_barren};

@@ -11,7 +11,7 @@ mod lookup;
 mod named;
 mod rule_names;
 
-pub use barren::{no_marks, none_is_barren, productive_names, reached_names, set_mark};
+pub use barren::{no_marks, productive_names, reached_names, set_mark};
 pub use clauses::{Clause, close, is_marked};
 pub use lookup::place_of;
 pub use named::NamedProductions;

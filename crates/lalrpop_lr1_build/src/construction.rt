@@ -7,9 +7,10 @@ ghost use Rattle.lalrpop_lr1_theory.specs.ValidItems.{NoneBarren};
 ghost use Rattle.lalrpop_lr1_core.specs.Views.{lr_state_view, token_lookahead};
 ghost use Rattle.lalrpop_sets.specs.Bits.{has};
 ghost use Rattle.lalrpop_sets.specs.Tokens.{eof_number};
+ghost use Rattle.lalrpop_lr1_first.specs.ClosureTables.{IsClosureTableOf};
 ghost use Rattle.lalrpop_lr1_first.specs.NumberedGrammars.{HasItsTerminals};
 ghost use Rattle.lalrpop_lr1_build.specs.Nexts.{IsNextIn};
-ghost use Rattle.lalrpop_lr1_build.specs.BuiltStates.{AreCanonicalWithout, AreLr0Without, HaveNoConflictBuilt, IsCanonicalFault, IsFaultBuilt, IsLr0Fault, TellsNoLr1};
+ghost use Rattle.lalrpop_lr1_build.specs.BuiltStates.{AreBuiltStates, AreCanonicalWithout, AreLr0Without, HaveNoConflictBuilt, IsCanonicalFault, IsFaultBuilt, IsLr0Fault, TellsNoLr1};
 ghost use Rattle.lalrpop_lr1_core.specs.TheoryGrammars.{theory_grammar};
 
 use crate::public_states::states_at;
@@ -53,6 +54,43 @@ fn conflicts_of<'g, L: Lookahead>(
     Ok(conflicts)
 }
 
+/// The states of the grammar for a start that the lookahead follows, by the grammar's closures.
+fn states_by_closures<'g, L: KernelLookahead>(
+    alloc: Global,
+    grammar: &'g Grammar,
+    closures: &Closures<'g>,
+    start: &NonterminalString,
+    lookahead: &L,
+) -> Result<Vec<State<'g, L>>, AllocError>
+    requires closures { IsClosureTableOf grammar.now closures.now }
+    requires ordered { L.in_order lookahead.now }
+    requires tokens { (k : ℕ) → has (L.marks lookahead.now) k ≡ true → k ≤ eof_number grammar.now.terminals }
+    ensures { IfOk result (λ states. AreBuiltStates L.marks (L.look grammar.now.terminals) L.firsts
+        (IsNextIn grammar.now.terminals (L.marks lookahead.now)) grammar.now start.now states.items) }
+{
+    let table = closures.table();
+    let kernel = start_kernel(alloc, table, start, lookahead)?;
+    let numbered = states_by_numbers(alloc, closures, kernel)?;
+    states_at(alloc, table, numbered)
+}
+
+/// The states of the grammar for a start that the lookahead follows, with conflicts or without.
+fn all_states<'g, L: KernelLookahead>(
+    alloc: Global,
+    grammar: &'g Grammar,
+    start: &NonterminalString,
+    lookahead: &L,
+) -> Result<Vec<State<'g, L>>, AllocError>
+    requires grammar { HasItsTerminals grammar.now }
+    requires ordered { L.in_order lookahead.now }
+    requires tokens { (k : ℕ) → has (L.marks lookahead.now) k ≡ true → k ≤ eof_number grammar.now.terminals }
+    ensures { IfOk result (λ states. AreBuiltStates L.marks (L.look grammar.now.terminals) L.firsts
+        (IsNextIn grammar.now.terminals (L.marks lookahead.now)) grammar.now start.now states.items) }
+{
+    let closures = Closures::new(alloc, grammar)?;
+    states_by_closures(alloc, grammar, &closures, start, lookahead)
+}
+
 /// The states of the grammar for a start that the lookahead follows; or these with all their conflicts. The terminals of the grammar
 /// are numbered by their places, and each terminal on a right side is one of them; the lookahead is in order and holds only tokens
 /// of the grammar and the end.
@@ -76,10 +114,7 @@ pub fn build_states<'g, L: KernelLookahead>(
         (IsNextIn grammar.now.terminals (L.marks lookahead.now)) grammar.now start.now
         (L.conflicts_in grammar.now.terminals) fault) }
 {
-    let closures = Closures::new(alloc, grammar)?;
-    let kernel = start_kernel(alloc, closures.table(), start, lookahead)?;
-    let numbered = states_by_numbers(alloc, &closures, kernel)?;
-    let states = states_at(alloc, closures.table(), numbered)?;
+    let states = all_states(alloc, grammar, start, lookahead)?;
     let conflicts = conflicts_of(alloc, &grammar.terminals, states.as_slice())?;
     if conflicts.is_empty() {
         Ok(states)

@@ -16,7 +16,7 @@ ghost use Rattle.lalrpop_lr1_check.specs.StatesOver.{
 use crate::closure::has_closure_items;
 use lalrpop_grammar_repr::{Grammar, TerminalSet};
 use lalrpop_grammar_symbols::NonterminalString;
-use lalrpop_lr1_barren::reachable::none_is_barren;
+use lalrpop_lr1_barren::none_is_barren;
 use lalrpop_lr1_check_lookaheads::lookaheads::reduces_before_lookaheads;
 use lalrpop_lr1_check_lookaheads::parts::{StateListing, end_rightly, have_no_conflict};
 use lalrpop_lr1_core::Lr1State;

@@ -10,12 +10,22 @@ use lalrpop_sets::{Nil, TokenSet};
 use std::alloc::AllocError;
 
 /// What a state may do.
-#[derive(Debug, PartialEq, Eq, PartialOrd, Ord, Drop)]
+#[derive(Debug, PartialEq, Eq, PartialOrd, Ord)]
 pub enum Action<'g> {
     /// It shifts the terminal, and goes to the state.
     Shift(TerminalString, StateIndex),
     /// It reduces by the production.
     Reduce(&'g Production),
+}
+
+impl<'g> Drop for Action<'g> {
+    /// Drops what it holds: where it is owned, that is one call.
+    fn drop(self) {
+        match self {
+            Action::Shift(_part, _other) => {}
+            Action::Reduce(_part) => {}
+        }
+    }
 }
 
 impl<'g> Action<'g> {
@@ -31,7 +41,7 @@ impl<'g> Action<'g> {
 }
 
 /// A reduction of a state that another action forbids.
-#[derive(Debug, PartialEq, Eq, Drop)]
+#[derive(Debug, PartialEq, Eq)]
 pub struct Conflict<'g, L> {
     /// The state.
     pub state: StateIndex,
@@ -41,6 +51,18 @@ pub struct Conflict<'g, L> {
     pub production: &'g Production,
     /// The other action.
     pub action: Action<'g>,
+}
+
+impl<'g, L: Drop> Drop for Conflict<'g, L> {
+    /// Drops what it holds: where it is owned, that is one call.
+    fn drop(self) {
+        let Conflict {
+            state: _state,
+            lookahead: _lookahead,
+            production: _production,
+            action: _action,
+        } = self;
+    }
 }
 
 impl<'g, L: Lookahead> Conflict<'g, L> {

@@ -24,11 +24,18 @@ use lalrpop_sets::{Nil, TokenSet};
 use std::alloc::{AllocError, Global};
 
 /// The items of a state.
-#[derive(PartialEq, Eq, PartialOrd, Ord, Hash, Drop)]
+#[derive(PartialEq, Eq, PartialOrd, Ord, Hash)]
 #[derive_where(Debug; L: Lookahead)]
 pub struct Items<'g, L> {
     /// The items, in order.
     pub vec: List<Item<'g, L>>,
+}
+
+impl<'g, L: Drop> Drop for Items<'g, L> {
+    /// Drops what it holds: where it is owned, that is one call.
+    fn drop(self) {
+        let Items { vec: _vec } = self;
+    }
 }
 
 /// The items of a state without lookaheads.
@@ -38,7 +45,6 @@ pub type Lr0Items<'g> = Items<'g, Nil>;
 pub type Lr1Items<'g> = Items<'g, TokenSet>;
 
 /// A state: its items, and what is done there.
-#[derive(Drop)]
 #[derive_where(Debug; L: Lookahead)]
 pub struct State<'g, L> {
     /// Its number.
@@ -51,6 +57,19 @@ pub struct State<'g, L> {
     pub reductions: List<(L, &'g Production)>,
     /// Where the nonterminals lead.
     pub gotos: Map<NonterminalString, StateIndex>,
+}
+
+impl<'g, L: Drop> Drop for State<'g, L> {
+    /// Drops what it holds: where it is owned, that is one call.
+    fn drop(self) {
+        let State {
+            index: _index,
+            items: _items,
+            shifts: _shifts,
+            reductions: _reductions,
+            gotos: _gotos,
+        } = self;
+    }
 }
 
 /// A state without lookaheads.

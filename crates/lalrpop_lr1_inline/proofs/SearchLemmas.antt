@@ -9,8 +9,8 @@ use Rattle.std.proofs.lemmas.Grind.{reverse_onto}
 use Rattle.std.proofs.lemmas.List.{length-reverse, map-append, reverse-append, reverse-reverse}
 use Rattle.std.specs.Borrow.{Bor}
 use Rattle.lalrpop_grammar_symbols.specs.declared.names.NonterminalString.{NonterminalString}
-use Rattle.lalrpop_lr1_inline.specs.declared.order.Task.{Task}
-use Rattle.lalrpop_lr1_inline.specs.declared.order.Task.TheVariants as tasks
+use Rattle.lalrpop_lr1_inline.specs.declared.order.Visit.{Visit}
+use Rattle.lalrpop_lr1_inline.specs.declared.order.Visit.TheVariants as tasks
 use Rattle.lalrpop_grammar_symbols.specs.Symbols.{Text}
 use Rattle.lalrpop_grammar_language.specs.Among.{Among}
 use Rattle.lalrpop_grammar_language.specs.Enabled.{has_text}
@@ -243,7 +243,7 @@ map-turned (n ∷ ns) =
     ∙ sym (map-append OrderTask.enter (reverse ns) (n ∷ [])) ∙ sym (ap tasks_to_enter (reverse_onto ns n []))
 
 -- the tasks behind those of a name that is entered
-pub turned_tasks : (named : List Text) (items pushed new : List Task) (name : Bor NonterminalString) →
+pub turned_tasks : (named : List Text) (items pushed new : List Visit) (name : Bor NonterminalString) →
     pushed ≡ items ++ tasks.Leave name ∷ [] → map task_view new ≡ map task_view pushed ++ tasks_to_enter named →
     tasks_view new ≡ tasks_to_enter (reverse named) ++ OrderTask.leave name.now.0 ∷ tasks_view items
 turned_tasks named items pushed new name e f =
@@ -253,14 +253,14 @@ turned_tasks named items pushed new name e f =
     (ap tasks_view e ∙ ap reverse (map-append task_view items (tasks.Leave name ∷ []))
     ∙ reverse-append (map task_view items) (OrderTask.leave name.now.0 ∷ []))
 
-map-reverse : (ts : List Task) → map task_view (reverse ts) ≡ reverse (map task_view ts)
+map-reverse : (ts : List Visit) → map task_view (reverse ts) ≡ reverse (map task_view ts)
 map-reverse [] = refl
 map-reverse (t ∷ ts) =
     ap (map task_view) (reverse_onto ts t []) ∙ map-append task_view (reverse ts) (t ∷ [])
     ∙ ap (λ l. l ++ task_view t ∷ []) (map-reverse ts) ∙ sym (reverse_onto (map task_view ts) (task_view t) [])
 
 -- tasks in turned order are done in the order in which they stood
-pub turned_back : (ts turned : List Task) (whole : List OrderTask) → turned ≡ reverse ts → map task_view ts ≡ whole →
+pub turned_back : (ts turned : List Visit) (whole : List OrderTask) → turned ≡ reverse ts → map task_view ts ≡ whole →
     tasks_view turned ≡ whole
 turned_back ts turned whole e f =
     ap tasks_view e ∙ ap reverse (map-reverse ts) ∙ reverse-reverse (map task_view ts) ∙ f

@@ -9,20 +9,20 @@ use Rattle.lalrpop_grammar_language.specs.Enabled.{has_text}
 use Rattle.lalrpop_grammar_rules.specs.RuleTable.{HasBares, Names, knows}
 use Rattle.lalrpop_lr1_inline.specs.InlinedNames.{NonterminalEntries, inlined_named_by, inlined_names, is_inlined_name}
 use Rattle.lalrpop_lr1_inline.specs.InliningOrders.{IsInliningOrder, IsOrderWalk, OrderWalk, order_of_walk}
-use Rattle.lalrpop_lr1_inline.specs.declared.order.Task.{Task}
-use Rattle.lalrpop_lr1_inline.specs.declared.order.Task.TheVariants as tasks
+use Rattle.lalrpop_lr1_inline.specs.declared.order.Visit.{Visit}
+use Rattle.lalrpop_lr1_inline.specs.declared.order.Visit.TheVariants as tasks
 
 -- to walk a name, or to put it behind those that it names
 pub data OrderTask : Type 0 where
   enter : Text → OrderTask
   leave : Text → OrderTask
 
-abbrev pub task_view : Task → OrderTask
+abbrev pub task_view : Visit → OrderTask
 task_view (tasks.Enter n) = OrderTask.enter n.now.0
 task_view (tasks.Leave n) = OrderTask.leave n.now.0
 
 -- what is left to do, first task first
-abbrev pub tasks_view : List Task → List OrderTask
+abbrev pub tasks_view : List Visit → List OrderTask
 tasks_view ts = reverse (map task_view ts)
 
 abbrev pub order_view : List (Bor NonterminalString) → List Text

@@ -45,7 +45,7 @@ fn inlined_rules(
 /// The grammar with the nonterminals of the order inlined.
 fn inline_by_order(
     alloc: Global,
-    grammar: Grammar,
+    mut grammar: Grammar,
     order: &[NonterminalString],
 ) -> Result<Grammar, AllocError>
     requires known { All (λ e. All (λ p. p.action.0 < length grammar.action_fn_defns) e.1.productions) grammar.nonterminals }
@@ -57,26 +57,10 @@ fn inline_by_order(
       action_fn_defns = made.action_fn_defns;
     }) }
 {
-    let Grammar {
-        prefix,
-        terminals,
-        nonterminals,
-        start_nonterminals,
-        action_fn_defns,
-        types,
-        algorithm,
-    } = grammar;
-    let mut actions = action_fn_defns;
-    let rules = inlined_rules(alloc, order, &nonterminals, &mut actions)?;
-    Ok(Grammar {
-        prefix,
-        terminals,
-        nonterminals: rules,
-        start_nonterminals,
-        action_fn_defns: actions,
-        types,
-        algorithm,
-    })
+    let actions = &mut grammar.action_fn_defns;
+    let rules = inlined_rules(alloc, order, &grammar.nonterminals, actions)?;
+    grammar.nonterminals = rules;
+    Ok(grammar)
 }
 
 /// The order in which the nonterminals of the grammar are inlined, for which there are enough numbers.

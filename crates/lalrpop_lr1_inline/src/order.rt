@@ -18,7 +18,7 @@ use std::collections::HashMap;
 
 /// What is left to do with a name.
 #[derive(Clone, Copy)]
-pub(crate) enum Task<'g> {
+pub(crate) enum Visit<'g> {
     /// To walk it.
     Enter(&'g NonterminalString),
     /// To put it behind those that it names.
@@ -29,7 +29,7 @@ pub(crate) enum Task<'g> {
 #[derive(Drop)]
 pub(crate) struct OrderSearch<'g> {
     /// What is left to do, first task last.
-    tasks: Vec<Task<'g>>,
+    tasks: Vec<Visit<'g>>,
     /// The order so far.
     order: Vec<&'g NonterminalString>,
     /// The names that were entered.
@@ -42,7 +42,7 @@ pub(crate) struct OrderSearch<'g> {
 fn enter_symbols<'g>(
     grammar: &Grammar,
     symbols: &'g [Symbol],
-    tasks: &mut Vec<Task<'g>>,
+    tasks: &mut Vec<Visit<'g>>,
 ) -> Result<(), AllocError>
     ensures { OnOk result (map task_view tasks.new.items ≡ map task_view tasks.old.items
         ++ tasks_to_enter (inlined_in_symbols grammar.now.nonterminals symbols.now)) }
@@ -50,7 +50,7 @@ fn enter_symbols<'g>(
     for symbol in symbols {
         if let Symbol::Nonterminal(name) = symbol {
             if is_inlined(grammar, name) {
-                tasks.push(Task::Enter(name))?;
+                tasks.push(Visit::Enter(name))?;
             }
         }
     }
@@ -61,7 +61,7 @@ fn enter_symbols<'g>(
 fn enter_productions<'g>(
     grammar: &Grammar,
     productions: &'g [Production],
-    tasks: &mut Vec<Task<'g>>,
+    tasks: &mut Vec<Visit<'g>>,
 ) -> Result<(), AllocError>
     ensures { OnOk result (map task_view tasks.new.items ≡ map task_view tasks.old.items
         ++ tasks_to_enter (inlined_in_productions grammar.now.nonterminals productions.now)) }
@@ -73,7 +73,7 @@ fn enter_productions<'g>(
 }
 
 /// The tasks in turned order.
-fn turn_round<'g>(alloc: Global, mut tasks: Vec<Task<'g>>) -> Result<Vec<Task<'g>>, AllocError>
+fn turn_round<'g>(alloc: Global, mut tasks: Vec<Visit<'g>>) -> Result<Vec<Visit<'g>>, AllocError>
     ensures { IfOk result (λ turned. turned.items ≡ reverse tasks.entry.items) }
 {
     let mut turned = Vec::new(alloc);
@@ -84,14 +84,14 @@ fn turn_round<'g>(alloc: Global, mut tasks: Vec<Task<'g>>) -> Result<Vec<Task<'g
 }
 
 /// A task for each inlined nonterminal, first name last.
-fn first_tasks<'g>(alloc: Global, grammar: &'g Grammar) -> Result<Vec<Task<'g>>, AllocError>
+fn first_tasks<'g>(alloc: Global, grammar: &'g Grammar) -> Result<Vec<Visit<'g>>, AllocError>
     ensures tasks { IfOk result (λ made. tasks_view made.items ≡ tasks_to_enter (inlined_names grammar.now.nonterminals)) }
     ensures all { IfOk result (λ _. HasAllInlined grammar.now.nonterminals (inlined_names grammar.now.nonterminals)) }
 {
     let mut tasks = Vec::new(alloc);
     for (name, found) in grammar.nonterminals.iter() {
         if is_marked(found) {
-            tasks.push(Task::Enter(name))?;
+            tasks.push(Visit::Enter(name))?;
         }
     }
     let turned = turn_round(alloc, tasks)?;
@@ -139,7 +139,7 @@ impl<'g> OrderSearch<'g> {
             return Err(cycle_of(grammar, name));
         }
         add_name(name, &mut self.entered)?;
-        self.tasks.push(Task::Leave(name))?;
+        self.tasks.push(Visit::Leave(name))?;
         enter_productions(grammar, grammar.productions_for(name), &mut self.tasks)?;
         Ok(())
     }
@@ -165,7 +165,7 @@ impl<'g> OrderSearch<'g> {
     }
 
     /// Does the task.
-    fn perform(&mut self, grammar: &'g Grammar, task: Task<'g>) -> Result<(), InlineFault>
+    fn perform(&mut self, grammar: &'g Grammar, task: Visit<'g>) -> Result<(), InlineFault>
         requires { IsOrderSearch grammar.now.nonterminals (task_view task ∷ tasks_view self.old.tasks.items)
             (order_view self.old.order.items) self.old.entered self.old.left }
         ensures search { OnOk result (IsOrderSearch grammar.now.nonterminals (tasks_view self.new.tasks.items)
@@ -176,8 +176,8 @@ impl<'g> OrderSearch<'g> {
         ensures fault { IfErr result (IsOrderFault grammar.now.nonterminals) }
     {
         match task {
-            Task::Enter(name) => self.enter(grammar, name),
-            Task::Leave(name) => self.leave(grammar, name),
+            Visit::Enter(name) => self.enter(grammar, name),
+            Visit::Leave(name) => self.leave(grammar, name),
         }
     }
 

@@ -5,7 +5,7 @@ ghost use Rattle.std.specs.List.Sorted.{IsStrictlySortedBy};
 ghost use Rattle.std.specs.Map.{keys_of};
 ghost use Rattle.lalrpop_grammar_symbols.specs.contracts.names.NonterminalStringOrd.TheImpl as names;
 
-use crate::step::Rule;
+use crate::step::NamedRule;
 use lalrpop_grammar_repr::{Map, NonterminalData};
 use lalrpop_grammar_symbols::NonterminalString;
 use std::alloc::{AllocError, Global};
@@ -14,7 +14,7 @@ use std::alloc::{AllocError, Global};
 pub(crate) fn rules_in(
     alloc: Global,
     nonterminals: &Map<NonterminalString, NonterminalData>,
-) -> Result<Vec<Rule>, AllocError>
+) -> Result<Vec<NamedRule>, AllocError>
     ensures rules { IfOk result (λ rules. rules.items ≡ nonterminals.now) }
     ensures ordered { IfOk result (λ rules. IsStrictlySortedBy (names.ghosts).cmp (keys_of rules.items)) }
 {
@@ -28,7 +28,7 @@ pub(crate) fn rules_in(
 /// The map of the rules, whose names ascend.
 pub(crate) fn map_with(
     alloc: Global,
-    rules: Vec<Rule>,
+    rules: Vec<NamedRule>,
 ) -> Result<Map<NonterminalString, NonterminalData>, AllocError>
     requires { IsStrictlySortedBy (names.ghosts).cmp (keys_of rules.items) }
     ensures { IfOk result (λ map. map ≡ rules.items) }

@@ -8,9 +8,10 @@ use crate::made::replace_all;
 use lalrpop_grammar_repr::{ActionFnDefn, NonterminalData, Production};
 use lalrpop_grammar_symbols::{List, NonterminalString};
 use std::alloc::{AllocError, Global};
+use std::mem;
 
 /// A rule of a lowered grammar, with its name.
-pub(crate) type Rule = (NonterminalString, NonterminalData);
+pub(crate) type NamedRule = (NonterminalString, NonterminalData);
 
 /// The rule once the nonterminal is inlined in it by those sources.
 fn replace_in_rule(
@@ -18,7 +19,7 @@ fn replace_in_rule(
     name: &NonterminalString,
     sources: &[Production],
     actions: &[ActionFnDefn],
-    rule: NonterminalData,
+    mut rule: NonterminalData,
     definitions: &mut Vec<ActionFnDefn>,
 ) -> Result<NonterminalData, AllocError>
     requires known { All (λ p. p.action.0 < length actions.now) rule.productions }
@@ -31,19 +32,9 @@ fn replace_in_rule(
     ensures count { OnOk result (vec_len definitions.new
         ≡ vec_len definitions.old + length (records_after name.now.0 sources.now rule.productions)) }
 {
-    let NonterminalData {
-        name: own_name,
-        attributes,
-        span,
-        productions,
-    } = rule;
-    let productions = replace_all(alloc, name, sources, actions, productions, definitions)?;
-    Ok(NonterminalData {
-        name: own_name,
-        attributes,
-        span,
-        productions,
-    })
+    let productions = mem::replace(&mut rule.productions, List::new(alloc));
+    rule.productions = replace_all(alloc, name, sources, actions, productions, definitions)?;
+    Ok(rule)
 }
 
 /// The rules once the nonterminal is inlined in all of them by those sources.
@@ -52,9 +43,9 @@ fn replace_in_rules(
     name: &NonterminalString,
     sources: &[Production],
     actions: &[ActionFnDefn],
-    rules: Vec<Rule>,
+    rules: Vec<NamedRule>,
     definitions: &mut Vec<ActionFnDefn>,
-) -> Result<Vec<Rule>, AllocError>
+) -> Result<Vec<NamedRule>, AllocError>
     requires known { All (λ e. All (λ p. p.action.0 < length actions.now) e.1.productions) rules.items }
     requires room { length actions.now + vec_len definitions.old
         + length (all_records_after name.now.0 sources.now rules.items) ≤ 2 ^ 32 }
@@ -90,9 +81,9 @@ pub(crate) fn step(
     alloc: Global,
     name: &NonterminalString,
     sources: &[Production],
-    rules: Vec<Rule>,
+    rules: Vec<NamedRule>,
     actions: &mut List<ActionFnDefn>,
-) -> Result<Vec<Rule>, AllocError>
+) -> Result<Vec<NamedRule>, AllocError>
     requires sources { sources.now ≡ productions_named rules.items name.now.0 }
     requires known { All (λ e. All (λ p. p.action.0 < length actions.old) e.1.productions) rules.items }
     requires room { length actions.old + length (all_records_after name.now.0 sources.now rules.items) ≤ 2 ^ 32 }

@@ -4,7 +4,7 @@ ghost use Rattle.std.specs.Prelude.{◌≡◌, ◌<◌, ◌≤◌, ◌^◌, All,
 ghost use Rattle.std.specs.Map.{keys_of};
 ghost use Rattle.lalrpop_lr1_inline.specs.InliningSteps.{AreInlineSteps, numbers_after, productions_named};
 
-use crate::step::{Rule, step};
+use crate::step::{NamedRule, step};
 use lalrpop_grammar_repr::{ActionFnDefn, Production};
 use lalrpop_grammar_symbols::{List, NonterminalString};
 use std::alloc::{AllocError, Global};
@@ -23,7 +23,7 @@ fn copies(alloc: Global, productions: &[Production]) -> Result<List<Production>,
 /// Copies of the nonterminal's productions.
 fn sources(
     alloc: Global,
-    rules: &[Rule],
+    rules: &[NamedRule],
     name: &NonterminalString,
 ) -> Result<List<Production>, AllocError>
     ensures { IfOk result (λ found. found ≡ productions_named rules.now name.now.0) }
@@ -40,9 +40,9 @@ fn sources(
 pub(crate) fn steps(
     alloc: Global,
     order: &[NonterminalString],
-    given: Vec<Rule>,
+    given: Vec<NamedRule>,
     actions: &mut List<ActionFnDefn>,
-) -> Result<Vec<Rule>, AllocError>
+) -> Result<Vec<NamedRule>, AllocError>
     requires known { All (λ e. All (λ p. p.action.0 < length actions.old) e.1.productions) given.items }
     requires room { numbers_after (map (λ n. n.0) order.now) given.items (length actions.old) ≤ 2 ^ 32 }
     ensures steps { IfOk result (λ made. AreInlineSteps (map (λ n. n.0) order.now) given.items actions.old made.items actions.new) }

@@ -2,7 +2,7 @@
 
 ghost use Rattle.lalrpop_lr1_first.specs.NumberedGrammars.{HasItsTerminals};
 
-use crate::check::check;
+use crate::check::{check, text_is};
 use crate::grammars::{grammar_of, name_of};
 use lalrpop_grammar_repr::{Grammar, Map};
 use lalrpop_grammar_symbols::{NonterminalString, TerminalString};
@@ -83,20 +83,14 @@ fn by_either_method(rt: &impl Abort, alloc: Global, grammar: &Grammar)
 {
     check(
         rt,
-        lr1_text(rt, alloc, grammar, Method::Canonical).as_str() == CANONICAL,
+        text_is(lr1_text(rt, alloc, grammar, Method::Canonical), CANONICAL),
     );
+    check(rt, text_is(lr1_text(rt, alloc, grammar, LANES), CANONICAL));
     check(
         rt,
-        lr1_text(rt, alloc, grammar, LANES).as_str() == CANONICAL,
+        text_is(lalr_text(rt, alloc, grammar, Method::Canonical), COLLAPSED),
     );
-    check(
-        rt,
-        lalr_text(rt, alloc, grammar, Method::Canonical).as_str() == COLLAPSED,
-    );
-    check(
-        rt,
-        lalr_text(rt, alloc, grammar, LANES).as_str() == CANONICAL,
-    );
+    check(rt, text_is(lalr_text(rt, alloc, grammar, LANES), CANONICAL));
 }
 
 #[test]
@@ -119,11 +113,14 @@ fn in_order(rt: &impl Abort, alloc: Global, grammar: &Grammar, canonical: &str)
 {
     check(
         rt,
-        text_in_order(rt, alloc, grammar, Method::Canonical).as_str() == canonical,
+        text_is(
+            text_in_order(rt, alloc, grammar, Method::Canonical),
+            canonical,
+        ),
     );
     check(
         rt,
-        text_in_order(rt, alloc, grammar, LANES).as_str() == CANONICAL_IN_ORDER,
+        text_is(text_in_order(rt, alloc, grammar, LANES), CANONICAL_IN_ORDER),
     );
 }
 

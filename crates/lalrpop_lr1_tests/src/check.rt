@@ -10,3 +10,8 @@ pub(crate) fn check(rt: &impl Abort, holds: bool)
 {
     assert!(rt; holds);
 }
+
+/// Whether it is this text. The text is dropped here.
+pub(crate) fn text_is(text: String, wanted: &str) -> bool {
+    text.as_str() == wanted
+}

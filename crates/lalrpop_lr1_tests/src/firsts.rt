@@ -2,7 +2,7 @@
 
 ghost use Rattle.lalrpop_lr1_first.specs.NumberedGrammars.{HasItsTerminals};
 
-use crate::check::check;
+use crate::check::{check, text_is};
 use crate::grammars::{grammar_of, name_of, token_of};
 use lalrpop_grammar_repr::{Grammar, Symbol, TerminalSet};
 use lalrpop_lr1_first::FirstSets;
@@ -58,19 +58,13 @@ fn text_before_x(
 
 fn answers(rt: &impl Abort, alloc: Global, firsts: &FirstSets, terminals: &TerminalSet) {
     let row = first_text(rt, alloc, firsts, terminals, &["B", "X"]);
-    check(rt, row.as_str() == "[\"D\", \"E\"]");
-    check(
-        rt,
-        first_text(rt, alloc, firsts, terminals, &[]).as_str() == "[Eof]",
-    );
-    check(
-        rt,
-        text_before_x(rt, alloc, firsts, terminals, &[]).as_str() == "[\"x\"]",
-    );
-    check(
-        rt,
-        text_before_x(rt, alloc, firsts, terminals, &["B"]).as_str() == "[\"D\", \"x\"]",
-    );
+    check(rt, text_is(row, "[\"D\", \"E\"]"));
+    let none = first_text(rt, alloc, firsts, terminals, &[]);
+    check(rt, text_is(none, "[Eof]"));
+    let before = text_before_x(rt, alloc, firsts, terminals, &[]);
+    check(rt, text_is(before, "[\"x\"]"));
+    let behind = text_before_x(rt, alloc, firsts, terminals, &["B"]);
+    check(rt, text_is(behind, "[\"D\", \"x\"]"));
 }
 
 fn answers_of_sets_and_copy(rt: &impl Abort, alloc: Global, grammar: &Grammar)

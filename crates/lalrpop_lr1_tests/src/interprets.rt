@@ -7,7 +7,7 @@ ghost use Rattle.lalrpop_lr1_first.specs.NumberedGrammars.{HasItsTerminals};
 ghost use Rattle.lalrpop_lr1_core.specs.TheoryGrammars.{theory_grammar};
 ghost use Rattle.lalrpop_lr1_interpret.specs.Parses.{AreParsable};
 
-use crate::check::check;
+use crate::check::{check, text_is};
 use crate::grammars::{grammar_of, name_of};
 use lalrpop_grammar_repr::{Grammar, TerminalSet};
 use lalrpop_grammar_symbols::NonterminalString;
@@ -118,53 +118,23 @@ const TREE: &str =
 fn trees(rt: &impl Abort, alloc: Global, states: &[Lr1State<'_>], terminals: &TerminalSet)
     requires { AreParsable terminals.now states.now }
 {
-    check(
-        rt,
-        tree_text(alloc, states, terminals, "N - ( N - N )")
-            .expect(rt, "memory")
-            .as_str()
-            == TREE,
-    );
-    check(
-        rt,
-        tree_text(alloc, states, terminals, "N N")
-            .expect(rt, "memory")
-            .as_str()
-            == "4 \"N\"",
-    );
-    check(
-        rt,
-        tree_text(alloc, states, terminals, "")
-            .expect(rt, "memory")
-            .as_str()
-            == "0 Eof",
-    );
+    let text = tree_text(alloc, states, terminals, "N - ( N - N )").expect(rt, "memory");
+    check(rt, text_is(text, TREE));
+    let text = tree_text(alloc, states, terminals, "N N").expect(rt, "memory");
+    check(rt, text_is(text, "4 \"N\""));
+    let text = tree_text(alloc, states, terminals, "").expect(rt, "memory");
+    check(rt, text_is(text, "0 Eof"));
 }
 
 fn stacks(rt: &impl Abort, alloc: Global, states: &[Lr1State<'_>], terminals: &TerminalSet)
     requires { AreParsable terminals.now states.now }
 {
-    check(
-        rt,
-        stack_text(alloc, states, terminals, "N")
-            .expect(rt, "memory")
-            .as_str()
-            == "[S0, S4]",
-    );
-    check(
-        rt,
-        stack_text(alloc, states, terminals, "")
-            .expect(rt, "memory")
-            .as_str()
-            == "[S0]",
-    );
-    check(
-        rt,
-        stack_text(alloc, states, terminals, "N N")
-            .expect(rt, "memory")
-            .as_str()
-            == "4 \"N\"",
-    );
+    let text = stack_text(alloc, states, terminals, "N").expect(rt, "memory");
+    check(rt, text_is(text, "[S0, S4]"));
+    let text = stack_text(alloc, states, terminals, "").expect(rt, "memory");
+    check(rt, text_is(text, "[S0]"));
+    let text = stack_text(alloc, states, terminals, "N N").expect(rt, "memory");
+    check(rt, text_is(text, "4 \"N\""));
 }
 
 // State 0 leads by E to 1, by T to 2, by the parenthesis to 3, and by N to 4.

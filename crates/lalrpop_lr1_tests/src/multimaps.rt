@@ -6,14 +6,24 @@ use std::alloc::Global;
 use std::collections::BTreeSet;
 use std::process::Abort;
 
+/// Whether the set at the key grows by the character.
+fn grows(
+    rt: &impl Abort,
+    map: &mut Multimap<u32, BTreeSet<char>>,
+    key: u32,
+    character: char,
+) -> bool {
+    map.push(key, character).expect(rt, "memory")
+}
+
 #[test]
 fn a_push_says_whether_a_set_grew(rt: HostRuntime) {
     let mut map: Multimap<u32, BTreeSet<char>> = Multimap::new(rt.alloc());
     check(&rt, map.is_empty());
-    check(&rt, map.push(0, 'a').expect(&rt, "memory"));
-    check(&rt, map.push(0, 'b').expect(&rt, "memory"));
-    check(&rt, !map.push(0, 'b').expect(&rt, "memory"));
-    check(&rt, map.push(1, 'a').expect(&rt, "memory"));
+    check(&rt, grows(&rt, &mut map, 0, 'a'));
+    check(&rt, grows(&rt, &mut map, 0, 'b'));
+    check(&rt, !grows(&rt, &mut map, 0, 'b'));
+    check(&rt, grows(&rt, &mut map, 1, 'a'));
     check(&rt, !map.is_empty());
     check(&rt, map.get(&0).map(|set| set.len()) == Some(2));
     check(&rt, map.get(&2).is_none());

@@ -139,8 +139,9 @@ fn conflict_texts(
     terminals: &TerminalSet,
 ) -> String {
     let mut text = String::new(alloc);
-    for conflict in Lookahead::conflicts(alloc, terminals, state).expect(rt, "memory") {
-        let told = conflict_text(rt, alloc, &conflict, terminals);
+    let conflicts = Lookahead::conflicts(alloc, terminals, state).expect(rt, "memory");
+    for conflict in &conflicts {
+        let told = conflict_text(rt, alloc, conflict, terminals);
         text.push_str(told.as_str()).expect(rt, "memory");
     }
     text
@@ -424,23 +425,29 @@ fn ways_back(
     back.expect(rt, "memory")
 }
 
+/// Whether these terminals lead from these states to state 1, and from no other.
+fn lead_from(
+    rt: &impl Abort,
+    alloc: Global,
+    graph: &StateGraph,
+    texts: &[&str],
+    wanted: &[StateIndex],
+) -> bool {
+    let found = ways_back(rt, alloc, graph, 1, texts);
+    found.as_slice() == wanted
+}
+
 #[test]
 fn ways_back_in_a_graph(rt: HostRuntime) {
     let alloc = rt.alloc();
     let graph = graph_of(&rt, alloc);
     check(
         &rt,
-        ways_back(&rt, alloc, &graph, 1, &["c", "d"]).as_slice() == [StateIndex(0)].as_slice(),
+        lead_from(&rt, alloc, &graph, &["c", "d"], &[StateIndex(0)]),
     );
-    let both = ways_back(&rt, alloc, &graph, 1, &["d"]);
-    check(
-        &rt,
-        both.as_slice() == [StateIndex(0), StateIndex(2)].as_slice(),
-    );
-    check(
-        &rt,
-        ways_back(&rt, alloc, &graph, 1, &[]).as_slice() == [StateIndex(1)].as_slice(),
-    );
+    let both = [StateIndex(0), StateIndex(2)];
+    check(&rt, lead_from(&rt, alloc, &graph, &["d"], &both));
+    check(&rt, lead_from(&rt, alloc, &graph, &[], &[StateIndex(1)]));
 }
 
 #[test]

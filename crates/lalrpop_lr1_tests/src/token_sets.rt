@@ -55,26 +55,36 @@ fn comes(
     set.insert_with(&token, terminals).expect(rt, "memory")
 }
 
-fn puts_in(rt: &impl Abort, alloc: Global, terminals: &TerminalSet) {
-    let mut set = TokenSet::new(alloc, terminals).expect(rt, "memory");
+/// Puts b, the error and the end into the set, which is empty.
+fn put_three(rt: &impl Abort, alloc: Global, set: &mut TokenSet, terminals: &TerminalSet) {
     check(rt, set.len() == 0);
-    check(rt, comes(rt, alloc, &mut set, terminals, "b"));
-    check(rt, !comes(rt, alloc, &mut set, terminals, "b"));
-    check(rt, !comes(rt, alloc, &mut set, terminals, "x"));
+    check(rt, comes(rt, alloc, set, terminals, "b"));
+    check(rt, !comes(rt, alloc, set, terminals, "b"));
+    check(rt, !comes(rt, alloc, set, terminals, "x"));
     check(
         rt,
         set.insert(&Token::Error, terminals).expect(rt, "memory"),
     );
     check(rt, set.insert_eof(terminals).expect(rt, "memory"));
     check(rt, set.len() == 3);
+}
+
+/// Takes the end out of the set of these three.
+fn take_the_end(rt: &impl Abort, alloc: Global, set: &mut TokenSet, terminals: &TerminalSet) {
     check(
         rt,
-        has(rt, alloc, &set, terminals, "b") && set.contains_eof(terminals),
+        has(rt, alloc, set, terminals, "b") && set.contains_eof(terminals),
     );
-    check(rt, !has(rt, alloc, &set, terminals, "a"));
+    check(rt, !has(rt, alloc, set, terminals, "a"));
     check(rt, set.take_eof(terminals));
     check(rt, !set.take_eof(terminals));
     check(rt, set.len() == 2);
+}
+
+fn puts_in(rt: &impl Abort, alloc: Global, terminals: &TerminalSet) {
+    let mut set = TokenSet::new(alloc, terminals).expect(rt, "memory");
+    put_three(rt, alloc, &mut set, terminals);
+    take_the_end(rt, alloc, &mut set, terminals);
 }
 
 #[test]

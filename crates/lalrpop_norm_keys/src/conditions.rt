@@ -48,7 +48,7 @@ fn is_of_literal(binding: Binding<'_>, condition: &Condition) -> bool
 }
 
 /// What is told of a condition at that place for which it isn't known whether it holds.
-fn told_fault(fault: ConditionFault, span: Span) -> NormFault
+pub fn told_fault(fault: ConditionFault, span: Span) -> NormFault
     ensures { result ≡ told_fault_of fault span }
 {
     match fault {

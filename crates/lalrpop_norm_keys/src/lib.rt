@@ -17,6 +17,7 @@ mod plain;
 mod rounds;
 
 pub use arity::check_arity;
+pub use conditions::told_fault;
 pub use keys::find_keys;
 pub use laws::tables_are_between;
 pub use rounds::{FoundCalls, find_calls};

@@ -1,6 +1,6 @@
 //! The calls of macros that a grammar makes, found by least depth, round by round.
 
-ghost use Rattle.std.specs.Prelude.{◌≡◌, [], ◌∷◌, IfErr, IfOk, OnOk, None, drop, map};
+ghost use Rattle.std.specs.Prelude.{◌≡◌, [], ◌∷◌, IfErr, IfOk, OnOk, None, drop, length, map};
 ghost use Rattle.lalrpop_grammar_symbols.specs.Symbols.{Closed};
 ghost use Rattle.lalrpop_grammar.specs.Views.{grammar_view};
 ghost use Rattle.lalrpop_grammar_language.specs.Among.{Among};
@@ -79,7 +79,7 @@ fn add_calls_of_call<F: Finder>(
     add_calls_of(alloc, finder, rules, called.name, called.args, calls)
 }
 
-/// One round: puts the calls that stand in these behind the known ones.
+/// Puts the calls that stand in these behind the known ones.
 fn add_round<F: Finder>(
     alloc: Global,
     finder: &F,
@@ -124,6 +124,28 @@ fn copies_from(
         return Ok(List::new(alloc));
     }
     copies(alloc, &symbols[from..])
+}
+
+/// One round: puts the calls that stand in these behind the known ones, and gives copies of those that weren't known.
+fn next_round<F: Finder>(
+    alloc: Global,
+    finder: &F,
+    rules: &Rules<'_>,
+    callers: &[ClosedSymbol],
+    calls: &mut KeyTable,
+) -> Result<List<ClosedSymbol>, NormFault>
+    requires table { IsTable rules.now }
+    requires index { IsKeyIndex calls.old }
+    ensures index { OnOk result (IsKeyIndex calls.new) }
+    ensures found { OnOk result (FindsCalls (rules_with (F.finds finder.now) rules.now)
+        (map closed_view callers.now) (table_keys calls.old) (table_keys calls.new)) }
+    ensures next { IfOk result (λ next. map closed_view next ≡ drop (length (table_keys calls.old)) (table_keys calls.new)) }
+    ensures fault { IfErr result (TellsOfOneCall (rules_with (F.finds finder.now) rules.now) (F.too_deep finder.now)
+        (map closed_view callers.now)) }
+{
+    let known = calls.keys().len();
+    add_round(alloc, finder, rules, callers, calls)?;
+    Ok(copies_from(alloc, calls.keys(), known)?)
 }
 
 /// The call, as one that is too deep, with its place in the first of the others in which it stands.
@@ -176,14 +198,12 @@ pub fn find_calls<F: Finder>(
 {
     let mut calls = KeyTable::new(alloc);
     let mut callers = plain_rules(alloc, grammar)?;
-    add_round(alloc, finder, rules, callers.as_slice(), &mut calls)?;
-    let mut next = copies_from(alloc, calls.keys(), 0)?;
+    let mut next = next_round(alloc, finder, rules, callers.as_slice(), &mut calls)?;
     let mut round = 0;
     while round < limit {
-        let known = calls.keys().len();
-        add_round(alloc, finder, rules, next.as_slice(), &mut calls)?;
+        let later = next_round(alloc, finder, rules, next.as_slice(), &mut calls)?;
         callers = next;
-        next = copies_from(alloc, calls.keys(), known)?;
+        next = later;
         round += 1;
     }
     match next.as_slice().split_first() {

@@ -138,7 +138,7 @@ fn tokenizer_entries(alloc: Global, grammar: &Grammar) -> Result<List<MatchEntry
 {
     match grammar.intern_token() {
         None => Ok(List::new(alloc)),
-        Some(tokens) => Ok(tokens.try_clone(alloc)?.match_entries),
+        Some(tokens) => Ok(tokens.try_clone(alloc)?.into_entries()),
     }
 }
 

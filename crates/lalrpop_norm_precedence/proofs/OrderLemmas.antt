@@ -12,24 +12,10 @@ use Rattle.std.proofs.lemmas.List.Kept.{AllPairs-from_increasing, Contains-dedup
 use Rattle.std.proofs.lemmas.List.Sorted.{Contains-permutation, IsPermutation-reverse, IsPermutation-sym}
 use Rattle.std.proofs.lemmas.Map.Keys.{IsStrictlyIncreasing-dedup}
 use Rattle.lalrpop_grammar_language.specs.Among.{Among}
+use Rattle.lalrpop_grammar_language.proofs.AmongLemmas.{among_contains, contains_among}
 use Rattle.lalrpop_grammar_language.proofs.OrderLemmas.{among_parts}
 use Rattle.lalrpop_norm_theory.specs.LeveledGrammar.{put_level, falling_levels}
 use Rattle.lalrpop_norm_theory.proofs.LevelOrderLemmas.{falling-has, falling-only}
-
--- what stands at an index is one of the list
-
-among_at : {A : Type 0} (xs : List A) (k : ℕ) (x : A) → k < length xs → get_or xs k x ≡ x → Among xs x
-among_at [] k x lt e = absurd (omega arith)
-among_at (y ∷ ys) zero x lt e = inl e
-among_at (y ∷ ys) (suc k) x lt e = inr (among_at ys k x (omega arith) e)
-
-contains_among : {A : Type 0} (xs : List A) (x : A) → Contains xs x → Among xs x
-contains_among xs x h = among_at xs h.0 x h.1 h.2
-
-among_contains : {A : Type 0} (xs : List A) (x : A) → Among xs x → Contains xs x
-among_contains [] x h = absurd h
-among_contains (y ∷ ys) x (inl e) = (zero, omega arith, e)
-among_contains (y ∷ ys) x (inr h) = let w = among_contains ys x h in (suc w.0, (let lt = w.1 in omega (arith, lt)), w.2)
 
 -- numbers that fall
 

@@ -18,8 +18,9 @@ ghost use Rattle.lalrpop_norm_resolve.specs.Left.{enabled_alternatives as pure_a
 use lalrpop_grammar::types::{Attribute, AttributeArg};
 use lalrpop_grammar::{Alternative, Grammar, GrammarItem, NonterminalData};
 use lalrpop_grammar_repr::Session;
-use lalrpop_grammar_symbols::{Boxed, List};
+use lalrpop_grammar_symbols::List;
 use std::alloc::{AllocError, Global};
+use std::mem;
 
 /// Whether the attributes leave what they stand on enabled: each `cfg` attribute holds under the session's features. It
 /// takes no memory.
@@ -67,27 +68,13 @@ fn attributes_without_cfg(
 /// The alternative without its `cfg` attributes.
 fn alternative_without_cfg(
     alloc: Global,
-    alternative: Alternative,
+    mut alternative: Alternative,
 ) -> Result<Alternative, AllocError>
     ensures { IfOk result (λ kept. alternative_view kept ≡ pure_alternative (alternative_view alternative)) }
 {
-    let Alternative {
-        span,
-        expr,
-        condition,
-        action,
-        attributes,
-        origin,
-    } = alternative;
-    let attributes = attributes_without_cfg(alloc, attributes)?;
-    Ok(Alternative {
-        span,
-        expr,
-        condition,
-        action,
-        attributes,
-        origin,
-    })
+    let attributes = mem::replace(&mut alternative.attributes, List::new(alloc));
+    alternative.attributes = attributes_without_cfg(alloc, attributes)?;
+    Ok(alternative)
 }
 
 /// Puts the alternative behind the others, where it is enabled, without its `cfg` attributes.
@@ -126,33 +113,16 @@ fn enabled_alternatives(
 fn enabled_rule(
     alloc: Global,
     session: &Session,
-    rule: NonterminalData,
+    mut rule: NonterminalData,
 ) -> Result<NonterminalData, AllocError>
     ensures { IfOk result (λ kept.
         nonterminal_view kept ≡ enabled_part session.now.features.items (nonterminal_view rule)) }
 {
-    let NonterminalData {
-        visibility,
-        name,
-        attributes,
-        span,
-        args,
-        type_decl,
-        alternatives,
-    } = rule;
-    // (large, so it waits in a box)
-    let type_decl = Boxed::new(alloc, type_decl)?;
-    let attributes = attributes_without_cfg(alloc, attributes)?;
-    let alternatives = enabled_alternatives(alloc, session, alternatives)?;
-    Ok(NonterminalData {
-        visibility,
-        name,
-        attributes,
-        span,
-        args,
-        type_decl: type_decl.into_inner(),
-        alternatives,
-    })
+    let attributes = mem::replace(&mut rule.attributes, List::new(alloc));
+    rule.attributes = attributes_without_cfg(alloc, attributes)?;
+    let alternatives = mem::replace(&mut rule.alternatives, List::new(alloc));
+    rule.alternatives = enabled_alternatives(alloc, session, alternatives)?;
+    Ok(rule)
 }
 
 /// Puts what is left of the enabled rule behind the other items.

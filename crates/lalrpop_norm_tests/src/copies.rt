@@ -1,6 +1,6 @@
 //! Copies of parts of the lowered grammar, each made alone.
 
-use crate::check::check;
+use crate::check::{check, equals};
 use crate::parts::name_of;
 use lalrpop_grammar::{Atom, List};
 use lalrpop_grammar_repr::{
@@ -31,32 +31,27 @@ fn inline_action(rt: &impl Abort, alloc: Global) -> InlineActionFnDefn {
 
 fn user_is_copied(rt: &impl Abort, alloc: Global) -> bool {
     let user = user_action(rt, alloc);
-    let copy = user.try_clone().expect(rt, "memory");
-    copy == user
+    equals(&user, user.try_clone().expect(rt, "memory"))
 }
 
 fn kind_is_copied(rt: &impl Abort, alloc: Global) -> bool {
     let kind = ActionFnDefnKind::User(user_action(rt, alloc));
-    let copy = kind.try_clone(alloc).expect(rt, "memory");
-    copy == kind
+    equals(&kind, kind.try_clone(alloc).expect(rt, "memory"))
 }
 
 fn inlined_is_copied(rt: &impl Abort, alloc: Global) -> bool {
     let inlined = inlined_symbol(alloc);
-    let copy = inlined.try_clone(alloc).expect(rt, "memory");
-    copy == inlined
+    equals(&inlined, inlined.try_clone(alloc).expect(rt, "memory"))
 }
 
 fn inline_is_copied(rt: &impl Abort, alloc: Global) -> bool {
     let inline = inline_action(rt, alloc);
-    let copy = inline.try_clone(alloc).expect(rt, "memory");
-    copy == inline
+    equals(&inline, inline.try_clone(alloc).expect(rt, "memory"))
 }
 
 fn symbol_is_copied(rt: &impl Abort, alloc: Global) -> bool {
     let symbol = Symbol::Nonterminal(name_of(rt, alloc, "S"));
-    let copy = symbol.try_clone().expect(rt, "memory");
-    copy == symbol
+    equals(&symbol, symbol.try_clone().expect(rt, "memory"))
 }
 
 #[test]

@@ -1,6 +1,6 @@
 //! Lowering: where productions stand, which nonterminals are inlined, and what actions do.
 
-use crate::check::check;
+use crate::check::{check, equals};
 use crate::entries::are_entries;
 use crate::grammars::{ACTIONS, COMMAS, checked_grammar, grammar_of, plain_session};
 use crate::parts::{is_terminal, name_of};
@@ -100,12 +100,23 @@ const NONTERMINALS: [(&str, Span, bool); 7] = [
     (r#""n"?"#, Span(47, 49), true),
 ];
 
+/// That the nonterminal of that name stands there, and is marked or not.
+fn nonterminal_stands(
+    rt: &impl Abort,
+    alloc: Global,
+    grammar: &Grammar,
+    name: &str,
+    wanted: (Span, bool),
+) {
+    let key = name_of(rt, alloc, name);
+    assert!(rt; stands(grammar, &key) == Some(wanted), "{name}");
+}
+
 /// That nonterminals stand where they are written, and are marked as they are to be.
 fn nonterminals_stand(rt: &impl Abort, alloc: Global, grammar: &Grammar) {
     check(rt, grammar.nonterminals.len() == NONTERMINALS.len());
     for (name, span, inlined) in NONTERMINALS {
-        let key = name_of(rt, alloc, name);
-        assert!(rt; stands(grammar, &key) == Some((span, inlined)), "{name}");
+        nonterminal_stands(rt, alloc, grammar, name, (span, inlined));
     }
 }
 
@@ -120,8 +131,7 @@ fn alternatives_stand(rt: &impl Abort, alloc: Global, grammar: &Grammar) {
 /// Whether a copy of each nonterminal equals it.
 fn are_copied(rt: &impl Abort, alloc: Global, grammar: &Grammar) -> bool {
     for (_, data) in grammar.nonterminals.iter() {
-        let copy = data.try_clone(alloc).expect(rt, "memory");
-        if copy != *data {
+        if !equals(data, data.try_clone(alloc).expect(rt, "memory")) {
             return false;
         }
     }

@@ -1,6 +1,6 @@
 //! Types: those that follow from alternatives, and written ones.
 
-use crate::check::check;
+use crate::check::{boxed, check, equals};
 use crate::grammars::{COMMAS, TYPED, checked_grammar, grammar_of};
 use crate::parts::{name_of, rule_of};
 use lalrpop_grammar::{Grammar, TypeRepr};
@@ -190,10 +190,7 @@ fn is_whole(ty: &TypeRepr) -> bool {
 /// Whether a copy of the type of a name equals it.
 fn name_is_copied(rt: &impl Abort, alloc: Global, ty: &TypeRepr) -> bool {
     match ty {
-        TypeRepr::Nominal(found) => {
-            let copy = found.try_clone(alloc).expect(rt, "memory");
-            copy == *found
-        }
+        TypeRepr::Nominal(it) => equals(it, it.try_clone(alloc).expect(rt, "memory")),
         _ => false,
     }
 }
@@ -211,11 +208,25 @@ fn keeps_shape(rt: &impl Abort, alloc: Global, ty: &TypeRepr) {
     check(rt, name_is_copied(rt, alloc, ty));
 }
 
+/// Whether the type that the rule of that name declares has a shape.
+fn is_declared(rt: &impl Abort, alloc: Global, grammar: &Grammar, name: &str) -> bool {
+    let declared = boxed(rt, alloc, declared_repr(rt, alloc, grammar, name));
+    declared.is_some()
+}
+
+/// That the type that the rule S declares keeps its shape.
+fn declared_type_keeps_shape(rt: &impl Abort, alloc: Global, grammar: &Grammar) {
+    let found = boxed(rt, alloc, declared_repr(rt, alloc, grammar, "S"));
+    match &*found {
+        Some(declared) => keeps_shape(rt, alloc, declared),
+        None => panic!(rt; "no type"),
+    }
+}
+
 /// That the type that the rule S declares keeps its shape, and the one that T declares has none.
 fn declared_types_keep_shape(rt: &impl Abort, alloc: Global, grammar: &Grammar) {
-    check(rt, declared_repr(rt, alloc, grammar, "T").is_none());
-    let declared = declared_repr(rt, alloc, grammar, "S").expect(rt, "a type");
-    keeps_shape(rt, alloc, &declared);
+    check(rt, !is_declared(rt, alloc, grammar, "T"));
+    declared_type_keeps_shape(rt, alloc, grammar);
 }
 
 #[test]

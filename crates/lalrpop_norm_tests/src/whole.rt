@@ -4,6 +4,7 @@ use crate::check::check;
 use crate::entries::tells_entries;
 use crate::grammars::{COMMAS, grammar_of, plain_session};
 use crate::lowering::{lowered_commas, normalized_grammar};
+use lalrpop_grammar_repr::Grammar;
 use lalrpop_lexer::dfa::Dfa;
 use lalrpop_norm::{Normalized, normalize_with_dfa};
 use std::alloc::Global;
@@ -16,11 +17,21 @@ fn normal_with_dfa(rt: &impl Abort, alloc: Global) -> Box<(Normalized, Dfa)> {
     Box::new(alloc, made.expect(rt, "a normal grammar")).expect(rt, "memory")
 }
 
+/// The grammar as it is shown.
+fn shown(rt: &impl Abort, alloc: Global, grammar: &Grammar) -> String {
+    format!(in alloc; "{grammar:?}").expect(rt, "memory")
+}
+
+/// Whether both grammars are shown alike.
+fn is_shown_alike(rt: &impl Abort, alloc: Global, one: &Grammar, other: &Grammar) -> bool {
+    let first = shown(rt, alloc, one);
+    let second = shown(rt, alloc, other);
+    first.as_str() == second.as_str()
+}
+
 /// Whether both are the same, in all that there is to see of them.
 fn is_same(rt: &impl Abort, alloc: Global, one: &Normalized, other: &Normalized) -> bool {
-    let first = format!(in alloc; "{:?}", one.grammar).expect(rt, "memory");
-    let second = format!(in alloc; "{:?}", other.grammar).expect(rt, "memory");
-    first.as_str() == second.as_str()
+    is_shown_alike(rt, alloc, &one.grammar, &other.grammar)
         && one.origins == other.origins
         && one.entries == other.entries
 }

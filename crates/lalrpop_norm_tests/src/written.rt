@@ -37,13 +37,30 @@ fn leaves_the_rest(rt: &impl Abort, alloc: Global) -> bool {
     *found == *left
 }
 
+/// Whether the first pass takes the grammar.
+fn is_valid(alloc: Global, grammar: &Grammar) -> bool {
+    prevalidate::validate(alloc, grammar).is_ok()
+}
+
+/// That D is there where the feature is on.
+fn has_featured(rt: &impl Abort, alloc: Global, grammar: &Grammar) {
+    let session = featured_session(rt, alloc);
+    asks_for(rt, grammar, &session, "D", "Id");
+}
+
+/// That Id is there where no feature is on.
+fn has_plain(rt: &impl Abort, alloc: Global, grammar: &Grammar) {
+    let session = plain_session(alloc);
+    asks_for(rt, grammar, &session, "Id", "D");
+}
+
 #[test]
 fn features_decide_what_is_there(rt: HostRuntime) {
     check(&rt, leaves_the_rest(&rt, rt.alloc()));
     let grammar = grammar_of(&rt, rt.alloc(), FEATURED);
-    check(&rt, prevalidate::validate(rt.alloc(), &grammar).is_ok());
-    asks_for(&rt, &grammar, &plain_session(rt.alloc()), "Id", "D");
-    asks_for(&rt, &grammar, &featured_session(&rt, rt.alloc()), "D", "Id");
+    check(&rt, is_valid(rt.alloc(), &grammar));
+    has_plain(&rt, rt.alloc(), &grammar);
+    has_featured(&rt, rt.alloc(), &grammar);
 }
 
 /// Whether the name stands for the rule of that name.

@@ -15,7 +15,7 @@ ghost use Rattle.lalrpop_norm_tyinfer.specs.ProgramViews.{names_view, rule_types
 
 use crate::equations::TypeSource;
 use crate::names::Names;
-use lalrpop_grammar::types::TypeRef;
+use lalrpop_grammar::types::{TypeRef, clone_lifetime};
 use lalrpop_grammar_repr::{Map, NominalTypeRepr, TypeRepr};
 use lalrpop_grammar_symbols::{
     Atom, Boxed, List, NonterminalString, Symbol, SymbolKind, TerminalLiteral, TerminalString,
@@ -198,15 +198,6 @@ fn symbols_type(
     match counted_types(alloc, names, table, symbols, has_chosen(symbols))? {
         None => Ok(None),
         Some(types) => Ok(Some(tuple_type(types))),
-    }
-}
-
-fn clone_lifetime(lifetime: &Option<Atom>) -> Result<Option<Atom>, AllocError>
-    ensures { IfOk result (λ copy. copy ≡ lifetime.now) }
-{
-    match lifetime {
-        None => Ok(None),
-        Some(name) => Ok(Some(name.try_clone()?)),
     }
 }
 

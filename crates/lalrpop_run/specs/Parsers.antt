@@ -1,5 +1,5 @@
 -- Which grammars have a parser for a question, and why the others have none.
-use Rattle.std.specs.Prelude.{◌≡◌, ◌≢◌, List, Contains, Vec}
+use Rattle.std.specs.Prelude.{◌≡◌, ◌≢◌, ◌++◌, List, Contains, Vec}
 use Rattle.std.specs.Global.{Global}
 use Rattle.lalrpop_grammar.specs.declared.grammar.Grammar.{Grammar}
 use Rattle.lalrpop_grammar.specs.Trees.{Token, Tree}
@@ -30,12 +30,13 @@ IsRefusedFor q w error = IsPrepareRefusal finds is_too_deep q.features q.macro_l
 abbrev pub IsTakenFor : Question → written.Grammar → Type 0
 IsTakenFor q w = IsGenerable finds is_too_deep q.features q.macro_limit q.start w
 
--- This was prepared of the grammar for the question.
+-- This was prepared of the grammar for the question. The start of its plain productions is the prefix before the start that is asked.
 pub record IsPreparedFor (q : Question) (g : Grammar) (v : PreparedGrammar) : Type 0 where
   pub written_is : v.written ≡ g
   pub features_are : v.session.features.items ≡ q.features
   pub limit_is : v.session.macro_recursion_limit ≡ q.macro_limit
   pub start_is : v.start ≡ q.start
+  pub name_is : v.start_name.0 ≡ g.prefix ++ q.start
   pub prepared : IsPrepared finds is_too_deep v
 
 -- The reply tells why the grammar has no parser for the question: it is refused; or its expansion isn't LR(1), and for each conflict of the

@@ -25,8 +25,11 @@ use Rattle.lalrpop_lr1_theory.specs.ValidItems.{CountsItemSets, NoneBarren}
 use Rattle.lalrpop_lr1_theory.proofs.CountLemmas.{canonical_counted}
 use Rattle.lalrpop_norm_theory.specs.Premises.{IsReadGrammar}
 use Rattle.lalrpop_run_theory.specs.Laws.{OneWrittenTree}
-use Rattle.lalrpop_run_parser.specs.Parsers.{AreCountedBy, HasConflicts, HasOneTreeEach, HasStatesBy, HasTableBy, IsParserTable}
+use Rattle.lalrpop_run_parser.specs.Parsers.{AreCountedBy, HasConflicts, HasOneTreeEach, HasStatesBy, HasTableBy, IsGenerateRefusal, IsParserTable}
+use Rattle.lalrpop_run_parser.specs.Parsers.{ShowsConflicts}
 use Rattle.lalrpop_run_prepare.specs.PreparedGrammars.{IsPrepared, MayBeParsedFrom, PreparedGrammar}
+use Rattle.lalrpop_run_prepare.specs.declared.refusals.refusing.GenerateError.{GenerateError}
+use Rattle.lalrpop_run_prepare.specs.declared.refusals.refusing.GenerateError.TheVariants as errors
 use Rattle.lalrpop_run_prepare.proofs.StartLemmas.{start_in_expansion}
 use Rattle.lalrpop_run_parser.specs.Witnesses.{AreItsConflicts, AreWitnessesOf}
 
@@ -76,7 +79,7 @@ module _ (v : PreparedGrammar) (g : Grammar) (start : NonterminalString) (same :
   conflicts_stand fault error is stands =
       subst (IsCanonicalFault v.expansion v.start_name) is (handed (λ h n. IsCanonicalFault h n fault) stands)
 
-  pub conflicts_told : (fault : TableFault (List ℕ)) (error : TableConstructionError (List ℕ)) (certificates : List Certificate)
+  conflicts_told : (fault : TableFault (List ℕ)) (error : TableConstructionError (List ℕ)) (certificates : List Certificate)
       → fault ≡ faults.Conflicts error → AreWitnessesOf v error certificates → IsCanonicalFault g start fault
       → (NoneBarren (Contains (theory_grammar g)) start.0 → TellsNoLr1 g start fault)
       → MayBeParsedFrom v.expansion v.start_name → HasConflicts v certificates
@@ -87,6 +90,16 @@ module _ (v : PreparedGrammar) (g : Grammar) (start : NonterminalString) (same :
     no_lr1 = subst (TellsNoLr1 v.expansion v.start_name) is
         (handed (λ h n. NoneBarren (Contains (theory_grammar h)) n.0 → TellsNoLr1 h n fault) f m.none_barren);
   }
+
+  -- and the refusal that shows them is one of the prepared grammar
+  pub refusal_told : (fault : TableFault (List ℕ)) (error : TableConstructionError (List ℕ)) (refusal : GenerateError)
+      → fault ≡ faults.Conflicts error → ShowsConflicts v error refusal → IsCanonicalFault g start fault
+      → (NoneBarren (Contains (theory_grammar g)) start.0 → TellsNoLr1 g start fault)
+      → MayBeParsedFrom v.expansion v.start_name → IsGenerateRefusal v refusal
+  refusal_told fault error (errors.Conflicts certificates) is shown stands f m =
+      conflicts_told fault error certificates.items is shown stands f m
+  refusal_told fault error errors.Memory is shown stands f m = tt
+  refusal_told fault error _ is shown stands f m = absurd shown
 
 -- no tokens have two written trees, whatever states the expansion may be parsed with
 pub one_tree_by : (v : PreparedGrammar) (states : List TheoryState)

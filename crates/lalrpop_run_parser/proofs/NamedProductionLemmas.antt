@@ -16,7 +16,7 @@ use Rattle.lalrpop_lr1_inline.proofs.NamedLemmas.{entry_found, lookup_entry}
 use Rattle.lalrpop_lr1_core.specs.Views.{production_view}
 use Rattle.lalrpop_lr1_core.proofs.MemberLemmas.{in_map, map_has}
 use Rattle.lalrpop_lr1_theory.specs.Productions as theory
-use Rattle.lalrpop_run_theory.proofs.ContainsLemmas.{among_contained, contained_among}
+use Rattle.lalrpop_grammar_language.proofs.AmongLemmas.{among_contains, contains_among}
 use Rattle.lalrpop_run_prepare.specs.PreparedGrammars.{HasNamedProductions}
 
 no_element : {A : Type 0} (x : A) → Contains {X = A} [] x → ⊥
@@ -30,17 +30,17 @@ module _ (g : Grammar) (named : HasNamedProductions g) where
   found_named n p (Some d) e c =
       let there = entry_found g.nonterminals n d e in (
         flat_has (λ (x : NonterminalString × NonterminalData). x.1.productions) g.nonterminals (n, d) p
-            (among_contained g.nonterminals (n, d) there)
+            (among_contains g.nonterminals (n, d) there)
             c,
-        named.under (n, d) p there (contained_among d.productions p c),
+        named.under (n, d) p there (contains_among d.productions p c),
       )
 
   -- and each of the grammar's is found by its name
   named_found : (p : Production) → Contains (productions_of_grammar g) p → Contains (productions_of g.nonterminals p.nonterminal) p
   named_found p c =
       let e = in_flat (λ (x : NonterminalString × NonterminalData). x.1.productions) g.nonterminals p c in
-      let there = contained_among g.nonterminals e.0 e.1 in
-      let name : p.nonterminal ≡ e.0.0 = named.under e.0 p there (contained_among e.0.1.productions p e.2) in
+      let there = contains_among g.nonterminals e.0 e.1 in
+      let name : p.nonterminal ≡ e.0.0 = named.under e.0 p there (contains_among e.0.1.productions p e.2) in
       let found : at_name p.nonterminal g.nonterminals ≡ Some e.0.1 =
       ap (λ n. at_name n g.nonterminals) name ∙ lookup_entry g.nonterminals named.ascending e.0 there in
       subst (λ o. Contains (productions_in o) p) (sym found) e.2

@@ -78,6 +78,12 @@ pub record HasConflicts (v : PreparedGrammar) (certificates : List Certificate) 
   pub shown : AreWitnessesOf v error certificates
   pub no_lr1 : IsLr1 (Contains (theory_grammar v.expansion)) v.start_name.0 → ⊥
 
+-- certificates of these conflicts; or memory ran out
+abbrev pub ShowsConflicts : PreparedGrammar → TableConstructionError (List ℕ) → GenerateError → Type 0
+ShowsConflicts v error (errors.Conflicts certificates) = AreWitnessesOf v error certificates.items
+ShowsConflicts v error errors.Memory = Unit {0}
+ShowsConflicts v error _ = ⊥
+
 -- It isn't LR(1), and certificates show that; or memory ran out.
 abbrev pub IsGenerateRefusal : PreparedGrammar → GenerateError → Type 0
 IsGenerateRefusal v (errors.Conflicts certificates) = HasConflicts v certificates.items

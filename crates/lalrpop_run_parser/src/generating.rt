@@ -5,17 +5,33 @@ ghost use Rattle.lalrpop_grammar.specs.Views.{grammar_view};
 ghost use Rattle.lalrpop_lr1_core.specs.TheoryGrammars.{theory_grammar};
 ghost use Rattle.lalrpop_lr1_theory.specs.Answers.{IsLr1};
 ghost use Rattle.lalrpop_norm_theory.specs.Premises.{IsReadGrammar};
-ghost use Rattle.lalrpop_run_parser.specs.Parsers.{HasOneTreeEach, HasStatesBy, HasTableBy, IsGenerateRefusal};
+ghost use Rattle.lalrpop_run_parser.specs.Parsers.{HasOneTreeEach, HasStatesBy, HasTableBy, IsGenerateRefusal, ShowsConflicts};
+ghost use Rattle.lalrpop_run_parser.specs.Witnesses.{AreItsConflicts};
 
 use crate::parser::Parser;
 use crate::witnesses::{Prepared, witnesses};
 use lalrpop_grammar_repr::methods::Method;
 use lalrpop_lane::build_lr1_states;
-use lalrpop_lr1_core::TableFault;
+use lalrpop_lr1_core::{Lr1TableConstructionError, TableFault};
 use lalrpop_lr1_interpret::parse::ActionTable;
 use lalrpop_run_prepare::refusals::GenerateError;
 use lalrpop_run_theory::answers::one_written_tree;
-use std::alloc::Global;
+use std::alloc::{AllocError, Global};
+
+/// The refusal with a certificate for each of the conflicts, in their order; or `Memory`.
+fn conflicts_refusal<'p>(
+    alloc: Global,
+    prepared: &'p Prepared,
+    error: &Lr1TableConstructionError<'p>,
+) -> GenerateError<'p>
+    requires { AreItsConflicts prepared.now error.now }
+    ensures { ShowsConflicts prepared.now error.now result }
+{
+    match witnesses(alloc, prepared, error) {
+        Ok(certificates) => GenerateError::Conflicts(certificates),
+        Err(AllocError) => GenerateError::Memory,
+    }
+}
 
 /// The parser of the grammar for its start, by LR(1) states.
 ///
@@ -51,10 +67,7 @@ pub fn generate<'p>(
                 state_count: built.len(),
             })
         }
-        Err(TableFault::Conflicts(error)) => {
-            let certificates = witnesses(alloc, prepared, &error)?;
-            Err(GenerateError::Conflicts(certificates))
-        }
+        Err(TableFault::Conflicts(error)) => { Err(conflicts_refusal(alloc, prepared, &error)) }
         Err(TableFault::Memory) => Err(GenerateError::Memory),
     }
 }

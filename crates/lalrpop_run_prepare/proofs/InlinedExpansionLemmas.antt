@@ -39,7 +39,7 @@ use Rattle.lalrpop_lr1_inline.proofs.GivenLabelLemmas.{given_labels}
 use Rattle.lalrpop_lr1_inline.proofs.LabelsExistLemmas.{labels_exist}
 use Rattle.lalrpop_lr1_inline.proofs.OrderLabelLemmas.{inlined_labels}
 use Rattle.lalrpop_run_theory.specs.Expansions.{AreInlinedExpansion, AreExpansion, AreBaseExpansion, theory_symbol}
-use Rattle.lalrpop_run_theory.proofs.ContainsLemmas.{among_contained, contained_among}
+use Rattle.lalrpop_grammar_language.proofs.AmongLemmas.{among_contains, contains_among}
 use Rattle.lalrpop_run_prepare.specs.NamedGrammars.{IsNamedExpansion, StandUnderNames}
 use Rattle.lalrpop_run_prepare.specs.NamedLabels.{AreNamedProductions, label_back}
 use Rattle.lalrpop_run_prepare.proofs.InlinedEntryLemmas.{AreSorted, named_entry, named_name, stands_named, steps_own, steps_sorted}
@@ -71,7 +71,7 @@ seen_in es = map production_view (flat_map (λ e. e.1.productions) es)
 seen : (es : NonterminalEntries) (e : NonterminalString × NonterminalData) (q : Production) → Among es e → Among e.1.productions q →
     Contains (seen_in es) (production_view q)
 seen es e q i j =
-    among_contained (seen_in es) (production_view q)
+    among_contains (seen_in es) (production_view q)
     (map_among production_view (flat_map (λ (d : NonterminalString × NonterminalData). d.1.productions) es) q
     (flat_map_among (λ (d : NonterminalString × NonterminalData). d.1.productions) es e q i j))
 
@@ -87,7 +87,7 @@ pub record IsSeen (es : NonterminalEntries) (p : theory.Production) : Type 0 whe
 pub is_seen : (es : NonterminalEntries) (p : theory.Production) → Contains (seen_in es) p → IsSeen es p
 is_seen es p c =
     let u = among_map production_view (flat_map (λ (d : NonterminalString × NonterminalData). d.1.productions) es) p
-    (contained_among (seen_in es) p c) in
+    (contains_among (seen_in es) p c) in
     let v = among_flat_map (λ (d : NonterminalString × NonterminalData). d.1.productions) es u.0 u.1 in
     record { entry = v.0; production = u.0; in_grammar = v.1; in_entry = v.2; seen_is = u.2 }
 

@@ -27,7 +27,7 @@ use Rattle.lalrpop_lr1_theory.proofs.ListLemmas.{contains_get, get_contains}
 use Rattle.lalrpop_lr1_inline.specs.InlinedNames.{NonterminalEntries, name_of_text}
 use Rattle.lalrpop_lr1_inline.specs.InliningSteps.{productions_named}
 use Rattle.lalrpop_lr1_inline.specs.NamedProductions.{IsInlinedByName, ProducesByAction, label_given, side_by_names}
-use Rattle.lalrpop_run_theory.proofs.ContainsLemmas.{among_contained, contained_among}
+use Rattle.lalrpop_grammar_language.proofs.AmongLemmas.{among_contains, contains_among}
 use Rattle.lalrpop_run_theory.proofs.ReachLemmas.{expansion_goes_along}
 use Rattle.lalrpop_run_prepare.specs.NamedGrammars.{IsNamedExpansion, StandUnderNames}
 use Rattle.lalrpop_run_prepare.specs.NamedLabels.{AreNamedProductions, IsProductionBack}
@@ -38,11 +38,11 @@ some_same p q e = cc
 
 -- one of a list has a place
 pub among_place : {A : Type 0} (xs : List A) (x : A) → Among xs x → (k : ℕ) × (slice_get xs k ≡ Some x)
-among_place xs x i = contains_get xs x (among_contained xs x i)
+among_place xs x i = contains_get xs x (among_contains xs x i)
 
 -- what stands at a place is one of the list
 pub place_among : {A : Type 0} (xs : List A) (k : ℕ) (x : A) → slice_get xs k ≡ Some x → Among xs x
-place_among xs k x e = contained_among xs x (get_contains xs k x e)
+place_among xs k x e = contains_among xs x (get_contains xs k x e)
 
 -- symbols by name are named symbols
 pub named_sides : (side : List Symbol) → side_by_names side ≡ map named_symbol side

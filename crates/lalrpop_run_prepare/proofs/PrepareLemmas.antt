@@ -68,7 +68,8 @@ module _ (finds : Text → Text → Option Bool) (deep : Text → Bool) (feature
       (named_expansion finds features w made n.normalized) made.origins (named_origins finds features w made n.normalized)
       (n.normalized.actions.no_other ∙ length-map made.origins origin_view) after i ready.actions
 
-  no_barren : NoneBarren (Contains (theory_grammar made.grammar)) start → HasNoBarren g start
+  -- nothing is barren in the expansion as it is written
+  pub no_barren : NoneBarren (Contains (theory_grammar made.grammar)) start → HasNoBarren g start
   no_barren none = none_barren_named g w.prefix (Contains (theory_grammar made.grammar)) base start in_expansion none
 
   least_told : (name : Text) → IsLeastAmongBarren (Contains (theory_grammar made.grammar)) start name
@@ -128,13 +129,13 @@ module _ (finds : Text → Text → Option Bool) (deep : Text → Bool) (v : Pre
   -- what is put together is prepared
   pub prepared_where_read : made.grammar ≡ v.lowered → made.origins ≡ v.origins → v.start ≡ start
       → v.start_name.0 ≡ v.written.prefix ++ start → HasItsTerminals v.expansion → MayBeParsedFrom v.expansion v.start_name
-      → IsInlinedGrammar made.grammar v.expansion → IsReadyForTables made.grammar
-      → IsStrictlySortedBy (names.ghosts).cmp (keys_of made.grammar.nonterminals)
+      → NoneBarren (Contains (theory_grammar made.grammar)) start → IsInlinedGrammar made.grammar v.expansion
+      → IsReadyForTables made.grammar → IsStrictlySortedBy (names.ghosts).cmp (keys_of made.grammar.nonterminals)
       → (IsReadGrammar (grammar_view v.written)
       → IsNormalizedFor finds deep v.session.features.items v.session.macro_recursion_limit start (grammar_view v.written) made dfa)
       → (Decides dfa (entry_patterns entries) (entry_precedences entries) → IsScannerOf v.scanner (scan_entries entries))
       → IsPreparedWhereRead finds deep v
-  prepared_where_read low origins same name terminals parsed i ready sorted normal scans = record {
+  prepared_where_read low origins same name terminals parsed none i ready sorted normal scans = record {
     name_is = name ∙ ap (λ (s : Text). v.written.prefix ++ s) (sym same);
     terminals = terminals;
     named = record {
@@ -156,6 +157,10 @@ module _ (finds : Text → Text → Option Bool) (deep : Text → Bool) (v : Pre
           normalized = n.normalized;
           scans = scans n.decides;
           inlined = subst (λ (g : repr.Grammar). IsInlinedGrammar g v.expansion) low i;
+          none_barren = subst (λ (s : Text).
+              HasNoBarren (enabled_grammar finds v.session.features.items (grammar_view v.written)) s) (sym same)
+              (no_barren finds deep v.session.features.items v.session.macro_recursion_limit start (grammar_view v.written) made dfa read n
+              ready sorted none);
           told = subst (λ (given : List choices.Origin).
               AreToldExpansion (enabled_grammar finds v.session.features.items (grammar_view v.written)) v.written.prefix
               v.expansion.action_fn_defns given (theory_grammar v.expansion)) origins

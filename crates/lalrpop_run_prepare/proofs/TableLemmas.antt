@@ -1,17 +1,18 @@
 -- Tables can be made of a lowered grammar, and of what inlining makes of it; for what is prepared.
 use Rattle.std.specs.Prelude.{All, Some, slice_get}
-use Rattle.std.proofs.Common.{◌≡◌, ◌∙◌, ◌<◌, ◌⊎◌, ◌+◌, List, [], ◌∷◌, ap, sym, subst, inl, inr}
+use Rattle.std.proofs.Common.{◌≡◌, ◌∙◌, ◌<◌, ◌+◌, List, [], ◌∷◌, ap, sym, subst, inl}
 use Rattle.std.proofs.Common.{arith, length, Contains}
 use Rattle.std.proofs.lemmas.List.Elements.{All-contains_itself}
 use Rattle.lalrpop_grammar_symbols.specs.declared.names.NonterminalString.{NonterminalString}
 use Rattle.lalrpop_grammar_language.specs.Among.{Among}
+use Rattle.lalrpop_grammar_language.proofs.AmongLemmas.{contains_among}
 use Rattle.lalrpop_grammar_repr.specs.Maps.{at_terminal}
 use Rattle.lalrpop_grammar_repr.specs.declared.grammar.Grammar.{Grammar}
 use Rattle.lalrpop_grammar_repr.specs.declared.production.NonterminalData.{NonterminalData}
 use Rattle.lalrpop_grammar_repr.specs.declared.production.Production.{Production}
 use Rattle.lalrpop_grammar_repr.specs.declared.production.Symbol.{Symbol}
 use Rattle.lalrpop_grammar_repr.specs.declared.production.Symbol.TheVariants as symbols
-use Rattle.lalrpop_lr1_theory.proofs.ListLemmas.{AllOf, all_of, contains_here, contains_later, contains_split}
+use Rattle.lalrpop_lr1_theory.proofs.ListLemmas.{AllOf, all_of, contains_here, contains_later}
 use Rattle.lalrpop_lr1_core.proofs.GraphLemmas.{in_flat}
 use Rattle.lalrpop_lr1_core.specs.TheoryGrammars.{productions_of_grammar}
 use Rattle.lalrpop_lr1_first.specs.NumberedGrammars.{HasItsTerminals}
@@ -21,14 +22,6 @@ use Rattle.lalrpop_lr1_inline.specs.InlinedNames.{NonterminalEntries}
 use Rattle.lalrpop_norm_lower.specs.TableReadiness.{IsReadyForTables}
 use Rattle.lalrpop_run_prepare.proofs.SideLemmas.{AreSidesOf, IsSideOf, inlined_of}
 use Rattle.lalrpop_run_prepare.proofs.TerminalLemmas.{among_numbered, number_placed, place_numbered}
-
-among_of : {A : Type 0} (xs : List A) (x : A) → Contains xs x → Among xs x
-among_of [] x c = absurd (omega (arith, c.1))
-among_of (y ∷ ys) x c = go (contains_split y x ys c) (λ d. among_of ys x d)
-  where
-    go : (y ≡ x) ⊎ Contains ys x → (Contains ys x → Among ys x) → Among (y ∷ ys) x
-    go (inl e) later = inl e
-    go (inr d) later = inr (later d)
 
 -- what holds of each element is what holds by recursion
 recursed : {A : Type 0} (P : A → Type 0) (xs : List A) → ((x : A) → Contains xs x → P x) → AllOf P xs
@@ -43,7 +36,7 @@ sides_where P es f =
     recursed (λ (e : NonterminalString × NonterminalData). AllOf (IsSideOf P) e.1.productions) es
     (λ e c.
     recursed (IsSideOf P) e.1.productions
-    (λ p d. recursed P p.symbols (λ s k. f e.0 e.1 p s (among_of es e c) (among_of e.1.productions p d) (among_of p.symbols s k))))
+    (λ p d. recursed P p.symbols (λ s k. f e.0 e.1 p s (contains_among es e c) (contains_among e.1.productions p d) (contains_among p.symbols s k))))
 
 -- and of a symbol of one of the grammar's productions
 pub side_there : (P : Symbol → Type 0) (g : Grammar) → AreSidesOf P g.nonterminals → (p : Production)
@@ -88,7 +81,7 @@ module _ (g : Grammar) (ready : IsReadyForTables g) where
   has_its_actions = λ k d h j q l.
       let e = All-contains_itself g.nonterminals k d h in
       let p = All-contains_itself _ j q l in
-      ready.actions _ _ _ (among_of g.nonterminals _ e) (among_of _ _ p)
+      ready.actions _ _ _ (contains_among g.nonterminals _ e) (contains_among _ _ p)
 
   -- what tables ask of what inlining makes of it
   pub expansion_has_its_terminals : (after : Grammar) → IsInlinedGrammar g after → HasItsTerminals after

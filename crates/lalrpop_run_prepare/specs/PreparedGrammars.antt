@@ -19,6 +19,7 @@ use Rattle.lalrpop_lr1_first.specs.NumberedGrammars.{HasItsTerminals}
 use Rattle.lalrpop_lr1_inline.specs.InlinedGrammars.{IsInlinedGrammar}
 use Rattle.lalrpop_lr1_theory.specs.CheckedStates.{IsStartAlone}
 use Rattle.lalrpop_lr1_theory.specs.ValidItems.{NoneBarren}
+use Rattle.lalrpop_run_theory.specs.Barren.{HasNoBarren}
 use Rattle.lalrpop_run_trees.specs.LabelTables.{kept_place, label_places, last_place}
 use Rattle.lalrpop_run_trees.specs.declared.flat_labels.label_table.LabelTable.{LabelTable}
 use Rattle.lalrpop_run_trees.specs.declared.flat_labels.mark.LabelMark.{LabelMark}
@@ -53,8 +54,8 @@ pub record HasNamedProductions (g : repr.Grammar) : Type 0 where
   pub under : StandUnderNames g.nonterminals
   pub ascending : IsStrictlySortedBy (names.ghosts).cmp (keys_of g.nonterminals)
 
--- Nothing is wrong with the grammar, nor with the start. The plain productions are those of its expansion before inlining and after
--- it, where the action of each tells its label, and the scanner cuts by the tokenizer's entries.
+-- Nothing is wrong with the grammar, nor with the start, which reaches nothing barren in the expansion before inlining, as it is written.
+-- The plain productions are those of its expansion before inlining and after it, where the action of each tells its label, and the scanner cuts by the tokenizer's entries.
 pub record IsPrepared (finds : Text → Text → Option Bool) (deep : Text → Bool) (v : PreparedGrammar) : Type 0 where
   pub made : Normalized
   pub lowered_is : made.grammar ≡ v.lowered
@@ -63,6 +64,7 @@ pub record IsPrepared (finds : Text → Text → Option Bool) (deep : Text → B
   pub normalized : IsNormalized finds v.session.features.items (grammar_view v.written) (lowered_view made)
   pub scans : IsScannerOf v.scanner (scan_entries (lowered_view made).entries)
   pub inlined : IsInlinedGrammar v.lowered v.expansion
+  pub none_barren : HasNoBarren (enabled_grammar finds v.session.features.items (grammar_view v.written)) v.start
   pub told : AreToldExpansion (enabled_grammar finds v.session.features.items (grammar_view v.written)) v.written.prefix
       v.expansion.action_fn_defns v.origins (theory_grammar v.expansion)
 

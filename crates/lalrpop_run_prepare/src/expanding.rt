@@ -60,7 +60,7 @@ fn inline_reached(
     let barren = barren_before_inlining(alloc, lowered, &name)?;
     let expansion = inline_rules(alloc, lowered, whole)?;
     match barren {
-        Some(nonterminal) => Err(GenerateError::Barren(nonterminal.0)),
+        Some(nonterminal) => Err(GenerateError::Barren(nonterminal.into_atom())),
         None => Ok(expansion),
     }
 }
@@ -85,7 +85,7 @@ fn refuse_unread(
         }));
     }
     match barren_nonterminal(alloc, expansion, start_name)? {
-        Some(nonterminal) => Err(GenerateError::Barren(nonterminal.0)),
+        Some(nonterminal) => Err(GenerateError::Barren(nonterminal.into_atom())),
         None => Ok(()),
     }
 }
@@ -104,6 +104,7 @@ pub(crate) fn expand(
     ensures inlined { IfOk result (λ made. IsInlinedGrammar lowered.now made.0) }
     ensures terminals { IfOk result (λ made. HasItsTerminals made.0) }
     ensures parsed { IfOk result (λ made. MayBeParsedFrom made.0 made.1) }
+    ensures none { IfOk result (λ _. NoneBarren (Contains (theory_grammar lowered.now)) start.now) }
     ensures refused { IfErr result (IsRefusedStart whole lowered.now prefix.now start.now) }
 {
     let expansion = inline_reached(alloc, lowered, start, whole)?;

@@ -22,18 +22,13 @@ fn has_too_many(kind: &NormErrorKind) -> bool
 }
 
 /// The fault with its place: too many actions are told where the whole grammar is written.
-fn with_place(error: NormError, whole: Span) -> NormError
+fn with_place(mut error: NormError, whole: Span) -> NormError
     ensures { result ≡ told_at whole error }
 {
-    let span = if has_too_many(&error.kind) {
-        whole
-    } else {
-        error.span
-    };
-    NormError {
-        kind: error.kind,
-        span,
+    if has_too_many(&error.kind) {
+        error.span = whole;
     }
+    error
 }
 
 /// Why the rules aren't inlined, as it is told.

@@ -1,6 +1,6 @@
 //! What is known of a grammar once nothing is wrong with it.
 
-ghost use Rattle.std.specs.Prelude.{◌≡◌, ◌++◌, length};
+ghost use Rattle.std.specs.Prelude.{◌≡◌, ◌++◌, IfOk, length};
 ghost use Rattle.lalrpop_grammar.specs.Views.{grammar_view};
 ghost use Rattle.lalrpop_grammar_rules.specs.Search.{finds, is_too_deep};
 ghost use Rattle.lalrpop_lr1_first.specs.NumberedGrammars.{HasItsTerminals};
@@ -12,6 +12,7 @@ use lalrpop_grammar_repr::{Grammar as LoweredGrammar, Session};
 use lalrpop_grammar_symbols::{List, NonterminalString};
 use lalrpop_lexer_scan::Scanner;
 use lalrpop_run_trees::flat_labels::LabelTable;
+use std::alloc::{AllocError, Global};
 use std::marker::Model;
 
 /// A written grammar in which nothing is wrong, for one of its starts: its plain productions, before and after inlining, with the
@@ -27,8 +28,6 @@ pub struct Prepared {
     pub(crate) origins: List<Origin>,
     pub(crate) scanner: Scanner,
     pub(crate) expansion: LoweredGrammar,
-    // The expansion's productions by the choices that they stand for.
-    pub(crate) labels: LabelTable,
 }
 
 impl Model for Prepared {
@@ -37,8 +36,7 @@ impl Model for Prepared {
     ghost use Rattle.lalrpop_grammar.specs.contracts.origin.Origin as written_choice;
     ghost use Rattle.lalrpop_grammar_repr.specs.contracts.grammar.Grammar as plain_grammar;
     ghost use Rattle.lalrpop_grammar_rules.specs.Search.{finds, is_too_deep};
-    ghost use Rattle.lalrpop_run_prepare.specs.PreparedGrammars.{AreLabelsOf, IsPreparedWhereRead, PreparedGrammar};
-    ghost use Rattle.std.specs.Prelude.{length};
+    ghost use Rattle.lalrpop_run_prepare.specs.PreparedGrammars.{IsPreparedWhereRead, PreparedGrammar};
 
     ghost Value = { PreparedGrammar };
 
@@ -64,7 +62,7 @@ impl Model for Prepared {
       origins = p.origins;
       scanner = p.scanner;
       expansion = p.expansion;
-    }) × AreLabelsOf p.expansion (length p.origins) p.labels };
+    }) };
 }
 
 impl Prepared {
@@ -82,11 +80,17 @@ impl Prepared {
         &self.lowered
     }
 
-    /// The productions after inlining by the choices before it that they stand for.
-    pub fn labels(&self) -> &LabelTable
-        ensures { AreLabelsOf self.now.expansion (length self.now.origins) result.now }
+    /// The productions after inlining by the choices before it that they stand for, which are sought anew by each call. A choice is given
+    /// for each action that was there before.
+    ///
+    /// # Errors
+    ///
+    /// Memory is refused.
+    pub fn labels(&self, alloc: Global) -> Result<LabelTable, AllocError>
+        ensures { IfOk result (AreLabelsOf self.now.expansion (length self.now.origins)) }
     {
-        &self.labels
+        let labels = LabelTable::new(alloc, &self.expansion, self.origins.len())?;
+        Ok(labels)
     }
 
     /// For the number of each action of the plain productions before inlining the written choice that its production stands for.

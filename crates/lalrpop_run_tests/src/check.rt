@@ -2,6 +2,7 @@
 
 ghost use Rattle.std.specs.Prelude.{IsTrue};
 
+use std::alloc::Global;
 use std::process::Abort;
 
 /// Stops the test where this doesn't hold. `assert!` writes its message out wherever it stands, and all of it is proved there.
@@ -9,4 +10,9 @@ pub(crate) fn check(rt: &impl Abort, holds: bool)
     ensures { IsTrue holds }
 {
     assert!(rt; holds);
+}
+
+/// The value in a box, which is dropped by one call.
+pub(crate) fn boxed<T: Drop>(rt: &impl Abort, alloc: Global, value: T) -> Box<T> {
+    Box::new(alloc, value).expect(rt, "memory")
 }

@@ -24,7 +24,8 @@ use Rattle.lalrpop_lr1_theory.specs.ValidItems.{Reaches, itself, onward, IsBarre
 use Rattle.lalrpop_run_theory.specs.Barren.{IsReachedFrom, IsWrittenStart, IsBarrenFrom, HasNoBarren}
 use Rattle.lalrpop_run_theory.specs.Expansions.{AreInlinedExpansion, AreBaseExpansion}
 use Rattle.lalrpop_run_theory.specs.ExpansionTrees.{tree_by_labels}
-use Rattle.lalrpop_run_theory.proofs.ContainsLemmas.{among_contained, contained_among, inside_named, named_inside, with_blank_spans}
+use Rattle.lalrpop_grammar_language.proofs.AmongLemmas.{among_contains, contains_among}
+use Rattle.lalrpop_run_theory.proofs.ContainsLemmas.{inside_named, named_inside, with_blank_spans}
 use Rattle.lalrpop_run_theory.proofs.ForestLemmas.{forest_is, labelled_is, production_of}
 use Rattle.lalrpop_run_theory.proofs.InlinedTestLemmas.{none_decided}
 use Rattle.lalrpop_run_theory.proofs.ReachLemmas.{GoesAlong, HoldsInside, along_all, along_inlined, expansion_goes_along}
@@ -87,7 +88,7 @@ module _ (g : EnabledGrammar) (In : Nonterminal → Type 0) (prefix : Text) (G :
       let x = reached_holds P along there root k p.left r in
       let q = production_of g In prefix G e p x.0 m (there x.0 x.1) (sym x.2) in
       let y = inside_named e.name_of q.side n
-      (subst (λ s. Among s (theory.nonterminal n)) q.right_is (contained_among p.right (theory.nonterminal n) c)) in
+      (subst (λ s. Among s (theory.nonterminal n)) q.right_is (contains_among p.right (theory.nonterminal n) c)) in
       (y.0, along_inlined (Produces g) In P along (e.label_of p.action) x.0 q.side x.1 q.inlined y.0 y.1, y.2)
 
   -- no production names a start
@@ -98,7 +99,7 @@ module _ (g : EnabledGrammar) (In : Nonterminal → Type 0) (prefix : Text) (G :
       let s = q.3 in
       let y = inside_named e.name_of q.2 (prefix ++ n)
       (subst (λ s. Among s (theory.nonterminal (prefix ++ n))) s.right_is
-      (contained_among p.right (theory.nonterminal (prefix ++ n)) c)) in
+      (contains_among p.right (theory.nonterminal (prefix ++ n)) c)) in
       let in_expansion = along_inlined (Produces g) In (InExpansion g) (expansion_goes_along g) q.1 q.0 q.2 s.in_expansion s.produced
       y.0 y.1 in
       let same : y.0 ≡ Nonterminal.start n =
@@ -226,7 +227,7 @@ module _ (g : EnabledGrammar) (prefix : Text) (G : theory.Production → Type 0)
       let q = e.every y (Label.choose y o (all_kept side)) side there (refl, side, m, keeps_all g side) in
       let s = q.2 in
       onward q.0 (e.name_of x) (subst (Reaches G n) (sym s.left_is) before) q.1
-      (among_contained q.0.right (theory.nonterminal (e.name_of x))
+      (among_contains q.0.right (theory.nonterminal (e.name_of x))
       (subst (λ l. Among l (theory.nonterminal (e.name_of x))) (sym s.right_is) (named_inside e.name_of side x a)))
 
   -- and the other way round

@@ -1,33 +1,14 @@
 -- What a right side names, under names and back; and trees without spans as trees with them: for the laws on yields and on barren names.
-use Rattle.std.proofs.Common.{◌≡◌, List, [], ◌∷◌, ◌++◌, refl, ap, sym, ◌∙◌, subst, inl, inr, ◌⊎◌}
+use Rattle.std.proofs.Common.{◌≡◌, List, [], ◌∷◌, ◌++◌, refl, ap, sym, ◌∙◌, inl, inr}
 use Rattle.std.proofs.Common.{length, arith, ◌+◌, suc, zero}
-use Rattle.std.proofs.Common.{length-append, Contains, ℕ}
+use Rattle.std.proofs.Common.{length-append, ℕ}
 use Rattle.lalrpop_grammar_symbols.specs.Symbols.{Text, TextSpan}
 use Rattle.lalrpop_grammar_language.specs.Among.{Among}
 use Rattle.lalrpop_grammar_language.specs.Expansion.{GrammarSymbol, Nonterminal, RightSide}
 use Rattle.lalrpop_lr1_theory.specs.Productions as theory
 use Rattle.lalrpop_lr1_theory.specs.Trees.{Forest, none, leaf, node, yield}
 use Rattle.lalrpop_lr1_theory.specs.Spans.{SpannedForest, none_at, leaf_at, node_at, leaf_spans, without_spans}
-use Rattle.lalrpop_lr1_theory.proofs.ListLemmas.{contains_here, contains_later, contains_split}
 use Rattle.lalrpop_run_theory.specs.Expansions.{theory_side}
-
--- one of a list stands in it at a place
-pub among_contained : {A : Type 0} (xs : List A) (x : A) → Among xs x → Contains xs x
-among_contained [] x a = absurd a
-among_contained (y ∷ xs) x (inl e) = subst (Contains (y ∷ xs)) e (contains_here y xs)
-among_contained (y ∷ xs) x (inr a) = contains_later y x xs (among_contained xs x a)
-
-nothing_contained : {A : Type 0} (x : A) → Contains [] x → ⊥
-nothing_contained x c = omega (arith, c.1)
-
--- and the other way round
-pub contained_among : {A : Type 0} (xs : List A) (x : A) → Contains xs x → Among xs x
-contained_among [] x c = absurd (nothing_contained x c)
-contained_among (y ∷ xs) x c = either (contained_among xs x) (contains_split y x xs c)
-  where
-    either : (Contains xs x → Among xs x) → (y ≡ x) ⊎ Contains xs x → Among (y ∷ xs) x
-    either later (inl e) = inl e
-    either later (inr k) = inr (later k)
 
 -- what stands in a right side stands in it under its name
 pub named_inside : (name_of : Nonterminal → Text) (side : RightSide) (y : Nonterminal) → Among side (GrammarSymbol.nonterminal y) →

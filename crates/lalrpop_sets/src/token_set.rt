@@ -27,9 +27,15 @@ use std::hash::{Hash, Hasher};
 use std::marker::Model;
 
 /// A set of tokens of one grammar, by their numbers.
-#[derive(Drop)]
 pub struct TokenSet {
     words: Vec<u64>,
+}
+
+impl Drop for TokenSet {
+    /// Drops what it holds: where it is owned, that is one call.
+    fn drop(self) {
+        let TokenSet { words: _words } = self;
+    }
 }
 
 impl Model for TokenSet {

@@ -13,6 +13,7 @@ use lalrpop_plain_tables::answers::canonical_states;
 use lalrpop_sets::TokenSet;
 use serde_json::Value;
 use std::alloc::{AllocError, Global};
+use std::mem;
 
 /// A reduction of a state, with what may follow.
 type Reduction<'g> = (TokenSet, &'g Production);
@@ -86,6 +87,55 @@ fn change_reductions<'g>(
     }
 }
 
+/// The state without its items.
+fn without_items<'g>(alloc: Global, mut state: Lr1State<'g>) -> Lr1State<'g> {
+    State {
+        index: state.index,
+        items: Items {
+            vec: List::new(alloc),
+        },
+        shifts: mem::replace(&mut state.shifts, Map::new(alloc)),
+        reductions: mem::replace(&mut state.reductions, List::new(alloc)),
+        gotos: mem::replace(&mut state.gotos, Map::new(alloc)),
+    }
+}
+
+/// The state with another number.
+fn with_other_number(state: Lr1State<'_>) -> Lr1State<'_> {
+    let mut changed = state;
+    changed.index = OTHER_NUMBER;
+    changed
+}
+
+/// The state without its edges of terminals.
+fn without_shifts<'g>(alloc: Global, state: Lr1State<'g>) -> Lr1State<'g> {
+    let mut changed = state;
+    changed.shifts = Map::new(alloc);
+    changed
+}
+
+/// The state without its edges of nonterminals.
+fn without_gotos<'g>(alloc: Global, state: Lr1State<'g>) -> Lr1State<'g> {
+    let mut changed = state;
+    changed.gotos = Map::new(alloc);
+    changed
+}
+
+/// The state with the change in its reductions.
+fn with_reductions<'g>(
+    alloc: Global,
+    state: Lr1State<'g>,
+    change: Change,
+    terminals: &TerminalSet,
+) -> Result<Lr1State<'g>, AllocError> {
+    let mut changed = state;
+    let reductions = mem::replace(&mut changed.reductions, List::new(alloc));
+    let reductions = change_reductions(alloc, reductions, change, terminals)?;
+    // (the prover doesn't cover an assignment here)
+    let _none = mem::replace(&mut changed.reductions, reductions);
+    Ok(changed)
+}
+
 /// The state with the change.
 fn change_state<'g>(
     alloc: Global,
@@ -93,32 +143,15 @@ fn change_state<'g>(
     change: Change,
     terminals: &TerminalSet,
 ) -> Result<Lr1State<'g>, AllocError> {
-    let State {
-        mut index,
-        mut items,
-        mut shifts,
-        reductions,
-        mut gotos,
-    } = state;
-    let reductions = change_reductions(alloc, reductions, change, terminals)?;
     match change {
-        Change::AnotherNumber => index = OTHER_NUMBER,
-        Change::NoShifts => shifts = Map::new(alloc),
-        Change::NoGotos => gotos = Map::new(alloc),
-        Change::NoItems => {
-            items = Items {
-                vec: List::new(alloc),
-            }
+        Change::AnotherNumber => Ok(with_other_number(state)),
+        Change::NoShifts => Ok(without_shifts(alloc, state)),
+        Change::NoGotos => Ok(without_gotos(alloc, state)),
+        Change::NoItems => Ok(without_items(alloc, state)),
+        Change::NoReductions | Change::BeforeAllTokens | Change::BeforeTheEndToo => {
+            with_reductions(alloc, state, change, terminals)
         }
-        Change::NoReductions | Change::BeforeAllTokens | Change::BeforeTheEndToo => {}
     }
-    Ok(State {
-        index,
-        items,
-        shifts,
-        reductions,
-        gotos,
-    })
 }
 
 /// The states, with the change, where there is one, in the first that has what is to be changed.

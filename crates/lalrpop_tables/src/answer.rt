@@ -2,13 +2,15 @@
 
 ghost use Rattle.std.specs.Prelude.{IfOk};
 ghost use Rattle.lalrpop_lr1_first.specs.NumberedGrammars.{HasItsTerminals};
+ghost use Rattle.lalrpop_lr1_interpret.specs.Parses.{AreParsable};
 
 use crate::sentence::tell_sentence;
 use anyhow::Result;
 use clap::ArgMatches;
-use lalrpop_grammar_repr::Grammar;
+use lalrpop_grammar_repr::{Grammar, TerminalSet};
 use lalrpop_grammar_symbols::NonterminalString;
 use lalrpop_lr1_check::check_states;
+use lalrpop_lr1_core::Lr1State;
 use lalrpop_plain_tables::answers::{
     answer_tokens, canonical_states, counts_of, parsable_states, read_productions, start_of,
 };
@@ -23,8 +25,17 @@ pub(crate) fn answer<R: Alloc<A = Global> + Clock + Eprint + Files + Input + Pri
     matches: &ArgMatches<'_>,
 ) -> Result<()> {
     let start = start_of(rt.alloc(), matches.get_str("start").unwrap_or(""))?;
+    answer_from(rt, matches, &start)
+}
+
+/// The same from the start.
+fn answer_from<R: Alloc<A = Global> + Clock + Eprint + Files + Input + Print>(
+    rt: &R,
+    matches: &ArgMatches<'_>,
+    start: &NonterminalString,
+) -> Result<()> {
     let grammar = read_grammar(rt)?;
-    tell(rt, matches, &grammar, &start)
+    tell(rt, matches, &grammar, start)
 }
 
 /// The grammar whose productions stand on standard input.
@@ -83,13 +94,26 @@ fn tell_check<R: Alloc<A = Global> + Clock + Eprint + Print>(
     requires { HasItsTerminals grammar.now }
 {
     let canonical = canonical_states(rt.alloc(), grammar, start)?;
+    tell_checked(rt, grammar, start, canonical.states.as_slice(), timed)
+}
+
+/// Tells whether these canonical states may be parsed with.
+fn tell_checked<R: Alloc<A = Global> + Clock + Eprint + Print>(
+    rt: &R,
+    grammar: &Grammar,
+    start: &NonterminalString,
+    states: &[Lr1State<'_>],
+    timed: bool,
+) -> Result<()>
+    requires { HasItsTerminals grammar.now }
+{
     let began = Instant::now(rt)?;
-    let checked = check_states(rt.alloc(), grammar, start, canonical.states.as_slice())?;
+    let checked = check_states(rt.alloc(), grammar, start, states)?;
     tell_time(rt, began, timed)?;
     let word = if checked { "may" } else { "may not" };
     println!(rt;
         "{} canonical states, which {word} be parsed with",
-        canonical.states.len()
+        states.len()
     )?;
     Ok(())
 }
@@ -107,7 +131,19 @@ fn tell_tree<R: Alloc<A = Global> + Clock + Eprint + Print>(
     let began = Instant::now(rt)?;
     let states = parsable_states(rt.alloc(), grammar, start)?;
     tell_time(rt, began, timed)?;
-    let text = answer_tokens(rt.alloc(), states.as_slice(), &grammar.terminals, tokens)?;
+    tell_answer(rt, states.as_slice(), &grammar.terminals, tokens)
+}
+
+/// Tells the tree of the tokens by these states, or where they are stuck.
+fn tell_answer<R: Alloc<A = Global> + Print>(
+    rt: &R,
+    states: &[Lr1State<'_>],
+    terminals: &TerminalSet,
+    tokens: &str,
+) -> Result<()>
+    requires { AreParsable terminals.now states.now }
+{
+    let text = answer_tokens(rt.alloc(), states, terminals, tokens)?;
     println!(rt; "{text}")?;
     Ok(())
 }

@@ -1,6 +1,7 @@
 //! Whether tokens are a sentence, by a parse that makes no tree: what the moves alone take.
 
 ghost use Rattle.lalrpop_lr1_first.specs.NumberedGrammars.{HasItsTerminals};
+ghost use Rattle.lalrpop_lr1_interpret.specs.Ends.{MayRun};
 ghost use Rattle.lalrpop_lr1_interpret.specs.Parses.{AreParsable};
 
 use crate::answer::tell_time;
@@ -59,6 +60,18 @@ fn tell_parse<R: Alloc<A = Global> + Clock + Eprint + Print>(
     requires { AreParsable terminals.now states.now }
 {
     let table = ActionTable::new(rt.alloc(), states, terminals)?;
+    tell_parse_by(rt, &table, tokens, timed)
+}
+
+/// Tells how the parse of the tokens by the table ends.
+fn tell_parse_by<R: Alloc<A = Global> + Clock + Eprint + Print>(
+    rt: &R,
+    table: &ActionTable<'_>,
+    tokens: &[ScanToken<'_>],
+    timed: bool,
+) -> Result<()>
+    requires { MayRun table.now }
+{
     let began = Instant::now(rt)?;
     let parsed = table.parse_onto(rt.alloc(), tokens, u64::MAX, &mut NoTrees);
     tell_time(rt, began, timed)?;

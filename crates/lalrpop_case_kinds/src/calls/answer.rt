@@ -3,7 +3,7 @@
 use crate::calls::automata::{dfa_answer, longest_front, matched_words, pieces};
 use crate::calls::grammars::{symbol_text, terminal_text, tree_text, written_grammar};
 use crate::calls::pattern::{regex_fault, regex_tree};
-use crate::files::fields::{list_of, only_member, text_of};
+use crate::files::fields::only_member;
 use anyhow::{Result, bail};
 use serde_json::Value;
 use std::alloc::Global;
@@ -24,9 +24,16 @@ use std::alloc::Global;
 pub(crate) fn answer_of(alloc: Global, call: &Value) -> Result<Value> {
     let (word, of) = only_member(call)?;
     match word {
-        "parse_regex" => Ok(regex_tree(alloc, text_of(of)?)?),
-        "regex_fault" => Ok(regex_fault(alloc, text_of(of)?)?),
-        "remove_overlap" => pieces(alloc, list_of(of)?),
+        "parse_regex" => regex_tree(alloc, of),
+        "regex_fault" => regex_fault(alloc, of),
+        "remove_overlap" => pieces(alloc, of),
+        _ => grammar_answer(alloc, word, of),
+    }
+}
+
+/// The same of the calls that ask symbols, grammars, trees and automata.
+fn grammar_answer(alloc: Global, word: &str, of: &Value) -> Result<Value> {
+    match word {
         "symbol_text" => symbol_text(alloc, of),
         "terminal_text" => terminal_text(alloc, of),
         "write_grammar" => written_grammar(alloc, of),

@@ -48,7 +48,12 @@ impl Automata {
 pub(crate) fn matched_words(alloc: Global, of: &Value) -> Result<Value> {
     let fields = Fields::of(of, &["pattern", "words"])?;
     let words = fields.list("words")?;
-    let automata = Automata::new(alloc, fields.text("pattern")?)?;
+    words_matched(alloc, fields.text("pattern")?, words)
+}
+
+/// The words that the pattern matches.
+fn words_matched(alloc: Global, pattern: &str, words: &[Value]) -> Result<Value> {
+    let automata = Automata::new(alloc, pattern)?;
     words_of(alloc, &automata, words)
 }
 
@@ -66,8 +71,14 @@ fn words_of(alloc: Global, automata: &Automata, words: &[Value]) -> Result<Value
 /// The longest front of a text that a pattern matches.
 pub(crate) fn longest_front(alloc: Global, of: &Value) -> Result<Value> {
     let fields = Fields::of(of, &["pattern", "text"])?;
-    match front_of(alloc, fields.text("pattern")?, fields.text("text")?)? {
-        Some(front) => Ok(text(alloc, front)?),
+    let front = front_of(alloc, fields.text("pattern")?, fields.text("text")?)?;
+    Ok(front_value(alloc, front)?)
+}
+
+/// The text of the front, `null` where there is none.
+fn front_value(alloc: Global, front: Option<&str>) -> Result<Value, AllocError> {
+    match front {
+        Some(front) => text(alloc, front),
         None => Ok(Value::Null),
     }
 }
@@ -90,7 +101,12 @@ fn pattern_of(value: &Value) -> Result<(&str, usize)> {
 pub(crate) fn dfa_answer(alloc: Global, of: &Value) -> Result<Value> {
     let fields = Fields::of(of, &["patterns", "texts"])?;
     let texts = fields.list("texts")?;
-    match dfa_of(alloc, fields.list("patterns")?)? {
+    winners_or_refusal(alloc, fields.list("patterns")?, texts)
+}
+
+/// What the automaton of the patterns finds, or why there is none.
+fn winners_or_refusal(alloc: Global, patterns: &[Value], texts: &[Value]) -> Result<Value> {
+    match dfa_of(alloc, patterns)? {
         Ok(dfa) => winners(alloc, &dfa, texts),
         Err(error) => Ok(refusal(alloc, error)?),
     }
@@ -141,8 +157,8 @@ fn winner(alloc: Global, dfa: &Dfa, of: &str) -> Result<Value, AllocError> {
 }
 
 /// The pieces of the ranges.
-pub(crate) fn pieces(alloc: Global, ranges: &[Value]) -> Result<Value> {
-    let tests = tests_of(alloc, ranges)?;
+pub(crate) fn pieces(alloc: Global, ranges: &Value) -> Result<Value> {
+    let tests = tests_of(alloc, list_of(ranges)?)?;
     Ok(pieces_value(alloc, &tests)?)
 }
 

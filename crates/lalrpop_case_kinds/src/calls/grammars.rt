@@ -8,11 +8,16 @@ use lalrpop_json_grammar::writer::write_grammar;
 use lalrpop_json_grammar::{print_tree, read_grammar, read_tree};
 use lalrpop_json_symbols::{symbol_of, terminal_of};
 use serde_json::Value;
-use std::alloc::Global;
+use std::alloc::{AllocError, Global};
 
 /// The text of the symbol.
 pub(crate) fn symbol_text(alloc: Global, symbol: &Value) -> Result<Value> {
     let symbol = spelled_symbol(alloc, symbol)?;
+    written_symbol(alloc, &symbol)
+}
+
+/// The text of the symbol as a value.
+fn written_symbol(alloc: Global, symbol: &Symbol) -> Result<Value> {
     Ok(Value::from(symbol.canonical_form(alloc)?))
 }
 
@@ -28,8 +33,13 @@ fn spelled_symbol(alloc: Global, value: &Value) -> Result<Symbol> {
 /// The text of the terminal, and the number of bytes that it says to have.
 pub(crate) fn terminal_text(alloc: Global, terminal: &Value) -> Result<Value> {
     let terminal = spelled_terminal(alloc, terminal)?;
+    Ok(written_terminal(alloc, &terminal)?)
+}
+
+/// The text of the terminal and the number of its bytes, as a value.
+fn written_terminal(alloc: Global, terminal: &TerminalString) -> Result<Value, AllocError> {
     let written = Value::from(terminal.canonical_form(alloc)?);
-    Ok(pair(alloc, written, number(terminal.display_len()))?)
+    pair(alloc, written, number(terminal.display_len()))
 }
 
 /// The terminal that the value spells.

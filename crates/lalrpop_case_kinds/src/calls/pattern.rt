@@ -1,21 +1,31 @@
 //! Patterns as they are read, and their faults.
 
+use crate::files::fields::text_of;
 use crate::files::values::{number, object, object_of_two, pair, text, triple};
-use lalrpop_lexer_pattern::{Hir, Range, Repeats};
+use anyhow::Result;
+use lalrpop_lexer_pattern::{Hir, Look, Range, Repeats};
 use lalrpop_lexer_regex::{RegexError, parse_regex};
 use serde_json::Value;
 use std::alloc::{AllocError, Global};
 
-/// The tree of the pattern, or its fault.
-pub(crate) fn regex_tree(alloc: Global, pattern: &str) -> Result<Value, AllocError> {
+/// The tree of the pattern that the text is, or its fault.
+pub(crate) fn regex_tree(alloc: Global, of: &Value) -> Result<Value> {
+    Ok(tree_or_fault(alloc, text_of(of)?)?)
+}
+
+/// The fault of the pattern that the text is, `null` where it has none.
+pub(crate) fn regex_fault(alloc: Global, of: &Value) -> Result<Value> {
+    Ok(fault_or_null(alloc, text_of(of)?)?)
+}
+
+fn tree_or_fault(alloc: Global, pattern: &str) -> Result<Value, AllocError> {
     match parse_regex(alloc, pattern) {
         Ok(tree) => tree_value(alloc, &tree),
         Err(error) => fault_value(alloc, error),
     }
 }
 
-/// The fault of the pattern, `null` where it has none.
-pub(crate) fn regex_fault(alloc: Global, pattern: &str) -> Result<Value, AllocError> {
+fn fault_or_null(alloc: Global, pattern: &str) -> Result<Value, AllocError> {
     match parse_regex(alloc, pattern) {
         Ok(_) => Ok(Value::Null),
         Err(error) => fault_value(alloc, error),
@@ -39,28 +49,34 @@ fn fault_value(alloc: Global, error: RegexError) -> Result<Value, AllocError> {
 fn tree_value(alloc: Global, tree: &Hir) -> Result<Value, AllocError> {
     match tree {
         Hir::Empty => text(alloc, "empty"),
-        Hir::Literal(characters) => object(alloc, "literal", literal_value(alloc, characters)?),
-        Hir::Class(class) => object(alloc, "class", ranges_value(alloc, &class.ranges)?),
-        Hir::Look(look) => object(alloc, "look", Value::from(format!(in alloc; "{look:?}")?)),
+        Hir::Literal(characters) => literal_value(alloc, characters),
+        Hir::Class(class) => ranges_value(alloc, &class.ranges),
+        Hir::Look(look) => look_value(alloc, look),
         Hir::Capture { name, sub } => {
             capture_value(alloc, name.as_deref(), tree_value(alloc, sub)?)
         }
         Hir::Repetition { repeats, sub } => {
             repeat_value(alloc, repeats, tree_value(alloc, sub)?)
         }
-        Hir::Concat(subs) => object(alloc, "concat", tree_values(alloc, subs)?),
-        Hir::Alternation(subs) => object(alloc, "alternation", tree_values(alloc, subs)?),
+        Hir::Concat(subs) => tree_values(alloc, "concat", subs),
+        Hir::Alternation(subs) => tree_values(alloc, "alternation", subs),
     }
 }
 
-/// The trees as a list.
+/// The trees as a list under the key.
 #[cycle(trees)]
-fn tree_values(alloc: Global, trees: &[Hir]) -> Result<Value, AllocError> {
+fn tree_values(alloc: Global, key: &str, trees: &[Hir]) -> Result<Value, AllocError> {
     let mut values = Vec::new(alloc);
     for tree in trees {
         values.push(tree_value(alloc, tree)?)?;
     }
-    Ok(Value::Array(values))
+    object(alloc, key, Value::Array(values))
+}
+
+/// What stands at the place, by its word.
+fn look_value(alloc: Global, look: &Look) -> Result<Value, AllocError> {
+    let word = format!(in alloc; "{look:?}")?;
+    object(alloc, "look", Value::from(word))
 }
 
 /// What is captured, with its name if it has one.
@@ -91,7 +107,7 @@ fn literal_value(alloc: Global, characters: &[u32]) -> Result<Value, AllocError>
             text.push(character)?;
         }
     }
-    Ok(Value::from(text))
+    object(alloc, "literal", Value::from(text))
 }
 
 /// The ranges, each by its first and its last character.
@@ -100,5 +116,5 @@ fn ranges_value(alloc: Global, ranges: &[Range]) -> Result<Value, AllocError> {
     for range in ranges {
         values.push(pair(alloc, Value::from(range.start), Value::from(range.end))?)?;
     }
-    Ok(Value::Array(values))
+    object(alloc, "class", Value::Array(values))
 }

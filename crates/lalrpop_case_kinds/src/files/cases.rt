@@ -21,13 +21,18 @@ fn read_text<R: Alloc<A = Global> + Files>(rt: &R, file: &str) -> Result<String>
     Ok(text)
 }
 
+/// The value that the file's text spells.
+fn read_value<R: Alloc<A = Global> + Files>(rt: &R, file: &str) -> Result<Value> {
+    let text = read_text(rt, file)?;
+    Ok(Value::from_str(rt.alloc(), text.as_str()).context(format_args!("{file}"))?)
+}
+
 /// How many cases are right of those that the file lists; each of the others tells what differs.
 pub fn run_cases<C: TableCase, R: Alloc<A = Global> + Files + Print>(
     rt: &R,
     file: &str,
 ) -> Result<Tally> {
-    let text = read_text(rt, file)?;
-    let cases = Value::from_str(rt.alloc(), text.as_str()).context(format_args!("{file}"))?;
+    let cases = read_value(rt, file)?;
     let tally = run_values::<C, R>(rt, &cases).context(format_args!("{file}"))?;
     Ok(tally)
 }

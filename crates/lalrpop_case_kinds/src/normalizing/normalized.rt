@@ -14,7 +14,7 @@ use std::alloc::{AllocError, Global};
 pub(crate) fn fault(alloc: Global, case: &Case<'_>) -> Result<Value> {
     match normal(alloc, case)? {
         Ok(_) => Ok(Value::Null),
-        Err(fault) => fault_value(alloc, fault),
+        Err(fault) => fault_value(alloc, &fault),
     }
 }
 
@@ -22,7 +22,7 @@ pub(crate) fn fault(alloc: Global, case: &Case<'_>) -> Result<Value> {
 pub(crate) fn nonterminals(alloc: Global, case: &Case<'_>) -> Result<Value> {
     match normal(alloc, case)? {
         Ok(made) => names_value(alloc, &made),
-        Err(fault) => fault_value(alloc, fault),
+        Err(fault) => fault_value(alloc, &fault),
     }
 }
 
@@ -30,7 +30,7 @@ pub(crate) fn nonterminals(alloc: Global, case: &Case<'_>) -> Result<Value> {
 pub(crate) fn productions(alloc: Global, case: &Case<'_>) -> Result<Value> {
     match normal(alloc, case)? {
         Ok(made) => productions_value(alloc, &made),
-        Err(fault) => fault_value(alloc, fault),
+        Err(fault) => fault_value(alloc, &fault),
     }
 }
 

@@ -17,32 +17,26 @@ use std::alloc::{AllocError, Global};
 
 /// The first fault that a pass tells, up to the levels, with its span, `null` where none does.
 pub(crate) fn first_fault(alloc: Global, case: &Case<'_>) -> Result<Value> {
-    let grammar = grammar_of_case(alloc, case)?;
-    let session = session_of(alloc, case)?;
-    match check_and_resolve(alloc, &session, grammar) {
+    match resolved_case(alloc, case)? {
         Ok(_) => Ok(Value::Null),
-        Err(fault) => fault_value(alloc, fault),
+        Err(fault) => fault_value(alloc, &fault),
     }
 }
 
 /// The same up to the token check, of a grammar without levels and macros.
 pub(crate) fn token_fault(alloc: Global, case: &Case<'_>) -> Result<Value> {
-    let grammar = grammar_of_case(alloc, case)?;
-    let session = session_of(alloc, case)?;
-    match check_tokens(alloc, &session, grammar) {
+    match checked_tokens(alloc, case)? {
         Ok(()) => Ok(Value::Null),
-        Err(fault) => fault_value(alloc, fault),
+        Err(fault) => fault_value(alloc, &fault),
     }
 }
 
 /// The rules of the grammar in which each level has a rule of its own, each by its name and the texts of its symbols,
 /// alternative by alternative; or the fault.
 pub(crate) fn leveled_rules(alloc: Global, case: &Case<'_>) -> Result<Value> {
-    let grammar = grammar_of_case(alloc, case)?;
-    let session = session_of(alloc, case)?;
-    match expand_levels(alloc, &session, grammar) {
+    match leveled_case(alloc, case)? {
         Ok(grammar) => rules_value(alloc, &grammar),
-        Err(fault) => fault_value(alloc, fault),
+        Err(fault) => fault_value(alloc, &fault),
     }
 }
 
@@ -58,9 +52,9 @@ pub(crate) fn grammar_of_case(alloc: Global, case: &Case<'_>) -> Result<Grammar>
 }
 
 /// The text of the fault behind its span.
-pub(crate) fn fault_value(alloc: Global, fault: NormFault) -> Result<Value> {
+pub(crate) fn fault_value(alloc: Global, fault: &NormFault) -> Result<Value> {
     match fault {
-        NormFault::Norm(error) => Ok(error_value(alloc, &error)?),
+        NormFault::Norm(error) => Ok(error_value(alloc, error)?),
         NormFault::ConditionLimit => bail!("condition limit"),
         NormFault::Memory => Err(AllocError.into()),
     }
@@ -99,15 +93,31 @@ fn check_and_resolve(alloc: Global, session: &Session, grammar: Grammar) -> Norm
     }
 }
 
-/// The grammar in which each level has a rule of its own, where the passes up to that take it.
-fn expand_levels(alloc: Global, session: &Session, grammar: Grammar) -> NormResult<Grammar> {
-    let resolved = check_and_resolve(alloc, session, grammar)?;
-    expand_precedence(alloc, resolved)
+/// What the passes up to the levels make of the case's grammar.
+fn resolved_case(alloc: Global, case: &Case<'_>) -> Result<NormResult<Grammar>> {
+    let grammar = grammar_of_case(alloc, case)?;
+    let session = session_of(alloc, case)?;
+    Ok(check_and_resolve(alloc, &session, grammar))
 }
 
-/// Whether the passes up to the token check take the grammar.
-fn check_tokens(alloc: Global, session: &Session, grammar: Grammar) -> NormResult<()> {
-    let resolved = check_and_resolve(alloc, session, grammar)?;
+/// The case's grammar in which each level has a rule of its own, where the passes up to that take it.
+fn leveled_case(alloc: Global, case: &Case<'_>) -> Result<NormResult<Grammar>> {
+    match resolved_case(alloc, case)? {
+        Ok(resolved) => Ok(expand_precedence(alloc, resolved)),
+        Err(fault) => Ok(Err(fault)),
+    }
+}
+
+/// Whether the passes up to the token check take the case's grammar.
+fn checked_tokens(alloc: Global, case: &Case<'_>) -> Result<NormResult<()>> {
+    match resolved_case(alloc, case)? {
+        Ok(resolved) => Ok(check_tokens(alloc, resolved)),
+        Err(fault) => Ok(Err(fault)),
+    }
+}
+
+/// Whether the token check takes the grammar.
+fn check_tokens(alloc: Global, resolved: Grammar) -> NormResult<()> {
     let places = LiteralPlaces::new(alloc, &resolved)?;
     token_check::validate(alloc, resolved, &places)?;
     Ok(())

@@ -23,12 +23,23 @@ impl<'v> Case<'v> {
     /// The case that the value spells.
     pub(crate) fn of(value: &'v Value) -> Result<Case<'v>> {
         let fields = Fields::of(value, &["name", "shows", "start", "grammar", "wanted"])?;
+        let (name, shows) = titles_of(&fields)?;
         Ok(Case {
-            name: fields.text("name")?,
-            shows: fields.text("shows")?,
+            name,
+            shows,
             start: fields.text("start")?,
             grammar: fields.value("grammar")?,
-            wanted: count_of(fields.value("wanted")?)?,
+            wanted: wanted_of(&fields)?,
         })
     }
+}
+
+/// What the case shows, and its grammar in short.
+fn titles_of<'v>(fields: &Fields<'v>) -> Result<(&'v str, &'v str)> {
+    Ok((fields.text("name")?, fields.text("shows")?))
+}
+
+/// How many conflicts there are.
+fn wanted_of(fields: &Fields<'_>) -> Result<usize> {
+    count_of(fields.value("wanted")?)
 }

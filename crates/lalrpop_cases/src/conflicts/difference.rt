@@ -1,6 +1,6 @@
 //! What differs in a case.
 
-use std::alloc::AllocError;
+use std::alloc::{AllocError, AllocFailed};
 use std::fmt::{self, Display, Formatter, Write};
 
 /// What is wrong with the conflicts of a case, or why it has none.
@@ -24,6 +24,12 @@ pub(crate) enum Difference {
 
 impl From<AllocError> for Difference {
     fn from(_: AllocError) -> Difference {
+        Difference::Memory
+    }
+}
+
+impl<T: Drop> From<AllocFailed<T>> for Difference {
+    fn from(_: AllocFailed<T>) -> Difference {
         Difference::Memory
     }
 }

@@ -11,8 +11,11 @@ use std::alloc::Global;
 /// How deep macros may stand in macros.
 const MACRO_LIMIT: u16 = 200;
 
-/// The case's grammar, prepared for its start.
-pub(crate) fn prepared_grammar(alloc: Global, case: &Case<'_>) -> Result<Prepared, Difference> {
+/// The case's grammar, prepared for its start. It is boxed: a box is dropped by one call.
+pub(crate) fn prepared_grammar(
+    alloc: Global,
+    case: &Case<'_>,
+) -> Result<Box<Prepared>, Difference> {
     let start = Atom::new(alloc, case.start)?;
     match read_grammar(alloc, case.grammar) {
         Ok(grammar) => prepare_read(alloc, grammar, &start),
@@ -21,13 +24,17 @@ pub(crate) fn prepared_grammar(alloc: Global, case: &Case<'_>) -> Result<Prepare
 }
 
 /// The grammar that was read, prepared for the start.
-fn prepare_read(alloc: Global, grammar: Grammar, start: &Atom) -> Result<Prepared, Difference> {
+fn prepare_read(
+    alloc: Global,
+    grammar: Grammar,
+    start: &Atom,
+) -> Result<Box<Prepared>, Difference> {
     let session = Session {
         features: Vec::new(alloc),
         macro_recursion_limit: MACRO_LIMIT,
     };
     match prepare(alloc, grammar, start, session) {
-        Ok(prepared) => Ok(prepared),
+        Ok(prepared) => Ok(Box::new(alloc, prepared)?),
         Err(_) => Err(Difference::Refused),
     }
 }

@@ -2,8 +2,10 @@
 
 ghost use Rattle.std.specs.Prelude.{◌≡◌, IfOk, map, option_map};
 ghost use Rattle.lalrpop_grammar.specs.Grounding.{all_types, nominal_of, type_repr_of};
+ghost use Rattle.lalrpop_grammar.specs.declared.types.type_ref.TypeRef.TheVariants.{Ref as ref_type};
 ghost use Rattle.lalrpop_grammar.specs.declared.types.type_repr.TypeRepr.TheVariants as variants;
 
+use crate::types::lifetime::clone_lifetime;
 use crate::types::type_repr::{NominalTypeRepr, TypeRepr};
 use lalrpop_grammar_symbols::{Atom, Boxed, List, Symbol};
 use std::alloc::{AllocError, Global};
@@ -38,6 +40,24 @@ pub enum TypeRef {
 }
 
 impl TypeRef {
+    /// `&'a mut A`: the reference to that type.
+    pub fn reference_to(
+        alloc: Global,
+        lifetime: &Option<Atom>,
+        mutable: bool,
+        referent: TypeRef,
+    ) -> Result<TypeRef, AllocError>
+        ensures { IfOk result (λ made. made ≡ ref_type lifetime.now mutable referent) }
+    {
+        let referent = Boxed::new(alloc, referent)?;
+        let lifetime = clone_lifetime(lifetime)?;
+        Ok(TypeRef::Ref {
+            lifetime,
+            mutable,
+            referent,
+        })
+    }
+
     /// A copy that equals it.
     #[cycle(try_clone_types)]
     pub fn try_clone(&self, alloc: Global) -> Result<TypeRef, AllocError>
@@ -131,15 +151,6 @@ fn ref_repr(
                 referent,
             }))
         }
-    }
-}
-
-fn clone_lifetime(lifetime: &Option<Atom>) -> Result<Option<Atom>, AllocError>
-    ensures { IfOk result (λ copy. copy ≡ lifetime.now) }
-{
-    match lifetime {
-        None => Ok(None),
-        Some(name) => Ok(Some(name.try_clone()?)),
     }
 }
 

@@ -2,6 +2,7 @@
 
 ghost use Rattle.std.specs.Prelude.{◌≡◌, ◌↔◌, IfOk, IsTrue, codes};
 
+use crate::types::lifetime::clone_lifetime;
 use lalrpop_grammar_symbols::{Atom, Boxed, List};
 use std::alloc::{AllocError, Global};
 
@@ -112,15 +113,6 @@ fn nominal_type(alloc: Global, name: &str) -> Result<TypeRepr, AllocError>
         path: Atom::new(alloc, name)?,
         types: List::new(alloc),
     }))
-}
-
-fn clone_lifetime(lifetime: &Option<Atom>) -> Result<Option<Atom>, AllocError>
-    ensures { IfOk result (λ copy. copy ≡ lifetime.now) }
-{
-    match lifetime {
-        None => Ok(None),
-        Some(name) => Ok(Some(name.try_clone()?)),
-    }
 }
 
 /// Copies of the types, in order.

@@ -1,6 +1,6 @@
 //! Actions: their numbers, and copies of what they do.
 
-use crate::check::check;
+use crate::check::{check, equals};
 use crate::lowered::parts::{nonterminal_symbol, terminal_symbol};
 use lalrpop_grammar_repr::{
     ActionFn, ActionFnDefn, ActionFnDefnKind, InlineActionFnDefn, InlinedSymbol,
@@ -18,8 +18,7 @@ fn numbers_of_actions(rt: HostRuntime) {
 
 /// Whether a copy of the action equals it.
 fn equals_its_copy(rt: &impl Abort, alloc: Global, action: &ActionFnDefn) -> bool {
-    let copy = action.try_clone(alloc).expect(rt, "memory");
-    copy == *action
+    equals(action, action.try_clone(alloc).expect(rt, "memory"))
 }
 
 /// Whether a copy of an action of the kind equals it.

@@ -30,21 +30,43 @@ fn texts_of(rt: &impl Abort, alloc: Global, map: &Map<TerminalString, usize>) ->
     text
 }
 
+/// Whether these are the texts of the entries.
+fn has_texts(
+    rt: &impl Abort,
+    alloc: Global,
+    map: &Map<TerminalString, usize>,
+    texts: &str,
+) -> bool {
+    let found = texts_of(rt, alloc, map);
+    found.as_str() == texts
+}
+
 #[test]
 fn entries_in_order_each_once(rt: HostRuntime) {
     let map = places(&rt, rt.alloc());
     check(&rt, map.len() == 3 && !map.is_empty());
     let copy = map.try_clone(rt.alloc()).expect(&rt, "memory");
-    let text = texts_of(&rt, rt.alloc(), &copy);
-    check(&rt, text.as_str() == "|\"a\" 0|\"b\" 1|\"c\" 2");
+    let texts = "|\"a\" 0|\"b\" 1|\"c\" 2";
+    check(&rt, has_texts(&rt, rt.alloc(), &copy, texts));
+}
+
+/// The place of the quoted terminal, where it is a key.
+fn place_of(
+    rt: &impl Abort,
+    alloc: Global,
+    map: &Map<TerminalString, usize>,
+    text: &str,
+) -> Option<usize> {
+    let terminal = terminal_of(rt, alloc, text);
+    map.get(&terminal).copied()
 }
 
 #[test]
 fn values_at_keys(rt: HostRuntime) {
     let alloc = rt.alloc();
     let map = places(&rt, alloc);
-    check(&rt, map.get(&terminal_of(&rt, alloc, "b")) == Some(&1));
-    check(&rt, map.get(&terminal_of(&rt, alloc, "d")).is_none());
+    check(&rt, place_of(&rt, alloc, &map, "b") == Some(1));
+    check(&rt, place_of(&rt, alloc, &map, "d").is_none());
 }
 
 /// That a copy, made as maps make them, equals the value.

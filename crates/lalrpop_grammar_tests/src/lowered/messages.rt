@@ -16,10 +16,10 @@ fn is_shown_as<T: Display>(rt: &impl Abort, alloc: Global, fault: &T, text: &str
 
 /// That the fault of this kind prints this, and where it stands isn't printed.
 fn prints(rt: &impl Abort, alloc: Global, kind: NormErrorKind, text: &str) {
-    let is_shown = is_shown_as(rt, alloc, &kind, text);
+    check(rt, is_shown_as(rt, alloc, &kind, text));
     let span = Span(40, 44);
     let fault = NormFault::Norm(NormError { kind, span });
-    check(rt, is_shown && is_shown_as(rt, alloc, &fault, text));
+    check(rt, is_shown_as(rt, alloc, &fault, text));
 }
 
 #[test]
@@ -59,14 +59,14 @@ fn not_stored() -> NormResult<()> {
     Err(AllocFailed { value: 7u64 })?
 }
 
-/// Whether it is that memory was wanting.
-fn is_memory(answer: &NormResult<()>) -> bool {
-    matches!(answer, Err(NormFault::Memory))
+/// Whether it is that memory was wanting. The answer is dropped here.
+fn is_memory(answer: NormResult<()>) -> bool {
+    matches!(&answer, Err(NormFault::Memory))
 }
 
-/// Whether it is a fault of the grammar.
-fn is_norm(answer: &NormResult<()>) -> bool {
-    matches!(answer, Err(NormFault::Norm(_)))
+/// Whether it is a fault of the grammar. The answer is dropped here.
+fn is_norm(answer: NormResult<()>) -> bool {
+    matches!(&answer, Err(NormFault::Norm(_)))
 }
 
 #[test]
@@ -75,11 +75,11 @@ fn a_fault_of_the_grammar_by_a_question_mark(rt: HostRuntime) {
         kind: NormErrorKind::TooManyActions,
         span: Span(0, 1),
     };
-    check(&rt, is_norm(&fault_of(error)));
+    check(&rt, is_norm(fault_of(error)));
 }
 
 #[test]
 fn refused_memory_by_a_question_mark(rt: HostRuntime) {
-    check(&rt, is_memory(&without_memory()));
-    check(&rt, is_memory(&not_stored()));
+    check(&rt, is_memory(without_memory()));
+    check(&rt, is_memory(not_stored()));
 }

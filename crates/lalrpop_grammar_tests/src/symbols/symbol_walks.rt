@@ -4,7 +4,7 @@ ghost use Rattle.std.specs.Prelude.{◌≡◌};
 ghost use Rattle.lalrpop_grammar_symbols.specs.Symbols.{Sym};
 ghost use Rattle.lalrpop_grammar_symbols.specs.Views.{span_view, symbol_view};
 
-use crate::check::check;
+use crate::check::{boxed, check};
 use crate::symbols::symbols::{is_copied, symbol_of_name};
 use lalrpop_grammar_symbols::{
     Atom, ExprSymbol, List, MacroSymbol, NonterminalString, Span, Subsymbols, Symbol, SymbolKind,
@@ -55,9 +55,9 @@ fn symbol_at(rt: &impl Abort, alloc: Global, value: &Value) -> Symbol {
     symbol_of(alloc, &lent).expect(rt, "a symbol")
 }
 
-fn symbol(rt: &impl Abort, alloc: Global, json: &str) -> Symbol {
+fn symbol(rt: &impl Abort, alloc: Global, json: &str) -> Box<Symbol> {
     let value = Value::from_str(alloc, json).expect(rt, "JSON");
-    symbol_at(rt, alloc, &value)
+    boxed(rt, alloc, symbol_at(rt, alloc, &value))
 }
 
 fn symbols_of_names(rt: &impl Abort, alloc: Global, names: &[&str]) -> List<Symbol> {
@@ -97,17 +97,22 @@ fn a_copy_of_four_symbols_equals_them(rt: HostRuntime) {
     check(&rt, copy == group);
 }
 
+/// That it is, told by its text where it isn't.
+fn check_kind(rt: &impl Abort, alloc: Global, json: &str, text: &str) {
+    assert!(rt; is_spelled_with_text(rt, alloc, json, text), "{text}");
+}
+
 #[test]
 fn copies_and_texts_of_each_kind(rt: HostRuntime) {
     for (json, text) in KINDS {
-        assert!(rt; is_spelled_with_text(&rt, rt.alloc(), json, text), "{text}");
+        check_kind(&rt, rt.alloc(), json, text);
     }
 }
 
 #[test]
 fn a_copy_of_a_nonterminal_equals_it(rt: HostRuntime) {
     let name = Atom::new(rt.alloc(), "B").expect(&rt, "memory");
-    let nonterminal = nonterminal_at(Span(3, 7), name);
+    let nonterminal = boxed(&rt, rt.alloc(), nonterminal_at(Span(3, 7), name));
     check(&rt, is_copied_with_text(&rt, rt.alloc(), &nonterminal, "B"));
 }
 
@@ -208,9 +213,10 @@ fn has_no_ambiguous_id(rt: &impl Abort, alloc: Global, symbol: &Symbol) -> bool 
 }
 
 /// The nested symbol with its names resolved.
-fn resolve_nested(rt: &impl Abort, alloc: Global, map: &mut Resolving) -> Symbol {
+fn resolve_nested(rt: &impl Abort, alloc: Global, map: &mut Resolving) -> Box<Symbol> {
     let nested = symbol(rt, alloc, NESTED);
-    nested.map(alloc, map).expect(rt, "memory")
+    let resolved = nested.map(alloc, map).expect(rt, "memory");
+    boxed(rt, alloc, resolved)
 }
 
 /// Whether the symbol is the nested one with its names resolved.

@@ -1,6 +1,6 @@
 //! Symbols and terminals: texts of what the format can't spell, and small questions.
 
-use crate::check::check;
+use crate::check::{boxed, check, equals};
 use lalrpop_grammar_symbols::{
     Atom, Boxed, ExprSymbol, List, MacroSymbol, Name, NonterminalString, RepeatOp, RepeatSymbol,
     Span, Symbol, SymbolKind, TerminalLiteral, TerminalString,
@@ -13,14 +13,14 @@ pub(crate) fn symbol_of_name(rt: &impl Abort, alloc: Global, name: &str) -> Symb
     Symbol::new(Span(0, 0), kind)
 }
 
-/// Whether the symbol equals that of this name.
-fn equals_name(rt: &impl Abort, alloc: Global, symbol: &Symbol, name: &str) -> bool {
-    *symbol == symbol_of_name(rt, alloc, name)
+/// The same in a box.
+fn boxed_symbol(rt: &impl Abort, alloc: Global, name: &str) -> Box<Symbol> {
+    boxed(rt, alloc, symbol_of_name(rt, alloc, name))
 }
 
 /// Whether a copy of the symbol equals it.
 pub(crate) fn is_copied(rt: &impl Abort, alloc: Global, symbol: &Symbol) -> bool {
-    symbol.try_clone(alloc).expect(rt, "memory") == *symbol
+    equals(symbol, symbol.try_clone(alloc).expect(rt, "memory"))
 }
 
 /// Whether this is written for the terminal behind what was written before.
@@ -92,7 +92,7 @@ fn the_text_of_a_call(rt: HostRuntime) {
 fn the_text_of_a_repeat(rt: HostRuntime) {
     let symbol = symbol_of_name(&rt, rt.alloc(), "a");
     let op = RepeatOp::Plus;
-    let repeat = RepeatSymbol { op, symbol };
+    let repeat = boxed(&rt, rt.alloc(), RepeatSymbol { op, symbol });
     let text = repeat.canonical_form(rt.alloc()).expect(&rt, "memory");
     check(&rt, text.as_str() == "a+");
 }
@@ -106,14 +106,14 @@ fn text_behind(rt: &impl Abort, alloc: Global, front: &str, symbol: &Symbol) -> 
 
 #[test]
 fn the_text_of_a_name_behind_another(rt: HostRuntime) {
-    let symbol = symbol_of_name(&rt, rt.alloc(), "a");
+    let symbol = boxed_symbol(&rt, rt.alloc(), "a");
     let text = text_behind(&rt, rt.alloc(), "= ", &symbol);
     check(&rt, text.as_str() == "= a");
 }
 
 #[test]
 fn a_copy_of_a_symbol_equals_it(rt: HostRuntime) {
-    let symbol = symbol_of_name(&rt, rt.alloc(), "a");
+    let symbol = boxed_symbol(&rt, rt.alloc(), "a");
     check(&rt, is_copied(&rt, rt.alloc(), &symbol));
 }
 
@@ -129,12 +129,14 @@ fn a_terminal_may_hold_a_literal(rt: HostRuntime) {
 fn quoted_is_terminal(rt: &impl Abort, alloc: Global) -> bool {
     let text = Atom::new(alloc, "a").expect(rt, "memory");
     let kind = SymbolKind::Terminal(TerminalString::quoted(text));
-    Symbol::new(Span(0, 0), kind).is_terminal()
+    let symbol = boxed(rt, alloc, Symbol::new(Span(0, 0), kind));
+    symbol.is_terminal()
 }
 
 /// Whether the symbol of a name is a terminal.
 fn name_is_terminal(rt: &impl Abort, alloc: Global) -> bool {
-    symbol_of_name(rt, alloc, "a").is_terminal()
+    let symbol = boxed_symbol(rt, alloc, "a");
+    symbol.is_terminal()
 }
 
 #[test]
@@ -152,8 +154,9 @@ fn a_name_is_immutable_unless_it_says_mut(rt: HostRuntime) {
 
 #[test]
 fn a_box_gives_back_what_it_holds(rt: HostRuntime) {
-    let boxed = Boxed::new(rt.alloc(), symbol_of_name(&rt, rt.alloc(), "a")).expect(&rt, "memory");
-    check(&rt, equals_name(&rt, rt.alloc(), &boxed.into_inner(), "a"));
+    let same = boxed_symbol(&rt, rt.alloc(), "a");
+    let held = Boxed::new(rt.alloc(), symbol_of_name(&rt, rt.alloc(), "a")).expect(&rt, "memory");
+    check(&rt, equals(&*same, held.into_inner()));
 }
 
 #[test]

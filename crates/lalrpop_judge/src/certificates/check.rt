@@ -12,7 +12,7 @@ ghost use Rattle.lalrpop_judge.specs.Steps.{AreStepsOf, step_view};
 
 use crate::certificates::certificate::Certificate;
 use crate::certificates::moves::Move;
-use crate::certificates::step::{Step, are_behind, are_counted, is_same_name};
+use crate::certificates::step::{WalkStep, are_behind, are_counted, is_same_name};
 use crate::certificates::walk::{is_rooted, root_of, roots_of, steps_of};
 use lalrpop_grammar_repr::Grammar;
 use lalrpop_grammar_symbols::{NonterminalString, TerminalString};
@@ -24,7 +24,7 @@ fn makes_move(
     alloc: Global,
     grammar: &Grammar,
     start: &NonterminalString,
-    shared: &[Step<'_, '_>],
+    shared: &[WalkStep<'_, '_>],
     next: &Option<TerminalString>,
     name: &Move,
     tree: &ExpandedTree<'_>,
@@ -51,7 +51,7 @@ fn check_trees(
     grammar: &Grammar,
     start: &NonterminalString,
     certificate: &Certificate<'_>,
-    shared: &[Step<'_, '_>],
+    shared: &[WalkStep<'_, '_>],
 ) -> Result<bool, AllocError>
     ensures { IfOk result (λ yes.
         AreStepsOf (IsProductionOf grammar.now) (expanded_views certificate.now.shared.items) shared.now →

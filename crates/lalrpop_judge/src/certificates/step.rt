@@ -14,7 +14,7 @@ use lalrpop_grammar_symbols::{Span, TerminalString};
 
 /// The move that a tree ends with.
 #[derive(Clone, Copy)]
-pub(crate) enum Step<'t, 'g> {
+pub(crate) enum WalkStep<'t, 'g> {
     /// The shift of a leaf, with the place of its token.
     Shift(&'t TerminalString, Span),
     /// The reduction by the production of a node.
@@ -22,12 +22,12 @@ pub(crate) enum Step<'t, 'g> {
 }
 
 /// Whether the i-th leaf has the span i..i+1.
-pub(crate) fn are_counted(steps: &[Step<'_, '_>]) -> bool
+pub(crate) fn are_counted(steps: &[WalkStep<'_, '_>]) -> bool
     ensures { IsTrue result ↔ AreCountedFrom 0 (flat_map step_spans steps.now) }
 {
     let mut number = 0usize;
     for step in steps {
-        if let Step::Shift(_, span) = step {
+        if let WalkStep::Shift(_, span) = step {
             if *span != Span(number, number + 1) {
                 return false;
             }
@@ -38,23 +38,23 @@ pub(crate) fn are_counted(steps: &[Step<'_, '_>]) -> bool
 }
 
 /// Whether two moves are one.
-fn is_same_move(a: &Step<'_, '_>, b: &Step<'_, '_>) -> bool
+fn is_same_move(a: &WalkStep<'_, '_>, b: &WalkStep<'_, '_>) -> bool
     ensures { IsTrue result ↔ (step_view a.now ≡ step_view b.now) }
 {
     match a {
-        Step::Shift(terminal, _) => match b {
-            Step::Shift(other, _) => **terminal == **other,
-            Step::Reduce(_) => false,
+        WalkStep::Shift(terminal, _) => match b {
+            WalkStep::Shift(other, _) => **terminal == **other,
+            WalkStep::Reduce(_) => false,
         },
-        Step::Reduce(production) => match b {
-            Step::Shift(..) => false,
-            Step::Reduce(other) => **production == **other,
+        WalkStep::Reduce(production) => match b {
+            WalkStep::Shift(..) => false,
+            WalkStep::Reduce(other) => **production == **other,
         },
     }
 }
 
 /// Whether the moves begin with these.
-fn begin_with(steps: &[Step<'_, '_>], front: &[Step<'_, '_>]) -> bool
+fn begin_with(steps: &[WalkStep<'_, '_>], front: &[WalkStep<'_, '_>]) -> bool
     ensures { IsTrue result ↔ (take (length front.now) (map step_view steps.now) ≡ map step_view front.now) }
 {
     if steps.len() < front.len() {
@@ -69,15 +69,15 @@ fn begin_with(steps: &[Step<'_, '_>], front: &[Step<'_, '_>]) -> bool
 }
 
 /// Whether the move is the one that is named.
-fn is_named(step: &Step<'_, '_>, name: &Move) -> bool
+fn is_named(step: &WalkStep<'_, '_>, name: &Move) -> bool
     ensures { IsTrue result ↔ (number_move (step_view step.now) ≡ move_view name.now) }
 {
     match step {
-        Step::Shift(terminal, _) => match name {
+        WalkStep::Shift(terminal, _) => match name {
             Move::Shift(other) => **terminal == *other,
             Move::Reduce(_) => false,
         },
-        Step::Reduce(production) => match name {
+        WalkStep::Reduce(production) => match name {
             Move::Shift(_) => false,
             Move::Reduce(action) => production.action == *action,
         },
@@ -85,11 +85,11 @@ fn is_named(step: &Step<'_, '_>, name: &Move) -> bool
 }
 
 /// The first terminal that is shifted.
-fn first_shifted<'t>(steps: &[Step<'t, '_>]) -> Option<&'t TerminalString>
+fn first_shifted<'t>(steps: &[WalkStep<'t, '_>]) -> Option<&'t TerminalString>
     ensures { option_map (λ t. terminal_view t.now) result ≡ first (shifted_terminals (map step_view steps.now)) }
 {
     for step in steps {
-        if let Step::Shift(terminal, _) = step {
+        if let WalkStep::Shift(terminal, _) = step {
             return Some(terminal);
         }
     }
@@ -126,7 +126,7 @@ pub(crate) fn is_same_name(a: &Move, b: &Move) -> bool
 }
 
 /// Whether the moves begin with the one that is named, and what is shifted next comes next.
-fn continue_by(left: &[Step<'_, '_>], next: &Option<TerminalString>, name: &Move) -> bool
+fn continue_by(left: &[WalkStep<'_, '_>], next: &Option<TerminalString>, name: &Move) -> bool
     ensures { IsTrue result ↔ ContinuesBy (map step_view left.now) (option_map terminal_view next.now) (move_view name.now) }
 {
     match left.first() {
@@ -142,8 +142,8 @@ fn continue_by(left: &[Step<'_, '_>], next: &Option<TerminalString>, name: &Move
 
 /// Whether the moves are first the shared ones and then the one that is named, and what is shifted next comes next.
 pub(crate) fn are_behind(
-    steps: &[Step<'_, '_>],
-    shared: &[Step<'_, '_>],
+    steps: &[WalkStep<'_, '_>],
+    shared: &[WalkStep<'_, '_>],
     next: &Option<TerminalString>,
     name: &Move,
 ) -> bool

@@ -12,21 +12,21 @@ ghost use Rattle.lalrpop_judge.specs.LentTrees.{tree_views};
 ghost use Rattle.lalrpop_judge.specs.Steps.{IsRootOver, IsStepOf, IsWalkOf};
 
 use crate::certificates::membership::has_production;
-use crate::certificates::step::Step;
+use crate::certificates::step::WalkStep;
 use lalrpop_grammar_repr::{Grammar, Symbol};
 use lalrpop_grammar_symbols::NonterminalString;
 use lalrpop_lr1_interpret::parse::{ExpandedTree, TreeRef};
 use std::alloc::{AllocError, Global};
 
 /// The last move of the tree.
-pub(crate) fn step_of<'t, 'g>(tree: TreeRef<'t, 'g>) -> Step<'t, 'g>
+pub(crate) fn step_of<'t, 'g>(tree: TreeRef<'t, 'g>) -> WalkStep<'t, 'g>
     ensures { IsStepOf (expanded_view tree.entry.tree.now) result }
 {
     match tree.production() {
-        Some(production) => Step::Reduce(production),
+        Some(production) => WalkStep::Reduce(production),
         None => match tree.terminal() {
             Some(terminal) => match tree.span() {
-                Some(span) => Step::Shift(terminal, span),
+                Some(span) => WalkStep::Shift(terminal, span),
                 None => unreachable!(),
             },
             None => unreachable!(),
@@ -119,7 +119,7 @@ pub(crate) fn steps_of<'t, 'g>(
     alloc: Global,
     grammar: &Grammar,
     trees: Vec<TreeRef<'t, 'g>>,
-) -> Result<Option<Vec<Step<'t, 'g>>>, AllocError>
+) -> Result<Option<Vec<WalkStep<'t, 'g>>>, AllocError>
     ensures { IfOk result (λ found. IsWalkOf (IsProductionOf grammar.now) (tree_views trees.entry.items)
         (option_map (λ all. all.items) found)) }
 {

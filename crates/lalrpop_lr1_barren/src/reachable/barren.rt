@@ -1,16 +1,13 @@
-//! Whether a start reaches a barren nonterminal.
+//! The names that have finite trees, and those that a start reaches.
 
-ghost use Rattle.std.specs.Prelude.{◌≡◌, ◌<◌, ◌↔◌, ℕ, IfOk, IsTrue, false, length, set, true};
-ghost use Rattle.lalrpop_lr1_theory.specs.ValidItems.{NoneBarren};
+ghost use Rattle.std.specs.Prelude.{◌≡◌, ◌<◌, ℕ, IfOk, false, length, set, true};
 ghost use Rattle.lalrpop_lr1_first.specs.FirstNumbers.{name_count};
-ghost use Rattle.lalrpop_lr1_first.specs.NumberedGrammars.{IsNumberTable, IsSeenIn, table_productions};
-ghost use Rattle.lalrpop_lr1_barren.specs.Clauses.{IsMarked, has_mark};
+ghost use Rattle.lalrpop_lr1_first.specs.NumberedGrammars.{IsNumberTable};
+ghost use Rattle.lalrpop_lr1_barren.specs.Clauses.{has_mark};
 ghost use Rattle.lalrpop_lr1_barren.specs.NameMarks.{AreProductive, AreReached};
 
-use crate::reachable::clauses::{close, is_marked};
-use crate::reachable::lookup::place_of;
+use crate::reachable::clauses::close;
 use crate::reachable::rule_names::{reach_clauses, tree_clauses};
-use lalrpop_grammar_symbols::NonterminalString;
 use lalrpop_lr1_first::Numbered;
 use std::alloc::{AllocError, Global};
 
@@ -69,47 +66,4 @@ pub fn reached_names(
     set_mark(&mut marks, start);
     let closed = close(alloc, clauses.as_slice(), marks)?;
     Ok(closed)
-}
-
-/// Whether the number is marked in the second, if it is in the first.
-fn is_kept(first: &[bool], second: &[bool], number: usize) -> bool
-    ensures { IsTrue result ↔ (IsMarked first.now number → IsMarked second.now number) }
-{
-    if is_marked(first, number) {
-        is_marked(second, number)
-    } else {
-        true
-    }
-}
-
-/// Whether the second marks are set wherever the first are.
-fn are_all_marked(first: &[bool], second: &[bool]) -> bool
-    ensures { IsTrue result ↔ ((n : ℕ) → IsMarked first.now n → IsMarked second.now n) }
-{
-    for number in 0..first.len() {
-        if !is_kept(first, second, number) {
-            return false;
-        }
-    }
-    true
-}
-
-/// Whether nothing that the start reaches is barren: each nonterminal that it reaches, itself among them, has a finite tree.
-pub fn none_is_barren(
-    alloc: Global,
-    table: &Numbered<'_>,
-    start: &NonterminalString,
-) -> Result<bool, AllocError>
-    requires { IsNumberTable table.now }
-    ensures { IfOk result (λ none. IsTrue none ↔ NoneBarren (IsSeenIn (table_productions table.now)) start.now.0) }
-{
-    match place_of(table.names(), start) {
-        None => Ok(false),
-        Some(place) => {
-            let productive = productive_names(alloc, table)?;
-            let reached = reached_names(alloc, table, place)?;
-            let none = are_all_marked(reached.as_slice(), productive.as_slice());
-            Ok(none)
-        }
-    }
 }

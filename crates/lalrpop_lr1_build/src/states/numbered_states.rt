@@ -1,9 +1,9 @@
 //! States by numbers.
 
-ghost use Rattle.std.specs.Prelude.{◌≡◌, IfOk, length};
+ghost use Rattle.std.specs.Prelude.{◌≡◌, ◌++◌, ◌∷◌, [], IfOk, OnOk, Some, length, slice_get};
 ghost use Rattle.lalrpop_lr1_first.specs.ClosureTables.{IsClosureTable};
 ghost use Rattle.lalrpop_lr1_build.specs.Kernels.{AreKernelItems};
-ghost use Rattle.lalrpop_lr1_build.specs.Turns.{AreNumberedStates, IsTurn};
+ghost use Rattle.lalrpop_lr1_build.specs.Turns.{AreNumberedStates, AreStatesOf, IsTurn};
 
 use crate::states::edges::add_edges;
 use crate::states::grouping::{group_items, moves_nothing};
@@ -50,6 +50,45 @@ fn state_of<L: KernelLookahead>(
     Ok(NumberedState { items, edges })
 }
 
+/// Adds the state of the kernel behind the others. New kernels are added.
+fn push_state<L: KernelLookahead>(
+    alloc: Global,
+    closures: &Closures<'_>,
+    kernel: &StateKernel<L>,
+    kernels: &mut KernelSet<StateKernel<L>>,
+    states: &mut Vec<NumberedState<L>>,
+) -> Result<(), AllocError>
+    requires closures { IsClosureTable closures.now }
+    requires kernel { AreKernelItems L.marks L.in_order closures.now.numbered kernel.now.items }
+    ensures given { OnOk result (kernels.new.given ≡ kernels.old.given) }
+    ensures turn { OnOk result ((state : _) × (states.new.items ≡ states.old.items ++ state ∷ [])
+        × IsTurn L.marks L.firsts L.in_order closures.now.numbered kernel.now kernels.old.kernels kernels.new.kernels state) }
+{
+    let state = state_of(alloc, closures, kernel, kernels)?;
+    states.push(state)?;
+    Ok(())
+}
+
+/// Adds the states of all kernels that were not given yet, and of those that they lead to.
+fn push_states<L: KernelLookahead>(
+    alloc: Global,
+    closures: &Closures<'_>,
+    kernels: &mut KernelSet<StateKernel<L>>,
+    states: &mut Vec<NumberedState<L>>,
+) -> Result<(), AllocError>
+    requires closures { IsClosureTable closures.now }
+    requires begun { (start : _) × AreStatesOf L.marks L.firsts L.in_order closures.now.numbered start kernels.old.kernels
+        states.old.items }
+    requires given { kernels.old.given ≡ length states.old.items }
+    ensures { OnOk result ((start : _) → slice_get kernels.old.kernels 0 ≡ Some start →
+        AreNumberedStates L.marks L.firsts L.in_order closures.now.numbered start states.new.items) }
+{
+    while let Some(kernel) = kernels.next() {
+        push_state(alloc, closures, &kernel, kernels, states)?;
+    }
+    Ok(())
+}
+
 /// The states that are reached from a kernel, numbered as first seen: each has its kernel's closure, and edges to the states of
 /// its shifted items.
 pub fn states_by_numbers<L: KernelLookahead>(
@@ -64,8 +103,6 @@ pub fn states_by_numbers<L: KernelLookahead>(
     let mut kernels = KernelSet::new(alloc);
     kernels.add_state(start)?;
     let mut states = Vec::new(alloc);
-    while let Some(kernel) = kernels.next() {
-        states.push(state_of(alloc, closures, &kernel, &mut kernels)?)?;
-    }
+    push_states(alloc, closures, &mut kernels, &mut states)?;
     Ok(states)
 }

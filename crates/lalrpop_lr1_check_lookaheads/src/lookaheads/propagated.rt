@@ -1,15 +1,16 @@
 //! Whether states reduce before all that is propagated to the names of their productions.
 
-ghost use Rattle.std.specs.Prelude.{◌≡◌, ◌≤◌, ◌↔◌, ℕ, List, Contains, IfOk, IsTrue, Some, map};
+ghost use Rattle.std.specs.Prelude.{◌≡◌, ◌≤◌, ◌↔◌, [], ℕ, List, Contains, IfOk, IsTrue, OnOk, Some, length, map};
 ghost use Rattle.lalrpop_sets.specs.Tokens.{eof_number};
-ghost use Rattle.lalrpop_lr1_theory.specs.States.{HasEdge, HasItem, Reduces};
+ghost use Rattle.lalrpop_lr1_theory.specs.States.{HasEdge, HasItem, LookaheadSet, Reduces};
 ghost use Rattle.lalrpop_lr1_core.specs.Views.{lr_state_view, token_lookahead};
 ghost use Rattle.lalrpop_lr1_theory.specs.PropagatedNexts.{ReducesBeforeLookaheads};
 ghost use Rattle.lalrpop_lr1_first.specs.FirstSetsOf.{AreFirstSetsOf, IsProductionOf};
 ghost use Rattle.lalrpop_lr1_first.specs.NumberedGrammars.{HasItsTerminals, IsNumberTableOf, table_productions};
 ghost use Rattle.lalrpop_lr1_barren.specs.NamedLists.{AreListedByName};
 ghost use Rattle.lalrpop_lr1_check_lookaheads.specs.LookaheadFlows.{AreFlown, AreSeeds, HaveKnownItems, IsSlotEdge};
-ghost use Rattle.lalrpop_lr1_check_lookaheads.specs.LookaheadSlots.{AreSlots, HasSlotMark};
+ghost use Rattle.lalrpop_lr1_check_lookaheads.specs.LookaheadSlots.{AreSlots, HasSlotMark, slot_keys, slot_sets};
+ghost use Rattle.lalrpop_lr1_check_lookaheads.specs.PropagationEdges.{ArePropagationEdges};
 
 use crate::lookaheads::propagation::propagation_edges;
 use crate::lookaheads::reducing::all_reduce;
@@ -22,6 +23,32 @@ use lalrpop_lr1_core::Lr1State;
 use lalrpop_lr1_first::{Edge, FirstSets, Numbered, flow};
 use lalrpop_sets::TokenSet;
 use std::alloc::{AllocError, Global};
+
+/// Puts in the slots of the names that stand behind dots, each with what can come first behind them, and the start's with the end.
+fn seed_slots<'g>(
+    alloc: Global,
+    grammar: &Grammar,
+    firsts: &FirstSets,
+    named: &NamedProductions<'_, 'g>,
+    start: &'g NonterminalString,
+    states: &[Lr1State<'g>],
+    slots: &mut Slots<'g>,
+) -> Result<(), AllocError>
+    requires firsts { AreFirstSetsOf grammar.now firsts.now }
+    requires named { AreListedByName named.now }
+    requires keys { slot_keys slots.old ≡ [] }
+    requires sets { slot_sets slots.old ≡ [] }
+    ensures { OnOk result (AreSeeds grammar.now (table_productions named.now.table.now) start.now.0 states.now slots.new) }
+{
+    seed_all_items(alloc, grammar, firsts, states, slots)?;
+    close_slots(alloc, grammar, firsts, named, slots)?;
+    let end = TokenSet::eof(alloc, &grammar.terminals)?;
+    let first = Slot {
+        state: 0,
+        name: start,
+    };
+    slots.add(alloc, &grammar.terminals, first, &end)
+}
 
 /// The slots of the names that stand behind dots, each with what can come first behind them, and the start's with the end.
 fn seeded_slots<'g>(
@@ -37,15 +64,29 @@ fn seeded_slots<'g>(
     ensures { IfOk result (λ slots. AreSeeds grammar.now (table_productions named.now.table.now) start.now.0 states.now slots) }
 {
     let mut slots = Slots::new(alloc);
-    seed_all_items(alloc, grammar, firsts, states, &mut slots)?;
-    close_slots(alloc, grammar, firsts, named, &mut slots)?;
-    let end = TokenSet::eof(alloc, &grammar.terminals)?;
-    let first = Slot {
-        state: 0,
-        name: start,
-    };
-    slots.add(alloc, &grammar.terminals, first, &end)?;
+    seed_slots(alloc, grammar, firsts, named, start, states, &mut slots)?;
     Ok(slots)
+}
+
+/// The slots to which something is propagated, each with what it is seeded with, and the edges along which they propagate it.
+fn slots_and_edges<'g>(
+    alloc: Global,
+    grammar: &Grammar,
+    named: &NamedProductions<'_, 'g>,
+    start: &'g NonterminalString,
+    states: &[Lr1State<'g>],
+) -> Result<(Slots<'g>, Vec<Edge>), AllocError>
+    requires grammar { HasItsTerminals grammar.now }
+    requires named { AreListedByName named.now }
+    ensures { IfOk result (λ made. (seeded : _)
+        × AreSeeds grammar.now (table_productions named.now.table.now) start.now.0 states.now seeded
+        × ((look : List ℕ → LookaheadSet) → ArePropagationEdges grammar.now look states.now (table_productions named.now.table.now)
+        seeded made.0 made.1.items (length made.0.keys.keys))) }
+{
+    let firsts = FirstSets::new(alloc, grammar)?;
+    let mut slots = seeded_slots(alloc, grammar, &firsts, named, start, states)?;
+    let edges = propagation_edges(alloc, grammar, &firsts, states, named, &mut slots)?;
+    Ok((slots, edges))
 }
 
 /// Copies of the sets, as they flow along edges.
@@ -97,18 +138,15 @@ pub fn reduces_before_lookaheads<'g>(
         HaveKnownItems grammar.now.terminals states.now → IsTrue reduces
         ↔ ReducesBeforeLookaheads (IsProductionOf grammar.now) start.now.0 (HasItem seen) (HasEdge seen) (Reduces seen)) }
 {
-    let firsts = FirstSets::new(alloc, grammar)?;
     let named = NamedProductions::new(alloc, table)?;
-    let mut slots = seeded_slots(alloc, grammar, &firsts, &named, start, states)?;
-    let edges = propagation_edges(alloc, grammar, &firsts, states, &named, &mut slots)?;
+    let (slots, edges) = slots_and_edges(alloc, grammar, &named, start, states)?;
     let sets = flown_sets(alloc, &grammar.terminals, &slots, edges.as_slice())?;
-    let all = all_reduce(
+    all_reduce(
         alloc,
         &grammar.terminals,
         states,
         &named,
         &slots,
         sets.as_slice(),
-    )?;
-    Ok(all)
+    )
 }

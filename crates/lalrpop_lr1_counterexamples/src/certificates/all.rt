@@ -1,12 +1,15 @@
 //! The certificates of conflicts.
 
-ghost use Rattle.std.specs.Prelude.{◌≡◌, Contains, IfOk, length};
+ghost use Rattle.std.specs.Prelude.{◌≡◌, Contains, IfOk, Some, length, map};
 ghost use Rattle.lalrpop_lr1_core.specs.TheoryGrammars.{theory_grammar};
-ghost use Rattle.lalrpop_lr1_first.specs.NumberedGrammars.{HasItsTerminals};
+ghost use Rattle.lalrpop_lr1_first.specs.NumberedGrammars.{HasItsTerminals, IsNumberTableOf};
+ghost use Rattle.lalrpop_lr1_least_trees.specs.GrammarTrees.{AreLeastTrees};
+ghost use Rattle.lalrpop_lr1_paths.specs.CompletionGraphs.{AreCompletionGraphs};
 ghost use Rattle.lalrpop_lr1_theory.specs.CanonicalStates.{AreCanonicalStates};
 ghost use Rattle.lalrpop_lr1_theory.specs.ValidItems.{NoneBarren};
 ghost use Rattle.lalrpop_lr1_counterexamples.specs.ConflictCertificates.{AreCertificatesOf, HaveOwnActions};
-ghost use Rattle.lalrpop_lr1_counterexamples.specs.ShownStates.{AreToldConflicts, shown_states};
+ghost use Rattle.lalrpop_lr1_counterexamples.specs.ShownStates.{AreShownConflicts, AreStepsOut, AreToldConflicts, shown_states};
+ghost use Rattle.lalrpop_lr1_counterexamples.specs.Slots.{AreCertificateSlots};
 
 use crate::certificates::shown::ShownConflicts;
 use crate::certificates::slots::all_certificates;
@@ -19,6 +22,37 @@ use lalrpop_lr1_least_trees::LeastTrees;
 use lalrpop_lr1_paths::state_paths::StatePaths;
 use lalrpop_sets::TokenSet;
 use std::alloc::{AllocError, Global};
+
+/// The certificates of the conflicts, by the steps that lead out of the states.
+fn certificates_by_ways<'g>(
+    alloc: Global,
+    shown: &ShownConflicts<'_, 'g>,
+    ways: &CompletionGraphs<'_, 'g>,
+) -> Result<Vec<Certificate<'g>>, AllocError>
+    requires shown { AreShownConflicts shown.now }
+    requires ways { AreCompletionGraphs ways.now }
+    requires steps { AreStepsOut shown.now ways.now }
+    ensures { IfOk result (λ all. AreCertificateSlots shown.now (map Some all.items)) }
+{
+    let any = AnyCompletion::new(alloc, ways)?;
+    all_certificates(alloc, shown, &any)
+}
+
+/// The certificates of the conflicts, by the least trees of the grammar.
+fn certificates_by_trees<'g>(
+    alloc: Global,
+    shown: &ShownConflicts<'_, 'g>,
+    trees: &LeastTrees<'g>,
+) -> Result<Vec<Certificate<'g>>, AllocError>
+    requires shown { AreShownConflicts shown.now }
+    requires trees { AreLeastTrees trees.now }
+    requires table { IsNumberTableOf shown.now.grammar.now trees.now.table }
+    ensures { IfOk result (λ all. AreCertificateSlots shown.now (map Some all.items)) }
+{
+    let paths = StatePaths::new(alloc, trees, shown.states)?;
+    let ways = CompletionGraphs::new(alloc, &paths, shown.states, shown.start)?;
+    certificates_by_ways(alloc, shown, &ways)
+}
 
 /// The certificates of conflicts of a grammar's canonical states, in their order. What all of them need is made once.
 ///
@@ -43,16 +77,13 @@ pub fn certificates<'g>(
     ensures certificates { IfOk result (λ all. HaveOwnActions grammar.now →
         AreCertificatesOf grammar.now start.now.0 (shown_states grammar.now states.now) conflicts.now all.items) }
 {
-    let trees = LeastTrees::new(alloc, grammar)?;
-    let paths = StatePaths::new(alloc, &trees, states)?;
-    let ways = CompletionGraphs::new(alloc, &paths, states, start)?;
-    let any = AnyCompletion::new(alloc, &ways)?;
     let shown = ShownConflicts {
         grammar,
         start,
         states,
         conflicts,
     };
-    let all = all_certificates(alloc, &shown, &any)?;
+    let trees = LeastTrees::new(alloc, grammar)?;
+    let all = certificates_by_trees(alloc, &shown, &trees)?;
     Ok(all)
 }

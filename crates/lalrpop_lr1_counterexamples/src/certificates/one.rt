@@ -44,6 +44,19 @@ fn action_move(action: &Action<'_>) -> Result<Move, AllocError>
     }
 }
 
+/// What comes next, and the move that the action does.
+fn next_and_move(
+    token: TokenRef<'_>,
+    action: &Action<'_>,
+) -> Result<(Option<TerminalString>, Move), AllocError>
+    ensures next { IfOk result (λ made. option_map terminal_view made.0 ≡ next_of_token (token_seen token.entry)) }
+    ensures action { IfOk result (λ made. move_view made.1 ≡ move_of_action action.now) }
+{
+    let next = next_terminal(token)?;
+    let other = action_move(action)?;
+    Ok((next, other))
+}
+
 /// The certificate whose trees the moves build.
 fn made_certificate<'g>(
     alloc: Global,
@@ -55,10 +68,9 @@ fn made_certificate<'g>(
     ensures { IfOk result (λ c. IsMadeCertificate conflict.now (next_of_token (token_seen token.entry)) moves.now (certificate_view c)) }
 {
     let shared = made_trees(alloc, moves.shared.as_slice(), 0)?;
-    let next = next_terminal(token)?;
     let tree1 = only_tree(alloc, moves.reducing.as_slice(), 0)?;
-    let move2 = action_move(&conflict.action)?;
     let tree2 = only_tree(alloc, moves.other.as_slice(), 0)?;
+    let (next, move2) = next_and_move(token, &conflict.action)?;
     Ok(Certificate {
         shared,
         next,

@@ -1,7 +1,7 @@
 //! The room for the moves of all certificates, which is asked for before the first is made: so none is made in vain where memory
 //! lacks for the moves of all.
 
-ghost use Rattle.std.specs.Prelude.{◌≡◌, ◌<◌, IfOk, length};
+ghost use Rattle.std.specs.Prelude.{◌≡◌, ◌+◌, ◌<◌, ◌≤◌, ◌^◌, IfOk, MatchResult, length};
 ghost use Rattle.lalrpop_lr1_paths.specs.CompletionSearches.{IsAnyCompletion};
 ghost use Rattle.lalrpop_lr1_counterexamples.specs.ShownMoves.{IsNextCompletion};
 ghost use Rattle.lalrpop_lr1_counterexamples.specs.ShownStates.{AreShownConflicts};
@@ -24,7 +24,9 @@ use std::alloc::{AllocError, Global};
 /// # Errors
 ///
 /// It is no number: so many moves fit in no memory.
-fn sum(count: u64, more: u64) -> Result<u64, AllocError> {
+fn sum(count: u64, more: u64) -> Result<u64, AllocError>
+    ensures { MatchResult result (λ both. both ≡ count + more) (λ _. 2 ^ 64 ≤ count + more) }
+{
     match count.checked_add(more) {
         Some(both) => Ok(both),
         None => Err(AllocError),
@@ -137,6 +139,28 @@ fn count_conflicts(
     Ok(count)
 }
 
+/// Searches the completions before the token's terminal. How many moves show the conflicts with this least token, which are marked as
+/// counted.
+fn count_for_terminal(
+    alloc: Global,
+    shown: &ShownConflicts<'_, '_>,
+    any: &AnyCompletion<'_, '_, '_>,
+    tokens: &[TokenRef<'_>],
+    terminal: &TerminalString,
+    token: TokenRef<'_>,
+    counted: &mut Vec<bool>,
+) -> Result<u64, AllocError>
+    requires shown { AreShownConflicts shown.now }
+    requires any { IsAnyCompletion any.now }
+    requires tokens { length tokens.now ≡ length shown.now.conflicts.now }
+    requires marks { length counted.old.items ≡ length tokens.now }
+    ensures { length counted.new.items ≡ length tokens.now }
+{
+    let steps = WantedSteps::new(alloc, any, terminal)?;
+    let next = NextCompletion::Terminal(WantedCompletion::new(alloc, &steps)?);
+    count_conflicts(alloc, shown, any, &next, tokens, token, counted)
+}
+
 /// Searches the completions before the token. How many moves show the conflicts with this least token, which are marked as counted.
 fn count_for_token(
     alloc: Global,
@@ -154,9 +178,7 @@ fn count_for_token(
 {
     match token {
         TokenRef::Terminal(terminal) => {
-            let steps = WantedSteps::new(alloc, any, terminal)?;
-            let next = NextCompletion::Terminal(WantedCompletion::new(alloc, &steps)?);
-            count_conflicts(alloc, shown, any, &next, tokens, token, counted)
+            count_for_terminal(alloc, shown, any, tokens, terminal, token, counted)
         }
         TokenRef::Eof | TokenRef::Error => {
             let next = NextCompletion::End(EndCompletion::new(alloc, any.ways())?);

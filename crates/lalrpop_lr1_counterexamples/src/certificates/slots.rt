@@ -2,6 +2,7 @@
 
 ghost use Rattle.std.specs.Prelude.{◌≡◌, ◌<◌, ◌↔◌, ℕ, IfOk, IsTrue, OnOk, Some, length, map, set};
 ghost use Rattle.lalrpop_sets.specs.TokensLeft.{token_seen};
+ghost use Rattle.lalrpop_sets.specs.declared.token.Token.TheVariants as seen;
 ghost use Rattle.lalrpop_lr1_paths.specs.CompletionSearches.{IsAnyCompletion};
 ghost use Rattle.lalrpop_lr1_counterexamples.specs.ShownMoves.{IsNextCompletion, next_of, next_ways};
 ghost use Rattle.lalrpop_lr1_counterexamples.specs.StandingConflicts.{next_of_token};
@@ -14,6 +15,7 @@ use crate::certificates::shown::ShownConflicts;
 use crate::shown_laws::{
     AnyCompletion, EndCompletion, NextCompletion, WantedCompletion, WantedSteps,
 };
+use lalrpop_grammar_symbols::TerminalString;
 use lalrpop_judge::certificates::Certificate;
 use lalrpop_sets::TokenRef;
 use std::alloc::{AllocError, Global};
@@ -119,6 +121,31 @@ fn fill_slots<'g>(
     Ok(())
 }
 
+/// Searches the completions before the token's terminal, and fills the slots of the conflicts with this least token.
+fn fill_for_terminal<'g>(
+    alloc: Global,
+    shown: &ShownConflicts<'_, 'g>,
+    any: &AnyCompletion<'_, '_, 'g>,
+    tokens: &[TokenRef<'_>],
+    terminal: &TerminalString,
+    token: TokenRef<'_>,
+    slots: &mut Vec<Option<Certificate<'g>>>,
+) -> Result<(), AllocError>
+    requires shown { AreShownConflicts shown.now }
+    requires any { IsAnyCompletion any.now }
+    requires steps { AreStepsOut shown.now any.now.ways.now }
+    requires tokens { AreLeastTokens shown.now tokens.now }
+    requires terminal { token_seen token ≡ seen.Terminal terminal.now }
+    requires slots { AreCertificateSlots shown.now slots.old.items }
+    ensures slots { OnOk result (AreCertificateSlots shown.now slots.new.items) }
+    ensures stay { OnOk result (StayFilled slots.old.items slots.new.items) }
+    ensures filled { OnOk result (AreFilledBefore tokens.now token.entry slots.new.items (length tokens.now)) }
+{
+    let steps = WantedSteps::new(alloc, any, terminal)?;
+    let next = NextCompletion::Terminal(WantedCompletion::new(alloc, &steps)?);
+    fill_slots(alloc, shown, any, &next, tokens, token, slots)
+}
+
 /// Searches the completions before the token, and fills the slots of the conflicts with this least token.
 fn fill_for_token<'g>(
     alloc: Global,
@@ -139,9 +166,7 @@ fn fill_for_token<'g>(
 {
     match token {
         TokenRef::Terminal(terminal) => {
-            let steps = WantedSteps::new(alloc, any, terminal)?;
-            let next = NextCompletion::Terminal(WantedCompletion::new(alloc, &steps)?);
-            fill_slots(alloc, shown, any, &next, tokens, token, slots)
+            fill_for_terminal(alloc, shown, any, tokens, terminal, token, slots)
         }
         TokenRef::Eof | TokenRef::Error => {
             let next = NextCompletion::End(EndCompletion::new(alloc, any.ways())?);

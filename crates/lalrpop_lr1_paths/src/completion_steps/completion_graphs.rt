@@ -11,8 +11,9 @@ ghost use Rattle.lalrpop_lr1_first.specs.NumberedGrammars.{IsNumberTableOf};
 ghost use Rattle.lalrpop_lr1_theory.specs.PathTrees.{ArePaths};
 ghost use Rattle.lalrpop_lr1_paths.specs.PathTables.{AreStatePaths, last_steps};
 ghost use Rattle.lalrpop_lr1_paths.specs.GraphPaths.{GoalsAreBelow};
+ghost use Rattle.lalrpop_lr1_paths.specs.Graphs.{IsGraph, graph_edges, graph_node_count};
 ghost use Rattle.lalrpop_lr1_least_trees.specs.GrammarTrees.{symbols_by};
-ghost use Rattle.lalrpop_lr1_paths.specs.CompletionSteps.{AreEmptyEdges, AreListedEdges, AreStepEdges, LeadsAsStep};
+ghost use Rattle.lalrpop_lr1_paths.specs.CompletionSteps.{AreEmptyEdges, AreListedEdges, AreStepEdges, LeadsAsStep, StepsAreBelow};
 ghost use Rattle.lalrpop_lr1_paths.specs.CompletionGraphs.{AreEndGoals, AreCompletionGraphs, AreCompletions};
 ghost use Rattle.lalrpop_lr1_paths.specs.ToldSteps.{HasNameNumber, HasNodeBelow};
 ghost use Rattle.lalrpop_lr1_paths.specs.EmptySteps.{ListsStep};
@@ -126,6 +127,42 @@ fn empty_steps(
     Ok(listed)
 }
 
+/// The graph with an edge for each step, under the step's number.
+fn graph_of_steps(
+    alloc: Global,
+    nodes: usize,
+    steps: &[CompletionStep<'_>],
+) -> Result<Graph, AllocError>
+    requires { StepsAreBelow nodes steps.now }
+    ensures graph { IfOk result IsGraph }
+    ensures edges { IfOk result (λ graph. AreStepEdges steps.now (graph_edges graph)) }
+    ensures nodes { IfOk result (λ graph. graph_node_count graph ≡ nodes) }
+{
+    let edges = edges_of_steps(alloc, steps)?;
+    let graph = Graph::new(alloc, nodes, edges)?;
+    Ok(graph)
+}
+
+/// The numbers of the steps behind whose nonterminals nothing may come, with the graph of their edges.
+fn graph_of_empty_steps(
+    alloc: Global,
+    paths: &StatePaths<'_, '_>,
+    nodes: usize,
+    steps: &[CompletionStep<'_>],
+) -> Result<(Vec<usize>, Graph), AllocError>
+    requires paths { AreStatePaths paths.now }
+    requires steps { StepsAreBelow nodes steps.now }
+    ensures graph { IfOk result (λ made. IsGraph made.1) }
+    ensures edges { IfOk result (λ made. AreListedEdges steps.now made.0.items (graph_edges made.1)) }
+    ensures nodes { IfOk result (λ made. graph_node_count made.1 ≡ nodes) }
+    ensures empty { IfOk result (λ made. (g : Grammar) → IsNumberTableOf g paths.now.trees.now.table →
+        AreEmptyEdges (IsProductionOf g) steps.now made.0.items (graph_edges made.1)) }
+{
+    let ListedSteps { numbers, edges } = empty_steps(alloc, paths, steps)?;
+    let graph = Graph::new(alloc, nodes, edges)?;
+    Ok((numbers, graph))
+}
+
 /// The goal of all ways: the start in state 0, if there is one among so many nodes.
 fn end_goals(
     alloc: Global,
@@ -170,18 +207,16 @@ impl<'t, 'g> CompletionGraphs<'t, 'g> {
             AreCompletions g start.now.0 (map (lr_state_view look) states.now) ways) }
     {
         let nodes = count_of_nodes(paths, states.len())?;
-        let steps = steps_of_states(alloc, paths, states)?;
-        let edges = edges_of_steps(alloc, steps.as_slice())?;
-        let any = Graph::new(alloc, nodes, edges)?;
-        let listed = empty_steps(alloc, paths, steps.as_slice())?;
-        let empty = Graph::new(alloc, nodes, listed.edges)?;
         let goals = end_goals(alloc, paths, nodes, start)?;
+        let steps = steps_of_states(alloc, paths, states)?;
+        let any = graph_of_steps(alloc, nodes, steps.as_slice())?;
+        let (empties, empty) = graph_of_empty_steps(alloc, paths, nodes, steps.as_slice())?;
         Ok(CompletionGraphs {
             paths,
             goals,
             steps,
             any,
-            empties: listed.numbers,
+            empties,
             empty,
         })
     }

@@ -56,7 +56,7 @@ fn reversed_edges(
 }
 
 /// The graph of the edges turned round, with so many states.
-pub(crate) fn reversed_graph(
+fn reversed_graph(
     alloc: Global,
     trees: &LeastTrees<'_>,
     states: usize,
@@ -74,7 +74,7 @@ pub(crate) fn reversed_graph(
 }
 
 /// State 0 as the goal of paths, if there are states.
-pub(crate) fn start_goal(alloc: Global, states: usize) -> Result<Vec<Goal>, AllocError>
+fn start_goal(alloc: Global, states: usize) -> Result<Vec<Goal>, AllocError>
     ensures { IfOk result (λ goals. goals.items ≡ start_goals states) }
 {
     let mut goals = Vec::new(alloc);
@@ -97,7 +97,7 @@ fn last_edge(edges: &[NumberEdge], paths: &GoalPaths<'_>, state: usize) -> Optio
 }
 
 /// For each of so many states the edge with which its path back begins.
-pub(crate) fn last_edges(
+fn last_edges(
     alloc: Global,
     states: usize,
     edges: &[NumberEdge],
@@ -110,5 +110,25 @@ pub(crate) fn last_edges(
     for state in 0..states {
         steps.push(last_edge(edges, paths, state))?;
     }
+    Ok(steps)
+}
+
+/// For each of so many states the last edge of its path, which is a lightest one from state 0 over these edges.
+pub(crate) fn last_path_edges(
+    alloc: Global,
+    trees: &LeastTrees<'_>,
+    states: usize,
+    edges: &[NumberEdge],
+) -> Result<Vec<Option<NumberEdge>>, AllocError>
+    requires trees { AreLeastTrees trees.now }
+    requires edges { AreBetweenStates states edges.now }
+    ensures { IfOk result (λ steps. (paths : _) × AreGoalPaths paths
+        × (map edge_ends (graph_edges paths.graph.now) ≡ map reversed_ends edges.now) × (paths.goals.now ≡ start_goals states)
+        × AreLastEdges edges.now paths states steps.items) }
+{
+    let goals = start_goal(alloc, states)?;
+    let graph = reversed_graph(alloc, trees, states, edges)?;
+    let paths = graph.paths_to(alloc, goals.as_slice())?;
+    let steps = last_edges(alloc, states, edges, &paths)?;
     Ok(steps)
 }

@@ -23,7 +23,7 @@ ghost use Rattle.lalrpop_lr1_paths.specs.PathTables.{
 
 use crate::state_paths::path_edges::{NumberEdge, path_edges};
 use crate::state_paths::path_moves::{forest_count, forest_moves};
-use crate::state_paths::reversed::{last_edges, reversed_graph, start_goal};
+use crate::state_paths::reversed::last_path_edges;
 use lalrpop_lr1_core::State;
 use lalrpop_lr1_least_trees::{LeastTrees, TreeMove};
 use std::alloc::{AllocError, Global};
@@ -59,10 +59,7 @@ impl<'t, 'g> StatePaths<'t, 'g> {
             ArePaths (map (lr_state_view look) states.now) (last_steps paths)) }
     {
         let edges = path_edges(alloc, trees, states)?;
-        let graph = reversed_graph(alloc, trees, states.len(), edges.as_slice())?;
-        let goals = start_goal(alloc, states.len())?;
-        let paths = graph.paths_to(alloc, goals.as_slice())?;
-        let steps = last_edges(alloc, states.len(), edges.as_slice(), &paths)?;
+        let steps = last_path_edges(alloc, trees, states.len(), edges.as_slice())?;
         Ok(StatePaths { trees, steps })
     }
 

@@ -4,10 +4,10 @@ ghost use Rattle.lalrpop_lr1_first.specs.NumberedGrammars.{HasItsTerminals};
 ghost use Rattle.lalrpop_lr1_least_trees.specs.GrammarTrees.{AreLeastTrees};
 ghost use Rattle.lalrpop_lr1_paths.specs.CompletionGraphs.{AreCompletionGraphs};
 ghost use Rattle.lalrpop_lr1_paths.specs.PathTables.{AreStatePaths};
-ghost use Rattle.lalrpop_lr1_paths.specs.CompletionSearches.{IsAnyCompletion};
+ghost use Rattle.lalrpop_lr1_paths.specs.CompletionSearches.{IsAnyCompletion, IsWantedCompletion};
 
 use crate::builder::given::{name_of, pairs};
-use crate::check::check;
+use crate::check::{check, text_is};
 use lalrpop_grammar_repr::Grammar;
 use lalrpop_grammar_symbols::{Atom, TerminalString};
 use lalrpop_lr1_build::build_lr1_states_canonical;
@@ -80,7 +80,7 @@ fn leaves_by_any(
 {
     let name = name_of(rt, alloc, name);
     let found = out.moves(alloc, 0, &name).expect(rt, "memory");
-    moves_text(rt, alloc, found).as_str() == wanted
+    text_is(moves_text(rt, alloc, found), wanted)
 }
 
 fn lead_out(rt: &impl Abort, alloc: Global, out: &AnyCompletion<'_, '_, '_>)
@@ -108,30 +108,40 @@ fn moves_to_end(
 fn lead_to_end(rt: &impl Abort, alloc: Global, ways: &CompletionGraphs<'_, '_>)
     requires { AreCompletionGraphs ways.now }
 {
-    check(rt, moves_to_end(rt, alloc, ways, "S").as_str() == " __S");
-    check(rt, moves_to_end(rt, alloc, ways, "C").as_str() == "-");
+    check(rt, text_is(moves_to_end(rt, alloc, ways, "S"), " __S"));
+    check(rt, text_is(moves_to_end(rt, alloc, ways, "C"), "-"));
+}
+
+/// The moves that are left behind the nonterminal in the first state where the completion's terminal comes next.
+fn moves_by(
+    rt: &impl Abort,
+    alloc: Global,
+    wanted: &WantedCompletion<'_, '_, '_, '_>,
+    name: &str,
+) -> String
+    requires { IsWantedCompletion wanted.now }
+{
+    let name = name_of(rt, alloc, name);
+    let found = wanted.moves(alloc, 0, &name).expect(rt, "memory");
+    moves_text(rt, alloc, found)
 }
 
 /// The moves that are left behind the nonterminal in the first state where "c" comes next.
 fn moves_to_c(rt: &impl Abort, alloc: Global, out: &AnyCompletion<'_, '_, '_>, name: &str) -> String
     requires { IsAnyCompletion out.now }
 {
-    let name = name_of(rt, alloc, name);
     let terminal = TerminalString::quoted(Atom::new(alloc, "c").expect(rt, "memory"));
     let steps = WantedSteps::new(alloc, out, &terminal).expect(rt, "memory");
     let wanted = WantedCompletion::new(alloc, &steps).expect(rt, "memory");
-    let found = wanted.moves(alloc, 0, &name).expect(rt, "memory");
-    moves_text(rt, alloc, found)
+    moves_by(rt, alloc, &wanted, name)
 }
 
 fn lead_to_c(rt: &impl Abort, alloc: Global, out: &AnyCompletion<'_, '_, '_>)
     requires { IsAnyCompletion out.now }
 {
-    check(rt, moves_to_c(rt, alloc, out, "S").as_str() == "-");
-    check(
-        rt,
-        moves_to_c(rt, alloc, out, "C").as_str() == r#" "c" "d" C C S __S"#,
-    );
+    check(rt, text_is(moves_to_c(rt, alloc, out, "S"), "-"));
+    let moves = moves_to_c(rt, alloc, out, "C");
+    check(rt, text_is(moves, r#" "c" "d" C C S __S"#));
 }
 
 fn lead_out_of_graphs(rt: &impl Abort, alloc: Global, ways: &CompletionGraphs<'_, '_>)

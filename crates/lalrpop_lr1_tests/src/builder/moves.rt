@@ -4,7 +4,7 @@ ghost use Rattle.lalrpop_lr1_first.specs.FirstSetsOf.{AreFirstSetsOf};
 ghost use Rattle.lalrpop_lr1_first.specs.NumberedGrammars.{HasItsTerminals};
 
 use crate::builder::given::{name_of, pairs, symbols_of};
-use crate::check::check;
+use crate::check::{check, text_is};
 use lalrpop_grammar_repr::Grammar;
 use lalrpop_lr1_build::builder::{LookaheadBuild, Lr};
 use lalrpop_lr1_core::{Item, Lr0Item, Lr1Item};
@@ -41,15 +41,28 @@ fn lr1_text(rt: &impl Abort, alloc: Global, grammar: &Grammar, items: &[Lr1Item<
     text
 }
 
+/// The text of what C brings, before the end, where the names stand behind it.
+fn brought_text(
+    rt: &impl Abort,
+    alloc: Global,
+    grammar: &Grammar,
+    lr: &Lr<'_, TokenSet>,
+    rest: &[&str],
+    end: &TokenSet,
+) -> String
+    requires { AreFirstSetsOf lr.now.grammar.now lr.now.first_sets }
+{
+    let items = lr1_moves(rt, alloc, lr, "C", rest, end);
+    lr1_text(rt, alloc, grammar, items.as_slice())
+}
+
 fn brings(rt: &impl Abort, alloc: Global, grammar: &Grammar, end: &TokenSet, lr: &Lr<'_, TokenSet>)
     requires { AreFirstSetsOf lr.now.grammar.now lr.now.first_sets }
 {
-    let before_pair = lr1_moves(rt, alloc, lr, "C", &["C"], end);
-    let text = lr1_text(rt, alloc, grammar, before_pair.as_slice());
-    check(rt, text.as_str() == r#"0 ["c", "d"];0 ["c", "d"];"#);
-    let before_end = lr1_moves(rt, alloc, lr, "C", &[], end);
-    let text = lr1_text(rt, alloc, grammar, before_end.as_slice());
-    check(rt, text.as_str() == "0 [Eof];0 [Eof];");
+    let before_pair = brought_text(rt, alloc, grammar, lr, &["C"], end);
+    check(rt, text_is(before_pair, r#"0 ["c", "d"];0 ["c", "d"];"#));
+    let before_end = brought_text(rt, alloc, grammar, lr, &[], end);
+    check(rt, text_is(before_end, "0 [Eof];0 [Eof];"));
     check(rt, lr1_moves(rt, alloc, lr, "X", &[], end).is_empty());
 }
 

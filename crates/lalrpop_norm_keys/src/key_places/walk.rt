@@ -13,34 +13,19 @@ ghost use Rattle.lalrpop_grammar_rules.specs.Scopes.{binding_view};
 ghost use Rattle.lalrpop_grammar_rules.specs.Views.{binding_of, closed_view};
 ghost use Rattle.lalrpop_norm_keys.specs.FoundCalls.{TellsOfOneCall};
 ghost use Rattle.lalrpop_norm_keys.specs.Instances.{AreTight, TellsOfSome, kept_from};
-ghost use Rattle.lalrpop_norm_keys.specs.MacroFaults.{TellsOfAlternative, told_fault_of};
+ghost use Rattle.lalrpop_norm_keys.specs.MacroFaults.{TellsOfAlternative};
 ghost use Rattle.lalrpop_norm_keys.specs.GrammarPlaces.{PutsMet, PutsMetInCall, PutsMetInCalls, PutsMetInChoices};
 ghost use Rattle.lalrpop_norm_keys.specs.Views.{met_view};
 
 use crate::called::unleveled_call;
+use crate::conditions::told_fault;
 use crate::key_places::meeting::{MetKey, note_keys_met};
 use lalrpop_grammar::Condition;
-use lalrpop_grammar_repr::{NormError, NormErrorKind, NormFault};
-use lalrpop_grammar_rules::closed::{
-    Binding, ClosedSymbol, ConditionFault, Finder, holds, right_side,
-};
+use lalrpop_grammar_repr::NormFault;
+use lalrpop_grammar_rules::closed::{Binding, ClosedSymbol, Finder, holds, right_side};
 use lalrpop_grammar_rules::{Choice, EnabledRule, Rules};
-use lalrpop_grammar_symbols::{List, Span};
+use lalrpop_grammar_symbols::List;
 use std::alloc::Global;
-
-/// What is told of a condition at that place for which it isn't known whether it holds.
-fn told_fault(fault: ConditionFault, span: Span) -> NormFault
-    ensures { result ≡ told_fault_of fault span }
-{
-    match fault {
-        ConditionFault::NotRead => NormFault::Norm(NormError {
-            kind: NormErrorKind::ConditionPattern,
-            span,
-        }),
-        ConditionFault::Refused => NormFault::ConditionLimit,
-        ConditionFault::Memory => NormFault::Memory,
-    }
-}
 
 /// Whether the condition holds for what the parameters are bound to; without one, it does.
 fn is_held<F: Finder>(

@@ -7,6 +7,7 @@ ghost use Rattle.lalrpop_grammar.specs.Views.{
   action_view,
   alternative_view,
   attribute_view,
+  is_public,
   nonterminal_view,
   origin_view,
   type_view,
@@ -227,6 +228,35 @@ fn inline_attribute(
     Ok(made)
 }
 
+/// Who may use a rule, its name and its attributes.
+#[derive(Drop)]
+pub(crate) struct RuleHead {
+    pub(crate) visibility: Visibility,
+    pub(crate) name: NonterminalString,
+    pub(crate) attributes: List<Attribute>,
+}
+
+/// Those of a private rule.
+fn private_head(
+    alloc: Global,
+    added: &Added<'_>,
+    name: &Atom,
+    is_inline: bool,
+) -> Result<RuleHead, AllocError>
+    ensures private { IfOk result (λ head. is_public head.visibility ≡ false) }
+    ensures name { IfOk result (λ head. head.name.0 ≡ name.now) }
+    ensures attributes { IfOk result (λ head. map attribute_view head.attributes
+        ≡ inline_attributes (span_view added.now.span) is_inline) }
+{
+    let attributes = inline_attribute(alloc, added.span, is_inline)?;
+    let name = NonterminalString(name.try_clone()?);
+    Ok(RuleHead {
+        visibility: Visibility::Priv,
+        name,
+        attributes,
+    })
+}
+
 /// A private rule of these alternatives.
 fn private_rule(
     alloc: Global,
@@ -246,10 +276,14 @@ fn private_rule(
       alternatives = map alternative_view alternatives;
     }) }
 {
-    let attributes = inline_attribute(alloc, added.span, is_inline)?;
+    let RuleHead {
+        visibility,
+        name,
+        attributes,
+    } = private_head(alloc, added, name, is_inline)?;
     Ok(NonterminalData {
-        visibility: Visibility::Priv,
-        name: NonterminalString(name.try_clone()?),
+        visibility,
+        name,
         attributes,
         span: added.span,
         args: List::new(alloc),

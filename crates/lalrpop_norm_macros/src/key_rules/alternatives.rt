@@ -7,7 +7,7 @@ ghost use Rattle.lalrpop_grammar_language.specs.Expansion.{origin_with};
 ghost use Rattle.lalrpop_grammar_rules.specs.RuleTable.{rules_with};
 ghost use Rattle.lalrpop_grammar_rules.specs.Scopes.{binding_view};
 ghost use Rattle.lalrpop_grammar_rules.specs.Views.{closed_view};
-ghost use Rattle.lalrpop_norm_keys.specs.MacroFaults.{TellsOfAlternative, told_fault_of};
+ghost use Rattle.lalrpop_norm_keys.specs.MacroFaults.{TellsOfAlternative};
 ghost use Rattle.lalrpop_norm_macros.specs.KeyNaming.{AreSymbolsFor};
 ghost use Rattle.lalrpop_norm_macros.specs.KeyInstances.{
   BecomesIn,
@@ -22,12 +22,11 @@ ghost use Rattle.lalrpop_norm_macros.specs.WrittenRules.{arguments_view};
 
 use crate::key_symbols::{KeyNames, written_side};
 use lalrpop_grammar::{ActionKind, Alternative, Condition, Origin};
-use lalrpop_grammar_repr::{NormError, NormErrorKind, NormFault};
-use lalrpop_grammar_rules::closed::{
-    Binding, ClosedSymbol, ConditionFault, Finder, holds, right_side,
-};
+use lalrpop_grammar_repr::NormFault;
+use lalrpop_grammar_rules::closed::{Binding, ClosedSymbol, Finder, holds, right_side};
 use lalrpop_grammar_rules::{Choice, EnabledRule, Rules};
-use lalrpop_grammar_symbols::{List, Span, Symbol, clone_symbols};
+use lalrpop_grammar_symbols::{List, Symbol, clone_symbols};
+use lalrpop_norm_keys::told_fault;
 use std::alloc::{AllocError, Global};
 
 /// An instance of a macro, or a rule without parameters.
@@ -72,20 +71,6 @@ pub(crate) fn closed_side(
         tighter: None,
     };
     right_side(alloc, instance.rules, instance.rule, &choice, instance.args)
-}
-
-/// What is told of a condition at that place for which it isn't known whether it holds.
-fn told_fault(fault: ConditionFault, span: Span) -> NormFault
-    ensures { result ≡ told_fault_of fault span }
-{
-    match fault {
-        ConditionFault::NotRead => NormFault::Norm(NormError {
-            kind: NormErrorKind::ConditionPattern,
-            span,
-        }),
-        ConditionFault::Refused => NormFault::ConditionLimit,
-        ConditionFault::Memory => NormFault::Memory,
-    }
 }
 
 /// Whether the condition holds in the instance; without one, it does.

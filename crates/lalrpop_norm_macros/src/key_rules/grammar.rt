@@ -1,6 +1,6 @@
 //! A grammar with other rules in place of its own.
 
-ghost use Rattle.std.specs.Prelude.{◌≡◌, ◌++◌, [], ◌∷◌, IfOk, OnOk, map};
+ghost use Rattle.std.specs.Prelude.{◌≡◌, ◌++◌, [], ◌∷◌, IfOk, OnOk, if◌then◌else◌, map};
 ghost use Rattle.lalrpop_grammar.specs.Views.{grammar_view, item_view, nonterminal_view};
 ghost use Rattle.lalrpop_grammar.specs.WrittenGrammar.{WrittenItem};
 ghost use Rattle.lalrpop_norm_macros.specs.RuleItems.{grammar_with_rules, other_items};
@@ -9,17 +9,25 @@ use lalrpop_grammar::{Grammar, GrammarItem, NonterminalData};
 use lalrpop_grammar_symbols::List;
 use std::alloc::{AllocError, Global};
 
+/// Whether the item is a rule.
+fn is_rule(item: &GrammarItem) -> bool
+    ensures { other_items (item_view item.now ∷ []) ≡ (if result then [] else item_view item.now ∷ []) }
+{
+    match item {
+        GrammarItem::Nonterminal(_) => true,
+        GrammarItem::MatchToken(_) | GrammarItem::ExternToken(_) => false,
+        GrammarItem::InternToken(_) | GrammarItem::Use(_) => false,
+    }
+}
+
 /// Puts the item behind the others, unless it is a rule.
 fn keep_item(item: GrammarItem, items: &mut List<GrammarItem>) -> Result<(), AllocError>
     ensures { OnOk result (map item_view items.new ≡ map item_view items.old ++ other_items (item_view item ∷ [])) }
 {
-    match item {
-        GrammarItem::Nonterminal(_) => Ok(()),
-        GrammarItem::MatchToken(block) => items.push(GrammarItem::MatchToken(block)),
-        GrammarItem::ExternToken(block) => items.push(GrammarItem::ExternToken(block)),
-        GrammarItem::InternToken(entries) => items.push(GrammarItem::InternToken(entries)),
-        GrammarItem::Use(text) => items.push(GrammarItem::Use(text)),
+    if is_rule(&item) {
+        return Ok(());
     }
+    items.push(item)
 }
 
 /// The items that are no rules, in order.

@@ -14,12 +14,12 @@ ghost use Rattle.lalrpop_norm_macros.specs.WrittenKeys.{AreReady, IsCallRule, Is
 ghost use Rattle.lalrpop_norm_macros.specs.WrittenRules.{arguments_view, spelled_in};
 
 use crate::key_rules::added::{
-    Added, empty_rule, group_rule, lookahead_rule, lookbehind_rule, repeat_rule,
+    Added, RuleHead, empty_rule, group_rule, lookahead_rule, lookbehind_rule, repeat_rule,
 };
 use crate::key_rules::alternatives::{Instance, instance_alternatives};
 use crate::key_rules::types::put_declaration;
 use crate::key_symbols::{KeyNames, WrittenRules, arguments, find_written};
-use lalrpop_grammar::types::{Attribute, clone_attributes};
+use lalrpop_grammar::types::clone_attributes;
 use lalrpop_grammar::{NonterminalData, Visibility};
 use lalrpop_grammar_repr::NormFault;
 use lalrpop_grammar_rules::closed::{ClosedSymbol, Finder};
@@ -49,15 +49,7 @@ fn visibility_of(args: &[ClosedSymbol], visibility: &Visibility) -> Result<Visib
     }
 }
 
-/// Who may use a rule, its name and its attributes.
-#[derive(Drop)]
-struct RuleHead {
-    visibility: Visibility,
-    name: NonterminalString,
-    attributes: List<Attribute>,
-}
-
-/// Those of the rule of a call of the rule, under that name.
+/// The head of the rule of a call of the rule, under that name.
 fn rule_head(
     alloc: Global,
     args: &[ClosedSymbol],

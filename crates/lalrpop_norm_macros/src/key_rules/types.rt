@@ -5,7 +5,6 @@ ghost use Rattle.lalrpop_grammar_symbols.specs.Symbols.{Closed, Text};
 ghost use Rattle.lalrpop_grammar_symbols.specs.Views.{repeat_op_view, symbol_view};
 ghost use Rattle.lalrpop_grammar.specs.Views.{alternative_view, type_view};
 ghost use Rattle.lalrpop_grammar.specs.WrittenGrammar.{Ty, Tys};
-ghost use Rattle.lalrpop_grammar.specs.declared.types.type_ref.TypeRef.TheVariants.{Ref as ref_type};
 ghost use Rattle.lalrpop_grammar_language.specs.Closing.{close, parameter_value, sound_or_faulty};
 ghost use Rattle.lalrpop_grammar_rules.specs.RuleTable.{rules_with};
 ghost use Rattle.lalrpop_grammar_rules.specs.Views.{closed_view};
@@ -28,9 +27,7 @@ use crate::key_symbols::{KeyNames, written_or_error, written_symbol};
 use lalrpop_grammar::types::TypeRef;
 use lalrpop_grammar::{Alternative, Origin};
 use lalrpop_grammar_rules::closed::{Bound, ClosedSymbol, bound_to};
-use lalrpop_grammar_symbols::{
-    Atom, Boxed, List, RepeatOp, Span, Symbol, SymbolKind, TerminalString,
-};
+use lalrpop_grammar_symbols::{Atom, List, RepeatOp, Span, Symbol, SymbolKind, TerminalString};
 use std::alloc::{AllocError, Global};
 
 /// The last of the symbols.
@@ -176,33 +173,6 @@ fn named_type(
     }
 }
 
-fn clone_lifetime(lifetime: &Option<Atom>) -> Result<Option<Atom>, AllocError>
-    ensures { IfOk result (λ copy. copy ≡ lifetime.now) }
-{
-    match lifetime {
-        None => Ok(None),
-        Some(name) => Ok(Some(name.try_clone()?)),
-    }
-}
-
-/// The reference to the type.
-fn reference_to(
-    alloc: Global,
-    lifetime: &Option<Atom>,
-    mutable: bool,
-    referent: TypeRef,
-) -> Result<TypeRef, AllocError>
-    ensures { IfOk result (λ made. made ≡ ref_type lifetime.now mutable referent) }
-{
-    let referent = Boxed::new(alloc, referent)?;
-    let lifetime = clone_lifetime(lifetime)?;
-    Ok(TypeRef::Ref {
-        lifetime,
-        mutable,
-        referent,
-    })
-}
-
 /// The declared type with its parameters put in, and its symbols by the names of their keys.
 #[cycle(put)]
 fn put_type(
@@ -235,7 +205,7 @@ fn put_type(
             referent,
         } => {
             let referent = put_type(alloc, referent.get(), instance)?;
-            Ok(reference_to(alloc, lifetime, *mutable, referent)?)
+            Ok(TypeRef::reference_to(alloc, lifetime, *mutable, referent)?)
         }
         TypeRef::Opaque(text) => Ok(TypeRef::Opaque(text.try_clone()?)),
     }

@@ -1,6 +1,7 @@
 //! Symbols of an alternative with the occurrences of its rule under the names of the levels that they may have.
 
-ghost use Rattle.std.specs.Prelude.{◌≡◌, ◌+◌, IfOk, map};
+ghost use Rattle.std.specs.Prelude.{◌≡◌, ◌+◌, IfOk, if◌then◌else◌, map};
+ghost use Rattle.std.specs.Str.{bytes_eq};
 ghost use Rattle.lalrpop_grammar_symbols.specs.Symbols.{Sym, syms};
 ghost use Rattle.lalrpop_grammar_symbols.specs.Views.{repeat_op_view, span_view, symbol_view};
 ghost use Rattle.lalrpop_grammar_language.specs.Closing.{occurrences as occurrences_seen, occurrences_in};
@@ -46,6 +47,13 @@ struct Renamings {
     next: u64,
 }
 
+/// A renamed name, and how many occurrences of the owner stand up to its end.
+#[derive(Drop)]
+struct RenamedName {
+    name: NonterminalString,
+    next: u64,
+}
+
 /// What the occurrence with so many before it is called.
 fn name_at<'n>(occurrences: &Occurrences<'n>, before: u64) -> &'n Atom
     ensures { result.now ≡ called_at occurrences.now before }
@@ -78,6 +86,21 @@ fn renamed_name(
     }
 }
 
+/// The same of a name that is itself so many occurrences.
+fn counted_name(
+    occurrences: &Occurrences<'_>,
+    before: u64,
+    own: u64,
+    name: &NonterminalString,
+) -> Result<RenamedName, AllocError>
+    ensures name { IfOk result (λ r. r.name.0 ≡ name_under occurrences.now before name.now.0) }
+    ensures count { IfOk result (λ r. r.next ≡ before + own) }
+{
+    let next = sum(before, own)?;
+    let name = renamed_name(occurrences, before, name)?;
+    Ok(RenamedName { name, next })
+}
+
 /// A copy of the symbol, with so many occurrences up to its end.
 fn copy_of(alloc: Global, symbol: &Symbol, next: u64) -> Result<Renaming, AllocError>
     ensures symbol { IfOk result (λ r. r.symbol ≡ symbol.now) }
@@ -85,6 +108,19 @@ fn copy_of(alloc: Global, symbol: &Symbol, next: u64) -> Result<Renaming, AllocE
 {
     let symbol = symbol.try_clone(alloc)?;
     Ok(Renaming { symbol, next })
+}
+
+/// A copy of the symbol, which is itself so many occurrences.
+fn counted_copy(
+    alloc: Global,
+    symbol: &Symbol,
+    before: u64,
+    own: u64,
+) -> Result<Renaming, AllocError>
+    ensures symbol { IfOk result (λ r. r.symbol ≡ symbol.now) }
+    ensures count { IfOk result (λ r. r.next ≡ before + own) }
+{
+    copy_of(alloc, symbol, sum(before, own)?)
 }
 
 /// A group of the symbols, written there.
@@ -100,13 +136,22 @@ fn group_of(span: Span, inside: Renamings) -> Renaming
     Renaming { symbol, next }
 }
 
-/// The rule of that name, written there.
-fn rule_of(span: Span, name: NonterminalString, next: u64) -> Renaming
-    ensures symbol { symbol_view result.symbol ≡ Sym.nonterminal (span_view span) name.0 }
-    ensures count { result.next ≡ next }
+/// The rule of that name or its level, written there.
+fn rule_of(
+    occurrences: &Occurrences<'_>,
+    before: u64,
+    span: Span,
+    name: &NonterminalString,
+) -> Result<Renaming, AllocError>
+    ensures symbol { IfOk result (λ r.
+        symbol_view r.symbol ≡ Sym.nonterminal (span_view span) (name_under occurrences.now before name.now.0)) }
+    ensures count { IfOk result (λ r. r.next ≡ before
+        + (if bytes_eq name.now.0 occurrences.now.owner.now then 1 else 0)) }
 {
+    let own = rule_count(occurrences.owner, &name.0);
+    let RenamedName { name, next } = counted_name(occurrences, before, own, name)?;
     let symbol = Symbol::new(span, SymbolKind::Nonterminal(name));
-    Renaming { symbol, next }
+    Ok(Renaming { symbol, next })
 }
 
 /// A call of a macro with the symbols as its arguments, written there.
@@ -197,19 +242,14 @@ fn rename(
         }
         SymbolKind::AmbiguousId(name) => {
             let own = owner_count(occurrences.binding, occurrences.owner, name);
-            copy_of(alloc, symbol, sum(before, own)?)
+            counted_copy(alloc, symbol, before, own)
         }
-        SymbolKind::Nonterminal(name) => {
-            let own = rule_count(occurrences.owner, &name.0);
-            let next = sum(before, own)?;
-            let name = renamed_name(occurrences, before, name)?;
-            Ok(rule_of(span, name, next))
-        }
+        SymbolKind::Nonterminal(name) => rule_of(occurrences, before, span, name),
         SymbolKind::Macro(call) => {
             let own = owner_count(occurrences.binding, occurrences.owner, &call.name.0);
-            let inside = rename_all(alloc, occurrences, sum(before, own)?, call.args.as_slice())?;
-            let name = renamed_name(occurrences, before, &call.name)?;
-            Ok(call_of(span, name, inside))
+            let renamed = counted_name(occurrences, before, own, &call.name)?;
+            let inside = rename_all(alloc, occurrences, renamed.next, call.args.as_slice())?;
+            Ok(call_of(span, renamed.name, inside))
         }
         SymbolKind::Repeat(repeat) => {
             let inside = rename(alloc, occurrences, before, &repeat.get().symbol)?;

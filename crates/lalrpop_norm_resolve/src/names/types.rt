@@ -2,7 +2,6 @@
 
 ghost use Rattle.std.specs.Prelude.{◌≡◌, IfOk, map, option_map};
 ghost use Rattle.lalrpop_grammar.specs.Views.{type_view, tys};
-ghost use Rattle.lalrpop_grammar.specs.declared.types.type_ref.TypeRef.TheVariants.{Ref as ref_type};
 ghost use Rattle.lalrpop_norm_theory.specs.Premises.{symbols_of_type, symbols_of_types};
 ghost use Rattle.lalrpop_norm_theory.specs.Resolving.{resolved_type, resolved_types};
 ghost use Rattle.lalrpop_norm_theory.specs.NameFaults.{name_faults_in, name_faults_in_declared};
@@ -14,7 +13,7 @@ use crate::names::faults::check_symbols;
 use crate::names::rewriting::resolved_symbol;
 use lalrpop_grammar::types::TypeRef;
 use lalrpop_grammar_repr::NormFault;
-use lalrpop_grammar_symbols::{Atom, Boxed, List};
+use lalrpop_grammar_symbols::List;
 use std::alloc::{AllocError, Global};
 use std::slice;
 
@@ -65,33 +64,6 @@ pub(crate) fn check_declared(
     }
 }
 
-fn clone_lifetime(lifetime: &Option<Atom>) -> Result<Option<Atom>, AllocError>
-    ensures { IfOk result (λ copy. copy ≡ lifetime.now) }
-{
-    match lifetime {
-        None => Ok(None),
-        Some(name) => Ok(Some(name.try_clone()?)),
-    }
-}
-
-/// The reference to the type.
-fn reference_to(
-    alloc: Global,
-    lifetime: &Option<Atom>,
-    mutable: bool,
-    referent: TypeRef,
-) -> Result<TypeRef, AllocError>
-    ensures { IfOk result (λ made. made ≡ ref_type lifetime.now mutable referent) }
-{
-    let referent = Boxed::new(alloc, referent)?;
-    let lifetime = clone_lifetime(lifetime)?;
-    Ok(TypeRef::Ref {
-        lifetime,
-        mutable,
-        referent,
-    })
-}
-
 /// The type with the names in its symbols resolved.
 #[cycle(resolved_types)]
 fn resolved_type(
@@ -123,7 +95,7 @@ fn resolved_type(
             referent,
         } => {
             let referent = resolved_type(alloc, scope, referent.get())?;
-            Ok(reference_to(alloc, lifetime, *mutable, referent)?)
+            TypeRef::reference_to(alloc, lifetime, *mutable, referent)
         }
         TypeRef::Opaque(text) => Ok(TypeRef::Opaque(text.try_clone()?)),
     }

@@ -10,7 +10,7 @@ ghost use Rattle.lalrpop_lr1_interpret.specs.Parses.{AreParsable};
 use crate::answers::fault::AnswerFault;
 use lalrpop_grammar_repr::Grammar;
 use lalrpop_grammar_symbols::NonterminalString;
-use lalrpop_lr1_barren::reachable::none_is_barren;
+use lalrpop_lr1_barren::none_is_barren;
 use lalrpop_lr1_build::build_lr1_states_canonical;
 use lalrpop_lr1_core::{Lr1State, TableFault};
 use lalrpop_lr1_first::Numbered;

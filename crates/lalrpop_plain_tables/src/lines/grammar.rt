@@ -133,19 +133,25 @@ fn add_production(
     if action >= MOST_ACTIONS {
         return Err(LinesError::TooMany);
     }
-    add_terminals(symbols.as_slice(), &mut reading.terminals)?;
-    reading.actions.push(unit_action(alloc))?;
     let production = Production {
-        nonterminal: name.try_clone()?,
+        nonterminal: name,
         symbols,
         action: ActionFn::new(action),
         span: line_span(number),
     };
-    reading
-        .productions
-        .entry(name)?
-        .or_default()
-        .push(production)?;
+    add_terminals(production.symbols.as_slice(), &mut reading.terminals)?;
+    reading.actions.push(unit_action(alloc))?;
+    add_to_nonterminal(production, &mut reading.productions)?;
+    Ok(())
+}
+
+/// Puts the production behind those of its nonterminal.
+fn add_to_nonterminal(
+    production: Production,
+    productions: &mut BTreeMap<NonterminalString, Vec<Production>>,
+) -> Result<(), AllocError> {
+    let name = production.nonterminal.try_clone()?;
+    productions.entry(name)?.or_default().push(production)?;
     Ok(())
 }
 
@@ -201,11 +207,22 @@ fn names_of(
         starts: Map::new(alloc),
     };
     for (name, productions) in productions.into_iter() {
-        add_start(alloc, &name, &mut names.starts)?;
-        let data = nonterminal_of(alloc, &name, productions)?;
-        names.nonterminals.insert(name, data)?;
+        add_nonterminal(alloc, name, productions, &mut names)?;
     }
     Ok(names)
+}
+
+/// Puts the nonterminal with these productions to the others, and to those to start from where it is one.
+fn add_nonterminal(
+    alloc: Global,
+    name: NonterminalString,
+    productions: Vec<Production>,
+    names: &mut Names,
+) -> Result<(), AllocError> {
+    let data = nonterminal_of(alloc, &name, productions)?;
+    add_start(alloc, &name, &mut names.starts)?;
+    names.nonterminals.insert(name, data)?;
+    Ok(())
 }
 
 /// Puts the nonterminal to those to start from, where its name begins with the prefix.
@@ -240,11 +257,19 @@ fn terminal_set(
     alloc: Global,
     terminals: BTreeMap<TerminalString, ()>,
 ) -> Result<TerminalSet, AllocError> {
-    let mut all = List::new(alloc);
-    let mut bits = Map::new(alloc);
+    let mut set = TerminalSet {
+        all: List::new(alloc),
+        bits: Map::new(alloc),
+    };
     for (terminal, ()) in terminals.into_iter() {
-        bits.insert(terminal.try_clone()?, all.len())?;
-        all.push(terminal)?;
+        add_terminal(terminal, &mut set)?;
     }
-    Ok(TerminalSet { all, bits })
+    Ok(set)
+}
+
+/// Puts the terminal behind the others, with the next place.
+fn add_terminal(terminal: TerminalString, set: &mut TerminalSet) -> Result<(), AllocError> {
+    let place = set.all.len();
+    set.bits.insert(terminal.try_clone()?, place)?;
+    set.all.push(terminal)
 }

@@ -27,14 +27,14 @@ pub(crate) const MOST_PASSES: usize = 4_294_967_298;
 
 /// What trees are folded by: plain productions after inlining, and the written choices that their given actions stand for.
 #[derive(Clone, Copy)]
-pub(crate) struct Folder<'g> {
+pub(crate) struct Folder<'g, 'l> {
     pub(crate) alloc: Global,
     pub(crate) grammar: &'g Grammar,
     pub(crate) origins: &'g [Origin],
     /// The productions before inlining.
     pub(crate) lowered: &'g Grammar,
     /// Those after it by the choices that they stand for.
-    pub(crate) labels: &'g LabelTable,
+    pub(crate) labels: &'l LabelTable,
 }
 
 /// The leaf to which the part is folded.
@@ -79,7 +79,7 @@ fn is_same_terminal(a: &TerminalString, b: &TerminalString) -> bool
     *a == *b
 }
 
-impl<'g> Folder<'g> {
+impl<'g> Folder<'g, '_> {
     /// The tree of the symbol to which the part is folded, by at most so many productions that pass it down.
     #[cycle(folding)]
     fn tree_of_symbol(

@@ -22,7 +22,7 @@ fn is_inlined(grammar: &Grammar, name: &NonterminalString) -> bool {
     }
 }
 
-impl Folder<'_> {
+impl Folder<'_, '_> {
     /// The place, among those of the nonterminal, of the production that stands for the choices which the part looks like; 0 where there is
     /// none.
     pub(crate) fn likely_place(

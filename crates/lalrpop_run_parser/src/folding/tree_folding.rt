@@ -32,12 +32,13 @@ pub fn fold<'p>(
     forests_correspond();
     prepared.known();
     let grammar = prepared.expansion();
+    let labels = prepared.labels(alloc)?;
     let folder = Folder {
         alloc,
         grammar,
         origins: prepared.origins(),
         lowered: prepared.lowered(),
-        labels: prepared.labels(),
+        labels: &labels,
     };
     let whole = TreePart {
         piece: Piece::Whole(tree),

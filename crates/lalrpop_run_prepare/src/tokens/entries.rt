@@ -34,12 +34,7 @@ pub fn terminals_of(
 fn terminal_of(entry: MatchEntry) -> Option<TerminalString>
     ensures { option_map terminal_view result ≡ terminal_unless_skip (scan_entry (intern_entry_view entry)) }
 {
-    let MatchEntry {
-        precedence: _,
-        match_literal: _,
-        user_name,
-    } = entry;
-    match user_name {
+    match entry.into_user_name() {
         MatchMapping::Terminal(terminal) => Some(terminal),
         MatchMapping::Skip => None,
     }

@@ -1,6 +1,6 @@
 //! Inlining: in which order, and into which productions.
 
-use crate::check::check;
+use crate::check::{boxed, check};
 use crate::given::{grammar_of, prepared_grammar, usual_session};
 use crate::parses::grammars::{NESTED, ROUND, TWICE};
 use lalrpop_grammar::{Atom, Grammar as WrittenGrammar, NonterminalString, Span};
@@ -24,10 +24,10 @@ fn normalized_grammar(rt: &impl Abort, alloc: Global, json: &str) -> Box<Normali
     Box::new(alloc, made).expect(rt, "memory")
 }
 
-/// The order in which the rules of the grammar that the JSON spells are inlined.
-fn order_of(rt: &impl Abort, alloc: Global, json: &str) -> Order {
+/// The order in which the rules of the grammar that the JSON spells are inlined, in a box.
+fn order_of(rt: &impl Abort, alloc: Global, json: &str) -> Box<Order> {
     let made = normalized_grammar(rt, alloc, json);
-    inline_order(alloc, &made.grammar)
+    boxed(rt, alloc, inline_order(alloc, &made.grammar))
 }
 
 /// A grammar in which nothing is inlined any more, or why there is none.
@@ -50,13 +50,20 @@ fn inlining_of_json(rt: &impl Abort, alloc: Global, json: &str) -> Box<Inlined> 
     inlining_of(alloc, written).expect(rt, "a normal grammar")
 }
 
+/// Whether they are the rule B before the rule A.
+fn are_inner_and_outer(names: &[NonterminalString]) -> bool {
+    match names {
+        [first, second] => first.0.as_str() == "B" && second.0.as_str() == "A",
+        _ => false,
+    }
+}
+
 #[test]
 fn a_rule_that_another_names_is_inlined_before_it(rt: HostRuntime) {
-    let order = order_of(&rt, rt.alloc(), NESTED).expect(&rt, "an order");
-    let [first, second] = order.as_slice() else {
-        panic!(rt; "not two rules");
-    };
-    check(&rt, (first.0.as_str(), second.0.as_str()) == ("B", "A"));
+    match &*order_of(&rt, rt.alloc(), NESTED) {
+        Ok(order) => check(&rt, are_inner_and_outer(order.as_slice())),
+        Err(_) => panic!(rt; "no order"),
+    }
 }
 
 /// Puts the symbols behind the text, a blank before each.
@@ -127,17 +134,18 @@ fn before_inlining_a_rule_names_the_inlined_one(rt: HostRuntime) {
 }
 
 /// That the rule `A`, which stands there, would be inlined into itself.
-fn round_fault(rt: &impl Abort, alloc: Global) -> InlineFault {
+fn round_fault(rt: &impl Abort, alloc: Global) -> Box<InlineFault> {
     let name = NonterminalString(Atom::new(alloc, "A").expect(rt, "memory"));
-    InlineFault::Norm(NormError {
+    let fault = InlineFault::Norm(NormError {
         kind: NormErrorKind::CyclicInline(name),
         span: Span(13, 24),
-    })
+    });
+    boxed(rt, alloc, fault)
 }
 
 /// That this is why the rules have no order.
 fn has_no_order(rt: &impl Abort, alloc: Global, fault: &InlineFault) {
-    match &order_of(rt, alloc, ROUND) {
+    match &*order_of(rt, alloc, ROUND) {
         Ok(_) => panic!(rt; "an order"),
         Err(found) => check(rt, *found == *fault),
     }

@@ -106,7 +106,8 @@ fn new_table_tells_places(rt: &impl Abort, alloc: Global, prepared: &Prepared) {
 }
 
 fn finds_labels(rt: &impl Abort, alloc: Global, prepared: &Prepared) {
-    tells_places(rt, alloc, prepared, prepared.labels());
+    let whole = prepared.labels(alloc).expect(rt, "memory");
+    tells_places(rt, alloc, prepared, &whole);
     new_table_tells_places(rt, alloc, prepared);
 }
 

@@ -1,4 +1,4 @@
-use Rattle.std.proofs.Common.{◌≡◌, ◌∙◌, ◌+◌, ◌++◌, [], ap, arith, length, map, subst, suc, sym}
+use Rattle.std.proofs.Common.{◌≡◌, ◌∙◌, ◌+◌, [], ap, arith, drop, length, map, subst, suc, sym}
 use Rattle.std.specs.Prelude.{filter}
 use Rattle.std.proofs.lemmas.Result.{err_from_is_err_and}
 use Rattle.lalrpop_grammar.specs.Views.{grammar_view}
@@ -9,23 +9,23 @@ use Rattle.lalrpop_grammar_rules.specs.Views.{closed_view}
 use Rattle.lalrpop_norm_keys.specs.Tables.{table_keys}
 use Rattle.lalrpop_norm_theory.specs.CallPlaces.{IsMadeAt}
 use Rattle.lalrpop_norm_keys.specs.FoundCalls.{FindsCalls}
-use Rattle.lalrpop_norm_keys.proofs.FoundLemmas.{all_found_by, deep_found, deep_told, first_too_deep, found_first, later_calls}
+use Rattle.lalrpop_norm_keys.proofs.FoundLemmas.{all_found_by, deep_found, deep_told, first_too_deep, found_first}
 use Rattle.lalrpop_norm_keys.proofs.FoundLemmas.{later_stands, next_stands, plain_are_made, round_kept, told_of_any, told_of_made}
 use Rattle.lalrpop_norm_keys.proofs.rounds.find_calls.Goals as goal
 
-pub returns-in_err-add_round-clause-fault : goal.returns-in_err-add_round-clause-fault
-returns-in_err-add_round-clause-fault g c =
+pub returns-in_err-next-clause-fault : goal.returns-in_err-next-clause-fault
+returns-in_err-next-clause-fault g c =
     let t = rules_with (g.F.Finder.finds c.args.finder.now) c.args.rules.now in
     let features = c.args.rules.now.features.now in
     let rs = rules_of (grammar_view c.args.grammar.now).items in
     let callers = map closed_view c.in_ok-callers.callers in
-    let p = err_from_is_err_and c.from_residual-in_err-add_round.result c.from_residual-in_err-add_round.ensures.1 in
+    let p = err_from_is_err_and c.from_residual-in_err-next.result c.from_residual-in_err-next.ensures.1 in
     rw (p.1, p.2)
     (λ can. told_of_made t 0 callers
     (plain_are_made t features rs
     (ap (λ w. map (enabled_rule features) (filter (λ r. is_active features r.attributes) (rules_of w.items))) c.requires.of_grammar)
     can.enabled can.single can.flat callers c.in_ok-callers.ensures) (g.F.Finder.too_deep c.args.finder.now) _
-    (rw c.as_slice.ensures at c.in_err-add_round.ensures.fault))
+    (rw c.as_slice.ensures at c.in_err-next.ensures.fault))
 
 pub loop-round-init : goal.loop-round-init
 loop-round-init g c =
@@ -35,61 +35,58 @@ loop-round-init g c =
     let rules_are = ap (λ w. map (enabled_rule features) (filter (λ r. is_active features r.attributes) (rules_of w.items)))
     c.requires.of_grammar in
     let callers = map closed_view c.in_ok-callers.callers in
-    let all = table_keys c.add_round.new.calls in
+    let all = table_keys c.next_round.new.calls in
     let next = map closed_view c.in_ok-next.next in
-    let same : all ≡ next = sym c.keys.ensures ∙ ap (map closed_view) (sym c.in_ok-next.ensures) in
+    let same : next ≡ all = c.in_ok-next.ensures.next ∙ ap (λ l. drop (length l) all) c.new-calls.ensures.empty in
     let found : FindsCalls t callers [] all =
-    subst (λ l. FindsCalls t callers l all) c.new-calls.ensures.empty (rw c.as_slice.ensures at c.in_ok-add_round.ensures.found) in
+    subst (λ l. FindsCalls t callers l all) c.new-calls.ensures.empty (rw c.as_slice.ensures at c.in_ok-next.ensures.found) in
     record {
       low = omega arith;
-      index = c.in_ok-add_round.ensures.index;
-      stand = later_stands t callers [] all next found (sym same);
+      index = c.in_ok-next.ensures.index;
+      stand = later_stands t callers [] all next found same;
       made = λ can. plain_are_made t features rs rules_are can.enabled can.single can.flat callers c.in_ok-callers.ensures;
       walked = λ can. (
         [],
-        same,
+        sym same,
         found_first t features rs rules_are can.enabled can.single can.flat next
-            (subst (λ ys. FindsCalls t ys [] next) c.in_ok-callers.ensures (subst (λ l. FindsCalls t callers [] l) same found)),
+            (subst (λ ys. FindsCalls t ys [] next) c.in_ok-callers.ensures (subst (λ l. FindsCalls t callers [] l) (sym same) found)),
       );
     }
 
-pub returns-in_err-add_round-2-clause-fault : goal.returns-in_err-add_round-2-clause-fault
-returns-in_err-add_round-2-clause-fault g c =
+pub returns-in_err-later-clause-fault : goal.returns-in_err-later-clause-fault
+returns-in_err-later-clause-fault g c =
     let t = rules_with (g.F.Finder.finds c.args.finder.now) c.args.rules.now in
     let next = map closed_view c.loop-round.next in
-    let p = err_from_is_err_and c.from_residual-in_err-add_round-2.result c.from_residual-in_err-add_round-2.ensures.1 in
+    let p = err_from_is_err_and c.from_residual-in_err-later.result c.from_residual-in_err-later.ensures.1 in
     rw (p.1, p.2)
     (λ can. told_of_made t (suc c.loop-round.round) next (c.loop-round.invariant.walked can).2.next_chains
-    (g.F.Finder.too_deep c.args.finder.now) _ (rw c.as_slice-in-loop-round.ensures at c.in_err-add_round-2.ensures.fault))
+    (g.F.Finder.too_deep c.args.finder.now) _ (rw c.as_slice-in-loop-round.ensures at c.in_err-later.ensures.fault))
 
-pub returns-in_err-add_round-2-clause-condition : goal.returns-in_err-add_round-2-clause-condition
-returns-in_err-add_round-2-clause-condition g c =
-    let p = err_from_is_err_and c.from_residual-in_err-add_round-2.result c.from_residual-in_err-add_round-2.ensures.1 in
+pub returns-in_err-later-clause-condition : goal.returns-in_err-later-clause-condition
+returns-in_err-later-clause-condition g c =
+    let p = err_from_is_err_and c.from_residual-in_err-later.result c.from_residual-in_err-later.ensures.1 in
     rw (p.1, p.2)
     (told_of_any (rules_with (g.F.Finder.finds c.args.finder.now) c.args.rules.now) (g.F.Finder.too_deep c.args.finder.now)
-    (map closed_view c.as_slice-in-loop-round.result.now) _ c.in_err-add_round-2.ensures.fault)
+    (map closed_view c.as_slice-in-loop-round.result.now) _ c.in_err-later.ensures.fault)
 
 pub loop-round-preserved : goal.loop-round-preserved
 loop-round-preserved g c =
     let t = rules_with (g.F.Finder.finds c.args.finder.now) c.args.rules.now in
     let next = map closed_view c.loop-round.next in
     let known = table_keys c.loop-round.calls in
-    let all = table_keys c.add_round-in-loop-round.new.calls in
-    let later = map closed_view c.in_ok-next-2.next in
+    let all = table_keys c.next_round-in-loop-round.new.calls in
+    let later = map closed_view c.in_ok-later.later in
     let deeper : suc c.loop-round.round ≡ c.loop-round.round + 1 = omega arith in
-    let found : FindsCalls t next known all = rw c.as_slice-in-loop-round.ensures at c.in_ok-add_round-2.ensures.found in
+    let found : FindsCalls t next known all = rw c.as_slice-in-loop-round.ensures at c.in_ok-later.ensures.found in
     record {
       low = omega arith;
-      index = c.in_ok-add_round-2.ensures.index;
-      stand = later_stands t next known all later found
-          (later_calls c.keys-known.result.now c.keys-in-loop-round.result.now c.in_ok-next-2.next known all
-          c.keys-known.ensures c.keys-in-loop-round.ensures c.in_ok-next-2.ensures);
+      index = c.in_ok-later.ensures.index;
+      stand = later_stands t next known all later found c.in_ok-later.ensures.next;
       made = λ can y i. subst (λ k. IsMadeAt t k y) deeper ((c.loop-round.invariant.walked can).2.next_chains y i);
       walked = λ can.
           let w = c.loop-round.invariant.walked can in
           round_kept t can.flat c.loop-round.round w.0 next all later w.2 (subst (λ l. FindsCalls t next l all) w.1 found)
-          (later_calls c.keys-known.result.now c.keys-in-loop-round.result.now c.in_ok-next-2.next (w.0 ++ next) all
-          (c.keys-known.ensures ∙ w.1) c.keys-in-loop-round.ensures c.in_ok-next-2.ensures);
+          (c.in_ok-later.ensures.next ∙ ap (λ l. drop (length l) all) w.1);
     }
 
 pub tell_deep_call-requires-clause-stands : goal.tell_deep_call-requires-clause-stands

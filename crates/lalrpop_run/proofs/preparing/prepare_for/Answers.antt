@@ -1,5 +1,6 @@
-use Rattle.std.proofs.Common.{ap, subst, sym}
+use Rattle.std.proofs.Common.{◌∙◌, ◌++◌, ap, subst, sym}
 use Rattle.std.proofs.lemmas.Result.{err_from_is_err_and}
+use Rattle.lalrpop_grammar_symbols.specs.Symbols.{Text}
 use Rattle.lalrpop_grammar.specs.declared.grammar.Grammar.{Grammar}
 use Rattle.lalrpop_grammar.specs.Views.{grammar_view}
 use Rattle.lalrpop_grammar_repr.specs.declared.session.Session.{Session}
@@ -20,6 +21,8 @@ returns-clause-prepared c = λ read.
       features_are = ap (λ (s : Session). s.features.items) is.session;
       limit_is = ap (λ (s : Session). s.macro_recursion_limit) is.session;
       start_is = is.start;
+      name_is = c.known.ensures.prefixed ∙ ap (λ (w : Grammar). w.prefix ++ c.in_ok-prepared.prepared.start) is.written
+          ∙ ap (λ (s : Text). c.args.grammar.prefix ++ s) is.start;
       prepared = c.known.ensures.prepared (subst (λ (w : Grammar). IsReadGrammar (grammar_view w)) (sym is.written) read);
     })
 

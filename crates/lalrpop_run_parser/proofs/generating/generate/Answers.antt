@@ -1,6 +1,6 @@
 use Rattle.std.proofs.Common.{◌∙◌, List, Option, ap, length, subst, sym}
 use Rattle.lalrpop_grammar_symbols.specs.declared.terminal.TerminalString.{TerminalString}
-use Rattle.lalrpop_run_parser.proofs.GenerateLemmas.{conflicts_stand, conflicts_told, is_table, one_tree_each, states_checked}
+use Rattle.lalrpop_run_parser.proofs.GenerateLemmas.{conflicts_stand, is_table, one_tree_each, refusal_told, states_checked}
 use Rattle.lalrpop_run_parser.proofs.GenerateLemmas.{states_counted}
 use Rattle.lalrpop_grammar_repr.specs.declared.grammar.Grammar.{Grammar}
 use Rattle.lalrpop_lane.specs.BuilderAnswers.{AreLr1By}
@@ -64,16 +64,15 @@ returns-in_ok-columns-in-Ok-clause-one_tree c =
     one_tree_each v c.in-Ok.states.items checked c.one_written_tree.ensures (c.known.ensures.prepared read) read
     c.known.ensures.prefixed
 
-pub witnesses-requires : goal.witnesses-requires
-witnesses-requires c =
+pub conflicts_refusal-requires : goal.conflicts_refusal-requires
+conflicts_refusal-requires c =
     conflicts_stand c.args.prepared.now c.expansion.result.now c.in_ok-start.start c.expansion.ensures
     (c.in_ok-start.ensures ∙ c.start_name.ensures) c.in-Err-Conflicts.field-0 c.in-Err-Conflicts.error
     c.in-Err-Conflicts.field-0-is c.in-Err-Conflicts.ensures.fault
 
-pub returns-in_ok-certificates-in-Err-Conflicts-clause-refused : goal.returns-in_ok-certificates-in-Err-Conflicts-clause-refused
-returns-in_ok-certificates-in-Err-Conflicts-clause-refused c =
-    conflicts_told c.args.prepared.now c.expansion.result.now c.in_ok-start.start c.expansion.ensures
+pub returns-in-Err-Conflicts-clause-refused : goal.returns-in-Err-Conflicts-clause-refused
+returns-in-Err-Conflicts-clause-refused c =
+    refusal_told c.args.prepared.now c.expansion.result.now c.in_ok-start.start c.expansion.ensures
     (c.in_ok-start.ensures ∙ c.start_name.ensures) c.in-Err-Conflicts.field-0 c.in-Err-Conflicts.error
-    c.in_ok-certificates-in-Err-Conflicts.certificates.items c.in-Err-Conflicts.field-0-is
-    c.in_ok-certificates-in-Err-Conflicts.ensures c.in-Err-Conflicts.ensures.fault c.in-Err-Conflicts.ensures.lr1
-    c.known.ensures.parsed
+    c.conflicts_refusal.result c.in-Err-Conflicts.field-0-is c.conflicts_refusal.ensures c.in-Err-Conflicts.ensures.fault
+    c.in-Err-Conflicts.ensures.lr1 c.known.ensures.parsed

@@ -35,9 +35,9 @@ returns-in_err-scanner-clause-refused c =
     let p = err_from_is_err_and c.from_residual-in_err-scanner.result c.from_residual-in_err-scanner.ensures.1 in
     rw p.1 (λ read. IsPrepareRefusal.before (IsGrammarRefusal.memory p.2))
 
-pub returns-in_err-start-clause-refused : goal.returns-in_err-start-clause-refused
-returns-in_err-start-clause-refused c =
-    let p = err_from_is_err_and c.from_residual-in_err-start.result c.from_residual-in_err-start.ensures.1 in
+pub returns-in_err-own_start-clause-refused : goal.returns-in_err-own_start-clause-refused
+returns-in_err-own_start-clause-refused c =
+    let p = err_from_is_err_and c.from_residual-in_err-own_start.result c.from_residual-in_err-own_start.ensures.1 in
     rw p.1 (λ read. IsPrepareRefusal.before (IsGrammarRefusal.memory p.2))
 
 pub returns-clause-prepared : goal.returns-clause-prepared
@@ -46,9 +46,6 @@ returns-clause-prepared c =
     subst (λ (g : Grammar). IsReadGrammar (grammar_view g)
     → IsNormalizedFor finds is_too_deep c.args.session.now.features.items c.args.session.now.macro_recursion_limit c.args.start.now
     (grammar_view g) c.in_ok-made.made c.in_ok-made.dfa) c.in_ok-copy.ensures c.in_ok-made.ensures.made in
-    prepared_where_read finds is_too_deep _ c.in_ok-made.made c.in_ok-made.dfa c.args.start.now refl refl c.in_ok-start.ensures
+    prepared_where_read finds is_too_deep _ c.in_ok-made.made c.in_ok-made.dfa c.args.start.now refl refl c.in_ok-own_start.ensures
     c.in_ok-expanded.ensures.name c.in_ok-expanded.ensures.terminals c.in_ok-expanded.ensures.parsed
-    c.in_ok-expanded.ensures.inlined c.in_ok-made.ensures.ready c.known.ensures normal c.in_ok-scanner.ensures
-
-pub returns-clause-labels : goal.returns-clause-labels
-returns-clause-labels c = c.in_ok-expanded.ensures.labels
+    c.in_ok-expanded.ensures.none c.in_ok-expanded.ensures.inlined c.in_ok-made.ensures.ready c.known.ensures normal c.in_ok-scanner.ensures

@@ -7,4 +7,4 @@ returns-in_err-parts-clause-refused c =
     rw (p.1, p.2) c.in_err-parts.ensures.refused
 
 pub invariant_of-result : goal.invariant_of-result
-invariant_of-result c = (c.in_ok-parts.ensures.prepared, c.in_ok-parts.ensures.labels)
+invariant_of-result c = c.in_ok-parts.ensures.prepared

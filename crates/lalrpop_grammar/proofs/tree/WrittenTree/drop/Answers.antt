@@ -2,10 +2,7 @@ use Rattle.std.proofs.Common.{◌≡◌, get_or, suc, ◌+◌, ◌≤◌, sym, a
 use Rattle.lalrpop_grammar.proofs.DropLemmas.{IsBelow, below-none, below-some, count, count_kept, count-Group, count-List, count-Rule}
 use Rattle.lalrpop_grammar.proofs.TakingApartLemmas.{fewer_are_less, first-within, has_first, smaller_is_less, total, total-last, total-set}
 use Rattle.lalrpop_grammar.proofs.tree.WrittenTree.drop.Goals as goal
-use Rattle.lalrpop_grammar.proofs.tree.WrittenTree.drop.Goals.{in-Rule, in-List, in-Opt+in-None, in-Group, in-Look}
-use Rattle.lalrpop_grammar.proofs.tree.WrittenTree.drop.Goals.{in-Terminal+in-Literal+in-Quoted-1}
-use Rattle.lalrpop_grammar.proofs.tree.WrittenTree.drop.Goals.{in-Terminal+in-Literal+in-Regex-1, in-Terminal+in-Bare-1}
-use Rattle.lalrpop_grammar.proofs.tree.WrittenTree.drop.Goals.{in-Terminal+in-Error-1}
+use Rattle.lalrpop_grammar.proofs.tree.WrittenTree.drop.Goals.{in-Rule, in-List, in-Opt+in-None, in-Group, in-Terminal, in-Look}
 use Rattle.lalrpop_grammar.proofs.tree.WrittenTree.drop.Goals.{in-Some-below+then-is_empty}
 use Rattle.lalrpop_grammar.proofs.tree.WrittenTree.drop.Goals.{in-Some-below+else-is_empty+in-None-kept, in_default}
 
@@ -16,10 +13,7 @@ loop-self-smaller-in-Some-kept c =
       | in-List w ↦ below-some _ _ _ _ w.below-is w.into_vec-in-List.ensures (count-List _ _ w.in-List.is)
       | in-Opt+in-None w ↦ below-none _ _ w.below-is
       | in-Group w ↦ below-some _ _ _ _ w.below-is w.into_vec-in-Group.ensures (count-Group _ _ w.in-Group.is)
-      | in-Terminal+in-Literal+in-Quoted-1 w ↦ below-none _ _ w.below-is
-      | in-Terminal+in-Literal+in-Regex-1 w ↦ below-none _ _ w.below-is
-      | in-Terminal+in-Bare-1 w ↦ below-none _ _ w.below-is
-      | in-Terminal+in-Error-1 w ↦ below-none _ _ w.below-is
+      | in-Terminal w ↦ below-none _ _ w.below-is
       | in-Look w ↦ below-none _ _ w.below-is
     ] in
     let same = ap count_kept c.in-Some-below.is in
@@ -38,10 +32,7 @@ loop-self-preserved-in-Some-kept c =
       | in-List w ↦ below-some _ _ _ _ w.below-is w.into_vec-in-List.ensures (count-List _ _ w.in-List.is)
       | in-Opt+in-None w ↦ below-none _ _ w.below-is
       | in-Group w ↦ below-some _ _ _ _ w.below-is w.into_vec-in-Group.ensures (count-Group _ _ w.in-Group.is)
-      | in-Terminal+in-Literal+in-Quoted-1 w ↦ below-none _ _ w.below-is
-      | in-Terminal+in-Literal+in-Regex-1 w ↦ below-none _ _ w.below-is
-      | in-Terminal+in-Bare-1 w ↦ below-none _ _ w.below-is
-      | in-Terminal+in-Error-1 w ↦ below-none _ _ w.below-is
+      | in-Terminal w ↦ below-none _ _ w.below-is
       | in-Look w ↦ below-none _ _ w.below-is
     ] in
     let same = ap count_kept c.in-Some-below.is in
@@ -59,10 +50,7 @@ loop-self-smaller-then-is_empty-2 c =
       | in-List w ↦ below-some _ _ _ _ w.below-is w.into_vec-in-List.ensures (count-List _ _ w.in-List.is)
       | in-Opt+in-None w ↦ below-none _ _ w.below-is
       | in-Group w ↦ below-some _ _ _ _ w.below-is w.into_vec-in-Group.ensures (count-Group _ _ w.in-Group.is)
-      | in-Terminal+in-Literal+in-Quoted-1 w ↦ below-none _ _ w.below-is
-      | in-Terminal+in-Literal+in-Regex-1 w ↦ below-none _ _ w.below-is
-      | in-Terminal+in-Bare-1 w ↦ below-none _ _ w.below-is
-      | in-Terminal+in-Error-1 w ↦ below-none _ _ w.below-is
+      | in-Terminal w ↦ below-none _ _ w.below-is
       | in-Look w ↦ below-none _ _ w.below-is
     ] in
     let fewer : suc (count_kept c.match-below.kept) ≤ count c.loop-self.self + count_kept c.loop-self.kept = elim c.match-below.branch [
@@ -81,10 +69,7 @@ loop-self-smaller c =
       | in-List w ↦ below-some _ _ _ _ w.below-is w.into_vec-in-List.ensures (count-List _ _ w.in-List.is)
       | in-Opt+in-None w ↦ below-none _ _ w.below-is
       | in-Group w ↦ below-some _ _ _ _ w.below-is w.into_vec-in-Group.ensures (count-Group _ _ w.in-Group.is)
-      | in-Terminal+in-Literal+in-Quoted-1 w ↦ below-none _ _ w.below-is
-      | in-Terminal+in-Literal+in-Regex-1 w ↦ below-none _ _ w.below-is
-      | in-Terminal+in-Bare-1 w ↦ below-none _ _ w.below-is
-      | in-Terminal+in-Error-1 w ↦ below-none _ _ w.below-is
+      | in-Terminal w ↦ below-none _ _ w.below-is
       | in-Look w ↦ below-none _ _ w.below-is
     ] in
     let fewer : suc (count_kept c.match-below.kept) ≤ count c.loop-self.self + count_kept c.loop-self.kept = elim c.match-below.branch [
@@ -103,10 +88,7 @@ loop-self-preserved c =
       | in-List w ↦ below-some _ _ _ _ w.below-is w.into_vec-in-List.ensures (count-List _ _ w.in-List.is)
       | in-Opt+in-None w ↦ below-none _ _ w.below-is
       | in-Group w ↦ below-some _ _ _ _ w.below-is w.into_vec-in-Group.ensures (count-Group _ _ w.in-Group.is)
-      | in-Terminal+in-Literal+in-Quoted-1 w ↦ below-none _ _ w.below-is
-      | in-Terminal+in-Literal+in-Regex-1 w ↦ below-none _ _ w.below-is
-      | in-Terminal+in-Bare-1 w ↦ below-none _ _ w.below-is
-      | in-Terminal+in-Error-1 w ↦ below-none _ _ w.below-is
+      | in-Terminal w ↦ below-none _ _ w.below-is
       | in-Look w ↦ below-none _ _ w.below-is
     ] in
     let fewer : suc (count_kept c.match-below.kept) ≤ count c.loop-self.self + count_kept c.loop-self.kept = elim c.match-below.branch [

@@ -22,8 +22,8 @@ returns-in-Some c = λ read e.
     refl c.known.ensures.prefixed
     c.known.ensures.named
 
-pub returns-in-None : goal.returns-in-None
-returns-in-None c = λ read.
+pub returns : goal.returns
+returns c = λ read.
     let v = c.args.prepared.now in
     let whole : TreePart = record { piece = pieces.Whole c.args.tree; is_inside = false } in
     let p = c.known.ensures.prepared read in

@@ -15,7 +15,7 @@ returns-in_err-made-clause-refused c =
     let w = grammar_view c.args.grammar in
     let fs = c.args.session.now.features.items in
     let carried = subst (λ (l : List Text). IsCarried finds l w) c.as_slice-features.ensures.value
-    (c.in_ok-refuse_uncarried.ensures.carried finds) in
+    (c.in_ok-found.ensures.carried finds) in
     let p = err_from_is_err_and c.from_residual-in_err-made.result c.from_residual-in_err-made.ensures.1 in
     rw p.1 (λ read. fault_told finds is_too_deep fs c.args.session.now.macro_recursion_limit c.args.start.now w p.0
     c.in_err-made.field-0.0 carried (c.in_err-made.ensures.refused (normalizable finds fs w read carried)) p.2)
@@ -27,7 +27,7 @@ returns-in_err-refuse_start-clause-refused c =
     let start = c.args.start.now in
     let found = c.in_ok-found.found in
     let same = c.as_slice-features.ensures.value in
-    let carried = subst (λ (l : List Text). IsCarried finds l w) same (c.in_ok-refuse_uncarried.ensures.carried finds) in
+    let carried = subst (λ (l : List Text). IsCarried finds l w) same (c.in_ok-found.ensures.carried finds) in
     let known = subst (λ (l : List Text). is_known found ≡ has_start start false (enabled_grammar finds l w)) same
     (c.in_ok-found.ensures.known finds) in
     let public = subst (λ (l : List Text). is_public_start found ≡ has_start start true (enabled_grammar finds l w)) same
@@ -44,7 +44,7 @@ returns-clause-made c =
     let start = c.args.start.now in
     let found = c.in_ok-found.found in
     let same = c.as_slice-features.ensures.value in
-    let carried = subst (λ (l : List Text). IsCarried finds l w) same (c.in_ok-refuse_uncarried.ensures.carried finds) in
+    let carried = subst (λ (l : List Text). IsCarried finds l w) same (c.in_ok-found.ensures.carried finds) in
     let public = subst (λ (l : List Text). is_public_start found ≡ has_start start true (enabled_grammar finds l w)) same
     (c.in_ok-found.ensures.public finds) in
     λ read.
