@@ -1,19 +1,6 @@
 //! The program: a grammar's JSON on standard input, the answer on standard output, faults of the words on standard
 //! error.
-//!
-//! Its tests are of calls that no table of cases shows: readers and writers that fail, bounds, and the values of words.
 #![tactic(auto)]
-
-#[cfg(test)]
-mod check;
-#[cfg(test)]
-mod ends;
-#[cfg(test)]
-mod grammars;
-#[cfg(test)]
-mod streams;
-#[cfg(test)]
-mod words;
 
 use lalrpop_grammar_streams::Watched;
 use lalrpop_run::{Options, OptionsError, options, run_words};

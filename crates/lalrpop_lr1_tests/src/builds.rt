@@ -3,19 +3,16 @@
 ghost use Rattle.lalrpop_lr1_first.specs.NumberedGrammars.{HasItsTerminals};
 
 use crate::check::{check, text_is};
-use crate::grammars::{grammar_of, name_of};
+use crate::grammars::{PAIRS, grammar_of, name_of};
 use lalrpop_grammar_repr::{Grammar, Map};
-use lalrpop_grammar_symbols::{NonterminalString, TerminalString};
+use lalrpop_grammar_symbols::NonterminalString;
 use lalrpop_lane::{Method, build_lalr_states, build_lr1_states, build_states};
-use lalrpop_lr1_build::{build_lr0_states, build_lr1_states_canonical};
 use lalrpop_lr1_check::check_states;
 use lalrpop_lr1_core::{Lr1State, StateIndex};
 use lalrpop_plain_tables::answers::has_its_terminals;
 use std::alloc::Global;
+use std::fmt::Display;
 use std::process::Abort;
-
-/// `__S = S; S = C C; C = "c" C or "d"`
-const PAIRS: &str = "__S: S\nS: C C\nC: \"c\" C\nC: \"d\"\n";
 
 /// The number of each canonical state, and where it leads.
 const CANONICAL: &str =
@@ -36,148 +33,127 @@ const COLLAPSED_IN_ORDER: &str =
 /// Lane tables.
 const LANES: Method = Method::Lane { copies: 9 };
 
-/// Adds where the nonterminals lead.
-fn add_gotos(rt: &impl Abort, gotos: &Map<NonterminalString, StateIndex>, text: &mut String) {
-    for (name, to) in gotos.iter() {
-        write!(text, " {name} {to}").expect(rt, "memory");
+/// Which states are made.
+#[derive(Clone, Copy)]
+enum Kind {
+    Lr1,
+    Lalr,
+    Ordered,
+}
+
+/// The states of that kind.
+fn states_of<'g>(
+    rt: &impl Abort,
+    alloc: Global,
+    grammar: &'g Grammar,
+    kind: Kind,
+    method: Method,
+) -> Vec<Lr1State<'g>>
+    requires { HasItsTerminals grammar.now }
+{
+    let start = name_of(rt, alloc, "__S");
+    let states = match kind {
+        Kind::Lr1 => build_lr1_states(alloc, grammar, start, method),
+        Kind::Lalr => build_lalr_states(alloc, grammar, start, method),
+        Kind::Ordered => build_states(alloc, grammar, start, method),
+    };
+    states.expect(rt, "states")
+}
+
+/// Adds where the symbol leads.
+fn push_edge<K: Display>(rt: &impl Abort, symbol: &K, to: StateIndex, text: &mut String) {
+    write!(text, " {symbol} {to}").expect(rt, "memory");
+}
+
+/// Adds where the symbols lead.
+fn push_edges<K: Ord + Display>(rt: &impl Abort, edges: &Map<K, StateIndex>, text: &mut String) {
+    for (symbol, to) in edges.iter() {
+        push_edge(rt, symbol, *to, text);
     }
 }
 
-/// Adds where the terminals lead.
-fn add_shifts(rt: &impl Abort, shifts: &Map<TerminalString, StateIndex>, text: &mut String) {
-    for (terminal, to) in shifts.iter() {
-        write!(text, " {terminal} {to}").expect(rt, "memory");
-    }
+/// Adds the number of the state, and where it leads.
+fn push_state(rt: &impl Abort, state: &Lr1State<'_>, text: &mut String) {
+    write!(text, "{}", state.index).expect(rt, "memory");
+    push_edges(rt, &state.gotos, text);
+    push_edges(rt, &state.shifts, text);
+    text.push_str("; ").expect(rt, "memory");
 }
 
-/// The number of each state, and where it leads.
-fn edges_text(rt: &impl Abort, alloc: Global, states: &[Lr1State<'_>]) -> String {
-    let mut text = String::new(alloc);
+/// Adds that of all states.
+fn push_states(rt: &impl Abort, states: &[Lr1State<'_>], text: &mut String) {
     for state in states {
-        write!(text, "{}", state.index).expect(rt, "memory");
-        add_gotos(rt, &state.gotos, &mut text);
-        add_shifts(rt, &state.shifts, &mut text);
-        text.push_str("; ").expect(rt, "memory");
+        push_state(rt, state, text);
     }
-    text
 }
 
-fn lr1_text(rt: &impl Abort, alloc: Global, grammar: &Grammar, method: Method) -> String
+/// That the states of that kind lead so, and may be parsed with.
+fn lead(
+    rt: &impl Abort,
+    alloc: Global,
+    grammar: &Grammar,
+    start: &NonterminalString,
+    kind: Kind,
+    method: Method,
+    wanted: &str,
+)
     requires { HasItsTerminals grammar.now }
 {
-    let start = name_of(rt, alloc, "__S");
-    let states = build_lr1_states(alloc, grammar, start, method).expect(rt, "states");
-    edges_text(rt, alloc, states.as_slice())
-}
-
-fn lalr_text(rt: &impl Abort, alloc: Global, grammar: &Grammar, method: Method) -> String
-    requires { HasItsTerminals grammar.now }
-{
-    let start = name_of(rt, alloc, "__S");
-    let states = build_lalr_states(alloc, grammar, start, method).expect(rt, "states");
-    edges_text(rt, alloc, states.as_slice())
-}
-
-fn by_either_method(rt: &impl Abort, alloc: Global, grammar: &Grammar)
-    requires { HasItsTerminals grammar.now }
-{
-    check(
-        rt,
-        text_is(lr1_text(rt, alloc, grammar, Method::Canonical), CANONICAL),
-    );
-    check(rt, text_is(lr1_text(rt, alloc, grammar, LANES), CANONICAL));
-    check(
-        rt,
-        text_is(lalr_text(rt, alloc, grammar, Method::Canonical), COLLAPSED),
-    );
-    check(rt, text_is(lalr_text(rt, alloc, grammar, LANES), CANONICAL));
-}
-
-#[test]
-fn states_by_either_method(rt: HostRuntime) {
-    let grammar = grammar_of(&rt, rt.alloc(), PAIRS);
-    by_either_method(&rt, rt.alloc(), &grammar);
-}
-
-fn text_in_order(rt: &impl Abort, alloc: Global, grammar: &Grammar, method: Method) -> String
-    requires { HasItsTerminals grammar.now }
-{
-    let start = name_of(rt, alloc, "__S");
-    let states = build_states(alloc, grammar, start, method).expect(rt, "states");
-    edges_text(rt, alloc, states.as_slice())
+    let states = states_of(rt, alloc, grammar, kind, method);
+    let mut text = String::new(alloc);
+    push_states(rt, states.as_slice(), &mut text);
+    check(rt, text_is(text, wanted));
+    let may = check_states(alloc, grammar, start, states.as_slice());
+    check(rt, may.expect(rt, "memory"));
 }
 
 /// The states of the canonical way are these; those of lane tables are the canonical ones, whatever the grammar asks for.
-fn in_order(rt: &impl Abort, alloc: Global, grammar: &Grammar, canonical: &str)
+fn lead_in_order(
+    rt: &impl Abort,
+    alloc: Global,
+    grammar: &Grammar,
+    start: &NonterminalString,
+    canonical: &str,
+)
     requires { HasItsTerminals grammar.now }
 {
-    check(
+    let kind = Kind::Ordered;
+    lead(
         rt,
-        text_is(
-            text_in_order(rt, alloc, grammar, Method::Canonical),
-            canonical,
-        ),
+        alloc,
+        grammar,
+        start,
+        kind,
+        Method::Canonical,
+        canonical,
     );
-    check(
-        rt,
-        text_is(text_in_order(rt, alloc, grammar, LANES), CANONICAL_IN_ORDER),
-    );
+    lead(rt, alloc, grammar, start, kind, LANES, CANONICAL_IN_ORDER);
 }
 
+fn lead_by_either_method(
+    rt: &impl Abort,
+    alloc: Global,
+    grammar: &Grammar,
+    start: &NonterminalString,
+)
+    requires { HasItsTerminals grammar.now }
+{
+    let canonical = Method::Canonical;
+    lead(rt, alloc, grammar, start, Kind::Lr1, canonical, CANONICAL);
+    lead(rt, alloc, grammar, start, Kind::Lr1, LANES, CANONICAL);
+    lead(rt, alloc, grammar, start, Kind::Lalr, canonical, COLLAPSED);
+    lead(rt, alloc, grammar, start, Kind::Lalr, LANES, CANONICAL);
+    lead_in_order(rt, alloc, grammar, start, CANONICAL_IN_ORDER);
+}
+
+// States with gotos come first.
 #[test]
-fn states_with_gotos_come_first(rt: HostRuntime) {
-    let mut grammar = grammar_of(&rt, rt.alloc(), PAIRS);
-    in_order(&rt, rt.alloc(), &grammar, CANONICAL_IN_ORDER);
+fn states_by_either_method_and_in_order(rt: HostRuntime) {
+    let alloc = rt.alloc();
+    let start = name_of(&rt, alloc, "__S");
+    let mut grammar = grammar_of(&rt, alloc, PAIRS);
+    lead_by_either_method(&rt, alloc, &grammar, &start);
     grammar.algorithm.lalr = true;
     check(&rt, has_its_terminals(&grammar));
-    in_order(&rt, rt.alloc(), &grammar, COLLAPSED_IN_ORDER);
-}
-
-fn counts_without(rt: &impl Abort, alloc: Global, grammar: &Grammar, start: &NonterminalString)
-    requires { HasItsTerminals grammar.now }
-{
-    let start = start.try_clone().expect(rt, "memory");
-    let states = build_lr0_states(alloc, grammar, start).expect(rt, "states");
-    check(rt, states.len() == 7);
-}
-
-fn checks_canonical(rt: &impl Abort, alloc: Global, grammar: &Grammar, start: &NonterminalString)
-    requires { HasItsTerminals grammar.now }
-{
-    let named = start.try_clone().expect(rt, "memory");
-    let states = build_lr1_states_canonical(alloc, grammar, named).expect(rt, "states");
-    check(rt, states.len() == 10);
-    check(
-        rt,
-        check_states(alloc, grammar, start, states.as_slice()).expect(rt, "memory"),
-    );
-}
-
-fn checks_collapsed(rt: &impl Abort, alloc: Global, grammar: &Grammar, start: &NonterminalString)
-    requires { HasItsTerminals grammar.now }
-{
-    let named = start.try_clone().expect(rt, "memory");
-    let method = Method::Canonical;
-    let states = build_lalr_states(alloc, grammar, named, method).expect(rt, "states");
-    check(rt, states.len() == 7);
-    check(
-        rt,
-        check_states(alloc, grammar, start, states.as_slice()).expect(rt, "memory"),
-    );
-}
-
-/// That LR(0), canonical and collapsed states have no conflict, and the last two may be parsed with.
-fn have_no_conflict(rt: &impl Abort, alloc: Global, grammar: &Grammar, start: &NonterminalString)
-    requires { HasItsTerminals grammar.now }
-{
-    counts_without(rt, alloc, grammar, start);
-    checks_canonical(rt, alloc, grammar, start);
-    checks_collapsed(rt, alloc, grammar, start);
-}
-
-#[test]
-fn states_without_conflicts(rt: HostRuntime) {
-    let start = name_of(&rt, rt.alloc(), "__S");
-    let grammar = grammar_of(&rt, rt.alloc(), PAIRS);
-    have_no_conflict(&rt, rt.alloc(), &grammar, &start);
+    lead_in_order(&rt, alloc, &grammar, &start, COLLAPSED_IN_ORDER);
 }

@@ -2,19 +2,21 @@
 
 ghost use Rattle.lalrpop_lr1_first.specs.NumberedGrammars.{HasItsTerminals};
 
-use lalrpop_grammar_repr::{Grammar, Production, Symbol};
+use lalrpop_grammar_repr::{Grammar, Production};
 use lalrpop_grammar_symbols::{Atom, NonterminalString, TerminalString};
 use lalrpop_plain_tables::answers::read_productions;
 use lalrpop_sets::Token;
 use std::alloc::Global;
 use std::process::Abort;
 
-/// The grammar of the lines. It is boxed, since of a box each path that drops it says so by one call.
-pub(crate) fn grammar_of(rt: &impl Abort, alloc: Global, lines: &str) -> Box<Grammar>
-    ensures { HasItsTerminals result.value }
+/// `__S = S; S = C C; C = "c" C or "d"`
+pub(crate) const PAIRS: &str = "__S: S\nS: C C\nC: \"c\" C\nC: \"d\"\n";
+
+/// The grammar of the lines.
+pub(crate) fn grammar_of(rt: &impl Abort, alloc: Global, lines: &str) -> Grammar
+    ensures { HasItsTerminals result }
 {
-    let grammar = read_productions(alloc, lines).expect(rt, "a grammar");
-    Box::new(alloc, grammar).expect(rt, "memory")
+    read_productions(alloc, lines).expect(rt, "a grammar")
 }
 
 /// The nonterminal of that name.
@@ -30,11 +32,6 @@ pub(crate) fn token_of(rt: &impl Abort, alloc: Global, text: &str) -> Token {
 /// The quoted terminal.
 pub(crate) fn terminal_of(rt: &impl Abort, alloc: Global, text: &str) -> TerminalString {
     TerminalString::quoted(Atom::new(alloc, text).expect(rt, "memory"))
-}
-
-/// The symbol of a quoted terminal.
-pub(crate) fn terminal_symbol(rt: &impl Abort, alloc: Global, text: &str) -> Symbol {
-    Symbol::Terminal(terminal_of(rt, alloc, text))
 }
 
 /// The production of the nonterminal at that place.

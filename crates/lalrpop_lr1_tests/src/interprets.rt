@@ -14,8 +14,8 @@ use lalrpop_grammar_symbols::NonterminalString;
 use lalrpop_lane::{Method, build_lalr_states};
 use lalrpop_lr1_barren::barren_nonterminal;
 use lalrpop_lr1_core::{Lr1State, TableFault};
-use lalrpop_lr1_interpret::{InterpretError, InterpretFault, interpret, interpret_partial};
-use lalrpop_plain_tables::answers::AnswerFault;
+use lalrpop_lr1_interpret::{InterpretFault, interpret_partial};
+use lalrpop_plain_tables::answers::{AnswerFault, answer_tokens};
 use lalrpop_plain_tables::lines::read_tokens;
 use std::alloc::{AllocError, Global};
 use std::process::Abort;
@@ -68,31 +68,13 @@ fn collapsed_states<'g>(
 }
 
 /// Where tokens are stuck, and on what.
-fn stuck_text(alloc: Global, error: &InterpretError<'_>) -> Result<String, AllocError> {
-    Ok(format!(in alloc; "{} {}", error.state.index, error.token)?)
-}
-
-/// The text of the fault.
-fn fault_text(alloc: Global, fault: InterpretFault<'_>) -> Result<String, AllocError> {
+fn stuck_text(alloc: Global, fault: InterpretFault<'_>) -> Result<String, AllocError> {
     match fault {
-        InterpretFault::Stuck(error) => stuck_text(alloc, &error),
+        InterpretFault::Stuck(error) => {
+            Ok(format!(in alloc; "{} {}", error.state.index, error.token)?)
+        }
         InterpretFault::Limit => String::from_str(alloc, "limit"),
         InterpretFault::Memory => Err(AllocError),
-    }
-}
-
-/// The tree of the tokens; or where they are stuck, and on what.
-fn tree_text(
-    alloc: Global,
-    states: &[Lr1State<'_>],
-    terminals: &TerminalSet,
-    tokens: &str,
-) -> Result<String, AllocError>
-    requires { AreParsable terminals.now states.now }
-{
-    match interpret(alloc, states, terminals, read_tokens(alloc, tokens)?) {
-        Ok(tree) => tree.to_string(alloc),
-        Err(fault) => fault_text(alloc, fault),
     }
 }
 
@@ -107,7 +89,7 @@ fn stack_text(
 {
     match interpret_partial(alloc, states, terminals, read_tokens(alloc, tokens)?) {
         Ok(stack) => Ok(format!(in alloc; "{stack:?}")?),
-        Err(fault) => fault_text(alloc, fault),
+        Err(fault) => stuck_text(alloc, fault),
     }
 }
 
@@ -115,18 +97,18 @@ fn stack_text(
 const TREE: &str =
     r#"[S: [E: [E: [T: "N"]], "-", [T: "(", [E: [E: [T: "N"]], "-", [T: "N"]], ")"]]]"#;
 
-fn trees(rt: &impl Abort, alloc: Global, states: &[Lr1State<'_>], terminals: &TerminalSet)
+fn have_trees(rt: &impl Abort, alloc: Global, states: &[Lr1State<'_>], terminals: &TerminalSet)
     requires { AreParsable terminals.now states.now }
 {
-    let text = tree_text(alloc, states, terminals, "N - ( N - N )").expect(rt, "memory");
+    let text = answer_tokens(alloc, states, terminals, "N - ( N - N )").expect(rt, "a tree");
     check(rt, text_is(text, TREE));
-    let text = tree_text(alloc, states, terminals, "N N").expect(rt, "memory");
-    check(rt, text_is(text, "4 \"N\""));
-    let text = tree_text(alloc, states, terminals, "").expect(rt, "memory");
-    check(rt, text_is(text, "0 Eof"));
+    let text = answer_tokens(alloc, states, terminals, "N N").expect(rt, "a state");
+    check(rt, text_is(text, r#"stuck in state 4 on "N""#));
+    let text = answer_tokens(alloc, states, terminals, "").expect(rt, "a state");
+    check(rt, text_is(text, "stuck in state 0 on Eof"));
 }
 
-fn stacks(rt: &impl Abort, alloc: Global, states: &[Lr1State<'_>], terminals: &TerminalSet)
+fn have_stacks(rt: &impl Abort, alloc: Global, states: &[Lr1State<'_>], terminals: &TerminalSet)
     requires { AreParsable terminals.now states.now }
 {
     let text = stack_text(alloc, states, terminals, "N").expect(rt, "memory");
@@ -134,21 +116,22 @@ fn stacks(rt: &impl Abort, alloc: Global, states: &[Lr1State<'_>], terminals: &T
     let text = stack_text(alloc, states, terminals, "").expect(rt, "memory");
     check(rt, text_is(text, "[S0]"));
     let text = stack_text(alloc, states, terminals, "N N").expect(rt, "memory");
-    check(rt, text_is(text, "4 \"N\""));
+    check(rt, text_is(text, r#"4 "N""#));
 }
 
 // State 0 leads by E to 1, by T to 2, by the parenthesis to 3, and by N to 4.
-fn trees_and_stacks(rt: &impl Abort, alloc: Global, grammar: &Grammar)
+fn collapsed_states_answer(rt: &impl Abort, alloc: Global, grammar: &Grammar)
     requires { HasItsTerminals grammar.now }
 {
     let start = name_of(rt, alloc, "S");
     let states = collapsed_states(alloc, grammar, &start).expect(rt, "states");
-    trees(rt, alloc, states.as_slice(), &grammar.terminals);
-    stacks(rt, alloc, states.as_slice(), &grammar.terminals);
+    have_trees(rt, alloc, states.as_slice(), &grammar.terminals);
+    have_stacks(rt, alloc, states.as_slice(), &grammar.terminals);
 }
 
 #[test]
 fn trees_and_stacks_by_collapsed_states(rt: HostRuntime) {
-    let grammar = grammar_of(&rt, rt.alloc(), DIFFERENCES);
-    trees_and_stacks(&rt, rt.alloc(), &grammar);
+    let alloc = rt.alloc();
+    let grammar = grammar_of(&rt, alloc, DIFFERENCES);
+    collapsed_states_answer(&rt, alloc, &grammar);
 }

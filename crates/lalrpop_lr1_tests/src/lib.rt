@@ -1,22 +1,27 @@
 //! Tests of the tables' layer that no table of cases can hold: sets and maps at concrete types, items, states and their conflicts,
-//! copies, and single calls that build states or parse by them.
+//! copies, paths and completions, and single calls that build states or parse by them.
 #![tactic(auto)]
 
-pub mod builder;
 #[cfg(test)]
 mod builds;
 #[cfg(test)]
 mod check;
 #[cfg(test)]
+mod completions;
+#[cfg(test)]
 mod firsts;
 #[cfg(test)]
 mod grammars;
+#[cfg(test)]
+mod graphs;
 #[cfg(test)]
 mod interprets;
 #[cfg(test)]
 mod items;
 #[cfg(test)]
 mod kernels;
+#[cfg(test)]
+mod moves;
 #[cfg(test)]
 mod multimaps;
 #[cfg(test)]

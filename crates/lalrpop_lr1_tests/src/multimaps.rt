@@ -6,36 +6,25 @@ use std::alloc::Global;
 use std::collections::BTreeSet;
 use std::process::Abort;
 
-/// Whether the set at the key grows by the character.
-fn grows(
-    rt: &impl Abort,
-    map: &mut Multimap<u32, BTreeSet<char>>,
-    key: u32,
-    character: char,
-) -> bool {
-    map.push(key, character).expect(rt, "memory")
+fn a_push_says_whether_a_set_grew(rt: &impl Abort, alloc: Global) {
+    let mut map: Multimap<u32, BTreeSet<char>> = Multimap::new(alloc);
+    check(rt, map.is_empty());
+    let first = map.push(0, 'a').expect(rt, "memory");
+    let second = map.push(0, 'b').expect(rt, "memory");
+    let again = map.push(0, 'b').expect(rt, "memory");
+    let other = map.push(1, 'a').expect(rt, "memory");
+    check(rt, first & second & !again & other);
+    check(rt, !map.is_empty() & map.get(&2).is_none());
+    check(rt, map.get(&0).expect(rt, "a set").len() == 2);
 }
 
-#[test]
-fn a_push_says_whether_a_set_grew(rt: HostRuntime) {
-    let mut map: Multimap<u32, BTreeSet<char>> = Multimap::new(rt.alloc());
-    check(&rt, map.is_empty());
-    check(&rt, grows(&rt, &mut map, 0, 'a'));
-    check(&rt, grows(&rt, &mut map, 0, 'b'));
-    check(&rt, !grows(&rt, &mut map, 0, 'b'));
-    check(&rt, grows(&rt, &mut map, 1, 'a'));
-    check(&rt, !map.is_empty());
-    check(&rt, map.get(&0).map(|set| set.len()) == Some(2));
-    check(&rt, map.get(&2).is_none());
-}
-
-#[test]
-fn a_push_says_whether_a_key_came(rt: HostRuntime) {
-    let mut map: Multimap<u32, ()> = Multimap::new(rt.alloc());
-    check(&rt, map.push(0, ()).expect(&rt, "memory"));
-    check(&rt, !map.push(0, ()).expect(&rt, "memory"));
-    check(&rt, map.push(1, ()).expect(&rt, "memory"));
-    check(&rt, !map.push(0, ()).expect(&rt, "memory"));
+fn a_push_says_whether_a_key_came(rt: &impl Abort, alloc: Global) {
+    let mut map: Multimap<u32, ()> = Multimap::new(alloc);
+    let first = map.push(0, ()).expect(rt, "memory");
+    let again = map.push(0, ()).expect(rt, "memory");
+    let other = map.push(1, ()).expect(rt, "memory");
+    let last = map.push(0, ()).expect(rt, "memory");
+    check(rt, first & !again & other & !last);
 }
 
 /// A map of one character at 1 and of two at 3.
@@ -47,39 +36,43 @@ fn two_keys(rt: &impl Abort, alloc: Global) -> Multimap<u32, Vec<char>> {
     Multimap::from_pairs(alloc, pairs).expect(rt, "memory")
 }
 
-/// That these are the keys, in order.
-fn has_keys(rt: &impl Abort, alloc: Global, map: &Multimap<u32, Vec<char>>, wanted: &[u32]) {
-    let mut keys = Vec::new(alloc);
-    for (key, _) in map.iter() {
-        keys.push(*key).expect(rt, "memory");
-    }
-    check(rt, keys.as_slice() == wanted);
+/// That the map has just the keys 1 and 3, in order.
+fn has_two_keys(rt: &impl Abort, map: &Multimap<u32, Vec<char>>) {
+    let mut entries = map.iter();
+    let (first, _) = entries.next().expect(rt, "an entry");
+    let (second, _) = entries.next().expect(rt, "an entry");
+    check(
+        rt,
+        (*first == 1) & (*second == 3) & entries.next().is_none(),
+    );
+}
+
+fn entries_stand_in_order_of_their_keys(rt: &impl Abort, alloc: Global) {
+    let map = two_keys(rt, alloc);
+    has_two_keys(rt, &map);
+    let mut entries = map.into_iter();
+    let (_, first) = entries.next().expect(rt, "an entry");
+    let (_, second) = entries.next().expect(rt, "an entry");
+    check(rt, (first.len() == 1) & (second.len() == 2));
+    check(rt, entries.next().is_none());
+}
+
+fn a_collection_says_whether_a_push_changed_it(rt: &impl Abort, alloc: Global) {
+    let mut list: Vec<u32> = Collection::empty(alloc);
+    let first = Collection::push(&mut list, 1).expect(rt, "memory");
+    let again = Collection::push(&mut list, 1).expect(rt, "memory");
+    let mut nothing: Nil = Collection::empty(alloc);
+    let same = Collection::push(&mut nothing, Nil).expect(rt, "memory");
+    let mut maps: Multimap<u32, Vec<u32>> = Collection::empty(alloc);
+    let put = Collection::push(&mut maps, (1, 2)).expect(rt, "memory");
+    check(rt, first & again & !same & put);
 }
 
 #[test]
-fn entries_stand_in_order_of_their_keys(rt: HostRuntime) {
-    let map = two_keys(&rt, rt.alloc());
-    has_keys(&rt, rt.alloc(), &map, &[1, 3]);
-    let mut lengths = Vec::new(rt.alloc());
-    for (_, list) in map {
-        lengths.push(list.len()).expect(&rt, "memory");
-    }
-    check(&rt, lengths.as_slice() == [1, 2].as_slice());
-}
-
-#[test]
-fn what_a_collection_says_of_a_push(rt: HostRuntime) {
-    let mut list: Vec<u32> = Collection::empty(rt.alloc());
-    check(&rt, Collection::push(&mut list, 1).expect(&rt, "memory"));
-    check(&rt, Collection::push(&mut list, 1).expect(&rt, "memory"));
-    let mut nothing: Nil = Collection::empty(rt.alloc());
-    check(
-        &rt,
-        !Collection::push(&mut nothing, Nil).expect(&rt, "memory"),
-    );
-    let mut maps: Multimap<u32, Vec<u32>> = Collection::empty(rt.alloc());
-    check(
-        &rt,
-        Collection::push(&mut maps, (1, 2)).expect(&rt, "memory"),
-    );
+fn maps_to_collections(rt: HostRuntime) {
+    let alloc = rt.alloc();
+    a_push_says_whether_a_set_grew(&rt, alloc);
+    a_push_says_whether_a_key_came(&rt, alloc);
+    entries_stand_in_order_of_their_keys(&rt, alloc);
+    a_collection_says_whether_a_push_changed_it(&rt, alloc);
 }

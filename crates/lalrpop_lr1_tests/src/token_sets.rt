@@ -1,9 +1,8 @@
-//! Sets of tokens.
+//! Tokens and sets of tokens.
 
-use crate::check::check;
+use crate::check::{check, is_shown, text_is};
 use crate::grammars::{grammar_of, terminal_of, token_of};
 use lalrpop_grammar_repr::TerminalSet;
-use lalrpop_grammar_symbols::TerminalString;
 use lalrpop_sets::{Collection, Token, TokenRef, TokenSet};
 use std::alloc::Global;
 use std::process::Abort;
@@ -11,219 +10,171 @@ use std::process::Abort;
 /// A grammar whose terminals are a, b and c.
 const LETTERS: &str = "S: \"c\" \"a\" \"b\"\n";
 
-/// The set of the quoted terminals with these texts.
-fn set_of(rt: &impl Abort, alloc: Global, texts: &[&str], terminals: &TerminalSet) -> TokenSet {
-    let mut set = TokenSet::new(alloc, terminals).expect(rt, "memory");
-    for text in texts {
-        set.insert(&token_of(rt, alloc, text), terminals)
-            .expect(rt, "memory");
-    }
+/// The set of the two tokens.
+fn set_of(
+    rt: &impl Abort,
+    alloc: Global,
+    one: &Token,
+    other: &Token,
+    terminals: &TerminalSet,
+) -> TokenSet {
+    let mut set = TokenSet::from_token(alloc, one, terminals).expect(rt, "memory");
+    set.insert(other, terminals).expect(rt, "memory");
     set
 }
 
-/// Whether this is the text of the set.
-fn is_shown(
-    rt: &impl Abort,
-    alloc: Global,
-    set: &TokenSet,
-    terminals: &TerminalSet,
-    text: &str,
-) -> bool {
-    set.shown(alloc, terminals).expect(rt, "memory").as_str() == text
-}
-
-/// Whether the terminal of this text is in the set.
-fn has(
-    rt: &impl Abort,
-    alloc: Global,
-    set: &TokenSet,
-    terminals: &TerminalSet,
-    text: &str,
-) -> bool {
-    set.contains(&token_of(rt, alloc, text), terminals)
-}
-
-/// Whether the terminal of this text comes into the set.
-fn comes(
+/// Puts the token, the error and the end into the set, which is empty. A terminal that isn't the grammar's never comes.
+fn put_three(
     rt: &impl Abort,
     alloc: Global,
     set: &mut TokenSet,
+    b: &Token,
     terminals: &TerminalSet,
-    text: &str,
-) -> bool {
-    let token = token_of(rt, alloc, text);
-    set.insert_with(&token, terminals).expect(rt, "memory")
-}
-
-/// Puts b, the error and the end into the set, which is empty.
-fn put_three(rt: &impl Abort, alloc: Global, set: &mut TokenSet, terminals: &TerminalSet) {
+) {
     check(rt, set.len() == 0);
-    check(rt, comes(rt, alloc, set, terminals, "b"));
-    check(rt, !comes(rt, alloc, set, terminals, "b"));
-    check(rt, !comes(rt, alloc, set, terminals, "x"));
-    check(
-        rt,
-        set.insert(&Token::Error, terminals).expect(rt, "memory"),
-    );
-    check(rt, set.insert_eof(terminals).expect(rt, "memory"));
-    check(rt, set.len() == 3);
+    let x = token_of(rt, alloc, "x");
+    let first = set.insert_with(b, terminals).expect(rt, "memory");
+    let again = set.insert_with(b, terminals).expect(rt, "memory");
+    let other = set.insert_with(&x, terminals).expect(rt, "memory");
+    check(rt, first & !again & !other);
+    let error = set.insert(&Token::Error, terminals).expect(rt, "memory");
+    let end = set.insert_eof(terminals).expect(rt, "memory");
+    check(rt, error & end & (set.len() == 3));
 }
 
 /// Takes the end out of the set of these three.
-fn take_the_end(rt: &impl Abort, alloc: Global, set: &mut TokenSet, terminals: &TerminalSet) {
+fn take_the_end(
+    rt: &impl Abort,
+    set: &mut TokenSet,
+    a: &Token,
+    b: &Token,
+    terminals: &TerminalSet,
+) {
     check(
         rt,
-        has(rt, alloc, set, terminals, "b") && set.contains_eof(terminals),
+        set.contains(b, terminals) & set.contains_eof(terminals) & !set.contains(a, terminals),
     );
-    check(rt, !has(rt, alloc, set, terminals, "a"));
     check(rt, set.take_eof(terminals));
-    check(rt, !set.take_eof(terminals));
-    check(rt, set.len() == 2);
+    check(rt, !set.take_eof(terminals) & (set.len() == 2));
 }
 
-fn puts_in(rt: &impl Abort, alloc: Global, terminals: &TerminalSet) {
+fn what_is_put_in_is_there(
+    rt: &impl Abort,
+    alloc: Global,
+    a: &Token,
+    b: &Token,
+    terminals: &TerminalSet,
+) {
     let mut set = TokenSet::new(alloc, terminals).expect(rt, "memory");
-    put_three(rt, alloc, &mut set, terminals);
-    take_the_end(rt, alloc, &mut set, terminals);
+    put_three(rt, alloc, &mut set, b, terminals);
+    take_the_end(rt, &mut set, a, b, terminals);
 }
 
-#[test]
-fn what_is_put_in_is_there(rt: HostRuntime) {
-    let grammar = grammar_of(&rt, rt.alloc(), LETTERS);
-    puts_in(&rt, rt.alloc(), &grammar.terminals);
-}
-
-fn makes_sets(rt: &impl Abort, alloc: Global, terminals: &TerminalSet) {
+fn all_tokens_of_a_grammar(rt: &impl Abort, alloc: Global, terminals: &TerminalSet) {
     let all = TokenSet::all(alloc, terminals).expect(rt, "memory");
     check(
         rt,
-        is_shown(rt, alloc, &all, terminals, "[\"a\", \"b\", \"c\", Eof]"),
+        is_shown(rt, alloc, &all, terminals, r#"["a", "b", "c", Eof]"#),
     );
     let text = format!(in alloc; "{all:?}").expect(rt, "memory");
-    check(rt, text.as_str() == "{0, 1, 2, 3}");
+    check(rt, text_is(text, "{0, 1, 2, 3}"));
 }
 
-#[test]
-fn all_tokens_of_a_grammar(rt: HostRuntime) {
-    let grammar = grammar_of(&rt, rt.alloc(), LETTERS);
-    makes_sets(&rt, rt.alloc(), &grammar.terminals);
+fn one_token_alone(rt: &impl Abort, alloc: Global, terminals: &TerminalSet) {
+    let mut error = TokenSet::from_token(alloc, &Token::Error, terminals).expect(rt, "memory");
+    error.reserve(200).expect(rt, "memory");
+    check(rt, is_shown(rt, alloc, &error, terminals, "[Error]"));
+    let end = TokenSet::from_token(alloc, &Token::Eof, terminals).expect(rt, "memory");
+    check(rt, is_shown(rt, alloc, &end, terminals, "[Eof]"));
+    check(
+        rt,
+        TokenSet::eof(alloc, terminals).expect(rt, "memory") == end,
+    );
 }
 
-/// Whether this is the text of the set of the token alone.
-fn is_alone(
+/// What the sets of a and b, and of b and c, share, and what they have together.
+fn what_two_sets_share(
     rt: &impl Abort,
     alloc: Global,
-    token: &Token,
+    a: &Token,
+    b: &Token,
+    c: &Token,
     terminals: &TerminalSet,
-    text: &str,
-) -> bool {
-    let mut set = TokenSet::from_token(alloc, token, terminals).expect(rt, "memory");
-    set.reserve(200).expect(rt, "memory");
-    is_shown(rt, alloc, &set, terminals, text)
-}
-
-fn makes_alone(rt: &impl Abort, alloc: Global, terminals: &TerminalSet) {
-    check(rt, is_alone(rt, alloc, &Token::Eof, terminals, "[Eof]"));
-    check(rt, is_alone(rt, alloc, &Token::Error, terminals, "[Error]"));
-    let end = TokenSet::eof(alloc, terminals).expect(rt, "memory");
-    check(rt, is_shown(rt, alloc, &end, terminals, "[Eof]"));
-}
-
-#[test]
-fn one_token_alone(rt: HostRuntime) {
-    let grammar = grammar_of(&rt, rt.alloc(), LETTERS);
-    makes_alone(&rt, rt.alloc(), &grammar.terminals);
-}
-
-fn shares(rt: &impl Abort, alloc: Global, terminals: &TerminalSet) {
-    let mut left = set_of(rt, alloc, &["a", "b"], terminals);
-    let right = set_of(rt, alloc, &["b", "c"], terminals);
-    check(
-        rt,
-        left.is_intersecting(&right) && !left.is_disjoint(&right),
-    );
+) {
+    let mut left = set_of(rt, alloc, a, b, terminals);
+    let right = set_of(rt, alloc, b, c, terminals);
+    check(rt, left.is_intersecting(&right) & !left.is_disjoint(&right));
     let shared = left.intersection(alloc, &right).expect(rt, "memory");
-    check(rt, is_shown(rt, alloc, &shared, terminals, "[\"b\"]"));
-    check(rt, left.union_with(&right).expect(rt, "memory"));
-    check(rt, !left.union_with(&right).expect(rt, "memory"));
+    check(rt, is_shown(rt, alloc, &shared, terminals, r#"["b"]"#));
+    let first = left.union_with(&right).expect(rt, "memory");
+    let again = left.union_with(&right).expect(rt, "memory");
+    check(rt, first & !again);
     check(
         rt,
-        is_shown(rt, alloc, &left, terminals, "[\"a\", \"b\", \"c\"]"),
+        is_shown(rt, alloc, &left, terminals, r#"["a", "b", "c"]"#),
     );
 }
 
-#[test]
-fn what_two_sets_share(rt: HostRuntime) {
-    let grammar = grammar_of(&rt, rt.alloc(), LETTERS);
-    shares(&rt, rt.alloc(), &grammar.terminals);
-}
-
-/// Whether a copy with more room equals the set, and is less with the end put in.
-fn equals_its_copy(rt: &impl Abort, set: &TokenSet, terminals: &TerminalSet) -> bool {
+/// That a copy with more room equals the set, and that the set is less than that with the end put in.
+fn equals_its_copy(rt: &impl Abort, set: &TokenSet, terminals: &TerminalSet) {
     let mut copy = set.try_clone().expect(rt, "memory");
     copy.reserve(500).expect(rt, "memory");
-    let equal = copy == *set;
+    check(rt, copy == *set);
     copy.insert_eof(terminals).expect(rt, "memory");
-    equal && *set < copy
+    check(rt, *set < copy);
 }
 
-fn compares(rt: &impl Abort, alloc: Global, terminals: &TerminalSet) {
-    let a = set_of(rt, alloc, &["a", "c"], terminals);
-    let b = set_of(rt, alloc, &["b"], terminals);
-    check(rt, a < b && equals_its_copy(rt, &a, terminals));
+/// That the set of a and c is less than that of b, and more than nothing.
+fn sets_are_compared_as_lists_of_numbers(
+    rt: &impl Abort,
+    alloc: Global,
+    a: &Token,
+    b: &Token,
+    c: &Token,
+    terminals: &TerminalSet,
+) {
+    let ends = set_of(rt, alloc, a, c, terminals);
+    equals_its_copy(rt, &ends, terminals);
+    let middle = TokenSet::from_token(alloc, b, terminals).expect(rt, "memory");
     let mut both: TokenSet = Collection::empty(alloc);
-    check(rt, both < a);
-    check(rt, Collection::push(&mut both, b).expect(rt, "memory"));
+    check(rt, (ends < middle) & (both < ends));
+    check(rt, Collection::push(&mut both, middle).expect(rt, "memory"));
 }
 
-#[test]
-fn sets_are_compared_as_lists_of_numbers(rt: HostRuntime) {
-    let grammar = grammar_of(&rt, rt.alloc(), LETTERS);
-    compares(&rt, rt.alloc(), &grammar.terminals);
-}
-
-/// The texts of the tokens, in order.
-fn texts(rt: &impl Abort, alloc: Global, set: &TokenSet, terminals: &TerminalSet) -> String {
-    let mut texts = String::new(alloc);
-    for token in set.iter(terminals) {
-        write!(texts, " {token}").expect(rt, "memory");
-    }
-    texts
-}
-
-fn iterates(rt: &impl Abort, alloc: Global, terminals: &TerminalSet) {
-    let mut set = set_of(rt, alloc, &["c"], terminals);
+/// The set of the terminal, the error and the end, in order.
+fn tokens_come_in_order(rt: &impl Abort, alloc: Global, c: &Token, terminals: &TerminalSet) {
+    let mut set = set_of(rt, alloc, &Token::Error, c, terminals);
     set.insert_eof(terminals).expect(rt, "memory");
-    set.insert(&Token::Error, terminals).expect(rt, "memory");
     check(
         rt,
-        texts(rt, alloc, &set, terminals).as_str() == " \"c\" Eof Error",
+        is_shown(rt, alloc, &set, terminals, r#"["c", Eof, Error]"#),
     );
 }
 
+fn a_token_and_its_copy(rt: &impl Abort, alloc: Global) {
+    let c = Token::Terminal(terminal_of(rt, alloc, "c"));
+    let terminal = c.unwrap_terminal();
+    let text = format!(in alloc; "{terminal} {c:?} {:?}", TokenRef::Eof).expect(rt, "memory");
+    check(rt, text_is(text, r#""c" "c" Eof"#));
+    check(rt, c.try_clone().expect(rt, "memory") == c);
+}
+
+fn answer(rt: &impl Abort, alloc: Global, terminals: &TerminalSet) {
+    let a = token_of(rt, alloc, "a");
+    let b = token_of(rt, alloc, "b");
+    let c = token_of(rt, alloc, "c");
+    what_is_put_in_is_there(rt, alloc, &a, &b, terminals);
+    tokens_come_in_order(rt, alloc, &c, terminals);
+    what_two_sets_share(rt, alloc, &a, &b, &c, terminals);
+    sets_are_compared_as_lists_of_numbers(rt, alloc, &a, &b, &c, terminals);
+}
+
 #[test]
-fn tokens_come_in_order(rt: HostRuntime) {
-    let grammar = grammar_of(&rt, rt.alloc(), LETTERS);
-    iterates(&rt, rt.alloc(), &grammar.terminals);
-}
-
-/// That it is the terminal `c`.
-fn is_c(rt: &impl Abort, alloc: Global, terminal: &TerminalString) {
-    check(rt, *terminal == terminal_of(rt, alloc, "c"));
-}
-
-/// That a copy of the token equals it.
-fn token_is_copied(rt: &impl Abort, token: &Token) {
-    let copy = token.try_clone().expect(rt, "memory");
-    check(rt, copy == *token);
-}
-
-#[test]
-fn a_token_and_its_copy(rt: HostRuntime) {
+fn sets_of_tokens(rt: HostRuntime) {
     let alloc = rt.alloc();
-    let c = Token::Terminal(terminal_of(&rt, alloc, "c"));
-    is_c(&rt, alloc, c.unwrap_terminal());
-    token_is_copied(&rt, &c);
-    let text = format!(in alloc; "{c:?} {:?}", TokenRef::Eof).expect(&rt, "memory");
-    check(&rt, text.as_str() == "\"c\" Eof");
+    let grammar = grammar_of(&rt, alloc, LETTERS);
+    answer(&rt, alloc, &grammar.terminals);
+    all_tokens_of_a_grammar(&rt, alloc, &grammar.terminals);
+    one_token_alone(&rt, alloc, &grammar.terminals);
+    a_token_and_its_copy(&rt, alloc);
 }

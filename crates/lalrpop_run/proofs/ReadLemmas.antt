@@ -1,5 +1,5 @@
--- A grammar that bytes give is one for which each task's reply is promised; for the run.
-use Rattle.std.proofs.Common.{List, ℕ, Ok, length}
+-- A grammar that bytes give is one for which each task's reply is promised, and a text that isn't read is empty; for the run.
+use Rattle.std.proofs.Common.{◌≡◌, Bool, List, [], ℕ, Ok, false, length, refl, subst, sym}
 use Rattle.lalrpop_grammar.specs.declared.grammar.Grammar.{Grammar}
 use Rattle.lalrpop_grammar.specs.Views.{grammar_view, item_view}
 use Rattle.lalrpop_json_grammar.proofs.GrammarLemmas.{grammar_takes}
@@ -9,7 +9,7 @@ use Rattle.lalrpop_norm.proofs.ItemLemmas.{each_image, item_read}
 use Rattle.lalrpop_norm_theory.specs.Premises.{IsReadGrammar, IsReadItem}
 use Rattle.lalrpop_run_options.specs.declared.task.Task.{Task}
 use Rattle.lalrpop_run_options.specs.declared.task.Task.TheVariants as tasks
-use Rattle.lalrpop_run.specs.Replies.{GivesGrammar, IsGrammarFor}
+use Rattle.lalrpop_run.specs.Replies.{GivesGrammar, IsGrammarFor, IsTextIn, RunReader}
 
 readable : (g : Grammar) → IsReadable g → IsReadGrammar (grammar_view g)
 readable g h = record {
@@ -25,3 +25,7 @@ grammar_read tasks.Judge bytes g given = tt
 grammar_read tasks.Tokens bytes g given = readable g (grammar_takes given.0 g given.1.1).1
 grammar_read tasks.Check bytes g given = readable g (grammar_takes given.0 g given.1.1).1
 grammar_read tasks.Parse bytes g given = readable g (grammar_takes given.0 g given.1.1).1
+
+-- where no text is read, it is the empty one
+pub unread_text : (reads : Bool) (r : RunReader) → reads ≡ false → IsTextIn reads r []
+unread_text reads r h = subst (λ (b : Bool). IsTextIn b r []) (sym h) refl

@@ -1,5 +1,11 @@
+pub mod Asked
+pub mod InlineCycles
+pub mod ListedFaults
+pub mod ToldConflicts
+pub mod RightAnswer
 pub mod Outputs
 pub mod ReplyTexts
+pub mod GivenTexts
 pub mod Inputs
 pub mod Questions
 pub mod Check
@@ -9,3 +15,7 @@ pub mod Parsers
 pub mod Replies
 pub mod Runs
 pub mod Tokens
+pub mod AnswersOfExpansions
+pub mod OneAnswer
+pub mod ConflictOrders
+pub mod AllConflicts

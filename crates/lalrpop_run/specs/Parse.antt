@@ -7,13 +7,12 @@ use Rattle.lalrpop_grammar.specs.declared.tree.WrittenTree.{WrittenTree}
 use Rattle.lalrpop_grammar.specs.Views.{grammar_view, tree_view}
 use Rattle.lalrpop_grammar_rules.specs.Search.{finds}
 use Rattle.lalrpop_lexer_scan.specs.Entries.{ScanEntry}
-use Rattle.lalrpop_norm_chain.specs.Normalized.{IsNormalized}
-use Rattle.lalrpop_norm_chain.specs.Lowered.{LoweredGrammar}
 use Rattle.lalrpop_run_prepare.specs.PreparedGrammars.{PreparedGrammar}
 use Rattle.lalrpop_run_theory.specs.TextAnswers.{IsRightForText, TextAnswer}
-use Rattle.lalrpop_run_prepare.specs.Tokenizers.{scan_entries}
-use Rattle.lalrpop_run.specs.Parsers.{HasParser, IsNoParserReply, IsTakenFor}
-use Rattle.lalrpop_run.specs.Questions.{Question}
+use Rattle.lalrpop_run.specs.Asked.{WrittenAnswer}
+use Rattle.lalrpop_run.specs.Parsers.{TellsConflicts, TellsRefusal}
+use Rattle.lalrpop_run.specs.Questions.{Question, asked_of}
+use Rattle.lalrpop_run.specs.RightAnswer.{IsRightAnswerTo}
 use Rattle.lalrpop_run.specs.declared.replies.reply.Reply.{Reply}
 use Rattle.lalrpop_run.specs.declared.replies.reply.Reply.TheVariants as replies
 
@@ -31,17 +30,14 @@ pub record IsAnswerTold (v : PreparedGrammar) (entries : List ScanEntry) (text :
   pub right : IsRightForText finds v.session.features.items (grammar_view v.written) v.start entries text limit answer
   pub told : TellsTextAnswer limit answer reply
 
--- It tells the right answer to the text, by the entries that cut it: the only tree that the written grammar admits from the start over
--- the text's tokens; else the first place where the text stops having tokens or beginning a sentence; or the limit.
-pub record IsSentenceReply (q : Question) (g : Grammar) (entries : List ScanEntry) (text : Text) (reply : Reply) : Type 0 where
-  pub answer : TextAnswer
-  pub right : IsRightForText finds q.features (grammar_view g) q.start entries (chars text) q.limit answer
-  pub told : TellsTextAnswer q.limit answer reply
+-- the reply tells the answer
+abbrev pub TellsWrittenAnswer : Question → Grammar → WrittenAnswer → Reply → Type 0
+TellsWrittenAnswer q g (WrittenAnswer.refused f) reply = TellsRefusal f reply
+TellsWrittenAnswer q g (WrittenAnswer.conflicting told) reply = TellsConflicts q g told reply
+TellsWrittenAnswer q g (WrittenAnswer.to_text answer) reply = TellsTextAnswer q.limit answer reply
 
--- Why there is no parser, each reason only where no earlier one stands; else the right answer to the text, by the entries of the
--- normalized grammar.
-pub data IsParseReply (q : Question) (g : Grammar) (text : Text) (reply : Reply) : Type 0 where
-  no_parser : IsNoParserReply q g reply → IsParseReply q g text reply
-  parsed : (v : PreparedGrammar) (lowered : LoweredGrammar) → HasParser q g v → IsTakenFor q (grammar_view g)
-      → IsNormalized finds q.features (grammar_view g) lowered → IsSentenceReply q g (scan_entries lowered.entries) text reply
-      → IsParseReply q g text reply
+-- The right answer to the text is told.
+pub record IsParseReply (q : Question) (g : Grammar) (text : Text) (reply : Reply) : Type 0 where
+  pub answer : WrittenAnswer
+  pub right : IsRightAnswerTo (asked_of q) (grammar_view g) (chars text) answer
+  pub told : TellsWrittenAnswer q g answer reply

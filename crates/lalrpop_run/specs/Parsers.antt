@@ -1,34 +1,33 @@
--- Which grammars have a parser for a question, and why the others have none.
-use Rattle.std.specs.Prelude.{◌≡◌, ◌≢◌, ◌++◌, List, Contains, Vec}
+-- Why a grammar has no parser for a question, as it is replied.
+use Rattle.std.specs.Prelude.{◌≡◌, ◌++◌, List, Vec, map}
 use Rattle.std.specs.Global.{Global}
+use Rattle.std.specs.Option.{option_map}
+use Rattle.lalrpop_grammar_symbols.specs.Views.{span_view, terminal_view}
 use Rattle.lalrpop_grammar.specs.declared.grammar.Grammar.{Grammar}
-use Rattle.lalrpop_grammar.specs.Trees.{Token, Tree}
-use Rattle.lalrpop_grammar.specs.Views.{grammar_view}
+use Rattle.lalrpop_grammar.specs.Views.{grammar_view, tree_view}
 use Rattle.lalrpop_grammar.specs.WrittenGrammar as written
-use Rattle.lalrpop_grammar_language.specs.Admitting.{AdmitsFrom}
+use Rattle.lalrpop_grammar_repr.specs.declared.norm_error.NormError.{NormError}
 use Rattle.lalrpop_judge.specs.declared.certificates.certificate.Certificate.{Certificate}
 use Rattle.lalrpop_grammar_rules.specs.Search.{finds, is_too_deep}
-use Rattle.lalrpop_lr1_core.specs.TheoryGrammars.{theory_grammar}
-use Rattle.lalrpop_lr1_theory.specs.Answers.{IsLr1}
 use Rattle.lalrpop_run_parser.specs.WrittenConflicts.{AreWrittenConflicts}
 use Rattle.lalrpop_run_parser.specs.declared.conflicts.written_conflict.WrittenConflict.{WrittenConflict}
+use Rattle.lalrpop_run_parser.specs.declared.conflicts.written_conflict.WrittenMove.{WrittenMove}
+use Rattle.lalrpop_run_parser.specs.declared.conflicts.written_conflict.WrittenMove.TheVariants as moves
 use Rattle.lalrpop_run_parser.specs.Parsers.{HasConflicts}
 use Rattle.lalrpop_run_prepare.specs.PreparedGrammars.{IsPrepared, PreparedGrammar}
 use Rattle.lalrpop_run_prepare.specs.PrepareRefusals.{IsPrepareRefusal}
 use Rattle.lalrpop_run_prepare.specs.declared.refusals.refusing.GenerateError.{GenerateError}
 use Rattle.lalrpop_run_prepare.specs.declared.refusals.refusing.GenerateError.TheVariants as errors
-use Rattle.lalrpop_run_prepare.specs.Refused.{IsGenerable}
-use Rattle.lalrpop_run.specs.Questions.{Question}
+use Rattle.lalrpop_run.specs.Asked.{MoveKind, Refusal, ToldConflict}
+use Rattle.lalrpop_run.specs.ListedFaults.{IsListedFault}
+use Rattle.lalrpop_run.specs.Questions.{Question, asked_of}
+use Rattle.lalrpop_run.specs.ToldConflicts.{IsConflicting}
 use Rattle.lalrpop_run.specs.declared.replies.reply.Reply.{Reply}
 use Rattle.lalrpop_run.specs.declared.replies.reply.Reply.TheVariants as replies
 
 -- The grammar is refused for this under the question's features, limit and start, before its states are built.
 abbrev pub IsRefusedFor : Question → written.Grammar → GenerateError → Type 0
 IsRefusedFor q w error = IsPrepareRefusal finds is_too_deep q.features q.macro_limit q.start w error
-
--- Nothing is wrong with it before its rules are inlined.
-abbrev pub IsTakenFor : Question → written.Grammar → Type 0
-IsTakenFor q w = IsGenerable finds is_too_deep q.features q.macro_limit q.start w
 
 -- This was prepared of the grammar for the question. The start of its plain productions is the prefix before the start that is asked.
 pub record IsPreparedFor (q : Question) (g : Grammar) (v : PreparedGrammar) : Type 0 where
@@ -39,25 +38,51 @@ pub record IsPreparedFor (q : Question) (g : Grammar) (v : PreparedGrammar) : Ty
   pub name_is : v.start_name.0 ≡ g.prefix ++ q.start
   pub prepared : IsPrepared finds is_too_deep v
 
--- The reply tells why the grammar has no parser for the question: it is refused; or its expansion isn't LR(1), and for each conflict of the
--- canonical states of that, in their order, a certificate of it is told, its trees unfolded to written ones. That memory ran out is no such
--- reason.
+-- the refusal that the error says
+abbrev pub SaysRefusal : Refusal → GenerateError → Type 0
+SaysRefusal Refusal.extern_block error = error ≡ errors.Extern
+SaysRefusal Refusal.recovery error = error ≡ errors.Recovery
+SaysRefusal (Refusal.fault kind p) error =
+    (told : NormError) × (told.kind ≡ kind) × (span_view told.span ≡ p) × (error ≡ errors.Norm told)
+SaysRefusal Refusal.condition_limit error = error ≡ errors.ConditionLimit
+SaysRefusal (Refusal.unknown_start name) error = error ≡ errors.UnknownStart name
+SaysRefusal (Refusal.private_start name) error = error ≡ errors.PrivateStart name
+SaysRefusal (Refusal.barren name) error = error ≡ errors.Barren name
+
+abbrev pub TellsRefusal : Refusal → Reply → Type 0
+TellsRefusal f reply = (error : GenerateError) × SaysRefusal f error × (reply ≡ replies.Refused error)
+
+abbrev pub kind_view : WrittenMove → MoveKind
+kind_view moves.Shift = MoveKind.shift
+kind_view moves.Reduce = MoveKind.reduce
+
+-- what a conflict tells
+abbrev pub conflict_view : WrittenConflict → ToldConflict
+conflict_view it = record {
+  shared = it.shared;
+  next = option_map terminal_view it.next;
+  kind1 = kind_view it.move1;
+  tree1 = tree_view it.tree1;
+  kind2 = kind_view it.move2;
+  tree2 = tree_view it.tree2;
+}
+
+-- There is one for each conflict of the canonical states of the expansion, in their order.
+pub record AreAllConflicts (q : Question) (g : Grammar) (shown : List WrittenConflict) : Type 0 where
+  pub prepared : PreparedGrammar
+  pub is_prepared : IsPreparedFor q g prepared
+  pub certificates : List Certificate
+  pub conflicts : HasConflicts prepared certificates
+  pub written : AreWrittenConflicts prepared certificates shown
+
+abbrev pub TellsConflicts : Question → Grammar → List ToldConflict → Reply → Type 0
+TellsConflicts q g told reply =
+    (shown : Vec WrittenConflict Global) × (map conflict_view shown.items ≡ told) × AreAllConflicts q g shown.items
+    × (reply ≡ replies.Conflicts shown)
+
+-- The reply tells why the grammar has no parser for the question: a fault that stands, the first in order; or, where none does, the
+-- conflicts of its expansion.
 pub data IsNoParserReply (q : Question) (g : Grammar) (reply : Reply) : Type 0 where
-  refused : (error : GenerateError) → error ≢ errors.Memory → IsRefusedFor q (grammar_view g) error →
-      reply ≡ replies.Refused error
+  refused : (f : Refusal) → IsListedFault (asked_of q) (grammar_view g) f → TellsRefusal f reply → IsNoParserReply q g reply
+  conflicting : (told : List ToldConflict) → IsConflicting (asked_of q) (grammar_view g) told → TellsConflicts q g told reply
       → IsNoParserReply q g reply
-  conflicting : (v : PreparedGrammar) (certificates : List Certificate) (shown : Vec WrittenConflict Global) → IsPreparedFor q g v
-      → HasConflicts v certificates → AreWrittenConflicts v certificates shown.items → reply ≡ replies.Conflicts shown
-      → IsNoParserReply q g reply
-
--- no tokens have two written trees that the start admits, spans inside arguments aside
-abbrev pub IsUnambiguousFor : Question → written.Grammar → Type 0
-IsUnambiguousFor q w =
-    (t u : Tree) (tokens : List Token) → AdmitsFrom finds q.features w q.start t tokens
-    → AdmitsFrom finds q.features w q.start u tokens → t ≡ u
-
--- The grammar has a parser: its expansion is LR(1), and so no tokens have two written trees.
-pub record HasParser (q : Question) (g : Grammar) (v : PreparedGrammar) : Type 0 where
-  pub prepared : IsPreparedFor q g v
-  pub lr1 : IsLr1 (Contains (theory_grammar v.expansion)) v.start_name.0
-  pub unambiguous : IsUnambiguousFor q (grammar_view g)

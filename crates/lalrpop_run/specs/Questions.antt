@@ -2,9 +2,11 @@
 use Rattle.std.specs.Prelude.{ℕ, Bool, true, false, List, Option, Some, None, option_map, map, string_bytes}
 use Rattle.lalrpop_grammar_symbols.specs.Symbols.{Text}
 use Rattle.lalrpop_grammar_repr.specs.declared.methods.Method.{Method}
+use Rattle.lalrpop_grammar_rules.specs.Search.{finds, is_too_deep}
 use Rattle.lalrpop_run_options.specs.declared.settings.Options.{Options}
 use Rattle.lalrpop_run_options.specs.declared.task.Task.{Task}
 use Rattle.lalrpop_run_options.specs.declared.task.Task.TheVariants as tasks
+use Rattle.lalrpop_run.specs.Asked.{Asked}
 use Rattle.lalrpop_run.specs.declared.questions.question.Question as words
 
 pub record Question : Type 0 where
@@ -31,6 +33,17 @@ question_of options = record {
   method = options.method;
   limit = options.limit;
   tree = option_map string_bytes options.tree;
+}
+
+-- what is asked of the written grammar
+abbrev pub asked_of : Question → Asked
+asked_of q = record {
+  finds = finds;
+  deep = is_too_deep;
+  features = q.features;
+  macro_limit = q.macro_limit;
+  start = q.start;
+  limit = q.limit;
 }
 
 abbrev pub question_view : words.Question → Question

@@ -41,17 +41,27 @@ IsGrammarFor tasks.Parse g = IsReadGrammar (grammar_view g)
 abbrev pub GivesGrammar : List ℕ → Result Grammar Fault → Type 0
 GivesGrammar bytes given = (d : Data) × (IsJsonOf bytes d × (grammar_at d ≡ given))
 
--- the text, where it is read: all that its reader has left
-abbrev pub IsTextIn : Bool → Option (List ℕ) → List ℕ → Type 0
-IsTextIn true known text = ReadsAll known text × IsUtf8 text
-IsTextIn false known text = text ≡ []
+-- a reader of a run: what it had left before, where it tells that, whether it had ended, and whether it has failed or ended since
+pub record RunReader : Type 0 where
+  pub known : Option (List ℕ)
+  pub had_ended : Bool
+  pub has_failed : Bool
+  pub has_ended : Bool
 
--- To the grammar's bytes and what the text's reader has left. The text is read once there is a grammar, where it is needed.
-pub data IsRunReply (q : Question) (bytes : List ℕ) (known : Option (List ℕ)) (reply : Reply) : Type 0 where
-  no_json : IsNoJson bytes → reply ≡ replies.NotJson → IsRunReply q bytes known reply
-  no_grammar : (fault : Fault) → GivesGrammar bytes (Err fault) → reply ≡ replies.GrammarFault fault
-      → IsRunReply q bytes known reply
-  no_text : (g : Grammar) (text : List ℕ) → GivesGrammar bytes (Ok g) → reads_text q ≡ true → ReadsAll known text
-      → (IsUtf8 text → ⊥) → reply ≡ replies.NotUtf8 → IsRunReply q bytes known reply
-  replied : (g : Grammar) (text : List ℕ) → GivesGrammar bytes (Ok g) → IsTextIn (reads_text q) known text
-      → IsReplyTo q g text reply → IsRunReply q bytes known reply
+-- all that it had left was read, and it hasn't failed
+abbrev pub HasRead : RunReader → List ℕ → Type 0
+HasRead r bytes = (r.has_failed ≡ false) × ReadsAll r.known bytes
+
+-- the text, where it is read: all that its reader had left
+abbrev pub IsTextIn : Bool → RunReader → List ℕ → Type 0
+IsTextIn true r text = HasRead r text × IsUtf8 text
+IsTextIn false r text = text ≡ []
+
+-- To the grammar's bytes and what the text's reader had left. The text is read once there is a grammar, where it is needed.
+pub data IsRunReply (q : Question) (bytes : List ℕ) (r : RunReader) (reply : Reply) : Type 0 where
+  no_json : IsNoJson bytes → reply ≡ replies.NotJson → IsRunReply q bytes r reply
+  no_grammar : (fault : Fault) → GivesGrammar bytes (Err fault) → reply ≡ replies.GrammarFault fault → IsRunReply q bytes r reply
+  no_text : (g : Grammar) (text : List ℕ) → GivesGrammar bytes (Ok g) → reads_text q ≡ true → HasRead r text
+      → (IsUtf8 text → ⊥) → reply ≡ replies.NotUtf8 → IsRunReply q bytes r reply
+  replied : (g : Grammar) (text : List ℕ) → GivesGrammar bytes (Ok g) → IsTextIn (reads_text q) r text
+      → IsReplyTo q g text reply → IsRunReply q bytes r reply

@@ -3,7 +3,7 @@ use Rattle.std.specs.Prelude.{◌≡◌, ◌⊎◌, ℕ, Bool, true, false, List
 use Rattle.lalrpop_grammar.specs.declared.grammar.Grammar.{Grammar}
 use Rattle.lalrpop_grammar_streams.specs.Streams.{ReadsAll, Writes}
 use Rattle.lalrpop_run.specs.Questions.{Question, reads_grammar, reads_text}
-use Rattle.lalrpop_run.specs.Replies.{GivesGrammar, IsRunReply}
+use Rattle.lalrpop_run.specs.Replies.{GivesGrammar, HasRead, IsRunReply, RunReader}
 use Rattle.lalrpop_run.specs.Outputs.{Output, reply_output}
 use Rattle.lalrpop_run.specs.ReplyTexts.{memory_text, fault_line}
 use Rattle.lalrpop_run.specs.declared.replies.reply.Reply.{Reply}
@@ -14,13 +14,6 @@ out_of_memory = record { text = memory_text; status = 5 }
 
 abbrev pub read_fault : Output
 read_fault = record { text = fault_line; status = 6 }
-
--- a reader of a run: what it had left before, where it tells that, whether it had ended, and whether it has failed or ended since
-pub record RunReader : Type 0 where
-  pub known : Option (List ℕ)
-  pub had_ended : Bool
-  pub has_failed : Bool
-  pub has_ended : Bool
 
 -- it failed, or passed a bound, before it ended
 abbrev pub HasFailed : RunReader → Type 0
@@ -39,8 +32,8 @@ HasGrammar known = (bytes : List ℕ) × (ReadsAll known bytes × ((g : Grammar)
 -- The right answer to what the readers give: a reply; or that memory was wanting; or that a reader has failed that was read.
 pub data IsRightAnswer (q : Question) (grammar text : RunReader) (output : Output) : Type 0 where
   unread : reads_grammar q ≡ false → output ≡ reply_output replies.WantsTree → IsRightAnswer q grammar text output
-  replied : (bytes : List ℕ) (reply : Reply) → reads_grammar q ≡ true → ReadsAll grammar.known bytes
-      → IsRunReply q bytes text.known reply → output ≡ reply_output reply → IsRightAnswer q grammar text output
+  replied : (bytes : List ℕ) (reply : Reply) → reads_grammar q ≡ true → HasRead grammar bytes → IsRunReply q bytes text reply
+      → output ≡ reply_output reply → IsRightAnswer q grammar text output
   wants_memory : output ≡ out_of_memory → IsRightAnswer q grammar text output
   no_grammar : reads_grammar q ≡ true → HasFailed grammar → output ≡ read_fault → IsRightAnswer q grammar text output
   no_text : reads_text q ≡ true → HasGrammar grammar.known → HasFailed text → output ≡ read_fault

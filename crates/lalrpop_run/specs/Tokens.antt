@@ -6,16 +6,12 @@ use Rattle.lalrpop_grammar_symbols.specs.Symbols.{Text}
 use Rattle.lalrpop_grammar.specs.declared.grammar.Grammar.{Grammar}
 use Rattle.lalrpop_grammar.specs.Trees.{Token}
 use Rattle.lalrpop_grammar.specs.Views.{grammar_view}
-use Rattle.lalrpop_grammar_rules.specs.Search.{finds}
 use Rattle.lalrpop_lexer_scan.specs.Entries.{ScanEntry}
 use Rattle.lalrpop_lexer_scan.specs.Tokens.{AreTokensOf, FillTheText, NoTokenAt}
-use Rattle.lalrpop_norm_chain.specs.Lowered.{LoweredGrammar}
-use Rattle.lalrpop_norm_chain.specs.Normalized.{IsNormalized}
-use Rattle.lalrpop_run_prepare.specs.PreparedGrammars.{PreparedGrammar}
-use Rattle.lalrpop_run_prepare.specs.Tokenizers.{scan_entries}
-use Rattle.lalrpop_run.specs.Parsers.{HasParser, IsNoParserReply, IsTakenFor}
-use Rattle.lalrpop_run.specs.Questions.{Question}
+use Rattle.lalrpop_run.specs.Parsers.{IsNoParserReply}
+use Rattle.lalrpop_run.specs.Questions.{Question, asked_of}
 use Rattle.lalrpop_run.specs.ReplyTexts.{tokens_text}
+use Rattle.lalrpop_run.specs.RightAnswer.{AreItsEntries, MayBeParsed}
 use Rattle.lalrpop_run.specs.declared.replies.reply.Reply.{Reply}
 use Rattle.lalrpop_run.specs.declared.replies.reply.Reply.TheVariants as replies
 
@@ -30,10 +26,8 @@ pub data IsScanReply (entries : List ScanEntry) (text : Text) (reply : Reply) : 
   tokens : (found : List Token) (lines : String Global) → AreAllTokens entries text found → string_bytes lines ≡ tokens_text found
       → reply ≡ replies.Tokens lines → IsScanReply entries text reply
 
--- Why there is no parser, each reason only where no earlier one stands; else the scan of the text by the entries of the normalized
--- grammar.
+-- Why there is no parser, each reason only where no earlier one stands; else the scan of the text by the grammar's entries.
 pub data IsTokensReply (q : Question) (g : Grammar) (text : Text) (reply : Reply) : Type 0 where
   no_parser : IsNoParserReply q g reply → IsTokensReply q g text reply
-  scanned : (v : PreparedGrammar) (lowered : LoweredGrammar) → HasParser q g v → IsTakenFor q (grammar_view g)
-      → IsNormalized finds q.features (grammar_view g) lowered → IsScanReply (scan_entries lowered.entries) text reply
-      → IsTokensReply q g text reply
+  scanned : (entries : List ScanEntry) → MayBeParsed (asked_of q) (grammar_view g) → AreItsEntries (asked_of q) (grammar_view g) entries
+      → IsScanReply entries text reply → IsTokensReply q g text reply

@@ -23,6 +23,8 @@ pub(crate) fn conflicts_reply(
     ensures { IfOk result (λ reply. (q : AskedQuestion) (g : WrittenGrammar) → IsPreparedFor q g prepared.now
         → IsReadGrammar (grammar_view g) → IsNoParserReply q g reply) }
 {
+    // what is known of the grammar
+    prepared.known();
     match error {
         GenerateError::Conflicts(certificates) => {
             let conflicts = written_conflicts(alloc, prepared, certificates.as_slice())?;

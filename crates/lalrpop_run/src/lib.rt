@@ -1,13 +1,14 @@
 //! The answers of the program: from the words, a grammar's JSON and a text to what is written.
 //!
-//! In `specs/`, `Judge`, `Tokens`, `Check` and `Parse` have the replies of each command, `Parsers` which grammars have a parser, and
-//! `Runs` the whole run.
+//! In `specs/`, `RightAnswer` says what the right answer is, `Judge`, `Tokens`, `Check` and `Parse` have the replies of each command,
+//! `Parsers` why a grammar has no parser, and `Runs` the whole run.
 #![tactic(auto)]
 
 mod answering;
 mod checking;
 mod conflicts;
 mod judging;
+mod laws;
 mod parsing;
 mod preparing;
 pub mod questions;
@@ -28,5 +29,6 @@ pub use lalrpop_run_parser::{
     witness,
 };
 pub use lalrpop_run_prepare::refusals::GenerateError;
+pub use laws::{answers_are_one, expansions_are_alike};
 pub use running::run;
 pub use words::run_words;

@@ -1,11 +1,11 @@
 //! The run of the program over its readers and its writer.
 
-ghost use Rattle.std.specs.Prelude.{◌≡◌, ℕ, List, Option, IfOk, IfErr, Ok, true, false};
+ghost use Rattle.std.specs.Prelude.{◌≡◌, ℕ, List, IfOk, IfErr, OnOk, Ok, true, false};
 ghost use Rattle.lalrpop_grammar_streams.specs.Streams.{ReadsAll};
 ghost use Rattle.lalrpop_json_grammar.specs.Grammars.{grammar_at};
 ghost use Rattle.lalrpop_run.specs.Inputs.{IsInput};
 ghost use Rattle.lalrpop_run.specs.Questions.{question_of, reads_grammar, reads_text};
-ghost use Rattle.lalrpop_run.specs.Replies.{GivesGrammar, IsRunReply};
+ghost use Rattle.lalrpop_run.specs.Replies.{GivesGrammar, HasRead, IsRunReply, RunReader};
 ghost use Rattle.lalrpop_run.specs.Runs.{read_fault, HasGrammar, IsRightAnswer, IsRightRun, IsWritten};
 ghost use Rattle.lalrpop_run.specs.Outputs.{answer_view, reply_output};
 
@@ -136,6 +136,7 @@ fn reply_answer(alloc: Global, reply: Reply) -> Result<Answer, SourceError>
 fn read_grammar<R: Source>(alloc: Global, grammar: &mut R) -> Result<Input<Grammar>, SourceError>
     ensures read { IfOk result (λ input. (bytes : List ℕ)
         × (ReadsAll (R.remaining grammar.old) bytes × IsInput grammar_at bytes input)) }
+    ensures keeps { OnOk result (R.has_failed grammar.new ≡ false) }
     ensures fault { IfErr result (λ e. e ≡ SourceError.Failed → R.has_failed grammar.new ≡ true) }
     ensures before_the_end { IfErr result (λ e. e ≡ SourceError.Failed
         → R.ended grammar.old ≡ false → R.ended grammar.new ≡ false) }
@@ -155,7 +156,14 @@ fn answer_over<R: Source>(
 ) -> Result<Answer, SourceError>
     ensures answer { IfOk result (λ a. (reply : Reply) × (((bytes : List ℕ)
         → GivesGrammar bytes (Ok grammar)
-        → IsRunReply (question_of options.now) bytes (R.remaining text.old) reply)
+        → IsRunReply (question_of options.now) bytes
+        (record {
+          known = R.remaining text.old;
+          had_ended = R.ended text.old;
+          has_failed = R.has_failed text.new;
+          has_ended = R.ended text.new;
+        })
+        reply)
         × (answer_view a ≡ reply_output reply))) }
     ensures needed { IfErr result (λ e. e ≡ SourceError.Failed → reads_text (question_of options.now) ≡ true) }
     ensures fault { IfErr result (λ e. e ≡ SourceError.Failed → R.has_failed text.new ≡ true) }
@@ -180,10 +188,10 @@ fn answer_over_bytes(
     grammar: Grammar,
     bytes: &[u8],
 ) -> Result<Answer, AllocError>
-    ensures { IfOk result (λ a. (reply : Reply) × (((known : Option (List ℕ)) (json : List ℕ)
-        → reads_text (question_of options.now) ≡ true → ReadsAll known bytes.now
+    ensures { IfOk result (λ a. (reply : Reply) × (((r : RunReader) (json : List ℕ)
+        → reads_text (question_of options.now) ≡ true → HasRead r bytes.now
         → GivesGrammar json (Ok grammar)
-        → IsRunReply (question_of options.now) json known reply)
+        → IsRunReply (question_of options.now) json r reply)
         × (answer_view a ≡ reply_output reply))) }
 {
     match str::from_utf8(bytes) {

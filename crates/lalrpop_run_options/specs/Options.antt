@@ -11,12 +11,21 @@ use Rattle.lalrpop_grammar_repr.specs.declared.methods.Method.TheVariants as met
 use Rattle.lalrpop_run_options.specs.Hidden.{hidden_value}
 use Rattle.lalrpop_run_options.specs.Method.{canonical_word, lane_word}
 use Rattle.lalrpop_run_options.specs.Task.{word_of}
-use Rattle.lalrpop_run_options.specs.declared.found.TheConstants.{USUAL_COPIES, USUAL_LIMIT, USUAL_MACRO_LIMIT}
 use Rattle.lalrpop_run_options.specs.declared.settings.Options.{Options}
 
 -- the names in a list: its parts between commas, but for empty ones
 abbrev pub features_in : Text → List Text
 features_in text = filter (λ part. not (length part == 0)) (slice_split (λ b. b == 44) text)
+
+-- where the words say nothing: how deep macros may be called, how many moves may be made, how many states lanes may copy
+abbrev pub usual_macro_limit : ℕ
+usual_macro_limit = 200
+
+abbrev pub usual_limit : ℕ
+usual_limit = 1000000
+
+abbrev pub usual_copies : ℕ
+usual_copies = 10000
 
 -- n is the number that the text writes, and the usual one where none was given
 abbrev pub IsNumberOr : ℕ → Option Text → ℕ → Type 0
@@ -27,7 +36,7 @@ IsNumberOr usual (Some text) n =
 -- The method that the words say: by lane tables where no word says another, with the copies that a number writes. By the canonical
 -- way a number of copies says nothing.
 abbrev pub IsMethodOf : Option Text → Option Text → Method → Type 0
-IsMethodOf word copies (methods.Lane n) = (unwrap_or word lane_word ≡ lane_word) × IsNumberOr USUAL_COPIES copies n
+IsMethodOf word copies (methods.Lane n) = (unwrap_or word lane_word ≡ lane_word) × IsNumberOr usual_copies copies n
 IsMethodOf word copies methods.Canonical = word ≡ Some canonical_word
 
 -- the text to read: the word that was hidden, and else what `clap` found
@@ -47,7 +56,7 @@ pub record AreOptionsOf (line : List Text) (rows : List Row) (options : Options)
   pub tree : option_map string_bytes options.tree ≡ tree_of line rows
   pub features : map string_bytes options.features.items
       ≡ features_in (unwrap_or (first_of (codes "features") rows) [])
-  pub macro_limit : IsNumberOr USUAL_MACRO_LIMIT (first_of (codes "macro-limit") rows)
+  pub macro_limit : IsNumberOr usual_macro_limit (first_of (codes "macro-limit") rows)
       options.macro_limit
   pub method : IsMethodOf (first_of (codes "method") rows) (first_of (codes "copies") rows) options.method
-  pub limit : IsNumberOr USUAL_LIMIT (first_of (codes "limit") rows) options.limit
+  pub limit : IsNumberOr usual_limit (first_of (codes "limit") rows) options.limit

@@ -26,7 +26,7 @@ use Rattle.lalrpop_lr1_theory.proofs.CountLemmas.{canonical_counted}
 use Rattle.lalrpop_norm_theory.specs.Premises.{IsReadGrammar}
 use Rattle.lalrpop_run_theory.specs.Laws.{OneWrittenTree}
 use Rattle.lalrpop_run_parser.specs.Parsers.{AreCountedBy, HasConflicts, HasOneTreeEach, HasStatesBy, HasTableBy, IsGenerateRefusal, IsParserTable}
-use Rattle.lalrpop_run_parser.specs.Parsers.{ShowsConflicts}
+use Rattle.lalrpop_run_parser.specs.Parsers.{HaveShiftsAscending, ShowsConflicts}
 use Rattle.lalrpop_run_prepare.specs.PreparedGrammars.{IsPrepared, MayBeParsedFrom, PreparedGrammar}
 use Rattle.lalrpop_run_prepare.specs.declared.refusals.refusing.GenerateError.{GenerateError}
 use Rattle.lalrpop_run_prepare.specs.declared.refusals.refusing.GenerateError.TheVariants as errors
@@ -80,13 +80,15 @@ module _ (v : PreparedGrammar) (g : Grammar) (start : NonterminalString) (same :
       subst (IsCanonicalFault v.expansion v.start_name) is (handed (λ h n. IsCanonicalFault h n fault) stands)
 
   conflicts_told : (fault : TableFault (List ℕ)) (error : TableConstructionError (List ℕ)) (certificates : List Certificate)
-      → fault ≡ faults.Conflicts error → AreWitnessesOf v error certificates → IsCanonicalFault g start fault
+      → fault ≡ faults.Conflicts error → HaveShiftsAscending error.states.items × AreWitnessesOf v error certificates
+      → IsCanonicalFault g start fault
       → (NoneBarren (Contains (theory_grammar g)) start.0 → TellsNoLr1 g start fault)
       → MayBeParsedFrom v.expansion v.start_name → HasConflicts v certificates
   conflicts_told fault error certificates is shown stands f m = record {
     error = error;
     canonical = conflicts_stand fault error is stands;
-    shown = shown;
+    shifts = shown.0;
+    shown = shown.1;
     no_lr1 = subst (TellsNoLr1 v.expansion v.start_name) is
         (handed (λ h n. NoneBarren (Contains (theory_grammar h)) n.0 → TellsNoLr1 h n fault) f m.none_barren);
   }

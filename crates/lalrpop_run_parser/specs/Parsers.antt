@@ -1,5 +1,8 @@
 -- What a parser is, and why a prepared grammar has none.
-use Rattle.std.specs.Prelude.{ℕ, ◌≡◌, List, Contains, length}
+use Rattle.std.specs.Prelude.{ℕ, ◌≡◌, All, List, Contains, length}
+use Rattle.std.specs.List.Sorted.{IsStrictlySortedBy}
+use Rattle.std.specs.Map.{keys_of}
+use Rattle.lalrpop_grammar_symbols.specs.contracts.terminal.TerminalStringOrd.TheImpl as terminal_order
 use Rattle.lalrpop_grammar.specs.Trees.{Token, Tree}
 use Rattle.lalrpop_grammar.specs.Views.{grammar_view}
 use Rattle.lalrpop_grammar_language.specs.Admitting.{AdmitsFrom}
@@ -71,16 +74,22 @@ HasOneTreeEach v =
     → AdmitsFrom finds v.session.features.items (grammar_view v.written) v.start t tokens
     → AdmitsFrom finds v.session.features.items (grammar_view v.written) v.start u tokens → t ≡ u
 
+-- the terminals of each state's shifts ascend, as the keys of any map do
+abbrev pub HaveShiftsAscending : List (built_states.State (List ℕ)) → Type 0
+HaveShiftsAscending states = All (λ state. IsStrictlySortedBy (terminal_order.ghosts).cmp (keys_of state.shifts)) states
+
 -- The canonical states of the expansion have conflicts, at least one, and these are certificates of them, in their order.
 pub record HasConflicts (v : PreparedGrammar) (certificates : List Certificate) : Type 0 where
   pub error : TableConstructionError (List ℕ)
   pub canonical : IsCanonicalFault v.expansion v.start_name (faults.Conflicts error)
+  pub shifts : HaveShiftsAscending error.states.items
   pub shown : AreWitnessesOf v error certificates
   pub no_lr1 : IsLr1 (Contains (theory_grammar v.expansion)) v.start_name.0 → ⊥
 
--- certificates of these conflicts; or memory ran out
+-- The terminals of the states' shifts ascend, and these are certificates of the conflicts; or memory ran out.
 abbrev pub ShowsConflicts : PreparedGrammar → TableConstructionError (List ℕ) → GenerateError → Type 0
-ShowsConflicts v error (errors.Conflicts certificates) = AreWitnessesOf v error certificates.items
+ShowsConflicts v error (errors.Conflicts certificates) =
+    HaveShiftsAscending error.states.items × AreWitnessesOf v error certificates.items
 ShowsConflicts v error errors.Memory = Unit {0}
 ShowsConflicts v error _ = ⊥
 

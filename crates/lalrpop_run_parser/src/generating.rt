@@ -5,18 +5,28 @@ ghost use Rattle.lalrpop_grammar.specs.Views.{grammar_view};
 ghost use Rattle.lalrpop_lr1_core.specs.TheoryGrammars.{theory_grammar};
 ghost use Rattle.lalrpop_lr1_theory.specs.Answers.{IsLr1};
 ghost use Rattle.lalrpop_norm_theory.specs.Premises.{IsReadGrammar};
-ghost use Rattle.lalrpop_run_parser.specs.Parsers.{HasOneTreeEach, HasStatesBy, HasTableBy, IsGenerateRefusal, ShowsConflicts};
+ghost use Rattle.lalrpop_run_parser.specs.Parsers.{HasOneTreeEach, HasStatesBy, HasTableBy};
+ghost use Rattle.lalrpop_run_parser.specs.Parsers.{HaveShiftsAscending, IsGenerateRefusal, ShowsConflicts};
 ghost use Rattle.lalrpop_run_parser.specs.Witnesses.{AreItsConflicts};
 
 use crate::parser::Parser;
 use crate::witnesses::{Prepared, witnesses};
 use lalrpop_grammar_repr::methods::Method;
 use lalrpop_lane::build_lr1_states;
-use lalrpop_lr1_core::{Lr1TableConstructionError, TableFault};
+use lalrpop_lr1_core::{Lr1State, Lr1TableConstructionError, TableFault};
 use lalrpop_lr1_interpret::parse::ActionTable;
 use lalrpop_run_prepare::refusals::GenerateError;
 use lalrpop_run_theory::answers::one_written_tree;
 use std::alloc::{AllocError, Global};
+
+/// What is known of states: the terminals of each one's shifts ascend. A law for proofs.
+fn shifts_known(states: &[Lr1State<'_>])
+    ensures { HaveShiftsAscending states.now }
+{
+    for state in states {
+        state.shifts.known();
+    }
+}
 
 /// The refusal with a certificate for each of the conflicts, in their order; or `Memory`.
 fn conflicts_refusal<'p>(
@@ -27,6 +37,7 @@ fn conflicts_refusal<'p>(
     requires { AreItsConflicts prepared.now error.now }
     ensures { ShowsConflicts prepared.now error.now result }
 {
+    shifts_known(error.states.as_slice());
     match witnesses(alloc, prepared, error) {
         Ok(certificates) => GenerateError::Conflicts(certificates),
         Err(AllocError) => GenerateError::Memory,

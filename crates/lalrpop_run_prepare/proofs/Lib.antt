@@ -20,3 +20,4 @@ pub mod PutLemmas
 pub mod ToldExpansionLemmas
 pub mod ToldRecordLemmas
 pub mod ToldStepLemmas
+pub mod ExamplesOfMisplacedProductions

@@ -97,6 +97,12 @@ named_expansion finds features w made h = record {
   );
 }
 
+-- its names are those of the normalized grammar
+pub named_names : (finds : Text → Text → Option Bool) (features : List Text) (w : Grammar) (made : Normalized)
+    (h : IsNormalized finds features w (lowered_view made)) → (named_expansion finds features w made h).name_of ≡ h.name_of
+unfolding named_expansion
+named_names finds features w made h = refl
+
 -- its origins are those of the grammar
 pub named_origins : (finds : Text → Text → Option Bool) (features : List Text) (w : Grammar) (made : Normalized)
     (h : IsNormalized finds features w (lowered_view made)) →

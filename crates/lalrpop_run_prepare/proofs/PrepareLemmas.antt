@@ -6,6 +6,7 @@ use Rattle.std.proofs.Common.{◌≡◌, ◌∙◌, ℕ, List, ap, sym, subst, i
 use Rattle.lalrpop_grammar_symbols.specs.Symbols.{Text}
 use Rattle.lalrpop_grammar_symbols.specs.Views.{span_view}
 use Rattle.lalrpop_grammar_symbols.specs.contracts.names.NonterminalStringOrd.TheImpl as names
+use Rattle.lalrpop_grammar_symbols.specs.contracts.terminal.TerminalStringOrd.TheImpl as terminal_order
 use Rattle.lalrpop_grammar_symbols.specs.declared.names.NonterminalString.{NonterminalString}
 use Rattle.lalrpop_grammar_symbols.specs.declared.span.Span.{Span}
 use Rattle.std.proofs.lemmas.List.{length-map}
@@ -15,6 +16,7 @@ use Rattle.lalrpop_grammar.specs.WrittenGrammar.{Grammar, InternEntry}
 use Rattle.lalrpop_grammar_language.specs.Enabled.{EnabledGrammar, enabled_grammar}
 use Rattle.lalrpop_grammar_language.specs.Expansion.{InExpansion, Nonterminal}
 use Rattle.lalrpop_grammar_repr.specs.declared.grammar.Grammar as repr
+use Rattle.lalrpop_grammar_repr.specs.declared.terminal_set.TerminalSet.{TerminalSet}
 use Rattle.lalrpop_lexer.specs.Simulation.{Decides, StateView}
 use Rattle.lalrpop_lexer_scan.specs.Scanning.{IsScannerOf}
 use Rattle.lalrpop_lr1_barren.specs.LeastBarren.{IsLeastAmongBarren}
@@ -39,7 +41,7 @@ use Rattle.lalrpop_run_prepare.specs.ToldExpansions.{AreToldExpansion}
 use Rattle.lalrpop_run_prepare.proofs.ToldExpansionLemmas.{told_expansion}
 use Rattle.lalrpop_run_prepare.proofs.InlinedEntryLemmas.{steps_own, steps_sorted}
 use Rattle.lalrpop_run_prepare.specs.PrepareRefusals.{IsPrepareRefusal, IsRefusedExpansion, IsRefusedStart}
-use Rattle.lalrpop_run_prepare.specs.PreparedGrammars.{IsPreparedWhereRead, MayBeParsedFrom, PreparedGrammar}
+use Rattle.lalrpop_run_prepare.specs.PreparedGrammars.{HasNamedProductions, IsPreparedWhereRead, MayBeParsedFrom, PreparedGrammar}
 use Rattle.lalrpop_run_prepare.proofs.StartLemmas.{start_in_expansion}
 use Rattle.lalrpop_run_prepare.specs.declared.refusals.refusing.GenerateError.{GenerateError}
 use Rattle.lalrpop_run_prepare.specs.Refused.{IsGenerable, IsGrammarRefusal}
@@ -51,6 +53,9 @@ module _ (finds : Text → Text → Option Bool) (deep : Text → Bool) (feature
     (sorted : IsStrictlySortedBy (names.ghosts).cmp (keys_of made.grammar.nonterminals)) where
   abbrev g : EnabledGrammar
   g = enabled_grammar finds features w
+
+  named : HasNamedProductions made.grammar
+  named = record { under = λ e p i j. ready.named e.0 e.1 p i j; ascending = sorted }
 
   in_expansion : InExpansion g (Nonterminal.start start)
   in_expansion = start_in_expansion finds deep features limit w read n.generable.faultless start n.generable.starts
@@ -105,6 +110,7 @@ module _ (finds : Text → Text → Option Bool) (deep : Text → Bool) (feature
       IsPrepareRefusal.inlining n.generable (record {
         lowered = made;
         normalized = n.normalized;
+        named = named;
         whole = whole;
         whole_is = at;
         told = h.0;
@@ -113,7 +119,7 @@ module _ (finds : Text → Text → Option Bool) (deep : Text → Bool) (feature
       })
   expansion_refused whole error at (IsRefusedExpansion.barren name after i least e) =
       IsPrepareRefusal.barren name.0 n.generable
-      (record { lowered = made; normalized = n.normalized; expansion = after; inlined = i }) (least_told name.0 least) e
+      (record { lowered = made; normalized = n.normalized; named = named; expansion = after; inlined = i }) (least_told name.0 least) e
 
   pub start_refused : (whole : Span) (error : GenerateError) → span_view whole ≡ w.span
       → IsRefusedStart whole made.grammar w.prefix start error → IsPrepareRefusal finds deep features limit start w error
@@ -138,6 +144,8 @@ module _ (finds : Text → Text → Option Bool) (deep : Text → Bool) (v : Pre
   prepared_where_read low origins same name terminals parsed none i ready sorted normal scans = record {
     name_is = name ∙ ap (λ (s : Text). v.written.prefix ++ s) (sym same);
     terminals = terminals;
+    ascending = subst (λ (ts : TerminalSet). IsStrictlySortedBy (terminal_order.ghosts).cmp ts.all)
+        (sym (ap (λ (g : repr.Grammar). g.terminals) i.others)) ready.ascending;
     named = record {
       under = steps_own i.order made.grammar.nonterminals v.expansion.nonterminals made.grammar.action_fn_defns
           v.expansion.action_fn_defns i.steps (λ e p j k. ready.named e.0 e.1 p j k);
@@ -155,6 +163,7 @@ module _ (finds : Text → Text → Option Bool) (deep : Text → Bool) (v : Pre
               IsGenerable finds deep v.session.features.items v.session.macro_recursion_limit s (grammar_view v.written)) (sym same)
               n.generable;
           normalized = n.normalized;
+          named = record { under = λ e p j k. ready.named e.0 e.1 p j k; ascending = sorted };
           scans = scans n.decides;
           inlined = subst (λ (g : repr.Grammar). IsInlinedGrammar g v.expansion) low i;
           none_barren = subst (λ (s : Text).

@@ -18,7 +18,7 @@ use Rattle.lalrpop_norm_lower.specs.declared.lowering.Normalized.{Normalized}
 use Rattle.lalrpop_norm_chain.specs.LoweredViews.{lowered_view}
 use Rattle.lalrpop_run_theory.specs.Barren.{IsLeastBarrenName}
 use Rattle.lalrpop_run_prepare.specs.InlineRefusals.{IsRefusedInlining, told_at}
-use Rattle.lalrpop_run_prepare.specs.PreparedGrammars.{MayBeParsedFrom}
+use Rattle.lalrpop_run_prepare.specs.PreparedGrammars.{HasNamedProductions, MayBeParsedFrom}
 use Rattle.lalrpop_run_prepare.specs.declared.refusals.refusing.GenerateError.{GenerateError}
 use Rattle.lalrpop_run_prepare.specs.declared.refusals.refusing.GenerateError.TheVariants as errors
 use Rattle.lalrpop_run_prepare.specs.Refused.{IsGenerable, IsGrammarRefusal}
@@ -44,6 +44,7 @@ pub record IsInlineRefusal (finds : Text → Text → Option Bool) (features : L
     Type 0 where
   pub lowered : Normalized
   pub normalized : IsNormalized finds features w (lowered_view lowered)
+  pub named : HasNamedProductions lowered.grammar
   pub whole : Span
   pub whole_is : span_view whole ≡ w.span
   pub told : NormError
@@ -54,6 +55,7 @@ pub record IsInlineRefusal (finds : Text → Text → Option Bool) (features : L
 pub record IsInlinable (finds : Text → Text → Option Bool) (features : List Text) (w : Grammar) : Type 0 where
   pub lowered : Normalized
   pub normalized : IsNormalized finds features w (lowered_view lowered)
+  pub named : HasNamedProductions lowered.grammar
   pub expansion : repr.Grammar
   pub inlined : IsInlinedGrammar lowered.grammar expansion
 

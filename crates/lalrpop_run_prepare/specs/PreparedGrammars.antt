@@ -5,6 +5,7 @@ use Rattle.std.specs.Map.{keys_of}
 use Rattle.std.specs.declared.alloc.Global.{Global}
 use Rattle.lalrpop_grammar_symbols.specs.Symbols.{Text}
 use Rattle.lalrpop_grammar_symbols.specs.contracts.names.NonterminalStringOrd.TheImpl as names
+use Rattle.lalrpop_grammar_symbols.specs.contracts.terminal.TerminalStringOrd.TheImpl as terminal_order
 use Rattle.lalrpop_grammar_symbols.specs.declared.names.NonterminalString.{NonterminalString}
 use Rattle.lalrpop_grammar.specs.Views.{grammar_view}
 use Rattle.lalrpop_grammar.specs.declared.grammar.Grammar.{Grammar}
@@ -62,17 +63,19 @@ pub record IsPrepared (finds : Text → Text → Option Bool) (deep : Text → B
   pub origins_are : made.origins ≡ v.origins
   pub generable : IsGenerable finds deep v.session.features.items v.session.macro_recursion_limit v.start (grammar_view v.written)
   pub normalized : IsNormalized finds v.session.features.items (grammar_view v.written) (lowered_view made)
+  pub named : HasNamedProductions made.grammar
   pub scans : IsScannerOf v.scanner (scan_entries (lowered_view made).entries)
   pub inlined : IsInlinedGrammar v.lowered v.expansion
   pub none_barren : HasNoBarren (enabled_grammar finds v.session.features.items (grammar_view v.written)) v.start
   pub told : AreToldExpansion (enabled_grammar finds v.session.features.items (grammar_view v.written)) v.written.prefix
       v.expansion.action_fn_defns v.origins (theory_grammar v.expansion)
 
--- For a grammar as one is read it is prepared. Tables can be made of any, its productions are found by their names, and the start may be
--- parsed from.
+-- For a grammar as one is read it is prepared. Tables can be made of any, its terminals ascend, its productions are found by their names,
+-- and the start may be parsed from.
 pub record IsPreparedWhereRead (finds : Text → Text → Option Bool) (deep : Text → Bool) (v : PreparedGrammar) : Type 0 where
   pub name_is : v.start_name.0 ≡ v.written.prefix ++ v.start
   pub terminals : HasItsTerminals v.expansion
+  pub ascending : IsStrictlySortedBy (terminal_order.ghosts).cmp v.expansion.terminals.all
   pub named : HasNamedProductions v.expansion
   pub parsed : MayBeParsedFrom v.expansion v.start_name
   pub prepared : IsReadGrammar (grammar_view v.written) → IsPrepared finds deep v

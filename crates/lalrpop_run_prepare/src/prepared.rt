@@ -1,7 +1,9 @@
 //! What is known of a grammar once nothing is wrong with it.
 
 ghost use Rattle.std.specs.Prelude.{◌≡◌, ◌++◌, IfOk, length};
+ghost use Rattle.std.specs.List.Sorted.{IsStrictlySortedBy};
 ghost use Rattle.lalrpop_grammar.specs.Views.{grammar_view};
+ghost use Rattle.lalrpop_grammar_symbols.specs.contracts.terminal.TerminalStringOrd.TheImpl as terminal_order;
 ghost use Rattle.lalrpop_grammar_rules.specs.Search.{finds, is_too_deep};
 ghost use Rattle.lalrpop_lr1_first.specs.NumberedGrammars.{HasItsTerminals};
 ghost use Rattle.lalrpop_norm_theory.specs.Premises.{IsReadGrammar};
@@ -133,6 +135,7 @@ impl Prepared {
         ensures prepared { IsReadGrammar (grammar_view self.now.written) → IsPrepared finds is_too_deep self.now }
         ensures prefixed { self.now.start_name.0 ≡ self.now.written.prefix ++ self.now.start }
         ensures terminals { HasItsTerminals self.now.expansion }
+        ensures ascending { IsStrictlySortedBy (terminal_order.ghosts).cmp self.now.expansion.terminals.all }
         ensures named { HasNamedProductions self.now.expansion }
         ensures parsed { MayBeParsedFrom self.now.expansion self.now.start_name }
     {

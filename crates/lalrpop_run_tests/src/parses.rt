@@ -7,10 +7,6 @@ mod grammars;
 #[cfg(test)]
 mod inlining;
 #[cfg(test)]
-mod labels;
-#[cfg(test)]
-mod parsing;
-#[cfg(test)]
 mod scanning;
 #[cfg(test)]
 mod trees;

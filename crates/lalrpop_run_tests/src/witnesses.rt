@@ -4,15 +4,11 @@
 #[cfg(test)]
 mod changes;
 #[cfg(test)]
+mod copies;
+#[cfg(test)]
 mod given;
 #[cfg(test)]
 mod grammars;
-#[cfg(test)]
-mod other_grammars;
-#[cfg(test)]
-mod other_trees;
-#[cfg(test)]
-mod sentences;
 #[cfg(test)]
 mod shared_nodes;
 #[cfg(test)]

@@ -1,6 +1,6 @@
 //! States by numbers.
 
-ghost use Rattle.std.specs.Prelude.{◌≡◌, ◌++◌, ◌∷◌, [], IfOk, OnOk, Some, length, slice_get};
+ghost use Rattle.std.specs.Prelude.{◌≡◌, ◌++◌, ◌∷◌, [], IfOk, OnOk, Some, slice_get};
 ghost use Rattle.lalrpop_lr1_first.specs.ClosureTables.{IsClosureTable};
 ghost use Rattle.lalrpop_lr1_build.specs.Kernels.{AreKernelItems};
 ghost use Rattle.lalrpop_lr1_build.specs.Turns.{AreNumberedStates, AreStatesOf, IsTurn};
@@ -69,24 +69,23 @@ fn push_state<L: KernelLookahead>(
     Ok(())
 }
 
-/// Adds the states of all kernels that were not given yet, and of those that they lead to.
-fn push_states<L: KernelLookahead>(
+/// The states of all kernels, none of which was given yet, and of those that they lead to.
+fn states_of_kernels<L: KernelLookahead>(
     alloc: Global,
     closures: &Closures<'_>,
     kernels: &mut KernelSet<StateKernel<L>>,
-    states: &mut Vec<NumberedState<L>>,
-) -> Result<(), AllocError>
+) -> Result<Vec<NumberedState<L>>, AllocError>
     requires closures { IsClosureTable closures.now }
-    requires begun { (start : _) × AreStatesOf L.marks L.firsts L.in_order closures.now.numbered start kernels.old.kernels
-        states.old.items }
-    requires given { kernels.old.given ≡ length states.old.items }
-    ensures { OnOk result ((start : _) → slice_get kernels.old.kernels 0 ≡ Some start →
-        AreNumberedStates L.marks L.firsts L.in_order closures.now.numbered start states.new.items) }
+    requires begun { (start : _) × AreStatesOf L.marks L.firsts L.in_order closures.now.numbered start kernels.old.kernels [] }
+    requires given { kernels.old.given ≡ 0 }
+    ensures { IfOk result (λ states. (start : _) → slice_get kernels.old.kernels 0 ≡ Some start →
+        AreNumberedStates L.marks L.firsts L.in_order closures.now.numbered start states.items) }
 {
+    let mut states = Vec::new(alloc);
     while let Some(kernel) = kernels.next() {
-        push_state(alloc, closures, &kernel, kernels, states)?;
+        push_state(alloc, closures, &kernel, kernels, &mut states)?;
     }
-    Ok(())
+    Ok(states)
 }
 
 /// The states that are reached from a kernel, numbered as first seen: each has its kernel's closure, and edges to the states of
@@ -102,7 +101,5 @@ pub fn states_by_numbers<L: KernelLookahead>(
 {
     let mut kernels = KernelSet::new(alloc);
     kernels.add_state(start)?;
-    let mut states = Vec::new(alloc);
-    push_states(alloc, closures, &mut kernels, &mut states)?;
-    Ok(states)
+    states_of_kernels(alloc, closures, &mut kernels)
 }

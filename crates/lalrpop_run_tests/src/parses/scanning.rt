@@ -1,61 +1,13 @@
-//! Tokens with the entries that match them, and tokens that are given to a receiver.
+//! Tokens of a text, in a list, and given to a receiver.
 
 use crate::check::check;
-use crate::given::{parser_by, prepared_grammar};
+use crate::given::{parser_of, prepared_grammar};
 use crate::parses::grammars::LISTS;
 use lalrpop_grammar::{ScanToken, Span, TerminalString};
-use lalrpop_grammar_repr::methods::Method;
-use lalrpop_lexer_scan::{EntryTokens, ScanError, Scanner, TokenReceiver};
-use lalrpop_run_parser::{Parser, Prepared};
+use lalrpop_lexer_scan::{ScanError, TokenReceiver};
+use lalrpop_run_parser::Parser;
 use std::alloc::{AllocError, Global};
 use std::process::Abort;
-
-/// That the token is of the terminal of the entry with this number.
-fn is_of_entry(rt: &impl Abort, scanner: &Scanner, token: &ScanToken<'_>, entry: usize) {
-    match scanner.terminals().get(entry) {
-        Some(Some(terminal)) => check(rt, token.terminal == *terminal),
-        _ => panic!(rt; "no terminal"),
-    }
-}
-
-/// That there is an entry for each token, of the same terminal.
-fn are_of_entries(rt: &impl Abort, scanner: &Scanner, found: &EntryTokens<'_>, count: usize) {
-    check(
-        rt,
-        (found.tokens.len(), found.entries.len()) == (count, count),
-    );
-    for (token, entry) in found.tokens.iter().zip(found.entries.iter()) {
-        is_of_entry(rt, scanner, token, *entry);
-    }
-}
-
-fn scans_entries(rt: &impl Abort, alloc: Global, scanner: &Scanner) {
-    let found = scanner.scan_entries(alloc, "aa b").expect(rt, "tokens");
-    are_of_entries(rt, scanner, &found, 3);
-}
-
-/// Why the text isn't scanned.
-fn fault_of(alloc: Global, scanner: &Scanner, text: &str) -> Option<ScanError> {
-    scanner.scan_entries(alloc, text).err()
-}
-
-fn scans(rt: &impl Abort, alloc: Global, scanner: &Scanner) {
-    check(
-        rt,
-        fault_of(alloc, scanner, "a c") == Some(ScanError::NoToken(2)),
-    );
-    scans_entries(rt, alloc, scanner);
-}
-
-fn prepared_scans_entries(rt: &impl Abort, alloc: Global, prepared: &Prepared) {
-    scans(rt, alloc, prepared.scanner());
-}
-
-#[test]
-fn each_token_has_the_entry_that_matches_it(rt: HostRuntime) {
-    let prepared = prepared_grammar(&rt, rt.alloc(), LISTS, "S");
-    prepared_scans_entries(&rt, rt.alloc(), &prepared);
-}
 
 /// Notes for each token that it is given from which byte to which byte it stands, its terminal, and its text.
 #[derive(Drop)]
@@ -77,49 +29,41 @@ impl TokenReceiver for Notes {
     }
 }
 
-/// The tokens of `aa b`.
-const THREE: &str = r#"0..1 "a" a; 1..2 "a" a; 3..4 "b" b; "#;
+/// The token of `a c` in front of the byte at which there is none, and the tokens of `aa b`.
+const NOTED: &str = r#"0..1 "a" a; 0..1 "a" a; 1..2 "a" a; 3..4 "b" b; "#;
 
-/// The token in front of the byte of `a c` at which there is none.
-const ONE: &str = r#"0..1 "a" a; "#;
-
-/// That the receiver is given these tokens of the text, and no fault or this one is told.
-fn gives(
-    rt: &impl Abort,
-    alloc: Global,
-    scanner: &Scanner,
-    text: &str,
-    notes: &str,
-    fault: Option<ScanError>,
-) {
-    let mut given = Notes {
-        text: String::new(alloc),
-    };
-    let found = scanner.scan_into(text, &mut given).err();
-    check(rt, found == fault);
-    check(rt, given.text.as_str() == notes);
+/// Notes the tokens.
+fn note(rt: &impl Abort, tokens: &[ScanToken<'_>], notes: &mut Notes) {
+    for token in tokens {
+        let noted = notes.receive(&token.terminal, token.text, token.span);
+        noted.expect(rt, "memory");
+    }
 }
 
-/// That the parser gives the tokens of the text, too.
-fn parser_gives(rt: &impl Abort, alloc: Global, parser: &Parser<'_>) {
-    let mut given = Notes {
+/// That the parser gives tokens to a receiver, up to the byte without one, or tells them in a list.
+fn scans(rt: &impl Abort, alloc: Global, parser: &Parser<'_>) {
+    let mut notes = Notes {
         text: String::new(alloc),
     };
-    let found = parser.scan_into("aa b", &mut given);
-    check(rt, found.is_ok());
-    check(rt, given.text.as_str() == THREE);
+    let given = parser.scan_into("a c", &mut notes).err();
+    check(rt, given == Some(ScanError::NoToken(2)));
+    let told = parser.scan(alloc, "a c").err();
+    check(rt, told == Some(ScanError::NoToken(2)));
+    let tokens = parser.scan(alloc, "aa b").expect(rt, "tokens");
+    note(rt, tokens.as_slice(), &mut notes);
+    check(rt, notes.text.as_str() == NOTED);
 }
 
-fn lists_are_given(rt: &impl Abort, alloc: Global, prepared: &Prepared) {
-    gives(rt, alloc, prepared.scanner(), "aa b", THREE, None);
-    let fault = Some(ScanError::NoToken(2));
-    gives(rt, alloc, prepared.scanner(), "a c", ONE, fault);
-    let parser = parser_by(rt, alloc, prepared, Method::Canonical);
-    parser_gives(rt, alloc, &parser);
+/// That the parser of lists scans so. Its laws are called.
+fn lists_are_scanned(rt: &impl Abort, alloc: Global) {
+    let prepared = prepared_grammar(rt, alloc, LISTS, "S");
+    let parser = parser_of(rt, alloc, &prepared);
+    scans(rt, alloc, &parser);
+    parser.raising_the_limit();
+    parser.canonical_states_tell_faults();
 }
 
 #[test]
-fn a_receiver_is_given_the_tokens_in_front_of_the_byte_without_one(rt: HostRuntime) {
-    let prepared = prepared_grammar(&rt, rt.alloc(), LISTS, "S");
-    lists_are_given(&rt, rt.alloc(), &prepared);
+fn tokens_are_told_in_a_list_or_given_up_to_the_byte_without_one(rt: HostRuntime) {
+    lists_are_scanned(&rt, rt.alloc());
 }

@@ -1,282 +1,321 @@
-//! Certificates of the two inlined alternatives, as they are told and with something changed.
+//! Certificates of two inlined alternatives that somebody makes: what is told, and what is changed in it or asked of it.
 
-use crate::check::check;
-use crate::given::prepared_grammar;
-use crate::witnesses::given::{certificate_of, is_taken, name_of, production_at, terminal_of};
-use crate::witnesses::grammars::INLINED;
-use crate::witnesses::trees::{A, Leaf, MOVED_X, NO_ACTION, X, leaves_of};
-use lalrpop_grammar::{Span, TerminalString};
-use lalrpop_grammar_repr::ActionFn;
+use crate::check::{boxed, check, check_row};
+use crate::given::{name_of, prepared_grammar, production_at};
+use crate::witnesses::copies::{NO_ACTION, Own, copy_with};
+use crate::witnesses::given::{is_taken, terminal_of};
+use crate::witnesses::grammars::{INLINED, OPERATORS};
+use crate::witnesses::trees::{Shape, leaves_of, tree_of};
+use lalrpop_grammar::TerminalString;
+use lalrpop_grammar_repr::{ActionFn, Production};
 use lalrpop_judge::certificates_refute;
-use lalrpop_lr1::ExpandedTree;
 use lalrpop_run_parser::{Certificate, Move, Prepared};
 use std::alloc::Global;
 use std::process::Abort;
 
-/// The actions of the two productions that inlining makes of `S`, in order.
-fn two_actions(rt: &impl Abort, alloc: Global, prepared: &Prepared) -> (ActionFn, ActionFn) {
-    let name = name_of(rt, alloc, "S");
-    let first = production_at(rt, prepared, &name, 0).action;
-    let second = production_at(rt, prepared, &name, 1).action;
-    (first, second)
+/// What a move is.
+#[derive(Clone, Copy)]
+enum Told {
+    /// The reduction by the first tree's production.
+    First,
+    /// That by the second's.
+    Second,
+    /// A reduction by no action of the grammar.
+    Other,
+    /// The shift of a quoted terminal.
+    Shift(&'static str),
 }
 
-/// Whether the tree is this leaf.
-fn is_leaf(rt: &impl Abort, alloc: Global, tree: &ExpandedTree<'_>, leaf: Leaf) -> bool {
-    let terminal = terminal_of(rt, alloc, leaf.0);
-    tree.root().terminal() == Some(&terminal) && tree.root().span() == Some(leaf.1)
+/// A certificate of two trees with a production that inlining makes of `S` each.
+#[derive(Clone, Copy)]
+struct Change {
+    /// What is shown.
+    shows: &'static str,
+    /// What the first tree's production has of its own.
+    own: Own,
+    /// The tokens that both sentences have in common.
+    shared: &'static str,
+    /// The terminal that comes next, the end where it is empty.
+    next: &'static str,
+    /// The moves.
+    moves: (Told, Told),
+    /// The trees.
+    trees: (Shape, Shape),
+    /// What is asked of it.
+    asked: Asked,
 }
 
-/// That what both sentences have in common are the tokens `a` and `x`, and the end comes next.
-fn shares_both_tokens(rt: &impl Abort, alloc: Global, certificate: &Certificate<'_>) {
-    let shared = certificate.shared.as_slice();
-    check(rt, shared.len() == 2);
-    check(rt, is_leaf(rt, alloc, &shared[0], A));
-    check(rt, is_leaf(rt, alloc, &shared[1], X));
-    check(rt, certificate.next.is_none());
-}
+/// A grammar with its start, and the nonterminal from which there are to be two sentences.
+type Asked = (&'static str, &'static str, &'static str);
 
-/// Whether the move reduces by this action.
-fn reduces_by(told: &Move, action: ActionFn) -> bool {
-    match told {
-        Move::Reduce(other) => *other == action,
-        Move::Shift(_) => false,
+/// The grammar whose productions the trees are over.
+const ITSELF: Asked = (INLINED, "S", "__S");
+
+/// The reductions by both productions.
+const REDUCTIONS: (Told, Told) = (Told::First, Told::Second);
+
+/// The trees of both sentences.
+const WHOLE: (Shape, Shape) = (Shape::Whole("ax"), Shape::Whole("ax"));
+
+/// What is told.
+static TOLD: Change = Change {
+    shows: "what is told",
+    own: Own::Nothing,
+    shared: "ax",
+    next: "",
+    moves: REDUCTIONS,
+    trees: WHOLE,
+    asked: ITSELF,
+};
+
+// "z" is no terminal of the grammar, "T" no nonterminal. Both sentences shift two tokens, and reduce twice.
+static CHANGES: [Change; 20] = [
+    Change {
+        shows: "the first reduction twice",
+        own: Own::Nothing,
+        shared: "ax",
+        next: "",
+        moves: (Told::First, Told::First),
+        trees: WHOLE,
+        asked: ITSELF,
+    },
+    Change {
+        shows: "a reduction by no action",
+        own: Own::Nothing,
+        shared: "ax",
+        next: "",
+        moves: (Told::First, Told::Other),
+        trees: WHOLE,
+        asked: ITSELF,
+    },
+    Change {
+        shows: "the shift that both sentences make",
+        own: Own::Nothing,
+        shared: "",
+        next: "a",
+        moves: (Told::Shift("a"), Told::Shift("a")),
+        trees: WHOLE,
+        asked: ITSELF,
+    },
+    Change {
+        shows: "that shift and another",
+        own: Own::Nothing,
+        shared: "",
+        next: "a",
+        moves: (Told::Shift("a"), Told::Shift("x")),
+        trees: WHOLE,
+        asked: ITSELF,
+    },
+    Change {
+        shows: "another terminal next",
+        own: Own::Nothing,
+        shared: "ax",
+        next: "x",
+        moves: REDUCTIONS,
+        trees: WHOLE,
+        asked: ITSELF,
+    },
+    Change {
+        shows: "no terminal of the grammar next",
+        own: Own::Nothing,
+        shared: "ax",
+        next: "z",
+        moves: REDUCTIONS,
+        trees: WHOLE,
+        asked: ITSELF,
+    },
+    Change {
+        shows: "one token too few in common",
+        own: Own::Nothing,
+        shared: "a",
+        next: "",
+        moves: REDUCTIONS,
+        trees: WHOLE,
+        asked: ITSELF,
+    },
+    Change {
+        shows: "no token in common",
+        own: Own::Nothing,
+        shared: "",
+        next: "",
+        moves: REDUCTIONS,
+        trees: WHOLE,
+        asked: ITSELF,
+    },
+    Change {
+        shows: "one token too many",
+        own: Own::Nothing,
+        shared: "axx",
+        next: "",
+        moves: REDUCTIONS,
+        trees: WHOLE,
+        asked: ITSELF,
+    },
+    Change {
+        shows: "more tokens than there are moves",
+        own: Own::Nothing,
+        shared: "axxxx",
+        next: "",
+        moves: REDUCTIONS,
+        trees: WHOLE,
+        asked: ITSELF,
+    },
+    Change {
+        shows: "a token at another place in common",
+        own: Own::Nothing,
+        shared: "a x",
+        next: "",
+        moves: REDUCTIONS,
+        trees: WHOLE,
+        asked: ITSELF,
+    },
+    Change {
+        shows: "a leaf at another place",
+        own: Own::Nothing,
+        shared: "ax",
+        next: "",
+        moves: REDUCTIONS,
+        trees: (Shape::Whole("a x"), Shape::Whole("ax")),
+        asked: ITSELF,
+    },
+    Change {
+        shows: "a tree that isn't the start's",
+        own: Own::Nothing,
+        shared: "ax",
+        next: "",
+        moves: REDUCTIONS,
+        trees: (Shape::Whole("ax"), Shape::Below("ax")),
+        asked: ITSELF,
+    },
+    Change {
+        shows: "leaves alone",
+        own: Own::Nothing,
+        shared: "",
+        next: "a",
+        moves: (Told::Shift("a"), Told::Second),
+        trees: (Shape::Leaf("a"), Shape::Leaf("a")),
+        asked: ITSELF,
+    },
+    Change {
+        shows: "a production with another action",
+        own: Own::Action,
+        shared: "ax",
+        next: "",
+        moves: REDUCTIONS,
+        trees: WHOLE,
+        asked: ITSELF,
+    },
+    Change {
+        shows: "a production at another place",
+        own: Own::Place,
+        shared: "ax",
+        next: "",
+        moves: REDUCTIONS,
+        trees: WHOLE,
+        asked: ITSELF,
+    },
+    Change {
+        shows: "a production of another nonterminal",
+        own: Own::Name,
+        shared: "ax",
+        next: "",
+        moves: REDUCTIONS,
+        trees: WHOLE,
+        asked: ITSELF,
+    },
+    Change {
+        shows: "sentences of a rule below the start",
+        own: Own::Nothing,
+        shared: "ax",
+        next: "",
+        moves: REDUCTIONS,
+        trees: WHOLE,
+        asked: (INLINED, "S", "S"),
+    },
+    Change {
+        shows: "sentences of no rule",
+        own: Own::Nothing,
+        shared: "ax",
+        next: "",
+        moves: REDUCTIONS,
+        trees: WHOLE,
+        asked: (INLINED, "S", "T"),
+    },
+    Change {
+        shows: "sentences of another grammar",
+        own: Own::Nothing,
+        shared: "ax",
+        next: "",
+        moves: REDUCTIONS,
+        trees: WHOLE,
+        asked: (OPERATORS, "E", "__S"),
+    },
+];
+
+/// The quoted terminal that comes next, none where the text is empty.
+fn next_of(rt: &impl Abort, alloc: Global, text: &str) -> Option<TerminalString> {
+    if text.is_empty() {
+        None
+    } else {
+        Some(terminal_of(rt, alloc, text))
     }
 }
 
-/// That the certificate's moves are the reductions by the two productions, in order.
-fn reduces_by_each(
+/// The move, where the reductions are by these actions.
+fn move_of(rt: &impl Abort, alloc: Global, first: ActionFn, second: ActionFn, told: Told) -> Move {
+    match told {
+        Told::First => Move::Reduce(first),
+        Told::Second => Move::Reduce(second),
+        Told::Other => Move::Reduce(ActionFn::new(NO_ACTION)),
+        Told::Shift(text) => Move::Shift(terminal_of(rt, alloc, text)),
+    }
+}
+
+/// The row's certificate, with this production in the first tree.
+fn certificate_over<'p>(
     rt: &impl Abort,
     alloc: Global,
-    prepared: &Prepared,
-    certificate: &Certificate<'_>,
-) {
-    let (first, second) = two_actions(rt, alloc, prepared);
-    check(rt, first != second);
-    check(rt, reduces_by(&certificate.move1, first));
-    check(rt, reduces_by(&certificate.move2, second));
+    prepared: &'p Prepared,
+    first: &'p Production,
+    row: &Change,
+) -> Box<Certificate<'p>> {
+    let second = production_at(rt, alloc, prepared.expansion(), "S", 1);
+    let certificate = Certificate {
+        shared: leaves_of(rt, alloc, prepared, row.shared),
+        next: next_of(rt, alloc, row.next),
+        move1: move_of(rt, alloc, first.action, second.action, row.moves.0),
+        tree1: tree_of(rt, alloc, prepared, first, row.trees.0),
+        move2: move_of(rt, alloc, first.action, second.action, row.moves.1),
+        tree2: tree_of(rt, alloc, prepared, second, row.trees.1),
+    };
+    boxed(rt, alloc, certificate)
 }
 
-/// That the certificate is taken, shares both tokens, and tells both reductions.
-fn tells_reductions(
-    rt: &impl Abort,
-    alloc: Global,
-    prepared: &Prepared,
-    certificate: &Certificate<'_>,
-) {
-    check(rt, is_taken(rt, alloc, prepared, certificate));
-    shares_both_tokens(rt, alloc, certificate);
-    reduces_by_each(rt, alloc, prepared, certificate);
+/// Whether the row's certificate is taken for two sentences of what is asked.
+fn is_taken_as(rt: &impl Abort, alloc: Global, prepared: &Prepared, row: &Change) -> bool {
+    let first = production_at(rt, alloc, prepared.expansion(), "S", 0);
+    let copy = copy_with(rt, alloc, first, row.own);
+    let certificate = certificate_over(rt, alloc, prepared, &copy, row);
+    let asked = prepared_grammar(rt, alloc, row.asked.0, row.asked.1);
+    let name = name_of(rt, alloc, row.asked.2);
+    is_taken(rt, alloc, &asked, &name, &certificate)
 }
 
-fn are_told_apart(rt: &impl Abort, alloc: Global, prepared: &Prepared) {
-    let certificate = certificate_of(rt, alloc, prepared);
-    tells_reductions(rt, alloc, prepared, &certificate);
+/// That what is told is taken, whoever makes it, and nothing that is changed.
+fn takes_what_is_told(rt: &impl Abort, alloc: Global) {
+    let prepared = prepared_grammar(rt, alloc, INLINED, "S");
+    check(rt, is_taken_as(rt, alloc, &prepared, &TOLD));
+    for row in CHANGES.iter() {
+        check_row(rt, row.shows, !is_taken_as(rt, alloc, &prepared, row));
+    }
 }
 
-fn prepared_are_told_apart(rt: &impl Abort, alloc: Global, prepared: &Prepared) {
-    // what it shows that a certificate is taken
+#[test]
+fn two_inlined_alternatives_are_told_apart_and_nothing_else_is_taken(rt: HostRuntime) {
+    takes_what_is_told(&rt, rt.alloc());
+}
+
+#[test]
+fn the_law_of_certificates_is_called() {
     certificates_refute();
-    are_told_apart(rt, alloc, prepared);
-}
-
-#[test]
-fn two_inlined_alternatives_of_equal_symbols_are_told_apart(rt: HostRuntime) {
-    let prepared = prepared_grammar(&rt, rt.alloc(), INLINED, "S");
-    prepared_are_told_apart(&rt, rt.alloc(), &prepared);
-}
-
-/// Whether the certificate is taken with the reductions by these actions.
-fn is_taken_with_reductions(
-    rt: &impl Abort,
-    alloc: Global,
-    prepared: &Prepared,
-    certificate: &mut Certificate<'_>,
-    one: ActionFn,
-    other: ActionFn,
-) -> bool {
-    certificate.move1 = Move::Reduce(one);
-    certificate.move2 = Move::Reduce(other);
-    is_taken(rt, alloc, prepared, certificate)
-}
-
-fn takes_its_reductions(
-    rt: &impl Abort,
-    alloc: Global,
-    prepared: &Prepared,
-    certificate: &mut Certificate<'_>,
-) {
-    let (first, second) = two_actions(rt, alloc, prepared);
-    let other = ActionFn::new(NO_ACTION);
-    check(
-        rt,
-        is_taken_with_reductions(rt, alloc, prepared, certificate, first, second),
-    );
-    check(
-        rt,
-        !is_taken_with_reductions(rt, alloc, prepared, certificate, first, first),
-    );
-    check(
-        rt,
-        !is_taken_with_reductions(rt, alloc, prepared, certificate, first, other),
-    );
-}
-
-fn takes_no_other_moves(rt: &impl Abort, alloc: Global, prepared: &Prepared) {
-    let mut certificate = certificate_of(rt, alloc, prepared);
-    takes_its_reductions(rt, alloc, prepared, &mut certificate);
-}
-
-#[test]
-fn other_moves_are_not_taken(rt: HostRuntime) {
-    let prepared = prepared_grammar(&rt, rt.alloc(), INLINED, "S");
-    takes_no_other_moves(&rt, rt.alloc(), &prepared);
-}
-
-/// The shift of the quoted terminal.
-fn shift_of(rt: &impl Abort, alloc: Global, text: &str) -> Move {
-    Move::Shift(terminal_of(rt, alloc, text))
-}
-
-/// Leaves nothing in common, with `a` next.
-fn move_to_front(rt: &impl Abort, alloc: Global, certificate: &mut Certificate<'_>) {
-    certificate.next = Some(terminal_of(rt, alloc, "a"));
-    certificate.shared = Vec::new(alloc);
-}
-
-/// Whether the certificate is taken with the shifts of these terminals.
-fn is_taken_with_shifts(
-    rt: &impl Abort,
-    alloc: Global,
-    prepared: &Prepared,
-    certificate: &mut Certificate<'_>,
-    first: &str,
-    second: &str,
-) -> bool {
-    certificate.move1 = shift_of(rt, alloc, first);
-    certificate.move2 = shift_of(rt, alloc, second);
-    is_taken(rt, alloc, prepared, certificate)
-}
-
-fn takes_no_shifts(rt: &impl Abort, alloc: Global, prepared: &Prepared) {
-    let mut certificate = certificate_of(rt, alloc, prepared);
-    move_to_front(rt, alloc, &mut certificate);
-    check(
-        rt,
-        !is_taken_with_shifts(rt, alloc, prepared, &mut certificate, "a", "a"),
-    );
-    check(
-        rt,
-        !is_taken_with_shifts(rt, alloc, prepared, &mut certificate, "a", "x"),
-    );
-}
-
-// Each sentence makes the shift of "a" there.
-#[test]
-fn two_shifts_are_not_taken(rt: HostRuntime) {
-    let prepared = prepared_grammar(&rt, rt.alloc(), INLINED, "S");
-    takes_no_shifts(&rt, rt.alloc(), &prepared);
-}
-
-/// Whether the certificate is taken with this terminal next.
-fn is_taken_before(
-    rt: &impl Abort,
-    alloc: Global,
-    prepared: &Prepared,
-    certificate: &mut Certificate<'_>,
-    next: Option<TerminalString>,
-) -> bool {
-    certificate.next = next;
-    is_taken(rt, alloc, prepared, certificate)
-}
-
-/// Whether the certificate is taken with this quoted terminal next.
-fn is_taken_before_text(
-    rt: &impl Abort,
-    alloc: Global,
-    prepared: &Prepared,
-    certificate: &mut Certificate<'_>,
-    text: &str,
-) -> bool {
-    let terminal = terminal_of(rt, alloc, text);
-    is_taken_before(rt, alloc, prepared, certificate, Some(terminal))
-}
-
-fn takes_the_end(rt: &impl Abort, alloc: Global, prepared: &Prepared) {
-    let mut certificate = certificate_of(rt, alloc, prepared);
-    check(
-        rt,
-        is_taken_before(rt, alloc, prepared, &mut certificate, None),
-    );
-    check(
-        rt,
-        !is_taken_before_text(rt, alloc, prepared, &mut certificate, "x"),
-    );
-    check(
-        rt,
-        !is_taken_before_text(rt, alloc, prepared, &mut certificate, "z"),
-    );
-}
-
-// "z" is no terminal of the grammar.
-#[test]
-fn another_next_token_is_not_taken(rt: HostRuntime) {
-    let prepared = prepared_grammar(&rt, rt.alloc(), INLINED, "S");
-    takes_the_end(&rt, rt.alloc(), &prepared);
-}
-
-/// Whether the certificate is taken with these leaves as what both sentences have in common.
-fn is_taken_sharing(
-    rt: &impl Abort,
-    alloc: Global,
-    prepared: &Prepared,
-    certificate: &mut Certificate<'_>,
-    leaves: &[Leaf],
-) -> bool {
-    certificate.shared = leaves_of(rt, alloc, leaves);
-    is_taken(rt, alloc, prepared, certificate)
-}
-
-/// More leaves than the sentences have moves: these shift two tokens and reduce twice.
-const FIVE_LEAVES: [Leaf; 5] = [A, X, MOVED_X, ("x", Span(3, 4)), ("x", Span(4, 5))];
-
-// One too few, none, one too many, more than there can be, and one with another span.
-fn takes_both_leaves(
-    rt: &impl Abort,
-    alloc: Global,
-    prepared: &Prepared,
-    certificate: &mut Certificate<'_>,
-) {
-    check(
-        rt,
-        is_taken_sharing(rt, alloc, prepared, certificate, &[A, X]),
-    );
-    check(
-        rt,
-        !is_taken_sharing(rt, alloc, prepared, certificate, &[A]),
-    );
-    check(rt, !is_taken_sharing(rt, alloc, prepared, certificate, &[]));
-    check(
-        rt,
-        !is_taken_sharing(rt, alloc, prepared, certificate, &[A, X, MOVED_X]),
-    );
-    check(
-        rt,
-        !is_taken_sharing(rt, alloc, prepared, certificate, &FIVE_LEAVES),
-    );
-    check(
-        rt,
-        !is_taken_sharing(rt, alloc, prepared, certificate, &[A, MOVED_X]),
-    );
-}
-
-fn shares_both_leaves(rt: &impl Abort, alloc: Global, prepared: &Prepared) {
-    let mut certificate = certificate_of(rt, alloc, prepared);
-    takes_both_leaves(rt, alloc, prepared, &mut certificate);
-}
-
-#[test]
-fn other_shared_trees_are_not_taken(rt: HostRuntime) {
-    let prepared = prepared_grammar(&rt, rt.alloc(), INLINED, "S");
-    shares_both_leaves(&rt, rt.alloc(), &prepared);
 }

@@ -1,14 +1,14 @@
 //! The certificate of a sum of sums, with other trees in common.
 
-use crate::check::check;
-use crate::given::prepared_grammar;
-use crate::witnesses::given::{certificate_of, is_taken, name_of, production_at};
+use crate::check::check_row;
+use crate::given::{prepared_grammar, production_at};
+use crate::witnesses::copies::{Own, copy_with};
+use crate::witnesses::given::{certificates_of, is_taken};
 use crate::witnesses::grammars::SUMS;
-use crate::witnesses::trees::{leaf_of, node_over};
-use lalrpop_grammar::Span;
+use crate::witnesses::trees::{Shape, tree_of};
 use lalrpop_grammar_repr::Production;
 use lalrpop_lr1::ExpandedTree;
-use lalrpop_run_parser::{Certificate, Prepared};
+use lalrpop_run_parser::Prepared;
 use std::alloc::Global;
 use std::process::Abort;
 
@@ -16,101 +16,87 @@ use std::process::Abort;
 fn operands_over<'p>(
     rt: &impl Abort,
     alloc: Global,
+    prepared: &'p Prepared,
     first: &'p Production,
     second: &'p Production,
 ) -> Vec<ExpandedTree<'p>> {
     let mut trees = Vec::new(alloc);
-    let left = node_over(rt, alloc, first, &[("n", Span(0, 1))]);
+    let left = tree_of(rt, alloc, prepared, first, Shape::Below("n"));
     trees.push(left).expect(rt, "memory");
-    let sign = leaf_of(rt, alloc, ("+", Span(1, 2)));
+    let sign = tree_of(rt, alloc, prepared, first, Shape::Leaf(" +"));
     trees.push(sign).expect(rt, "memory");
-    let right = node_over(rt, alloc, second, &[("n", Span(2, 3))]);
+    let right = tree_of(rt, alloc, prepared, second, Shape::Below("  n"));
     trees.push(right).expect(rt, "memory");
     trees
 }
 
-/// Whether the certificate is taken with these productions over the operands that both sentences have in common.
-fn is_taken_behind<'p>(
-    rt: &impl Abort,
-    alloc: Global,
-    prepared: &'p Prepared,
-    certificate: &mut Certificate<'p>,
-    first: &'p Production,
-    second: &'p Production,
-) -> bool {
-    certificate.shared = operands_over(rt, alloc, first, second);
-    is_taken(rt, alloc, prepared, certificate)
+/// Copies of the production of the alternative `"n"` over both operands.
+#[derive(Clone, Copy)]
+struct Operands {
+    /// What is shown.
+    shows: &'static str,
+    /// What the first one's has of its own.
+    first: Own,
+    /// What the second one's has.
+    second: Own,
+    /// Whether the certificate is taken with them.
+    taken: bool,
 }
 
-/// A copy of the production that stands elsewhere.
-fn moved_copy(rt: &impl Abort, alloc: Global, production: &Production) -> Box<Production> {
-    let mut copy = production.try_clone(alloc).expect(rt, "memory");
-    copy.span = Span(0, 1);
-    Box::new(alloc, copy).expect(rt, "memory")
+static OPERANDS: [Operands; 5] = [
+    Operands {
+        shows: "two equal copies",
+        first: Own::Nothing,
+        second: Own::Nothing,
+        taken: true,
+    },
+    Operands {
+        shows: "the first stands elsewhere",
+        first: Own::Place,
+        second: Own::Nothing,
+        taken: false,
+    },
+    Operands {
+        shows: "the second stands elsewhere",
+        first: Own::Nothing,
+        second: Own::Place,
+        taken: false,
+    },
+    Operands {
+        shows: "the first is another nonterminal's",
+        first: Own::Name,
+        second: Own::Nothing,
+        taken: false,
+    },
+    Operands {
+        shows: "the second is another nonterminal's",
+        first: Own::Nothing,
+        second: Own::Name,
+        taken: false,
+    },
+];
+
+/// Whether the told certificate is taken with the row's copies over the operands that both sentences have in common.
+fn is_taken_with(rt: &impl Abort, alloc: Global, prepared: &Prepared, row: &Operands) -> bool {
+    let operand = production_at(rt, alloc, prepared.expansion(), "E", 0);
+    let first = copy_with(rt, alloc, operand, row.first);
+    let second = copy_with(rt, alloc, operand, row.second);
+    let mut certificates = certificates_of(rt, alloc, prepared);
+    let mut certificate = certificates.pop().expect(rt, "a certificate");
+    certificate.shared = operands_over(rt, alloc, prepared, &first, &second);
+    is_taken(rt, alloc, prepared, prepared.start_name(), &certificate)
 }
 
-/// A copy of the production for another nonterminal.
-fn renamed_copy(rt: &impl Abort, alloc: Global, production: &Production) -> Box<Production> {
-    let mut copy = production.try_clone(alloc).expect(rt, "memory");
-    copy.nonterminal = name_of(rt, alloc, "F");
-    Box::new(alloc, copy).expect(rt, "memory")
-}
-
-/// That the certificate is taken with the production over each operand, and not with the other one over either.
-fn wants_one<'p>(
-    rt: &impl Abort,
-    alloc: Global,
-    prepared: &'p Prepared,
-    production: &'p Production,
-    other: &'p Production,
-) {
-    let mut certificate = certificate_of(rt, alloc, prepared);
-    check(
-        rt,
-        is_taken_behind(
-            rt,
-            alloc,
-            prepared,
-            &mut certificate,
-            production,
-            production,
-        ),
-    );
-    check(
-        rt,
-        !is_taken_behind(rt, alloc, prepared, &mut certificate, production, other),
-    );
-    check(
-        rt,
-        !is_taken_behind(rt, alloc, prepared, &mut certificate, other, production),
-    );
-}
-
-/// The production of the alternative `"n"`.
-fn operand<'p>(rt: &impl Abort, alloc: Global, prepared: &'p Prepared) -> &'p Production {
-    let name = name_of(rt, alloc, "E");
-    production_at(rt, prepared, &name, 0)
-}
-
-fn wants_its_place(rt: &impl Abort, alloc: Global, prepared: &Prepared) {
-    let production = operand(rt, alloc, prepared);
-    let other = moved_copy(rt, alloc, production);
-    wants_one(rt, alloc, prepared, production, &other);
-}
-
-fn wants_its_name(rt: &impl Abort, alloc: Global, prepared: &Prepared) {
-    let production = operand(rt, alloc, prepared);
-    let other = renamed_copy(rt, alloc, production);
-    wants_one(rt, alloc, prepared, production, &other);
-}
-
-fn takes_its_shared_trees(rt: &impl Abort, alloc: Global, prepared: &Prepared) {
-    wants_its_place(rt, alloc, prepared);
-    wants_its_name(rt, alloc, prepared);
+/// That a certificate is taken with equal productions over the operands, and with no others.
+fn wants_its_operands(rt: &impl Abort, alloc: Global) {
+    let prepared = prepared_grammar(rt, alloc, SUMS, "E");
+    for row in OPERANDS.iter() {
+        let taken = is_taken_with(rt, alloc, &prepared, row);
+        check_row(rt, row.shows, taken == row.taken);
+    }
 }
 
 #[test]
 fn a_shared_tree_over_another_production_with_the_same_action_is_not_taken(rt: HostRuntime) {
-    let prepared = prepared_grammar(&rt, rt.alloc(), SUMS, "E");
-    takes_its_shared_trees(&rt, rt.alloc(), &prepared);
+    wants_its_operands(&rt, rt.alloc());
 }

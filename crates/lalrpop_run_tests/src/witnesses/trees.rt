@@ -1,64 +1,81 @@
-//! Trees over productions, made by hand, of the sentence `a x` and others.
+//! Trees over productions, made by hand.
 
-use crate::witnesses::given::{production_at, terminal_of};
-use lalrpop_grammar::Span;
+use crate::given::production_at;
 use lalrpop_grammar_repr::Production;
 use lalrpop_lr1::ExpandedTree;
 use lalrpop_run_parser::Prepared;
 use std::alloc::Global;
 use std::process::Abort;
 
-/// A leaf: the text of a quoted terminal, and where its token stands.
-pub(crate) type Leaf = (&'static str, Span);
-
-pub(crate) const A: Leaf = ("a", Span(0, 1));
-
-pub(crate) const X: Leaf = ("x", Span(1, 2));
-
-/// The same token a place further on.
-pub(crate) const MOVED_X: Leaf = ("x", Span(2, 3));
-
-/// The number of an action that is none of a small grammar's.
-pub(crate) const NO_ACTION: usize = 4_294_967_295;
-
-/// The leaf, as a tree.
-pub(crate) fn leaf_of<'g>(rt: &impl Abort, alloc: Global, leaf: Leaf) -> ExpandedTree<'g> {
-    ExpandedTree::leaf(alloc, terminal_of(rt, alloc, leaf.0), leaf.1).expect(rt, "memory")
+/// What a tree is like, with the text of its tokens, each of which is a leaf.
+#[derive(Clone, Copy)]
+pub(crate) enum Shape {
+    /// A production under the start.
+    Whole(&'static str),
+    /// A production alone.
+    Below(&'static str),
+    /// The last leaf alone.
+    Leaf(&'static str),
 }
 
-/// The leaves, as trees.
+/// The tokens of the text, as trees.
 pub(crate) fn leaves_of<'g>(
     rt: &impl Abort,
     alloc: Global,
-    leaves: &[Leaf],
+    prepared: &Prepared,
+    text: &str,
 ) -> Vec<ExpandedTree<'g>> {
+    let tokens = prepared.scanner().scan(alloc, text).expect(rt, "tokens");
     let mut trees = Vec::new(alloc);
-    for leaf in leaves {
-        trees.push(leaf_of(rt, alloc, *leaf)).expect(rt, "memory");
+    for token in tokens.iter() {
+        let terminal = token.terminal.try_clone().expect(rt, "memory");
+        let leaf = ExpandedTree::leaf(alloc, terminal, token.span).expect(rt, "memory");
+        trees.push(leaf).expect(rt, "memory");
     }
     trees
 }
 
-/// The production over these leaves.
-pub(crate) fn node_over<'g>(
+/// The production over the tokens of the text.
+fn node_over<'g>(
     rt: &impl Abort,
     alloc: Global,
+    prepared: &Prepared,
     production: &'g Production,
-    leaves: &[Leaf],
+    text: &str,
 ) -> ExpandedTree<'g> {
-    ExpandedTree::node(production, leaves_of(rt, alloc, leaves)).expect(rt, "memory")
+    ExpandedTree::node(production, leaves_of(rt, alloc, prepared, text)).expect(rt, "memory")
 }
 
-/// The production over these leaves, under the start.
-pub(crate) fn whole_tree<'g>(
+/// The tree under the start.
+fn under_start<'g>(
+    rt: &impl Abort,
+    alloc: Global,
+    prepared: &'g Prepared,
+    below: ExpandedTree<'g>,
+) -> ExpandedTree<'g> {
+    let name = prepared.start_name().0.as_str();
+    let start = production_at(rt, alloc, prepared.expansion(), name, 0);
+    let children = vec![in alloc; below].expect(rt, "memory");
+    ExpandedTree::node(start, children).expect(rt, "memory")
+}
+
+/// The tree of this shape, whose production is this one.
+pub(crate) fn tree_of<'g>(
     rt: &impl Abort,
     alloc: Global,
     prepared: &'g Prepared,
     production: &'g Production,
-    leaves: &[Leaf],
+    shape: Shape,
 ) -> ExpandedTree<'g> {
-    let start = production_at(rt, prepared, prepared.start_name(), 0);
-    let below = node_over(rt, alloc, production, leaves);
-    let children = vec![in alloc; below].expect(rt, "memory");
-    ExpandedTree::node(start, children).expect(rt, "memory")
+    match shape {
+        Shape::Whole(text) => {
+            let below = node_over(rt, alloc, prepared, production, text);
+            under_start(rt, alloc, prepared, below)
+        }
+        Shape::Below(text) => node_over(rt, alloc, prepared, production, text),
+        Shape::Leaf(text) => {
+            let mut leaves = leaves_of(rt, alloc, prepared, text);
+            leaves.pop().expect(rt, "a leaf")
+        }
+    }
 }

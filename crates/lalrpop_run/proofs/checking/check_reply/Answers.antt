@@ -1,8 +1,8 @@
 use Rattle.std.proofs.Common.{refl}
 use Rattle.std.proofs.lemmas.Result.{IfOk-weaker}
 use Rattle.lalrpop_run.specs.Check.{IsCheckReply}
-use Rattle.lalrpop_run.specs.Parsers.{IsNoParserReply}
 use Rattle.lalrpop_run.specs.Questions.{question_view}
+use Rattle.lalrpop_run.proofs.ListedFaultLemmas.{refused_reply}
 use Rattle.lalrpop_run.proofs.ParserLemmas.{lent}
 use Rattle.lalrpop_run.proofs.checking.check_reply.Goals as goal
 
@@ -16,5 +16,6 @@ returns-in-Ok c =
 pub returns-in-Err : goal.returns-in-Err
 returns-in-Err c =
     IfOk-weaker c.refusal_reply.result _ _
-    (λ reply told read. IsCheckReply.no_parser (IsNoParserReply.refused c.in-Err.error told.0 (c.in-Err.ensures.refused read) told.1))
+    (λ reply told read. IsCheckReply.no_parser
+    (refused_reply (question_view c.args.question) c.args.grammar c.in-Err.error reply told.0 (c.in-Err.ensures.refused read) told.1))
     c.refusal_reply.ensures

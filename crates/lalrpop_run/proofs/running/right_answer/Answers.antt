@@ -14,7 +14,7 @@ returns-in_ok-answer-in-Value-clause-answer g c =
     let reads : true ≡ reads_grammar (question_of c.args.options.now) = grind (arith, c.reads_grammar.ensures) in
     let read = c.in_ok-grammar.ensures.read in
     let a = c.in_ok-answer-in-Value.ensures.answer in
-    IsRightAnswer.replied read.0 a.0 (sym reads) read.1.0
+    IsRightAnswer.replied read.0 a.0 (sym reads) (c.in_ok-grammar.ensures.keeps, read.1.0)
     (a.1.0 read.0 (subst (λ (i : Input Grammar). IsInput grammar_at read.0 i) c.in-Value.is read.1.1))
     a.1.1
 
@@ -22,7 +22,7 @@ pub returns-in_ok-answer-in-NotJson-clause-answer : goal.returns-in_ok-answer-in
 returns-in_ok-answer-in-NotJson-clause-answer g c =
     let reads : true ≡ reads_grammar (question_of c.args.options.now) = grind (arith, c.reads_grammar.ensures) in
     let read = c.in_ok-grammar.ensures.read in
-    IsRightAnswer.replied read.0 replies.NotJson (sym reads) read.1.0
+    IsRightAnswer.replied read.0 replies.NotJson (sym reads) (c.in_ok-grammar.ensures.keeps, read.1.0)
     (IsRunReply.no_json
     (subst (λ (i : Input Grammar). IsInput grammar_at read.0 i) c.in-NotJson.is read.1.1) refl)
     c.in_ok-answer-in-NotJson.ensures.answer
@@ -31,7 +31,7 @@ pub returns-in_ok-answer-in-Fault-clause-answer : goal.returns-in_ok-answer-in-F
 returns-in_ok-answer-in-Fault-clause-answer g c =
     let reads : true ≡ reads_grammar (question_of c.args.options.now) = grind (arith, c.reads_grammar.ensures) in
     let read = c.in_ok-grammar.ensures.read in
-    IsRightAnswer.replied read.0 (replies.GrammarFault c.in-Fault.fault) (sym reads) read.1.0
+    IsRightAnswer.replied read.0 (replies.GrammarFault c.in-Fault.fault) (sym reads) (c.in_ok-grammar.ensures.keeps, read.1.0)
     (IsRunReply.no_grammar c.in-Fault.fault
     (subst (λ (i : Input Grammar). IsInput grammar_at read.0 i) c.in-Fault.is read.1.1) refl)
     c.in_ok-answer-in-Fault.ensures.answer

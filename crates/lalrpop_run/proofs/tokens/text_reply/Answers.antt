@@ -2,7 +2,7 @@ use Rattle.std.proofs.Common.{subst, sym}
 use Rattle.std.proofs.lemmas.Result.{IfOk-weaker}
 use Rattle.lalrpop_lexer_scan.specs.Scanning.{IsScannerOf}
 use Rattle.lalrpop_run_prepare.specs.PreparedGrammars.{PreparedGrammar}
-use Rattle.lalrpop_run.proofs.ParserLemmas.{parser_for, scanned}
+use Rattle.lalrpop_run.proofs.ParserLemmas.{scanned}
 use Rattle.lalrpop_run.specs.Tokens.{IsTokensReply}
 use Rattle.lalrpop_run.proofs.tokens.text_reply.Goals as goal
 
@@ -11,7 +11,7 @@ returns-in-Ok c =
     let v = c.args.prepared.now in
     IfOk-weaker c.scan_reply.result _ _
     (λ reply told q g prepared read.
-    scanned q g v prepared (parser_for q g v prepared c.in-Ok.ensures.lr1 c.in-Ok.ensures.one_tree read) c.args.text.now reply
+    scanned q g v prepared c.in-Ok.ensures.lr1 c.in-Ok.ensures.one_tree read c.args.text.now reply
     (λ entries is. told entries (subst (λ (w : PreparedGrammar). IsScannerOf w.scanner entries) (sym c.in-Ok.ensures.prepared) is)))
     c.scan_reply.ensures
 

@@ -1,6 +1,6 @@
 use Rattle.std.proofs.lemmas.Result.{IfOk-weaker}
-use Rattle.lalrpop_run.specs.Parsers.{IsNoParserReply}
 use Rattle.lalrpop_run.specs.Questions.{question_view}
+use Rattle.lalrpop_run.proofs.ListedFaultLemmas.{refused_reply}
 use Rattle.lalrpop_run.proofs.ParserLemmas.{lent}
 use Rattle.lalrpop_run.specs.Tokens.{IsTokensReply}
 use Rattle.lalrpop_run.proofs.tokens.tokens_reply.Goals as goal
@@ -15,5 +15,6 @@ returns-in-Ok c =
 pub returns-in-Err : goal.returns-in-Err
 returns-in-Err c =
     IfOk-weaker c.refusal_reply.result _ _
-    (λ reply told read. IsTokensReply.no_parser (IsNoParserReply.refused c.in-Err.error told.0 (c.in-Err.ensures.refused read) told.1))
+    (λ reply told read. IsTokensReply.no_parser
+    (refused_reply (question_view c.args.question) c.args.grammar c.in-Err.error reply told.0 (c.in-Err.ensures.refused read) told.1))
     c.refusal_reply.ensures

@@ -1,0 +1,13 @@
+//! Tests of the program's calls that no table of cases shows: readers and writers that fail, bounds, and the values of words.
+#![tactic(auto)]
+
+#[cfg(test)]
+mod check;
+#[cfg(test)]
+mod ends;
+#[cfg(test)]
+mod grammars;
+#[cfg(test)]
+mod streams;
+#[cfg(test)]
+mod words;

@@ -1,0 +1,85 @@
+-- The faults of a written grammar for a start, in their order; and that none of them stands.
+use Rattle.std.specs.Prelude.{◌≡◌, true, false}
+use Rattle.lalrpop_grammar_symbols.specs.Symbols.{Text, TextSpan}
+use Rattle.lalrpop_grammar.specs.WrittenGrammar.{Grammar}
+use Rattle.lalrpop_grammar_language.specs.Expansion.{Nonterminal}
+use Rattle.lalrpop_grammar_language.specs.Starts.{has_start}
+use Rattle.lalrpop_grammar_repr.specs.declared.norm_error.NormError.{NormError}
+use Rattle.lalrpop_grammar_repr.specs.declared.norm_error.NormErrorKind.{NormErrorKind}
+use Rattle.lalrpop_grammar_repr.specs.declared.norm_error.NormErrorKind.TheVariants as kinds
+use Rattle.lalrpop_grammar_rules.specs.Finding.{IsSearch}
+use Rattle.lalrpop_lr1_inline.specs.InlinedGrammars.{IsTooManyNumbers}
+use Rattle.lalrpop_norm.specs.Normalizing.{HasNoWrittenFault, IsWrittenFault}
+use Rattle.lalrpop_norm_chain.specs.LoweredViews.{lowered_view}
+use Rattle.lalrpop_norm_chain.specs.MadeConditions.{HasConditionWhere}
+use Rattle.lalrpop_norm_chain.specs.Normalized.{IsNormalized}
+use Rattle.lalrpop_norm_chain.specs.StandingFaults.{IsRightToLevels}
+use Rattle.lalrpop_norm_lower.specs.declared.lowering.Normalized.{Normalized}
+use Rattle.lalrpop_norm_theory.specs.Between.{grammar_between, without_disabled}
+use Rattle.lalrpop_norm_theory.specs.Premises.{HasNoExtern}
+use Rattle.lalrpop_run_prepare.specs.Carried.{HasExtern, HasRecovery, IsCarried}
+use Rattle.lalrpop_run_prepare.specs.PreparedGrammars.{HasNamedProductions}
+use Rattle.lalrpop_run_prepare.specs.PrepareRefusals.{IsInlinable}
+use Rattle.lalrpop_run_prepare.specs.Refused.{IsGenerable}
+use Rattle.lalrpop_run_theory.specs.Barren.{HasNoBarren, IsLeastBarrenName}
+use Rattle.lalrpop_run.specs.Asked.{Asked, Refusal, enabled}
+use Rattle.lalrpop_run.specs.InlineCycles.{IsCycleFault, IsCyclic}
+
+-- a pass tells the fault with its place
+abbrev pub IsPassFault : Asked → Grammar → NormErrorKind → TextSpan → Type 0
+IsPassFault q w = IsWrittenFault q.finds q.deep q.features q.macro_limit w
+
+-- no pass tells any
+abbrev pub HasNoPassFault : Asked → Grammar → Type 0
+HasNoPassFault q w = HasNoWrittenFault q.finds q.deep q.features q.macro_limit w
+
+-- A search may be given up for its pattern's size: levels are right, and an alternative of a call that is made is under a search.
+abbrev pub MayGiveUp : Asked → Grammar → Type 0
+MayGiveUp q w =
+    IsRightToLevels q.features w × HasConditionWhere (grammar_between q.finds (without_disabled q.features w)) (λ t v. IsSearch t.test)
+
+-- Nothing is there that isn't carried, no pass tells a fault, and a public rule is the start.
+abbrev pub MayBeLowered : Asked → Grammar → Type 0
+MayBeLowered q w = IsGenerable q.finds q.deep q.features q.macro_limit q.start w
+
+-- Inlining hands out more numbers of actions than there are, those of the plain productions included.
+pub record HasTooManyNumbers (q : Asked) (w : Grammar) : Type 0 where
+  pub lowered : Normalized
+  pub normalized : IsNormalized q.finds q.features w (lowered_view lowered)
+  pub named : HasNamedProductions lowered.grammar
+  pub told : NormError
+  pub too_many : IsTooManyNumbers lowered.grammar told
+
+-- A nonterminal would have to be inlined into itself, told where it stands; or inlining hands out too many numbers, told where the whole
+-- grammar is written.
+pub data IsInliningFault (q : Asked) (w : Grammar) (kind : NormErrorKind) (p : TextSpan) : Type 0 where
+  cycle : IsCycleFault q.finds q.features w kind p → IsInliningFault q w kind p
+  too_many : HasTooManyNumbers q w → kind ≡ kinds.TooManyActions → p ≡ w.span → IsInliningFault q w kind p
+
+-- No nonterminal would have to be inlined into itself, and there are numbers enough.
+pub record MayBeInlined (q : Asked) (w : Grammar) : Type 0 where
+  pub acyclic : (x : Nonterminal) → IsCyclic (enabled q w) x → ⊥
+  pub numbers : IsInlinable q.finds q.features w
+
+-- An extern block; `!`; what the passes tell; the start; what inlining tells; the least barren name: each only where none of those before
+-- it stands.
+pub data IsListedFault (q : Asked) (w : Grammar) : Refusal → Type 0 where
+  extern_block : HasExtern w → IsListedFault q w Refusal.extern_block
+  recovery : HasNoExtern w → HasRecovery (enabled q w) → IsListedFault q w Refusal.recovery
+  passes : (kind : NormErrorKind) (p : TextSpan) → IsCarried q.finds q.features w → IsPassFault q w kind p
+      → IsListedFault q w (Refusal.fault kind p)
+  condition_limit : IsCarried q.finds q.features w → MayGiveUp q w → IsListedFault q w Refusal.condition_limit
+  unknown_start : IsCarried q.finds q.features w → HasNoPassFault q w → has_start q.start false (enabled q w) ≡ false
+      → IsListedFault q w (Refusal.unknown_start q.start)
+  private_start : IsCarried q.finds q.features w → HasNoPassFault q w → has_start q.start false (enabled q w) ≡ true
+      → has_start q.start true (enabled q w) ≡ false → IsListedFault q w (Refusal.private_start q.start)
+  inlining : (kind : NormErrorKind) (p : TextSpan) → MayBeLowered q w → IsInliningFault q w kind p
+      → IsListedFault q w (Refusal.fault kind p)
+  barren : (name : Text) → MayBeLowered q w → MayBeInlined q w → IsLeastBarrenName (enabled q w) w.prefix q.start name
+      → IsListedFault q w (Refusal.barren name)
+
+-- none stands
+pub record IsFaultless (q : Asked) (w : Grammar) : Type 0 where
+  pub lowerable : MayBeLowered q w
+  pub inlinable : MayBeInlined q w
+  pub none_barren : HasNoBarren (enabled q w) q.start
