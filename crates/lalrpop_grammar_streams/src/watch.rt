@@ -26,8 +26,8 @@ pub struct Watch {
 impl Watch {
     /// Nothing has failed or ended, and all calls and bytes are left.
     pub(crate) fn new() -> Watch
-        ensures calls { result.calls ≡ MAX_CALLS }
-        ensures bytes { result.bytes ≡ MAX_BYTES }
+        ensures calls { result.calls ≡ 33554432 }
+        ensures bytes { result.bytes ≡ 16777216 }
         ensures failed { result.failed ≡ false }
         ensures ended { result.ended ≡ false }
         ensures misused { result.misused ≡ false }

@@ -8,11 +8,11 @@ ghost use Rattle.lalrpop_grammar_streams.specs.Watching.{inner_of, is_end, watch
 
 use crate::sink::Sink;
 use crate::source::Source;
-use crate::watch::{MAX_BYTES, MAX_CALLS, Watch};
+use crate::watch::Watch;
 use std::io::{self, Error, ErrorKind, Read, Write};
 
 /// A reader or a writer that is watched: it fails where what is inside fails, where a reader gives more than
-/// `MAX_BYTES` bytes, at the read number `MAX_CALLS`, at the interrupted write of that number, and where a write takes
+/// 16,777,216 bytes, at the read number 33,554,432, at the interrupted write of that number, and where a write takes
 /// no byte of some.
 #[derive(Drop)]
 pub struct Watched<T> {
@@ -24,8 +24,8 @@ impl<T> Watched<T> {
     /// A watch that hasn't failed and has all calls left.
     pub fn new(inner: T) -> Watched<T>
         ensures inner { inner_of result ≡ inner }
-        ensures calls { (watch_of result).calls ≡ MAX_CALLS }
-        ensures bytes { (watch_of result).bytes ≡ MAX_BYTES }
+        ensures calls { (watch_of result).calls ≡ 33554432 }
+        ensures bytes { (watch_of result).bytes ≡ 16777216 }
         ensures failed { (watch_of result).failed ≡ false }
         ensures ended { (watch_of result).ended ≡ false }
         ensures misused { (watch_of result).misused ≡ false }

@@ -1,11 +1,17 @@
 -- Attributes inside attributes: that a reader reads by its form, for the functions that call each other and for the laws.
-use Rattle.std.proofs.Common.{◌≡◌, Option, Some, refl}
+use Rattle.std.proofs.Common.{◌≡◌, [], Option, Some, None, is_some, Result, Err, false, refl}
+use Rattle.serde_json.specs.Find.{as_null}
 use Rattle.serde_json.specs.Data.{Data, null, boolean, number, string, array, object}
 use Rattle.lalrpop_grammar.specs.declared.types.attribute.Attribute.{Attribute}
+use Rattle.lalrpop_grammar.specs.declared.types.attribute.AttributeArg.{AttributeArg}
+use Rattle.lalrpop_json_values.specs.declared.fault.FaultKind.TheVariants as fault
+use Rattle.lalrpop_json_values.specs.declared.fault.ReadError.{ReadError}
+use Rattle.lalrpop_json_values.specs.declared.fault.ReadError.TheVariants.{Shape}
 use Rattle.lalrpop_json_values.specs.declared.form.Form.{Form}
 use Rattle.lalrpop_json_values.specs.declared.form.Form.TheVariants as form
 use Rattle.lalrpop_json_values.specs.declared.key.Key.TheVariants as key
 use Rattle.lalrpop_json_values.specs.Forms.{form_by_key}
+use Rattle.lalrpop_json_values.specs.Gives.{Fails, Gives, here}
 use Rattle.lalrpop_json_values.specs.Nested.{Reader, AgreeBelow, IsInward}
 use Rattle.lalrpop_json_values.proofs.NestingLemmas.{agree_inside, field_same, listed_same, nested_opened, nesting}
 use Rattle.lalrpop_json_symbols.specs.Attributes.{arg_at, arg_by, arg_rows, attribute_at, attribute_layer_at, paren_at}
@@ -32,5 +38,28 @@ inward f g d same = rw (field_same (arg_at f) (arg_at g) key.Arg d λ e below. a
 pub attribute_opened : (d : Data) → attribute_at d ≡ attribute_layer_at attribute_at d
 unfolding attribute_at
 attribute_opened d = nested_opened attribute_layer_at inward d
+
+-- what is read by the form that a value has, it is read as
+pub arg_by_form : (f : Form) (d : Data) (r : Result AttributeArg ReadError) → is_some (as_null d) ≡ false
+    → Some f ≡ form_by_key arg_rows d → Gives r (arg_by (Some f) attribute_at d) → Gives r (arg_at attribute_at d)
+unfolding arg_at
+arg_by_form f d r there e gives = rw (there, ← e) gives
+
+other_by : (f : Form) (read : Reader Attribute) (d : Data) → (f ≡ form.Equal → ⊥) → (f ≡ form.Paren → ⊥)
+    → arg_by (Some f) read d ≡ Err (here fault.WrongShape)
+other_by form.Equal read d equal paren = absurd (equal refl)
+other_by form.Paren read d equal paren = absurd (paren refl)
+other_by _ read d equal paren = refl
+
+-- a value of no form that stands behind a name is read as none
+pub other_arg : (f : Form) (d : Data) (e : ReadError) → is_some (as_null d) ≡ false → Some f ≡ form_by_key arg_rows d
+    → e ≡ Shape [] fault.WrongShape → (f ≡ form.Equal → ⊥) → (f ≡ form.Paren → ⊥) → Fails e (arg_at attribute_at d)
+unfolding arg_at
+other_arg f d e there told is equal paren = rw (is, there, ← told) (other_by f attribute_at d equal paren)
+
+pub no_arg : (d : Data) (e : ReadError) → is_some (as_null d) ≡ false → None ≡ form_by_key arg_rows d
+    → e ≡ Shape [] fault.WrongShape → Fails e (arg_at attribute_at d)
+unfolding arg_at
+no_arg d e there told is = rw (is, there, ← told) refl
 
 pub ruleset attribute_nesting = (attribute_opened, nesting)

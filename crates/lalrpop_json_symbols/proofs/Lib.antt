@@ -11,3 +11,5 @@ pub mod ListLemmas
 pub mod SymbolSpellingLemmas
 pub mod TerminalLemmas
 pub mod TypeSpellingLemmas
+pub mod ListLoopLemmas
+pub mod HandedOnLemmas

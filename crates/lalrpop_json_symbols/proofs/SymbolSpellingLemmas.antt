@@ -1,8 +1,10 @@
 -- Which symbols have a spelling, by their kinds: for the functions that tell it.
-use Rattle.std.proofs.Common.{◌≡◌, ℕ, ◌+◌, List, [], ◌∷◌, refl, ap, sym, ◌∙◌}
+use Rattle.std.proofs.Common.{◌≡◌, ◌↔◌, IsTrue, Bool, true, false, ℕ, ◌+◌, List, [], ◌∷◌, refl, ap, sym, ◌∙◌}
+use Rattle.lalrpop_grammar_symbols.specs.declared.names.NonterminalString.{NonterminalString}
 use Rattle.lalrpop_grammar_symbols.specs.declared.span.Span.{Span}
 use Rattle.lalrpop_grammar_symbols.specs.declared.symbol.ExprSymbol.{ExprSymbol}
 use Rattle.lalrpop_grammar_symbols.specs.declared.symbol.MacroSymbol.{MacroSymbol}
+use Rattle.lalrpop_grammar_symbols.specs.declared.names.Name.{Name}
 use Rattle.lalrpop_grammar_symbols.specs.declared.symbol.RepeatSymbol.{RepeatSymbol}
 use Rattle.lalrpop_grammar_symbols.specs.declared.symbol.Symbol.{Symbol}
 use Rattle.lalrpop_grammar_symbols.specs.declared.symbol.SymbolKind.{SymbolKind}
@@ -14,11 +16,14 @@ use Rattle.lalrpop_grammar_symbols.specs.declared.symbol.SymbolKind.TheViews.{ro
 use Rattle.lalrpop_grammar_symbols.specs.declared.symbol.SymbolKind.TheViews.{out-roll-MacroSymbol, out-roll-SymbolKind}
 use Rattle.lalrpop_grammar_symbols.specs.declared.symbol.SymbolKind.TheViews.{roll-out-ExprSymbol, roll-out-MacroSymbol}
 use Rattle.lalrpop_grammar_symbols.specs.declared.symbol.SymbolKind.TheViews.{roll-out-RepeatSymbol, roll-out-Symbol, roll-out-SymbolKind}
+use Rattle.lalrpop_grammar_symbols.specs.declared.terminal.TerminalLiteral.{TerminalLiteral}
+use Rattle.lalrpop_grammar_symbols.specs.declared.terminal.TerminalString.{TerminalString}
 use Rattle.lalrpop_grammar_symbols.specs.declared.terminal.TerminalString.TheVariants as terminals
+use Rattle.lalrpop_json_values.specs.Scalars.{is_name}
 use Rattle.lalrpop_json_values.specs.Spelled.{EachFrom, IsSpan}
 use Rattle.lalrpop_json_symbols.specs.Readable.{AreReadableSymbols, IsReadableSymbol}
 use Rattle.lalrpop_json_symbols.specs.Symbols.{written_symbol}
-use Rattle.lalrpop_json_symbols.specs.Kinds.{IsReadableKind, IsReadableLayer}
+use Rattle.lalrpop_json_symbols.specs.Kinds.{IsLiteral, IsReadableKind, IsReadableLayer}
 
 -- ---- from a readable symbol to its parts
 
@@ -104,6 +109,73 @@ by_layer s span kind layer.Error e at spanned is =
 pub symbol_whole : (s : Symbol) → IsSpan (out-Symbol s).span → IsReadableKind (out-Symbol s).kind → IsReadableSymbol s
 symbol_whole s spanned is =
     by_layer s (out-Symbol s).span (out-Symbol s).kind (out-SymbolKind (out-Symbol s).kind) (sym (roll-out-Symbol s)) refl spanned is
+
+-- ---- by the kinds that a function tells apart
+
+by_kind : (l : Layer) (kind k : SymbolKind) (r : Bool) → kind ≡ k → roll-SymbolKind l ≡ k → (IsTrue r ↔ IsReadableLayer l) → IsTrue r
+    ↔ IsReadableKind kind
+by_kind l kind k r e rolls told = rw (ap out-SymbolKind (e ∙ sym rolls) ∙ out-roll-SymbolKind l) told
+
+pub of_group : (r : Bool) (kind : SymbolKind) (g : ExprSymbol) → kind ≡ kinds.Expr g
+    → (IsTrue r ↔ AreReadableSymbols (out-ExprSymbol g).symbols) → IsTrue r ↔ IsReadableKind kind
+of_group r kind g e told = by_kind (layer.Expr g) kind _ r e (kinds.rolls-Expr g) told
+
+pub of_id : (r : Bool) (kind : SymbolKind) (n : List ℕ) → kind ≡ kinds.AmbiguousId n → r ≡ is_name n → IsTrue r ↔ IsReadableKind kind
+of_id r kind n e told = by_kind (layer.AmbiguousId n) kind _ r e (kinds.rolls-AmbiguousId n) (rw told ((λ is. is), (λ is. is)))
+
+pub of_literal : (kind : SymbolKind) (t : TerminalString) (l : TerminalLiteral) → kind ≡ kinds.Terminal t → t ≡ terminals.Literal l
+    → IsTrue true ↔ IsReadableKind kind
+of_literal kind t l e is = by_kind (layer.Terminal t) kind _ true e (kinds.rolls-Terminal t) (rw is ((λ _. tt), (λ _. refl)))
+
+not_literal : (t : TerminalString) → ((l : TerminalLiteral) → t ≡ terminals.Literal l → ⊥) → IsLiteral t → ⊥
+not_literal (terminals.Literal l) other is = other l refl
+not_literal (terminals.Bare n) other is = is
+not_literal terminals.Error other is = is
+
+pub of_no_literal : (kind : SymbolKind) (t : TerminalString) → kind ≡ kinds.Terminal t
+    → ((l : TerminalLiteral) → t ≡ terminals.Literal l → ⊥) → IsTrue false ↔ IsReadableKind kind
+of_no_literal kind t e other =
+    by_kind (layer.Terminal t) kind _ false e (kinds.rolls-Terminal t) ((λ none. absurd (cc)), (λ is. absurd (not_literal t other is)))
+
+pub of_nonterminal : (kind : SymbolKind) (n : NonterminalString) → kind ≡ kinds.Nonterminal n → IsTrue false ↔ IsReadableKind kind
+of_nonterminal kind n e =
+    by_kind (layer.Nonterminal n) kind _ false e (kinds.rolls-Nonterminal n) ((λ none. absurd (cc)), (λ none. absurd none))
+
+pub of_macro : (r : Bool) (kind : SymbolKind) (m : MacroSymbol) → kind ≡ kinds.Macro m → IsTrue (is_name (out-MacroSymbol m).name.0)
+    → (IsTrue r ↔ AreReadableSymbols (out-MacroSymbol m).args) → IsTrue r ↔ IsReadableKind kind
+of_macro r kind m e named told =
+    by_kind (layer.Macro m) kind _ r e (kinds.rolls-Macro m) ((λ is. (named, told.0 is)), (λ is. told.1 is.1))
+
+pub of_no_macro : (r : Bool) (kind : SymbolKind) (m : MacroSymbol) → kind ≡ kinds.Macro m → r ≡ is_name (out-MacroSymbol m).name.0
+    → r ≡ false → IsTrue r ↔ IsReadableKind kind
+of_no_macro r kind m e told unnamed =
+    by_kind (layer.Macro m) kind _ r e (kinds.rolls-Macro m) ((λ is. absurd (cc)), (λ is. told ∙ is.0))
+
+pub of_repeat : (r : Bool) (kind : SymbolKind) (x : RepeatSymbol) → kind ≡ kinds.Repeat x
+    → (IsTrue r ↔ IsReadableSymbol (out-RepeatSymbol x).symbol) → IsTrue r ↔ IsReadableKind kind
+of_repeat r kind x e told = by_kind (layer.Repeat x) kind _ r e (kinds.rolls-Repeat x) told
+
+pub of_choice : (r : Bool) (kind : SymbolKind) (x : Symbol) → kind ≡ kinds.Choose x → (IsTrue r ↔ IsReadableSymbol x) → IsTrue r
+    ↔ IsReadableKind kind
+of_choice r kind x e told = by_kind (layer.Choose x) kind _ r e (kinds.rolls-Choose x) told
+
+pub of_named : (r : Bool) (kind : SymbolKind) (n : Name) (x : Symbol) → kind ≡ kinds.Name n x → IsTrue (is_name n.name)
+    → (IsTrue r ↔ IsReadableSymbol x) → IsTrue r ↔ IsReadableKind kind
+of_named r kind n x e named told =
+    by_kind (layer.Name n x) kind _ r e (kinds.rolls-Name n x) ((λ is. (named, told.0 is)), (λ is. told.1 is.1))
+
+pub of_unnamed : (r : Bool) (kind : SymbolKind) (n : Name) (x : Symbol) → kind ≡ kinds.Name n x → r ≡ is_name n.name → r ≡ false
+    → IsTrue r ↔ IsReadableKind kind
+of_unnamed r kind n x e told unnamed =
+    by_kind (layer.Name n x) kind _ r e (kinds.rolls-Name n x) ((λ is. absurd (cc)), (λ is. told ∙ is.0))
+
+-- a symbol with a span that has a spelling has one where its kind has one
+pub of_spanned : (r : Bool) (s : Symbol) → IsSpan (out-Symbol s).span → (IsTrue r ↔ IsReadableKind (out-Symbol s).kind) → IsTrue r
+    ↔ IsReadableSymbol s
+of_spanned r s spanned told = ((λ is. symbol_whole s spanned (told.0 is)), (λ is. told.1 (symbol_parts s is).1))
+
+pub of_no_span : (r : Bool) (s : Symbol) → (IsTrue r ↔ IsSpan (out-Symbol s).span) → r ≡ false → IsTrue r ↔ IsReadableSymbol s
+of_no_span r s told unspanned = ((λ is. absurd (cc)), (λ is. told.1 (symbol_parts s is).0))
 
 -- ---- lists of symbols
 

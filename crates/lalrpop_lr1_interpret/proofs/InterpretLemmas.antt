@@ -1,7 +1,7 @@
 -- What an interpreter answers where the machine ends: for interpreting.
 use Rattle.std.proofs.Common.{◌≡◌, ◌∙◌, ℕ, ◌<◌, ◌≤◌, ◌⊎◌, inl, inr, Bool, true, false, cond, List, []}
 use Rattle.std.proofs.Common.{◌∷◌, length, map, ap, sym, refl, subst}
-use Rattle.std.proofs.Common.{Contains, Err, arith, ◌++◌}
+use Rattle.std.proofs.Common.{Contains, Err, Some, arith, slice_get, ◌++◌}
 use Rattle.std.specs.Prelude.{nat_lt}
 use Rattle.std.proofs.lemmas.Bool.{cases_lt, lt-ltb, ltb-true}
 use Rattle.std.proofs.lemmas.List.{length-map}
@@ -17,15 +17,17 @@ use Rattle.lalrpop_lr1_theory.specs.Spans.{SpannedForest, without_spans}
 use Rattle.lalrpop_lr1_theory.specs.States.{State as TheoryState}
 use Rattle.lalrpop_lr1_theory.specs.Trees.{roots}
 use Rattle.lalrpop_lr1_theory.proofs.AnswerLemmas.{ends_right}
+use Rattle.lalrpop_sets.specs.TokensLeft.{token_or}
 use Rattle.lalrpop_lr1_core.specs.Views.{lr_state_view, token_lookahead}
 use Rattle.lalrpop_lr1_core.specs.declared.state.State.{State}
 use Rattle.lalrpop_lr1_interpret.specs.Ends.{IsEndOfRun, MakesTree, MayRun, terminals_of}
-use Rattle.lalrpop_lr1_interpret.specs.Interpretations.{IsInterpretFaultOf, IsHaltWithin, IsRightFault, IsTreeOfTokens, MayInterpret}
+use Rattle.lalrpop_lr1_interpret.specs.Interpretations.{IsInterpretFaultOf, IsHaltWithin, IsRightFault, IsRightPartFault, IsTreeOfTokens, MayInterpret}
 use Rattle.lalrpop_lr1_interpret.specs.Interpretations.{move_limit}
-use Rattle.lalrpop_lr1_interpret.specs.Interpretations.{wrong_place}
+use Rattle.lalrpop_lr1_interpret.specs.Interpretations.{IsRightError, wrong_place}
 use Rattle.lalrpop_lr1_interpret.specs.NamedTrees.{name_forest, parse_tree_views}
 use Rattle.lalrpop_lr1_interpret.specs.Outcomes.{IsStuckAt, ShiftsAll}
 use Rattle.lalrpop_lr1_interpret.specs.declared.parse.action_table.ActionTable.{ActionTable}
+use Rattle.lalrpop_lr1_interpret.specs.declared.interpret_fault.InterpretError.{InterpretError}
 use Rattle.lalrpop_lr1_interpret.specs.declared.interpret_fault.InterpretFault.{InterpretFault}
 use Rattle.lalrpop_lr1_interpret.specs.declared.interpret_fault.InterpretFault.TheVariants as faults
 use Rattle.lalrpop_lr1_interpret.specs.declared.parse.machine.Halt.{Halt}
@@ -60,7 +62,7 @@ halt_within table states q tokens limit whole Made (halts.Stuck at state) e =
     omega (
       arith,
       walk_in q.parsable.grammar q.parsable.start (map (lr_state_view (token_lookahead q.terminals)) states) q.parsable.checked
-          (roots e.made) state e.walk,
+          (roots e.0.made) state e.0.walk,
       length-map states (lr_state_view (token_lookahead q.terminals)),
     )
 halt_within table states q tokens limit whole Made halts.Limit e = tt
@@ -82,22 +84,31 @@ module _ (grammar : List Production) (s : Text) (ts : TerminalSet) (states : Lis
       go (inr h) true e = absurd (omega (arith, ltb-true at (length w) e, h))
       go (inr h) false e = end_right grammar s (map (lr_state_view (token_lookahead ts)) states) alone ok w at number move_limit stuck h
 
+  -- where it is stuck, the place is right
+  error_right : (at number : ℕ) (e : InterpretError) →
+      IsStuckAt (map (lr_state_view (token_lookahead ts)) states) (terminals_of tokens) move_limit at number →
+      slice_get states number ≡ Some e.state.now → e.token ≡ token_or (slice_get (map (λ t. t.terminal) tokens) at) true →
+      (h : IsRightError grammar s ts states (map (λ t. t.terminal) tokens) e) × (h.at ≡ at)
+  error_right at number e h state_is token_is =
+      let w = map terminal_view (map (λ t. t.terminal) tokens) in
+      let stuck : IsStuckAt (map (lr_state_view (token_lookahead ts)) states) w move_limit at number =
+      subst (λ v. IsStuckAt (map (lr_state_view (token_lookahead ts)) states) v move_limit at number) (seen_terminals tokens) h in (
+        (record {
+          at = at;
+          number = number;
+          stuck = stuck;
+          state_is = state_is;
+          token_is = token_is;
+          right = place_right w at number stuck;
+        }),
+        refl,
+      )
+
   -- what is answered where the machine halts is right
   pub fault_right : (whole : Bool) (Made : SpannedForest → List Token → Type 0) (halt : Halt) (fault : InterpretFault) →
       IsEndOfRun (map (lr_state_view (token_lookahead ts)) states) s tokens move_limit whole Made (Err halt) →
       IsInterpretFaultOf states tokens halt fault → IsRightFault grammar s ts states (map (λ t. t.terminal) tokens) fault
-  fault_right whole Made (halts.Stuck at number) (faults.Stuck e) h f =
-      let w = map terminal_view (map (λ t. t.terminal) tokens) in
-      let stuck : IsStuckAt (map (lr_state_view (token_lookahead ts)) states) w move_limit at number =
-      subst (λ v. IsStuckAt (map (lr_state_view (token_lookahead ts)) states) v move_limit at number) (seen_terminals tokens) h in
-      record {
-        at = at;
-        number = number;
-        stuck = stuck;
-        state_is = f.0;
-        token_is = f.1;
-        right = place_right w at number stuck;
-      }
+  fault_right whole Made (halts.Stuck at number) (faults.Stuck e) h f = (error_right at number e h.0 f.0 f.1).0
   fault_right whole Made (halts.Stuck at number) faults.Limit h f = absurd f
   fault_right whole Made (halts.Stuck at number) faults.Memory h f = tt
   fault_right whole Made halts.Limit fault h f =
@@ -106,6 +117,21 @@ module _ (grammar : List Production) (s : Text) (ts : TerminalSet) (states : Lis
       (ends_right grammar s (map (lr_state_view (token_lookahead ts)) states) alone ok (terminals_of tokens) move_limit over_limit h))
   fault_right whole Made halts.Memory fault h f =
       subst (IsRightFault grammar s ts states (map (λ t. t.terminal) tokens)) (sym f) tt
+
+  -- and where not all of the parse is asked for, it isn't stuck before the end
+  pub part_fault_right : (Made : SpannedForest → List Token → Type 0) (halt : Halt) (fault : InterpretFault) →
+      IsEndOfRun (map (lr_state_view (token_lookahead ts)) states) s tokens move_limit false Made (Err halt) →
+      IsInterpretFaultOf states tokens halt fault → IsRightPartFault grammar s ts states (map (λ t. t.terminal) tokens) fault
+  part_fault_right Made (halts.Stuck at number) (faults.Stuck e) h f =
+      let right = error_right at number e h.0 f.0 f.1 in
+      (right.0, omega (arith, h.1 refl, right.1, length-map tokens (λ t. t.terminal)))
+  part_fault_right Made (halts.Stuck at number) faults.Limit h f = absurd f
+  part_fault_right Made (halts.Stuck at number) faults.Memory h f = tt
+  part_fault_right Made halts.Limit fault h f =
+      subst (IsRightPartFault grammar s ts states (map (λ t. t.terminal) tokens)) (sym f)
+      (fault_right false Made halts.Limit faults.Limit h refl)
+  part_fault_right Made halts.Memory fault h f =
+      subst (IsRightPartFault grammar s ts states (map (λ t. t.terminal) tokens)) (sym f) tt
 
   -- the tree that is made is right
   pub tree_right : (items rest : List ParseTree) (t : ParseTree) →

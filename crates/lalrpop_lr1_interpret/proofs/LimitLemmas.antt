@@ -57,8 +57,8 @@ module _ (table : ActionTable) (q : MayRun table) (states : List State) (is : Is
   -- where the machine halts, the limit is told exactly where one does
   pub stop_by_limit : (halt : Halt) (stop : Stop) → IsEndOfRun q.states q.start tokens limit true Made (Err halt) →
       IsStopOf (length tokens) halt stop → StopsByLimit states tokens limit stop
-  stop_by_limit (halts.Stuck at state) (Token i) e h = stuck_within at state e
-  stop_by_limit (halts.Stuck at state) End e h = stuck_within at state e
+  stop_by_limit (halts.Stuck at state) (Token i) e h = stuck_within at state e.0
+  stop_by_limit (halts.Stuck at state) End e h = stuck_within at state e.0
   stop_by_limit (halts.Stuck at state) Limit e h = absurd h
   stop_by_limit (halts.Stuck at state) Memory e h = absurd h
   stop_by_limit halts.Limit stop e h =

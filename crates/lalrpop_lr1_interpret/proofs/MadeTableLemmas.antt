@@ -14,7 +14,6 @@ use Rattle.lalrpop_grammar_symbols.specs.declared.terminal.TerminalString.{Termi
 use Rattle.lalrpop_grammar_repr.specs.declared.production.Production.{Production}
 use Rattle.lalrpop_grammar_repr.specs.declared.terminal_set.TerminalSet.{TerminalSet}
 use Rattle.lalrpop_lr1_theory.specs.Productions as theory
-use Rattle.lalrpop_lr1_theory.specs.Productions.{Next}
 use Rattle.lalrpop_lr1_theory.specs.States as theory_states
 use Rattle.lalrpop_lr1_theory.specs.States.{HasEdge, Reduces}
 use Rattle.lalrpop_lr1_theory.proofs.StepLemmas.{some_same}

@@ -72,10 +72,10 @@ pub stop_right : (grammar : List Production) (s : Text) (states : List State) �
     IsRightStop grammar s tokens limit stop
 stop_right grammar s states alone ok tokens limit Made (halts.Stuck at state) (Token i) e h =
     subst (λ k. IsRightParseAnswer (Contains grammar) s (terminals_of tokens) limit (wrong_token k)) h.0
-    (token_right grammar s states alone ok (terminals_of tokens) at state limit e
+    (token_right grammar s states alone ok (terminals_of tokens) at state limit e.0
     (omega (arith, h.1, length-map tokens (λ t. terminal_view t.terminal))))
 stop_right grammar s states alone ok tokens limit Made (halts.Stuck at state) End e h =
-    end_right grammar s states alone ok (terminals_of tokens) at state limit e
+    end_right grammar s states alone ok (terminals_of tokens) at state limit e.0
     (omega (arith, h, length-map tokens (λ t. terminal_view t.terminal)))
 stop_right grammar s states alone ok tokens limit Made (halts.Stuck at state) Limit e h = absurd h
 stop_right grammar s states alone ok tokens limit Made (halts.Stuck at state) Memory e h = absurd h

@@ -1,5 +1,5 @@
 -- When a table may be run, and how a run of it ends: for the machine and for all that answer by it.
-use Rattle.std.specs.Prelude.{ℕ, Bool, true, false, List, map, Result, Ok, Err, Vec, ◌≡◌}
+use Rattle.std.specs.Prelude.{ℕ, ◌<◌, Bool, true, false, List, length, map, Result, Ok, Err, Vec, ◌≡◌}
 use Rattle.std.specs.declared.alloc.Global.{Global}
 use Rattle.lalrpop_grammar.specs.Trees.{Token}
 use Rattle.lalrpop_grammar.specs.Views.{token_view}
@@ -50,11 +50,12 @@ abbrev pub IsDone : List State → Text → List ScanToken → ℕ → (SpannedF
 IsDone states s tokens limit Made numbers true = MakesTree states s tokens limit Made
 IsDone states s tokens limit Made numbers false = ShiftsAll states (terminals_of tokens) limit numbers
 
--- how a run ends: well, or it is stuck, or it would pass the limit
+-- how a run ends: well; or it is stuck, before the end only where the parse is to be whole; or it would pass the limit
 abbrev pub IsEndOfRun : List State → Text → List ScanToken → ℕ → Bool → (SpannedForest → List Token → Type 0) →
     Result (Vec ℕ Global) Halt →
     Type 0
 IsEndOfRun states s tokens limit whole Made (Ok numbers) = IsDone states s tokens limit Made numbers.items whole
-IsEndOfRun states s tokens limit whole Made (Err (Stuck at state)) = IsStuckAt states (terminals_of tokens) limit at state
+IsEndOfRun states s tokens limit whole Made (Err (Stuck at state)) =
+    IsStuckAt states (terminals_of tokens) limit at state × (whole ≡ false → at < length tokens)
 IsEndOfRun states s tokens limit whole Made (Err Limit) = PassesLimit states (terminals_of tokens) limit
 IsEndOfRun states s tokens limit whole Made (Err Memory) = Unit {0}

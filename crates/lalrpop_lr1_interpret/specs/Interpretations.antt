@@ -53,6 +53,14 @@ IsRightFault grammar s ts states tokens faults.Limit =
     IsRightParseAnswer (Contains grammar) s (map terminal_view tokens) move_limit over_limit
 IsRightFault grammar s ts states tokens faults.Memory = Unit {0}
 
+-- why not all tokens are shifted: the first wrong one with the state, which is never the end, or the limit
+abbrev pub IsRightPartFault : List Production → Text → TerminalSet → List (State (List ℕ)) → List TerminalString →
+    InterpretFault → Type 0
+IsRightPartFault grammar s ts states tokens (faults.Stuck e) =
+    (h : IsRightError grammar s ts states tokens e) × (h.at < length tokens)
+IsRightPartFault grammar s ts states tokens faults.Limit = IsRightFault grammar s ts states tokens faults.Limit
+IsRightPartFault grammar s ts states tokens faults.Memory = Unit {0}
+
 -- the tree is that of the tokens, without productions
 pub record IsTreeOfTokens (grammar : List Production) (s : Text) (tokens : List TerminalString) (t : ParseTree) : Type 0 where
   pub whole : Forest
@@ -70,7 +78,7 @@ abbrev pub AreRightStates : List Production → Text → TerminalSet → List (S
 AreRightStates grammar s ts states tokens (Ok indexes) =
     ShiftsAll (map (lr_state_view (token_lookahead ts)) states) (map terminal_view tokens) move_limit
     (map (λ i. i.0) indexes.items)
-AreRightStates grammar s ts states tokens (Err f) = IsRightFault grammar s ts states tokens f
+AreRightStates grammar s ts states tokens (Err f) = IsRightPartFault grammar s ts states tokens f
 
 -- for some terminals, grammar and start alone the states are checked ones, and the table is one of them
 pub record MayInterpret (table : ActionTable) (states : List (State (List ℕ))) : Type 0 where

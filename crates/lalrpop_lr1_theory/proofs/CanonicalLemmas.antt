@@ -1,6 +1,6 @@
 -- Canonical automata hold the valid items and allow only valid moves: for the laws on canonical states.
 use Rattle.std.proofs.Common.{Option}
-use Rattle.std.proofs.Common.{Contains, List, None, Some, [], ap, append_assoc, drop, inl, inr, length, refl, subst, suc, sym, true}
+use Rattle.std.proofs.Common.{Contains, List, None, Some, [], ap, append-nil, append_assoc, drop, inl, inr, length, refl, subst, suc, sym, true}
 use Rattle.std.proofs.Common.{◌++◌, ◌↔◌, ◌∙◌, ◌∷◌, ◌≡◌}
 use Rattle.std.proofs.Common.{ℕ}
 use Rattle.lalrpop_grammar_symbols.specs.Symbols.{Terminal, Text}
@@ -14,7 +14,7 @@ use Rattle.lalrpop_lr1_theory.specs.Automata.{IsCover, IsLr1Automaton, IsShifted
 use Rattle.lalrpop_lr1_theory.specs.Automata.{brings, closed, goes, has_next, in_kernel, passes, passes_next, shifts_next, stands}
 use Rattle.lalrpop_lr1_theory.specs.Automata.{starts, starts_next, there}
 use Rattle.lalrpop_lr1_theory.specs.Runs.{Allows}
-use Rattle.lalrpop_lr1_theory.specs.Answers.{BeginsYieldOf, IsLr1, IsValidMove}
+use Rattle.lalrpop_lr1_theory.specs.Answers.{IsLr1, IsValidMove, MayFollow}
 use Rattle.lalrpop_lr1_theory.proofs.FirstLemmas.{AllReached, reached-append, reached_drop, reached_head, reached_right, trees_for}
 use Rattle.lalrpop_lr1_theory.proofs.MarkLemmas.{item_of, mark_of}
 use Rattle.lalrpop_lr1_theory.proofs.PassLemmas.{At, at_from_carried, first_leaf, some_carried}
@@ -281,20 +281,27 @@ module _ (G : Production → Type 0) (s : Text) (Item : ℕ → Production → �
       λ h. lr1_from_automaton G s Item Edge Reduce (automaton_from_canonical h),
     )
 
-    -- canonical states allow no move before a terminal that can't follow
-    pub canonical_follows : NoneBarren G s → (f : Forest) (n : ℕ) (t : Terminal) (v : Move) → AreOver G f →
-        Walk Edge (roots f) n →
-        Allows Edge Reduce n (Some t) v → BeginsYieldOf G s (yield f ++ t ∷ [])
-    canonical_follows nb f n t v o w d =
-        let m = allowed_valid nb f n o w (Some t) v (allows_finished n (Some t) v d) in
-        let r = rest_is m.left m.next in
-        record {
-          tree = m.tree;
-          left = r.0;
-          is_tree = m.is_tree;
-          leaves = m.leaves ∙ ap (λ u. yield f ++ u) r.1 ∙ sym (append_assoc (yield f) (t ∷ []) r.0);
-        }
+    -- canonical states allow no move before a terminal, or before the end, that can't follow
+    pub canonical_follows : NoneBarren G s → (f : Forest) (n : ℕ) (x : Next) (v : Move) → AreOver G f → Walk Edge (roots f) n →
+        Allows Edge Reduce n x v → MayFollow G s (yield f) x
+    canonical_follows nb f n x v o w d = follows x (allowed_valid nb f n o w x v (allows_finished n x v d))
       where
-        rest_is : (w : List Terminal) → first w ≡ Some t → (u : List Terminal) × (w ≡ t ∷ u)
-        rest_is [] e = let z : ⊥ = cc in absurd z
-        rest_is (u ∷ w) e = let z : u ≡ t = cc in (w, ap (λ v. v ∷ w) z)
+        rest_is : (t : Terminal) (w : List Terminal) → first w ≡ Some t → (u : List Terminal) × (w ≡ t ∷ u)
+        rest_is t [] e = let z : ⊥ = cc in absurd z
+        rest_is t (u ∷ w) e = let z : u ≡ t = cc in (w, ap (λ v. v ∷ w) z)
+
+        none_left : (w : List Terminal) → first w ≡ None → w ≡ []
+        none_left [] e = refl
+        none_left (u ∷ w) e = let z : ⊥ = cc in absurd z
+
+        follows : (x : Next) → IsValidMove G s f x v → MayFollow G s (yield f) x
+        follows (Some t) m =
+            let r = rest_is t m.left m.next in
+            record {
+              tree = m.tree;
+              left = r.0;
+              is_tree = m.is_tree;
+              leaves = m.leaves ∙ ap (λ u. yield f ++ u) r.1 ∙ sym (append_assoc (yield f) (t ∷ []) r.0);
+            }
+        follows None m =
+            (m.tree, m.is_tree, m.leaves ∙ ap (λ u. yield f ++ u) (none_left m.left m.next) ∙ append-nil (yield f))

@@ -1,5 +1,5 @@
 -- What the laws say, over lists of productions and of states.
-use Rattle.std.specs.Prelude.{ℕ, suc, List, [], ◌∷◌, ◌++◌, length, ◌≡◌, ◌↔◌, slice_get, Some, Contains}
+use Rattle.std.specs.Prelude.{ℕ, suc, List, [], ◌∷◌, length, ◌≡◌, ◌↔◌, slice_get, Some, Contains}
 use Rattle.lalrpop_grammar_symbols.specs.Symbols.{Text, Terminal}
 use Rattle.lalrpop_lr1_theory.specs.Productions.{Symbol, Production, Next}
 use Rattle.lalrpop_lr1_theory.specs.Trees.{Forest, none, roots, yield, nodes, AreOver, forest, Move, moves, IsTreeOf, MovesLead}
@@ -8,7 +8,7 @@ use Rattle.lalrpop_lr1_theory.specs.ValidItems.{IsValidItem, CarriesAlong, Carri
 use Rattle.lalrpop_lr1_theory.specs.Automata.{Walk}
 use Rattle.lalrpop_lr1_theory.specs.States.{State, HasEdge, HasLookahead, Reduces}
 use Rattle.lalrpop_lr1_theory.specs.Runs.{Allows, RunsOver}
-use Rattle.lalrpop_lr1_theory.specs.Answers.{BeginsYieldOf, IsValidMove, IsLr1, ParseAnswer, IsRightParseAnswer, RunEnds}
+use Rattle.lalrpop_lr1_theory.specs.Answers.{IsValidMove, IsLr1, MayFollow, ParseAnswer, IsRightParseAnswer, RunEnds}
 use Rattle.lalrpop_lr1_theory.specs.CheckedStates.{HasNoConflict, AreCheckedStates, IsStartAlone}
 use Rattle.lalrpop_lr1_theory.specs.CanonicalStates.{AreCanonicalStates}
 
@@ -100,13 +100,13 @@ ConflictsHaveForests =
     Allows (HasEdge states) (Reduces states) n x v → Allows (HasEdge states) (Reduces states) n x w →
     (f : Forest) × IsValidMove (Contains grammar) s f x v × IsValidMove (Contains grammar) s f x w
 
--- canonical states allow no move before a terminal that can't follow
+-- canonical states allow no move before a terminal, or before the end, that can't follow
 abbrev pub CanonicalMovesFollow : Type 0
 CanonicalMovesFollow =
     (grammar : List Production) (s : Text) (states : List State) → NoneBarren (Contains grammar) s →
-    AreCanonicalStates grammar s states → (f : Forest) (n : ℕ) (t : Terminal) (v : Move) → AreOver (Contains grammar) f →
-    Walk (HasEdge states) (roots f) n → Allows (HasEdge states) (Reduces states) n (Some t) v →
-    BeginsYieldOf (Contains grammar) s (yield f ++ t ∷ [])
+    AreCanonicalStates grammar s states → (f : Forest) (n : ℕ) (x : Next) (v : Move) → AreOver (Contains grammar) f →
+    Walk (HasEdge states) (roots f) n → Allows (HasEdge states) (Reduces states) n x v →
+    MayFollow (Contains grammar) s (yield f) x
 
 -- where checked states stand, the grammar is LR(1)
 abbrev pub CheckedAreLr1 : Type 0

@@ -83,7 +83,8 @@ pub fn conflicts_have_forests()
     ensures { ConflictsHaveForests }
 {}
 
-/// The law that canonical states allow no move before a terminal that can't follow what stands before it.
+/// The law that canonical states allow no move before a terminal that can't follow what stands before it, and before the end only where
+/// that is a sentence.
 pub fn canonical_moves_follow()
     ensures { CanonicalMovesFollow }
 {}

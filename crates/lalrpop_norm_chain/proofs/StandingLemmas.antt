@@ -36,7 +36,7 @@ use Rattle.lalrpop_norm_keys.specs.FoundCalls.{TellsOfMadeCall}
 use Rattle.lalrpop_norm_keys.specs.MacroFaults.{ConditionError, condition_error, IsQuotedLiteral, IsUnreadOf, IsConditionError}
 use Rattle.lalrpop_norm_keys.specs.MacroFaults.{TellsOfAlternative}
 use Rattle.lalrpop_norm_token_check.specs.Checked.{IsTokenChecked}
-use Rattle.lalrpop_norm_token_check.specs.Faults.{TokenStands, IsTokenFault}
+use Rattle.lalrpop_norm_token_check.specs.Faults.{TokenFaultInExpanded, IsTokenFault}
 use Rattle.lalrpop_norm_token_check.specs.Places.{FirstPlaces}
 use Rattle.lalrpop_norm_tyinfer.specs.TypeFaults.{HasRuleTypes, HasTwoTypes, IsToldTypeFault, IsTypeFault, IsUntypedRule, TypeFault}
 use Rattle.lalrpop_norm_tyinfer.specs.TypeFaults.{TypeFaultStands, type_fault}
@@ -327,7 +327,7 @@ module _ (finds : Text → Text → Option Bool) (deep : Text → Bool) (feature
       (token_back finds expanded w c.macros.expanded (enabled_grammar finds features w) (to finds features w leveled expanded c)
       (same_expanded finds features w leveled expanded c) (block_is finds features w leveled expanded c)
       (span_is finds features w leveled expanded c) (enabled_places features w) error.kind (span_view error.span)
-      (subst (λ (f : FirstPlaces). TokenStands f error.kind (span_view error.span) expanded) places told))
+      (subst (λ (f : FirstPlaces). TokenFaultInExpanded f error.kind (span_view error.span) expanded) places told))
 
   module _ (checked : Grammar) (t : IsTokenChecked first expanded checked) where
     pub right_tokens : IsRightToMacros finds deep features limit w → ((l : Terminal) → first l ≡ enabled_places features w l) →
@@ -337,7 +337,7 @@ module _ (finds : Text → Text → Option Bool) (deep : Text → Bool) (feature
       tokens = λ kind p h.
           let places : first ≡ enabled_places features w = λ i l. same l i in
           t.are_checked.no_fault kind p
-          (subst (λ (f : FirstPlaces). TokenStands f kind p expanded) (sym places)
+          (subst (λ (f : FirstPlaces). TokenFaultInExpanded f kind p expanded) (sym places)
           (token_forth finds expanded w c.macros.expanded (enabled_grammar finds features w) (to finds features w leveled expanded c)
           (same_expanded finds features w leveled expanded c) (block_is finds features w leveled expanded c)
           (span_is finds features w leveled expanded c) (enabled_places features w) t.are_checked.are_full.listed.used

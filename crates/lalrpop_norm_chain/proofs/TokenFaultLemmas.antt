@@ -17,11 +17,11 @@ use Rattle.lalrpop_norm_theory.specs.Same.{SameExpansion}
 use Rattle.lalrpop_lexer_scan.specs.Literals.{IsBefore}
 use Rattle.lalrpop_norm_token_check.specs.Blocks.{block_groups, first_lacking}
 use Rattle.lalrpop_norm_token_check.specs.Entries.{tokenizer_entries, AreUsed, AreFullEntries}
-use Rattle.lalrpop_norm_token_check.specs.Faults.{TokenStands}
+use Rattle.lalrpop_norm_token_check.specs.Faults.{TokenFaultInExpanded}
 use Rattle.lalrpop_norm_token_check.specs.Places.{FirstPlaces, listed_in, place_of}
 use Rattle.lalrpop_norm_chain.specs.UsedLiterals.{AreAscending, AreUsedLiterals, AreFullExpansionEntries}
 use Rattle.lalrpop_norm_chain.proofs.UsedLiteralLemmas.{used_literals, full_entries}
-use Rattle.lalrpop_norm_chain.specs.TokenFaults.{TokenStandsAt}
+use Rattle.lalrpop_norm_chain.specs.TokenFaults.{TokenFaultInWritten}
 use Rattle.lalrpop_norm_token_check.proofs.UniqueLemmas.{before_itself, before_back}
 
 -- an expansion has one list of literals
@@ -85,7 +85,7 @@ module _ (finds : Text → Text → Option Bool) (m w : Grammar) (expanded : IsE
       (full_entries finds m expanded g to s es a)
 
   -- a fault of the expanded grammar stands in the written one
-  pub token_back : (kind : NormErrorKind) (p : TextSpan) → TokenStands first kind p m → TokenStandsAt first g w kind p
+  pub token_back : (kind : NormErrorKind) (p : TextSpan) → TokenFaultInExpanded first kind p m → TokenFaultInWritten first g w kind p
   token_back (kinds.NotInMatchBlock l) p t = record {
     used = t.used;
     are_used = used_literals finds m expanded g to s t.used t.are_used;
@@ -144,7 +144,7 @@ module _ (finds : Text → Text → Option Bool) (m w : Grammar) (expanded : IsE
       none_lacks = ap (λ (b : Option (List (List WrittenEntry))). first_lacking b a.listed.used) block ∙ a.none_lacks;
     }
 
-    pub token_forth : (kind : NormErrorKind) (p : TextSpan) → TokenStandsAt first g w kind p → TokenStands first kind p m
+    pub token_forth : (kind : NormErrorKind) (p : TextSpan) → TokenFaultInWritten first g w kind p → TokenFaultInExpanded first kind p m
     token_forth (kinds.NotInMatchBlock l) p t = record {
       used = t.used;
       are_used = used_there t.used t.are_used;

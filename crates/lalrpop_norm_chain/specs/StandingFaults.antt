@@ -17,7 +17,7 @@ use Rattle.lalrpop_norm_keys.specs.Arity.{arity_faults}
 use Rattle.lalrpop_norm_keys.specs.MacroFaults.{ConditionError, condition_error}
 use Rattle.lalrpop_norm_theory.specs.WrittenPlaces.{IsWrittenPlace}
 use Rattle.lalrpop_norm_chain.specs.MadeConditions.{HasWrongCondition}
-use Rattle.lalrpop_norm_chain.specs.TokenFaults.{enabled_places, TokenStandsAt}
+use Rattle.lalrpop_norm_chain.specs.TokenFaults.{enabled_places, TokenFaultInWritten}
 use Rattle.lalrpop_norm_chain.specs.WrittenTypeFaults.{IsDisagreeing, IsUntyped}
 
 -- the first pass finds nothing, and nothing is wrong with names
@@ -43,7 +43,7 @@ pub record IsRightToTokens (finds : Text → Text → Option Bool) (deep : Text 
     (w : Grammar) : Type 0 where
   pub before : IsRightToMacros finds deep features limit w
   pub tokens : (kind : NormErrorKind) (p : TextSpan) →
-      TokenStandsAt (enabled_places features w) (enabled_grammar finds features w) w kind p → ⊥
+      TokenFaultInWritten (enabled_places features w) (enabled_grammar finds features w) w kind p → ⊥
 
 -- The fault stands in the written grammar, with this span.
 pub data IsStandingFault (finds : Text → Text → Option Bool) (deep : Text → Bool) (features : List Text) (limit : ℕ)
@@ -68,7 +68,7 @@ pub data IsStandingFault (finds : Text → Text → Option Bool) (deep : Text �
       → HasWrongCondition (grammar_between finds (without_disabled features w)) deep (condition_error kind p)
       → IsStandingFault finds deep features limit w kind p
   token : (kind : NormErrorKind) (p : TextSpan) → IsRightToMacros finds deep features limit w
-      → TokenStandsAt (enabled_places features w) (enabled_grammar finds features w) w kind p
+      → TokenFaultInWritten (enabled_places features w) (enabled_grammar finds features w) w kind p
       → IsStandingFault finds deep features limit w kind p
   types_disagree : (p : TextSpan) → IsRightToTokens finds deep features limit w
       → IsDisagreeing (enabled_grammar finds features w) (without_disabled features w) p

@@ -18,21 +18,21 @@ abbrev pub enabled_places : List Text → Grammar → FirstPlaces
 enabled_places features w l = first_span (uses_in_grammar (without_disabled features w)) l
 
 -- the first literal that the expansion uses and the match block lacks
-pub record IsLackingFirst (first : FirstPlaces) (g : EnabledGrammar) (w : Grammar) (l : Terminal) (p : TextSpan) : Type 0 where
+pub record IsLackingInWritten (first : FirstPlaces) (g : EnabledGrammar) (w : Grammar) (l : Terminal) (p : TextSpan) : Type 0 where
   pub used : List Terminal
   pub are_used : AreUsedLiterals g used
   pub first_is : first_lacking (block_groups w.items) used ≡ Some l
   pub place : place_of first w l ≡ p
 
 -- no literal is lacking, and this is the literal of the first entry that is refused
-pub record IsRefusedFirst (first : FirstPlaces) (g : EnabledGrammar) (w : Grammar) (l : Terminal) (p : TextSpan) : Type 0 where
+pub record IsRefusedInWritten (first : FirstPlaces) (g : EnabledGrammar) (w : Grammar) (l : Terminal) (p : TextSpan) : Type 0 where
   pub entries : List InternEntry
   pub are_full : AreFullExpansionEntries g (block_groups w.items) entries
   pub first_is : first_refused entries ≡ Some l
   pub place : place_of first w l ≡ p
 
 -- no literal is lacking, no entry is refused, and these are the literals of the two that are told of the first tie
-pub record IsTiedFirst (first : FirstPlaces) (g : EnabledGrammar) (w : Grammar) (l m : Terminal) (p : TextSpan) : Type 0 where
+pub record AreTiedInWritten (first : FirstPlaces) (g : EnabledGrammar) (w : Grammar) (l m : Terminal) (p : TextSpan) : Type 0 where
   pub entries : List InternEntry
   pub are_full : AreFullExpansionEntries g (block_groups w.items) entries
   pub none_refused : first_refused entries ≡ None
@@ -40,8 +40,8 @@ pub record IsTiedFirst (first : FirstPlaces) (g : EnabledGrammar) (w : Grammar) 
   pub place : place_of first w l ≡ p
 
 -- the fault of tokens stands, with this span; other kinds aren't looked for
-abbrev pub TokenStandsAt : FirstPlaces → EnabledGrammar → Grammar → NormErrorKind → TextSpan → Type 0
-TokenStandsAt first g w (kinds.NotInMatchBlock l) p = IsLackingFirst first g w (literal_view l) p
-TokenStandsAt first g w (kinds.PatternRefused l) p = IsRefusedFirst first g w (literal_view l) p
-TokenStandsAt first g w (kinds.SameText l m) p = IsTiedFirst first g w (literal_view l) (literal_view m) p
-TokenStandsAt first g w _ p = ⊥
+abbrev pub TokenFaultInWritten : FirstPlaces → EnabledGrammar → Grammar → NormErrorKind → TextSpan → Type 0
+TokenFaultInWritten first g w (kinds.NotInMatchBlock l) p = IsLackingInWritten first g w (literal_view l) p
+TokenFaultInWritten first g w (kinds.PatternRefused l) p = IsRefusedInWritten first g w (literal_view l) p
+TokenFaultInWritten first g w (kinds.SameText l m) p = AreTiedInWritten first g w (literal_view l) (literal_view m) p
+TokenFaultInWritten first g w _ p = ⊥

@@ -18,7 +18,7 @@ use Rattle.lalrpop_lexer_scan.specs.Literals.{first_span, uses_in_grammar, use_a
 use Rattle.lalrpop_norm_token_check.specs.Blocks.{block_groups, first_lacking}
 use Rattle.lalrpop_norm_token_check.specs.Checked.{IsTokenChecked}
 use Rattle.lalrpop_norm_token_check.specs.Entries.{AreFullEntries, AreUsed}
-use Rattle.lalrpop_norm_token_check.specs.Faults.{TokenStands}
+use Rattle.lalrpop_norm_token_check.specs.Faults.{TokenFaultInExpanded}
 use Rattle.lalrpop_norm_token_check.specs.Patterns.{first_refused}
 use Rattle.lalrpop_norm_token_check.specs.Places.{FirstPlaces}
 use Rattle.lalrpop_norm_token_check.proofs.ExamplesOfEntries.{bare, grammar, itself, quoted, regex, to, token}
@@ -66,14 +66,14 @@ used_b = record {
   literals = refl;
 }
 
-lacks_b : TokenStands (at_first lacking) (kinds.NotInMatchBlock (literals.Quoted (codes "b"))) (24, 27) lacking
+lacks_b : TokenFaultInExpanded (at_first lacking) (kinds.NotInMatchBlock (literals.Quoted (codes "b"))) (24, 27) lacking
 lacks_b = record { used = quoted "b" ∷ []; are_used = used_b; first_is = refl; place = refl }
 
 -- not at the grammar, and not of the literal that stands in the block
-lacks_b_elsewhere : TokenStands (at_first lacking) (kinds.NotInMatchBlock (literals.Quoted (codes "b"))) (0, 99) lacking → ⊥
+lacks_b_elsewhere : TokenFaultInExpanded (at_first lacking) (kinds.NotInMatchBlock (literals.Quoted (codes "b"))) (0, 99) lacking → ⊥
 lacks_b_elsewhere h = differ 24 0 (ap (λ (p : TextSpan). p.0) h.place) refl
 
-lacks_a : (p : TextSpan) → TokenStands (at_first lacking) (kinds.NotInMatchBlock (literals.Quoted (codes "a"))) p lacking → ⊥
+lacks_a : (p : TextSpan) → TokenFaultInExpanded (at_first lacking) (kinds.NotInMatchBlock (literals.Quoted (codes "a"))) p lacking → ⊥
 lacks_a p h =
     let same = used_unique lacking h.used (quoted "b" ∷ []) h.are_used used_b in
     differ 98 97 (ap first_byte (sym (ap (first_lacking (block_groups lacking.items)) same) ∙ h.first_is)) refl
@@ -103,17 +103,17 @@ unfolding chars whole_pattern pattern_with branches_from factor_with atom_with p
     one_character repeats_from
 first_is_refused = refl
 
-refuses_first : TokenStands (at_first refused) (kinds.PatternRefused (literals.Regex (codes "("))) (7, 7) refused
+refuses_first : TokenFaultInExpanded (at_first refused) (kinds.PatternRefused (literals.Regex (codes "("))) (7, 7) refused
 refuses_first = record { entries = refused_entries; are_full = refused_full; first_is = first_is_refused; place = refl }
 
 -- not the second, and no literal is lacking
-refuses_second : (p : TextSpan) → TokenStands (at_first refused) (kinds.PatternRefused (literals.Regex (codes ")"))) p refused → ⊥
+refuses_second : (p : TextSpan) → TokenFaultInExpanded (at_first refused) (kinds.PatternRefused (literals.Regex (codes ")"))) p refused → ⊥
 refuses_second p h =
     let same = entries_unique refused h.entries refused_entries h.are_full.listed refused_full.listed in
     differ 40 41 (ap first_byte (sym first_is_refused ∙ sym (ap first_refused same) ∙ h.first_is)) refl
 
 refuses_as_lacking : (p : TextSpan)
-    → TokenStands (at_first refused) (kinds.NotInMatchBlock (literals.Regex (codes "("))) p refused → ⊥
+    → TokenFaultInExpanded (at_first refused) (kinds.NotInMatchBlock (literals.Regex (codes "("))) p refused → ⊥
 refuses_as_lacking p h =
     let same = used_unique refused h.used [] h.are_used (nothing_used refused refl) in
     none_is_some (regex "(") (sym (ap (first_lacking (block_groups refused.items)) same) ∙ h.first_is)
@@ -171,7 +171,7 @@ first_tie = record {
   first = λ v g h t before. not_before v (matched_word g v t.first) before;
 }
 
-ties_both : TokenStands (at_first tied) (kinds.SameText (literals.Quoted (codes "a")) (literals.Quoted (codes "a"))) (7, 7) tied
+ties_both : TokenFaultInExpanded (at_first tied) (kinds.SameText (literals.Quoted (codes "a")) (literals.Quoted (codes "a"))) (7, 7) tied
 unfolding chars
 ties_both = record {
   entries = tied_entries;
@@ -182,11 +182,11 @@ ties_both = record {
 }
 
 -- not at the second entry, and none of the two is refused
-ties_at_second : TokenStands (at_first tied) (kinds.SameText (literals.Quoted (codes "a")) (literals.Quoted (codes "a")))
+ties_at_second : TokenFaultInExpanded (at_first tied) (kinds.SameText (literals.Quoted (codes "a")) (literals.Quoted (codes "a")))
     (8, 8) tied → ⊥
 ties_at_second h = differ 7 8 (ap (λ (p : TextSpan). p.0) h.place) refl
 
-ties_as_refused : (p : TextSpan) → TokenStands (at_first tied) (kinds.PatternRefused (literals.Quoted (codes "a"))) p tied → ⊥
+ties_as_refused : (p : TextSpan) → TokenFaultInExpanded (at_first tied) (kinds.PatternRefused (literals.Quoted (codes "a"))) p tied → ⊥
 ties_as_refused p h =
     let same = entries_unique tied h.entries tied_entries h.are_full.listed tied_full.listed in
     none_is_some (quoted "a") (sym (ap first_refused same) ∙ h.first_is)

@@ -14,7 +14,7 @@ use Rattle.lalrpop_lexer_scan.specs.Literals.{LiteralUse, uses_in_grammar, AreLi
 use Rattle.lalrpop_norm_token_check.specs.Blocks.{block_groups, first_lacking}
 use Rattle.lalrpop_norm_token_check.specs.Checked.{AreCheckedEntries, DecidesEntries}
 use Rattle.lalrpop_norm_token_check.specs.Entries.{AreUsed, AreFullEntries, tokenizer_entries}
-use Rattle.lalrpop_norm_token_check.specs.Faults.{HasNoTokenFault, IsFirstLacking}
+use Rattle.lalrpop_norm_token_check.specs.Faults.{HasNoTokenFault, IsLackingInExpanded}
 use Rattle.lalrpop_norm_token_check.specs.Patterns.{first_refused, entry_patterns, entry_precedences}
 use Rattle.lalrpop_norm_token_check.specs.Places.{FirstPlaces, place_of}
 use Rattle.lalrpop_norm_token_check.proofs.UniqueLemmas.{entries_unique, none_is_some, used_unique}
@@ -38,7 +38,7 @@ pub lacking_told : (first : FirstPlaces) (g : Grammar) (used : List Terminal) (f
     (l : Bor TerminalLiteral) (copy : TerminalLiteral) (span : Span)
     → option_map (λ (x : Bor TerminalLiteral). literal_view x.now) found ≡ first_lacking (block_groups g.items) used
     → found ≡ Some l → copy ≡ l.now → span_view span ≡ place_of first g (literal_view l.now) → AreUsed g used
-    → IsFirstLacking first g (literal_view copy) (span_view span)
+    → IsLackingInExpanded first g (literal_view copy) (span_view span)
 lacking_told first g used found l copy span e is same place are = record {
   used = used;
   are_used = are;

@@ -2,7 +2,7 @@
 //!
 //! `token_check::validate` puts an item with these entries behind the items of an expanded grammar. They are defined in
 //! `specs/Entries.antt`: those of the match block in written order, with `_` for the literals in use that no entry lists, or
-//! without a block all literals in use. `TokenStands` in `specs/Faults.antt` says which fault stands with which span. Places
+//! without a block all literals in use. `TokenFaultInExpanded` in `specs/Faults.antt` says which fault stands with which span. Places
 //! are told of the written grammar, so who expands a grammar keeps its [`LiteralPlaces`] before.
 #![tactic(auto)]
 

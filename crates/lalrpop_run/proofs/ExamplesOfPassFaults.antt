@@ -18,7 +18,7 @@ use Rattle.lalrpop_grammar_repr.specs.declared.norm_error.NormErrorKind.TheVaria
 use Rattle.lalrpop_norm.specs.Normalizing.{HasTooManyLabels, IsWrittenFault}
 use Rattle.lalrpop_norm_chain.specs.MadeConditions.{HasWrongCondition}
 use Rattle.lalrpop_norm_chain.specs.StandingFaults.{IsStandingFault}
-use Rattle.lalrpop_norm_chain.specs.TokenFaults.{TokenStandsAt, enabled_places}
+use Rattle.lalrpop_norm_chain.specs.TokenFaults.{TokenFaultInWritten, enabled_places}
 use Rattle.lalrpop_norm_chain.specs.UsedLiterals.{AreFullExpansionEntries, AreUsedLiterals, IsUsedLiteral}
 use Rattle.lalrpop_norm_chain.specs.WrittenTypeFaults.{IsDisagreeing, IsUntyped}
 use Rattle.lalrpop_norm_chain.proofs.TokenFaultLemmas.{one_list}
@@ -279,7 +279,7 @@ entries_are public entries h =
     ∙ ap (tokenizer_entries None) (one_list (of_word public) h.listed.used (a ∷ []) h.listed.are_used (used_of_word public))
 
 no_wrong_literal : (public : Bool) (kind : NormErrorKind) (p : TextSpan) →
-    TokenStandsAt (enabled_places [] (word_of public)) (of_word public) (word_of public) kind p → ⊥
+    TokenFaultInWritten (enabled_places [] (word_of public)) (of_word public) (word_of public) kind p → ⊥
 no_wrong_literal public (kinds.NotInMatchBlock l) p h = let wrong : None ≡ Some (literal_view l) = h.first_is in cc
 no_wrong_literal public (kinds.PatternRefused l) p h =
     let wrong : None ≡ Some (literal_view l) = ap first_refused (sym (entries_are public h.entries h.are_full)) ∙ h.first_is in

@@ -1,11 +1,11 @@
 -- By canonical states a run makes no move before what can't follow, so it makes no more moves than a tree has leaves and nodes whose leaves
 -- begin as the tokens before that: for the promise of the canonical way.
 use Rattle.std.proofs.Common.{◌≡◌, ◌∙◌, ℕ, ◌<◌, List, [], ◌∷◌, ◌++◌}
-use Rattle.std.proofs.Common.{refl, sym, ap, subst, append_assoc, append-nil, Contains, Some, None}
+use Rattle.std.proofs.Common.{refl, sym, ap, subst, append_assoc, append-nil, Contains}
 use Rattle.std.proofs.lemmas.List.{append_cancel_right}
 use Rattle.lalrpop_grammar_symbols.specs.Symbols.{Terminal, Text}
-use Rattle.lalrpop_lr1_theory.specs.Answers.{BeginsYieldOf, IsYieldOf, over_limit}
-use Rattle.lalrpop_lr1_theory.specs.Automata.{Finished, Walk}
+use Rattle.lalrpop_lr1_theory.specs.Answers.{MayFollow, over_limit}
+use Rattle.lalrpop_lr1_theory.specs.Automata.{Walk}
 use Rattle.lalrpop_lr1_theory.specs.CanonicalStates.{AreCanonicalStates}
 use Rattle.lalrpop_lr1_theory.specs.CheckedStates.{AreCheckedStates, IsStartAlone}
 use Rattle.lalrpop_lr1_theory.specs.Productions.{Next, Production, Symbol, first}
@@ -14,19 +14,14 @@ use Rattle.lalrpop_lr1_theory.specs.States.{HasEdge, HasItem, HasLookahead, Redu
 use Rattle.lalrpop_lr1_theory.specs.Trees.{AreOver, Forest, IsTreeOf, Move, nodes, none, reduce, roots, shift, yield}
 use Rattle.lalrpop_lr1_theory.specs.ValidItems.{NoneBarren}
 use Rattle.lalrpop_lr1_theory.proofs.AnswerLemmas.{ends_right}
-use Rattle.lalrpop_lr1_theory.proofs.CanonicalLemmas.{allowed_valid, allows_more, canonical_follows}
+use Rattle.lalrpop_lr1_theory.proofs.CanonicalLemmas.{canonical_follows}
 use Rattle.lalrpop_lr1_theory.proofs.CheckedLemmas.{checked_automaton}
 use Rattle.lalrpop_lr1_theory.proofs.ReductionLemmas.{reduces_finished}
 use Rattle.lalrpop_lr1_theory.proofs.SoundnessLemmas.{runs_over, runs_yield}
 
 -- what comes next can't follow the tokens: with it they begin no sentence, or, at the end, they are none
 abbrev pub CantFollow : (Production → Type 0) → Text → List Terminal → Next → Type 0
-CantFollow G s u (Some t) = BeginsYieldOf G s (u ++ t ∷ []) → ⊥
-CantFollow G s u None = IsYieldOf G s u → ⊥
-
-none_first : (w : List Terminal) → first w ≡ None → w ≡ []
-none_first [] e = refl
-none_first (t ∷ w) e = let z : ⊥ = cc in absurd z
+CantFollow G s u x = MayFollow G s u x → ⊥
 
 -- the first move of a run alone
 first_move : {Edge : ℕ → Symbol → ℕ → Type 0} {R : ℕ → Production → Next → Type 0} {m : Move}
@@ -48,14 +43,9 @@ module _ (grammar : List Production) (s : Text) (states : List State) (nb : None
   -- no move is allowed before what can't follow
   no_move : (f : Forest) (n : ℕ) (x : Next) (v : Move) → AreOver (Contains grammar) f → Walk (HasEdge states) (roots f) n →
       Allows (HasEdge states) (Reduces states) n x v → CantFollow (Contains grammar) s (yield f) x → ⊥
-  no_move f n (Some t) v o w a wrong =
+  no_move f n x v o w a wrong =
       wrong (canonical_follows (Contains grammar) s (HasItem states) (HasEdge states) (HasLookahead states) can.automaton (Reduces states)
-      (reduces_finished grammar s states can) nb f n t v o w a)
-  no_move f n None v o w a wrong =
-      let m = allowed_valid (Contains grammar) s (HasItem states) (HasEdge states) (HasLookahead states) can.automaton nb f n o w None v
-      (allows_more (HasEdge states) (Reduces states) (Finished (HasLookahead states))
-      (λ k p y r. (reduces_finished grammar s states can k p y).0 r) n None v a) in
-      wrong (m.tree, m.is_tree, m.leaves ∙ ap (λ l. yield f ++ l) (none_first m.left m.next) ∙ append-nil (yield f))
+      (reduces_finished grammar s states can) nb f n x v o w a)
 
   module _ (u z x : List Terminal) (wrong : CantFollow (Contains grammar) s u (first z)) where
     -- so a run over these tokens and others goes the same way whatever the others are

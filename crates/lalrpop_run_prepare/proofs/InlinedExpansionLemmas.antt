@@ -68,7 +68,7 @@ once_same f (z ∷ xs) x y o (inr i) (inr j) e = once_same f xs x y o.1 i j e
 abbrev pub seen_in : NonterminalEntries → List theory.Production
 seen_in es = map production_view (flat_map (λ e. e.1.productions) es)
 
-seen : (es : NonterminalEntries) (e : NonterminalString × NonterminalData) (q : Production) → Among es e → Among e.1.productions q →
+pub seen : (es : NonterminalEntries) (e : NonterminalString × NonterminalData) (q : Production) → Among es e → Among e.1.productions q →
     Contains (seen_in es) (production_view q)
 seen es e q i j =
     among_contains (seen_in es) (production_view q)

@@ -12,6 +12,8 @@ pub mod TerminalLemmas
 pub mod TableLemmas
 pub mod AloneLemmas
 pub mod InlineLemmas
+pub mod StepTreeLemmas
+pub mod StartRuleLemmas
 pub mod ExpandLemmas
 pub mod StartLemmas
 pub mod PrepareLemmas

@@ -2,7 +2,7 @@
 use Rattle.std.specs.Prelude.{Bool, Option, ◌++◌}
 use Rattle.std.specs.List.Sorted.{IsStrictlySortedBy}
 use Rattle.std.specs.Map.{keys_of}
-use Rattle.std.proofs.Common.{◌≡◌, ◌∙◌, ℕ, List, ap, sym, subst, inl, inr, Contains}
+use Rattle.std.proofs.Common.{◌≡◌, ◌∙◌, ℕ, List, ap, sym, subst, inl, inr, Contains, true}
 use Rattle.lalrpop_grammar_symbols.specs.Symbols.{Text}
 use Rattle.lalrpop_grammar_symbols.specs.Views.{span_view}
 use Rattle.lalrpop_grammar_symbols.specs.contracts.names.NonterminalStringOrd.TheImpl as names
@@ -23,6 +23,8 @@ use Rattle.lalrpop_lr1_barren.specs.LeastBarren.{IsLeastAmongBarren}
 use Rattle.lalrpop_lr1_core.specs.TheoryGrammars.{theory_grammar}
 use Rattle.lalrpop_lr1_first.specs.NumberedGrammars.{HasItsTerminals}
 use Rattle.lalrpop_lr1_inline.specs.InlinedGrammars.{IsInlinedGrammar}
+use Rattle.lalrpop_lr1_inline.specs.InliningSteps.{productions_named}
+use Rattle.lalrpop_lr1_theory.specs.Productions as theory
 use Rattle.lalrpop_lr1_theory.specs.ValidItems.{NoneBarren}
 use Rattle.lalrpop_norm_token_check.specs.Patterns.{entry_patterns, entry_precedences}
 use Rattle.lalrpop_norm_theory.specs.Inlined.{IsInlined}
@@ -33,16 +35,17 @@ use Rattle.lalrpop_norm_chain.specs.LoweredViews.{lowered_view}
 use Rattle.lalrpop_run_prepare.proofs.InlinedExpansionLemmas.{base_expansion}
 use Rattle.lalrpop_run_prepare.proofs.NormalizedLemmas.{named_expansion, named_origins}
 use Rattle.lalrpop_run_theory.specs.Barren.{HasNoBarren, IsLeastBarrenName}
-use Rattle.lalrpop_run_theory.specs.ExpansionTrees.{is_inlined_nonterminal}
 use Rattle.lalrpop_run_theory.specs.Expansions.{AreBaseExpansion}
-use Rattle.lalrpop_run_theory.proofs.BarrenLemmas.{barren_named, named_barren, none_barren_after, none_barren_named, start_is_alone}
-use Rattle.lalrpop_run_theory.proofs.InlinedTestLemmas.{inlined_decided}
+use Rattle.lalrpop_run_theory.proofs.BarrenLemmas.{barren_named, named_barren, none_barren_named, start_is_alone}
 use Rattle.lalrpop_run_prepare.specs.ToldExpansions.{AreToldExpansion}
 use Rattle.lalrpop_run_prepare.proofs.ToldExpansionLemmas.{told_expansion}
 use Rattle.lalrpop_run_prepare.proofs.InlinedEntryLemmas.{steps_own, steps_sorted}
 use Rattle.lalrpop_run_prepare.specs.PrepareRefusals.{IsPrepareRefusal, IsRefusedExpansion, IsRefusedStart}
 use Rattle.lalrpop_run_prepare.specs.PreparedGrammars.{HasNamedProductions, IsPreparedWhereRead, MayBeParsedFrom, PreparedGrammar}
+use Rattle.lalrpop_run_prepare.specs.StartRules.{IsStartOf, leads_to_rule}
+use Rattle.lalrpop_run_prepare.proofs.AloneLemmas.{alone_told}
 use Rattle.lalrpop_run_prepare.proofs.StartLemmas.{start_in_expansion}
+use Rattle.lalrpop_run_prepare.proofs.StartRuleLemmas.{start_leads}
 use Rattle.lalrpop_run_prepare.specs.declared.refusals.refusing.GenerateError.{GenerateError}
 use Rattle.lalrpop_run_prepare.specs.Refused.{IsGenerable, IsGrammarRefusal}
 use Rattle.lalrpop_run_prepare.specs.Tokenizers.{IsNormalizedFor, scan_entries}
@@ -91,16 +94,17 @@ module _ (finds : Text → Text → Option Bool) (deep : Text → Bool) (feature
             (barren_named g w.prefix (Contains (theory_grammar made.grammar)) base start in_expansion y k);
       }
 
-  -- the start may be parsed from
-  pub may_be_parsed : (after : repr.Grammar) (name : NonterminalString) → IsInlinedGrammar made.grammar after
-      → NoneBarren (Contains (theory_grammar made.grammar)) start → name.0 ≡ w.prefix ++ start → MayBeParsedFrom after name
-  may_be_parsed after name i none same =
+  -- the start stands on no right side, and leads to the rule alone
+  pub is_start : (after : repr.Grammar) (name : NonterminalString) → IsInlinedGrammar made.grammar after
+      → name.0 ≡ w.prefix ++ start → IsStartOf start made.grammar after name
+  is_start after name i same =
       let e = (told after i).expansion in
-      subst (λ (t : Text). MayBeParsedFrom after (record { 0 = t })) (sym same) (record {
-        alone = λ p m k. start_is_alone g (IsInlined g) w.prefix (Contains (theory_grammar after)) e start in_expansion p m k;
-        none_barren = none_barren_after g (IsInlined g) w.prefix (Contains (theory_grammar after)) e (is_inlined_nonterminal g)
-            (inlined_decided g) start in_expansion (no_barren none);
-      })
+      record {
+        alone = alone_told after name (λ p m k. start_is_alone g (IsInlined g) w.prefix (Contains (theory_grammar after)) e start
+            in_expansion p m (subst (λ (t : Text). Contains p.right (theory.nonterminal t)) same k));
+        leads = subst (λ (t : Text). leads_to_rule start (productions_named made.grammar.nonterminals t) ≡ true) (sym same)
+            (start_leads g w.prefix made.grammar base start in_expansion sorted (λ e p i j. ready.named e.0 e.1 p i j));
+      }
 
   -- what is told of the plain productions is told of the written grammar
   pub expansion_refused : (whole : Span) (error : GenerateError) → span_view whole ≡ w.span
@@ -124,8 +128,7 @@ module _ (finds : Text → Text → Option Bool) (deep : Text → Bool) (feature
   pub start_refused : (whole : Span) (error : GenerateError) → span_view whole ≡ w.span
       → IsRefusedStart whole made.grammar w.prefix start error → IsPrepareRefusal finds deep features limit start w error
   start_refused whole error at (IsRefusedStart.expansion h) = expansion_refused whole error at h
-  start_refused whole error at (IsRefusedStart.unread after name i none same unparsed) =
-      absurd (unparsed (may_be_parsed after name i none same))
+  start_refused whole error at (IsRefusedStart.unread after name i same other) = absurd (other (is_start after name i same))
 
 module _ (finds : Text → Text → Option Bool) (deep : Text → Bool) (v : PreparedGrammar) (made : Normalized) (dfa : List StateView)
     (start : Text) where

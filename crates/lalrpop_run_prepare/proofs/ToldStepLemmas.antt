@@ -129,11 +129,11 @@ module _ (Holds : Production → Type 0) where
       )
 
 -- a record that a step has was made of a right side of a production
-record IsRecorded (n : Text) (ps : List Production) (es : NonterminalEntries) (m : Made) : Type 0 where
-  entry : NonterminalString × NonterminalData
-  in_grammar : Among es entry
-  in_entry : Among entry.1.productions m.0
-  is_record : Among (records_of n ps m.0.symbols) m.1
+pub record IsRecorded (n : Text) (ps : List Production) (es : NonterminalEntries) (m : Made) : Type 0 where
+  pub entry : NonterminalString × NonterminalData
+  pub in_grammar : Among es entry
+  pub in_entry : Among entry.1.productions m.0
+  pub is_record : Among (records_of n ps m.0.symbols) m.1
 
 in_place : (n : Text) (ps : List Production) (q : Production) (r : List InlinedSymbol) → Among (records_in_place n ps q) r →
     Among (records_of n ps q.symbols) r
@@ -143,7 +143,7 @@ in_place n ps q r = go (list_any (is_place n) q.symbols)
     go true i = i
     go false i = absurd i
 
-is_recorded : (n : Text) (ps : List Production) (es : NonterminalEntries) (m : Production × List InlinedSymbol) →
+pub is_recorded : (n : Text) (ps : List Production) (es : NonterminalEntries) (m : Production × List InlinedSymbol) →
     Among (all_records_after n ps es) m → IsRecorded n ps es m
 is_recorded n ps es m i =
     let a = among_flat_map (λ (e : NonterminalString × NonterminalData). records_after n ps e.1.productions) es m i in

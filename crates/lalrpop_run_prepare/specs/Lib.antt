@@ -7,6 +7,7 @@ pub mod NamedGrammars
 pub mod NamedLabels
 pub mod NormalizedExpansions
 pub mod InlineRefusals
+pub mod StartRules
 pub mod PrepareRefusals
 pub mod PreparedGrammars
 pub mod ToldExpansions

@@ -12,13 +12,13 @@ use Rattle.lalrpop_lr1_barren.specs.LeastBarren.{IsLeastAmongBarren}
 use Rattle.lalrpop_lr1_core.specs.TheoryGrammars.{theory_grammar}
 use Rattle.lalrpop_lr1_inline.specs.InlinedGrammars.{IsInlineFault, IsInlinedGrammar}
 use Rattle.lalrpop_lr1_inline.specs.declared.fault.InlineFault.TheVariants as faults
-use Rattle.lalrpop_lr1_theory.specs.ValidItems.{NoneBarren}
 use Rattle.lalrpop_norm_chain.specs.Normalized.{IsNormalized}
 use Rattle.lalrpop_norm_lower.specs.declared.lowering.Normalized.{Normalized}
 use Rattle.lalrpop_norm_chain.specs.LoweredViews.{lowered_view}
 use Rattle.lalrpop_run_theory.specs.Barren.{IsLeastBarrenName}
 use Rattle.lalrpop_run_prepare.specs.InlineRefusals.{IsRefusedInlining, told_at}
-use Rattle.lalrpop_run_prepare.specs.PreparedGrammars.{HasNamedProductions, MayBeParsedFrom}
+use Rattle.lalrpop_run_prepare.specs.PreparedGrammars.{HasNamedProductions}
+use Rattle.lalrpop_run_prepare.specs.StartRules.{IsStartOf}
 use Rattle.lalrpop_run_prepare.specs.declared.refusals.refusing.GenerateError.{GenerateError}
 use Rattle.lalrpop_run_prepare.specs.declared.refusals.refusing.GenerateError.TheVariants as errors
 use Rattle.lalrpop_run_prepare.specs.Refused.{IsGenerable, IsGrammarRefusal}
@@ -31,12 +31,11 @@ pub data IsRefusedExpansion (whole : Span) (g : repr.Grammar) (start : Text) (er
       → IsLeastAmongBarren (Contains (theory_grammar g)) start name.0 → error ≡ errors.Barren name.0
       → IsRefusedExpansion whole g start error
 
--- The same; or a start that can't be parsed from after inlining, though nothing was barren before it. That is never so with a grammar
--- as one is read.
+-- The same; or a start that stands on a right side or leads to anything but its rule. That is never so with a grammar as one is read.
 pub data IsRefusedStart (whole : Span) (g : repr.Grammar) (prefix start : Text) (error : GenerateError) : Type 0 where
   expansion : IsRefusedExpansion whole g start error → IsRefusedStart whole g prefix start error
-  unread : (after : repr.Grammar) (name : NonterminalString) → IsInlinedGrammar g after → NoneBarren (Contains (theory_grammar g)) start
-      → name.0 ≡ prefix ++ start → (MayBeParsedFrom after name → ⊥) → IsRefusedStart whole g prefix start error
+  unread : (after : repr.Grammar) (name : NonterminalString) → IsInlinedGrammar g after → name.0 ≡ prefix ++ start
+      → (IsStartOf start g after name → ⊥) → IsRefusedStart whole g prefix start error
 
 -- The plain productions have inlined rules that would be inlined into themselves, or inlining hands out more numbers of actions than
 -- there are, those of the plain productions included. Too many are told where the whole grammar is written.

@@ -1,19 +1,23 @@
 //! The plain productions of a grammar after inlining, with the name of the start among them, where the start may be parsed from.
 
-ghost use Rattle.std.specs.Prelude.{◌≡◌, ◌⊎◌, ◌++◌, Contains, IfErr, IfOk};
+ghost use Rattle.std.specs.Prelude.{◌≡◌, ◌↔◌, ◌++◌, Contains, IfErr, IfOk, IsTrue};
+ghost use Rattle.std.specs.List.{list_all};
 ghost use Rattle.lalrpop_lr1_barren.specs.LeastBarren.{IsLeastBarren};
 ghost use Rattle.lalrpop_lr1_core.specs.TheoryGrammars.{theory_grammar};
 ghost use Rattle.lalrpop_lr1_first.specs.NumberedGrammars.{HasItsTerminals};
 ghost use Rattle.lalrpop_lr1_inline.specs.InlinedGrammars.{IsInlinedGrammar};
+ghost use Rattle.lalrpop_lr1_inline.specs.InliningSteps.{is_place};
 ghost use Rattle.lalrpop_lr1_theory.specs.ValidItems.{NoneBarren};
 ghost use Rattle.lalrpop_norm_lower.specs.TableReadiness.{IsReadyForTables};
 ghost use Rattle.lalrpop_run_prepare.specs.PrepareRefusals.{IsRefusedExpansion, IsRefusedStart};
 ghost use Rattle.lalrpop_run_prepare.specs.PreparedGrammars.{MayBeParsedFrom};
+ghost use Rattle.lalrpop_run_prepare.specs.StartRules as pure;
+ghost use Rattle.lalrpop_run_prepare.specs.StartRules.{IsStartOf};
 
 use crate::inlining::inline_rules;
 use crate::refusals::GenerateError;
 use lalrpop_grammar::Atom;
-use lalrpop_grammar_repr::{Grammar, NormError, NormErrorKind};
+use lalrpop_grammar_repr::{Grammar, NormError, NormErrorKind, Production, Symbol};
 use lalrpop_grammar_symbols::{NonterminalString, Span};
 use lalrpop_lr1_barren::barren_nonterminal;
 use std::alloc::{AllocError, Global};
@@ -65,29 +69,55 @@ fn inline_reached(
     }
 }
 
-/// Refuses productions on whose right sides the start stands, or from which a nonterminal that it reaches makes no finite sentence.
-/// Those of a grammar as one is read aren't refused here: it has no name that begins with the prefix, and its barren nonterminals were
-/// found before inlining.
-fn refuse_unread(
-    alloc: Global,
-    expansion: &Grammar,
-    start_name: &NonterminalString,
-    whole: Span,
-) -> Result<(), GenerateError<'static>>
-    requires { HasItsTerminals expansion.now }
-    ensures passed { IfOk result (λ _. MayBeParsedFrom expansion.now start_name.now) }
-    ensures refused { IfErr result (λ error. (error ≡ GenerateError.Memory) ⊎ (MayBeParsedFrom expansion.now start_name.now → ⊥)) }
+/// Whether the symbol is the rule.
+fn is_rule(symbol: &Symbol, rule: &Atom) -> bool
+    ensures { result ≡ is_place rule.now symbol.now }
 {
-    if !expansion.start_is_alone(start_name) {
-        return Err(GenerateError::Norm(NormError {
-            kind: NormErrorKind::ReservedPrefix,
-            span: whole,
-        }));
+    match symbol {
+        Symbol::Nonterminal(name) => name.0.as_str() == rule.as_str(),
+        Symbol::Terminal(_) => false,
     }
-    match barren_nonterminal(alloc, expansion, start_name)? {
-        Some(nonterminal) => Err(GenerateError::Barren(nonterminal.into_atom())),
-        None => Ok(()),
+}
+
+/// Whether the rule stands alone on the right side.
+fn is_rule_alone(side: &[Symbol], rule: &Atom) -> bool
+    ensures { result ≡ pure.is_rule_alone rule.now side.now }
+{
+    match side {
+        [] => false,
+        [only] => is_rule(only, rule),
+        [_, _, ..] => false,
     }
+}
+
+/// Whether the rule stands alone on the right side of each.
+fn are_rule_alone(productions: &[Production], rule: &Atom) -> bool
+    ensures { result ≡ list_all (λ p. pure.is_rule_alone rule.now p.symbols) productions.now }
+{
+    productions.iter().all(|production| is_rule_alone(production.symbols.as_slice(), rule))
+}
+
+/// Whether there are productions, and on the right side of each the rule stands alone.
+fn leads_to_rule(productions: &[Production], rule: &Atom) -> bool
+    ensures { result ≡ pure.leads_to_rule rule.now productions.now }
+{
+    match productions {
+        [] => false,
+        [_, ..] => are_rule_alone(productions, rule),
+    }
+}
+
+/// Whether the start stands on no right side after inlining, and what it produces before it is the rule alone. It is so with a grammar as
+/// one is read, which has no name that begins with the prefix.
+fn is_start_of(
+    lowered: &Grammar,
+    expansion: &Grammar,
+    name: &NonterminalString,
+    rule: &Atom,
+) -> bool
+    ensures { IsTrue result ↔ IsStartOf rule.now lowered.now expansion.now name.now }
+{
+    expansion.start_is_alone(name) && leads_to_rule(lowered.productions_for(name), rule)
 }
 
 /// The plain productions with the inlined rules inlined, and the start's name among them: the prefix before the name of the rule to start
@@ -109,6 +139,13 @@ pub(crate) fn expand(
 {
     let expansion = inline_reached(alloc, lowered, start, whole)?;
     let name = name_of_start(alloc, prefix, start)?;
-    refuse_unread(alloc, &expansion, &name, whole)?;
+    if !is_start_of(lowered, &expansion, &name, start) {
+        return Err(GenerateError::Norm(NormError {
+            kind: NormErrorKind::ReservedPrefix,
+            span: whole,
+        }));
+    }
+    // the names of nonterminals ascend
+    lowered.nonterminals.known();
     Ok((expansion, name))
 }

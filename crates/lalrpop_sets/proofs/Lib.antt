@@ -4,3 +4,4 @@ pub mod OrderLemmas
 pub mod QueueLemmas
 pub mod TokenLemmas
 pub mod WordLemmas
+pub mod NumberTextLemmas

@@ -1,5 +1,5 @@
 -- How tokens and sets of tokens print, for what is shown of states.
-use Rattle.std.specs.Prelude.{List, [], ◌∷◌, ◌++◌, codes, flat_map}
+use Rattle.std.specs.Prelude.{ℕ, Bool, true, false, List, [], ◌∷◌, ◌++◌, codes, decimal, flat_map}
 use Rattle.lalrpop_grammar_symbols.specs.Symbols.{Text}
 use Rattle.lalrpop_grammar_symbols.specs.Texts.{terminal_text}
 use Rattle.lalrpop_grammar_symbols.specs.Views.{terminal_view}
@@ -20,3 +20,17 @@ texts_behind = flat_map (λ t. codes ", " ++ next_text t)
 abbrev pub token_list_text : List Token → Text
 token_list_text [] = codes "[]"
 token_list_text (t ∷ ts) = codes "[" ++ next_text t ++ texts_behind ts ++ codes "]"
+
+-- a number, behind a comma and a blank where it isn't the first
+abbrev pub number_behind : Bool → ℕ → Text
+number_behind true n = decimal n
+number_behind false n = codes ", " ++ decimal n
+
+-- numbers between commas
+abbrev pub number_list_text : List ℕ → Text
+number_list_text [] = []
+number_list_text (n ∷ ns) = decimal n ++ flat_map (number_behind false) ns
+
+-- `{0, 3}`
+abbrev pub number_set_text : List ℕ → Text
+number_set_text ns = codes "{" ++ (number_list_text ns ++ codes "}")

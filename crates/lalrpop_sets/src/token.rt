@@ -33,6 +33,13 @@ impl Token {
     /// The end of the text, by its older name.
     pub const EOF: Token = Token::Eof;
 
+    /// The end of the text, which is what [`Token::EOF`] is.
+    pub fn eof() -> Token
+        ensures { result ≡ token.Eof }
+    {
+        Token::EOF
+    }
+
     /// The terminal of a token that is one.
     pub fn unwrap_terminal(&self) -> &TerminalString
         requires { IsTerminalToken self.now }

@@ -11,6 +11,7 @@ ghost use Rattle.std.specs.Hash as fed;
 ghost use Rattle.std.specs.Ordering.{nat_cmp};
 ghost use Rattle.std.proofs.Common.{rules};
 ghost use Rattle.lalrpop_sets.specs.Bits.{Ascends, has};
+ghost use Rattle.lalrpop_sets.specs.TokenTexts.{number_set_text};
 ghost use Rattle.lalrpop_sets.specs.Tokens.{eof_number, has_number, is_number, lacks_number, number_alone, number_of};
 
 use crate::order::{compare, hash_numbers};
@@ -293,6 +294,8 @@ impl TokenSet {
 
 /// The numbers of the tokens, `{0, 3}`.
 impl Debug for TokenSet {
+    ghost debug_output = { λ set. Some (number_set_text set) };
+
     fn fmt<W: Write>(&self, f: &mut Formatter<W>) -> fmt::Result {
         f.write_str("{")?;
         write_numbers(self.words.as_slice(), f)?;

@@ -37,12 +37,16 @@ impl<'s> Display for TokenRef<'s> {
 }
 
 impl Debug for Token {
+    ghost debug_output = { λ token. Some (next_text token) };
+
     fn fmt<W: Write>(&self, f: &mut Formatter<W>) -> fmt::Result {
         Display::fmt(self, f)
     }
 }
 
 impl<'s> Debug for TokenRef<'s> {
+    ghost debug_output = { λ token. Some (next_text (token_seen token)) };
+
     fn fmt<W: Write>(&self, f: &mut Formatter<W>) -> fmt::Result {
         Display::fmt(self, f)
     }

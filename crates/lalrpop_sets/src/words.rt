@@ -1,7 +1,9 @@
 //! Sets of numbers as bits of words: number k is bit k % 64 of word k / 64.
 
 ghost use Rattle.std.specs.Prelude.{◌≡◌, ◌*◌, ◌<◌, ◌≤◌, ◌||◌, ◌&&◌, ℕ, ◌/◌, not, true, false, IsTrue, IsFalse, length, IfOk, nat_eq, eqb};
+ghost use Rattle.std.specs.Fmt.{WritesOnOk};
 ghost use Rattle.lalrpop_sets.specs.Bits.{has_bit, bit_numbers};
+ghost use Rattle.lalrpop_sets.specs.TokenTexts.{number_behind, number_list_text};
 
 use std::alloc::{AllocError, Global};
 use std::fmt::{self, Formatter, Write};
@@ -154,18 +156,27 @@ pub(crate) fn common(alloc: Global, words: &[u64], other: &[u64]) -> Result<Vec<
     Ok(both)
 }
 
+/// Writes a number, behind a comma where it isn't the first.
+fn write_number<W: Write>(number: usize, is_first: bool, f: &mut Formatter<W>) -> fmt::Result
+    ensures { WritesOnOk W.write_str_gives f.old result (number_behind is_first number) f.new }
+{
+    if is_first {
+        write!(f, "{number}")
+    } else {
+        write!(f, ", {number}")
+    }
+}
+
 /// Writes the numbers of the bits that are set, between commas.
 pub(crate) fn write_numbers<W: Write>(words: &[u64], f: &mut Formatter<W>) -> fmt::Result
     requires { length words.now ≤ MOST_WORDS }
+    ensures { WritesOnOk W.write_str_gives f.old result (number_list_text (bit_numbers words.now)) f.new }
 {
     let mut is_first = true;
     for k in 0..64 * words.len() {
         if test_bit(words, k) {
-            if !is_first {
-                f.write_str(", ")?;
-            }
+            write_number(k, is_first, f)?;
             is_first = false;
-            write!(f, "{k}")?;
         }
     }
     Ok(())

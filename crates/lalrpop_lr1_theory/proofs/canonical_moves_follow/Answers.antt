@@ -5,6 +5,6 @@ use Rattle.lalrpop_lr1_theory.proofs.ReductionLemmas.{reduces_finished}
 use Rattle.lalrpop_lr1_theory.proofs.canonical_moves_follow.Goals as goal
 
 pub returns : goal.returns
-returns c = λ grammar s states nb can f n t v o w a.
+returns c = λ grammar s states nb can f n x v o w a.
     canonical_follows (Contains grammar) s (HasItem states) (HasEdge states) (HasLookahead states) can.automaton (Reduces states)
-    (reduces_finished grammar s states can) nb f n t v o w a
+    (reduces_finished grammar s states can) nb f n x v o w a

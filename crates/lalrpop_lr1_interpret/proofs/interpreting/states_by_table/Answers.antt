@@ -1,7 +1,7 @@
 use Rattle.std.proofs.Common.{◌∙◌, false, map}
 use Rattle.lalrpop_lr1_core.specs.Views.{lr_state_view, token_lookahead}
 use Rattle.lalrpop_lr1_interpret.specs.Interpretations.{move_limit}
-use Rattle.lalrpop_lr1_interpret.proofs.InterpretLemmas.{fault_right, halt_within, states_right}
+use Rattle.lalrpop_lr1_interpret.proofs.InterpretLemmas.{halt_within, part_fault_right, states_right}
 use Rattle.lalrpop_lr1_interpret.proofs.interpreting.states_by_table.Goals as goal
 
 pub returns-in_ok-indexes_of-in-Ok : goal.returns-in_ok-indexes_of-in-Ok
@@ -20,5 +20,5 @@ fault_of-requires c =
 
 pub returns-in-Err : goal.returns-in-Err
 returns-in-Err c = λ grammar s ts alone ok is.
-    fault_right grammar s ts c.args.states.now alone ok c.args.tokens.now false (λ _ _. Unit {0}) c.in-Err.halt c.fault_of.result
+    part_fault_right grammar s ts c.args.states.now alone ok c.args.tokens.now (λ _ _. Unit {0}) c.in-Err.halt c.fault_of.result
     (c.in-Err.ensures.ends grammar s (map (lr_state_view (token_lookahead ts)) c.args.states.now) alone ok is) c.fault_of.ensures

@@ -1,5 +1,7 @@
 use Rattle.std.proofs.Common.{◌≡◌, ◌∙◌, ◌-◌, ◌+◌, [], ◌∷◌, ◌++◌, length, Some}
 use Rattle.std.proofs.Common.{ap, subst, arith, refl, take}
+use Rattle.std.proofs.lemmas.List.{length-map}
+use Rattle.lalrpop_grammar_symbols.specs.Views.{terminal_view}
 use Rattle.lalrpop_lr1_core.specs.Views.{production_view}
 use Rattle.lalrpop_lr1_interpret.specs.Ends.{token_views}
 use Rattle.lalrpop_lr1_interpret.specs.Stacks.{HasChildren}
@@ -242,8 +244,15 @@ returns-in-None-goto-clause-ends g c = λ grammar s states alone ok is.
 
 pub returns-in-None-clause-ends : goal.returns-in-None-clause-ends
 returns-in-None-clause-ends g c = λ grammar s states alone ok is.
-    is_stuck c.args.table.now c.args.tokens.now c.args.limit c.args.whole
+    let stuck = is_stuck c.args.table.now c.args.tokens.now c.args.limit c.args.whole
     (g.S.TreeStack.stands c.moves.stack) c.moves.numbers.items c.moves.at
     c.moves.left c.moves.next c.moves.invariant.running c.index-state.result.now
     (as_read c.moves.numbers.items c.index-state.result.now (c.len.result - 1) c.index-state.ensures
-    (omega arith)) c.in-None.ensures states is
+    (omega arith)) c.in-None.ensures states is in (
+      stuck,
+      elim c.else-not-whole.branch [
+        | else-not-whole-via-then-not-whole+else-at-tokens w ↦ λ partly.
+            omega (arith, stuck.within, length-map c.args.tokens.now (λ t. terminal_view t.terminal), w.if-at-tokens.false)
+        | else-not-whole-via-else-not-whole w ↦ λ partly. absurd (not_both c.args.whole w.if-not-whole.false partly)
+      ],
+    )

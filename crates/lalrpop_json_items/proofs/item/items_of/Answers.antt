@@ -1,0 +1,22 @@
+use Rattle.lalrpop_json_document.specs.DocumentViews.{view}
+use Rattle.lalrpop_json_items.specs.Items.{item_at}
+use Rattle.lalrpop_json_symbols.proofs.HandedOnLemmas.{failed}
+use Rattle.lalrpop_json_symbols.proofs.ListLoopLemmas.{list_ends, list_stops, list_turns}
+use Rattle.lalrpop_json_items.proofs.item.items_of.Goals as goal
+
+pub returns-in_err-item : goal.returns-in_err-item
+returns-in_err-item c =
+    failed c.from_residual.result c.in_err-item.field-0.0 _ c.from_residual.ensures.1
+    (list_stops (λ _. item_at) (view c.args.value.now) c.in-Some.values.now.items c.deref-value-items.result.now c.in-Some.ensures
+    c.deref-value-items.ensures.value c.loop-index.found c.loop-index.index c.value-item.result c.in_err-item.field-0.0
+    c.loop-index-test.true c.value-item.is c.in_err-item.ensures c.loop-index.invariant)
+
+pub loop-index-preserved : goal.loop-index-preserved
+loop-index-preserved c =
+    list_turns (λ _. item_at) c.deref-value-items.result.now c.loop-index.found c.push.new.self c.loop-index.index c.value-item.result
+    c.in_ok-item.item c.loop-index-test.true c.value-item.is c.in_ok-item.ensures c.in_ok-push.ensures.ok c.loop-index.invariant
+
+pub returns : goal.returns
+returns c =
+    list_ends (λ _. item_at) (view c.args.value.now) c.in-Some.values.now.items c.deref-value-items.result.now c.in-Some.ensures
+    c.deref-value-items.ensures.value c.loop-index.found c.loop-index.index c.loop-index-test.false c.loop-index.invariant
