@@ -1,25 +1,25 @@
 -- Computed examples of faults that stand in a written grammar, and of what stands in none.
 use Prim.Native.String.{String}
 use Rattle.std.proofs.Common.{◌≡◌, ℕ, List, [], ◌∷◌, ◌++◌, refl, ap, sym, ◌∙◌, subst, inl, inr, Bool, true, false}
-use Rattle.std.proofs.Common.{map, suc, zero, ◌⊎◌}
+use Rattle.std.proofs.Common.{arith, map, suc, zero, ◌⊎◌}
 use Rattle.std.specs.Prelude.{not, codes, flat_map, Option, Some, None}
 use Rattle.std.specs.List.{list_all}
 use Rattle.std.proofs.lemmas.Bool.{true≢false}
 use Rattle.lalrpop_grammar_symbols.specs.Symbols.{Text, TextSpan, WrittenSymbol, Closed, Closeds}
 use Rattle.lalrpop_grammar.specs.WrittenGrammar.{Alternative, Attr, Attrs, Grammar, Rule, WrittenEntry, rules_of, Condition}
-use Rattle.lalrpop_grammar.specs.WrittenGrammar.{ConditionTest, WrittenItem, Action}
+use Rattle.lalrpop_grammar.specs.WrittenGrammar.{Action, ConditionTest, Origin, WrittenItem}
 use Rattle.lalrpop_grammar_language.specs.Among.{Among}
 use Rattle.lalrpop_grammar_language.specs.Enabled.{bares_of, has_text, EnabledGrammar, enabled_grammar, Choice, EnabledRule, IsRule}
-use Rattle.lalrpop_grammar_language.specs.Enabled.{rules_named}
+use Rattle.lalrpop_grammar_language.specs.Enabled.{enabled_rule, rules_named}
 use Rattle.lalrpop_grammar_language.proofs.WrittenTreeLemmas.{finds, grammar, lit, rule_of, with, here, alt, id, macro_of, of_macro, on_K}
 use Rattle.lalrpop_grammar_repr.specs.declared.norm_error.NormErrorKind.TheVariants as kinds
-use Rattle.lalrpop_norm_theory.specs.Between.{without_disabled}
+use Rattle.lalrpop_norm_theory.specs.Between.{grammar_between, without_disabled}
 use Rattle.lalrpop_norm_theory.proofs.ClosedComparisonLemmas.{all-each}
 use Rattle.lalrpop_norm_theory.specs.NameFaults.{IsTwice, IsDuplicate, NameFault}
 use Rattle.lalrpop_norm_prevalidate.specs.Attributes.{unknown_attributes}
 use Rattle.lalrpop_norm_prevalidate.specs.Blocks.{later_blocks, public_inlines}
 use Rattle.lalrpop_norm_prevalidate.specs.Entries.{IsListedAgain, entries_in_items}
-use Rattle.lalrpop_norm_prevalidate.specs.Faults.{HasNoCheckFault}
+use Rattle.lalrpop_norm_prevalidate.specs.Faults.{CheckStands, HasNoCheckFault}
 use Rattle.lalrpop_norm_prevalidate.specs.Labels.{misplaced_in_alternative, misplaced_in_rule, misplaced_labels}
 use Rattle.lalrpop_norm_prevalidate.specs.Names.{SpannedName, has_prefix, names_in_alternative, names_in_item, names_in_rule}
 use Rattle.lalrpop_grammar_language.specs.Expansion.{Nonterminal, InExpansion}
@@ -27,16 +27,17 @@ use Rattle.lalrpop_grammar_repr.specs.declared.norm_error.NormErrorKind.{NormErr
 use Rattle.lalrpop_norm_theory.proofs.ExpansionListLemmas.{calls_at, calls_from, listed-chain, roots, chain-listed, root-listed}
 use Rattle.lalrpop_norm_theory.proofs.ExpansionListLemmas.{reached-in, all-of}
 use Rattle.lalrpop_norm_keys.specs.Arity.{arity_faults}
-use Rattle.lalrpop_norm_keys.specs.MacroFaults.{ConditionError}
+use Rattle.lalrpop_norm_keys.specs.MacroFaults.{ConditionError, condition_error}
 use Rattle.lalrpop_norm_chain.specs.MadeConditions.{HasConditionWhere, HasWrongCondition, IsMade}
-use Rattle.lalrpop_grammar_language.specs.Levels.{Rank, ranked_choices}
+use Rattle.lalrpop_grammar_language.specs.Levels.{Rank, ranked_choices, tighter}
 use Rattle.std.specs.Fmt.{digits}
 use Rattle.lalrpop_norm_theory.specs.Keys.{leveled_key_text}
 use Rattle.lalrpop_norm_theory.specs.Types.{GroundType, GroundTypes, text_type, IsGrounded}
 use Rattle.lalrpop_norm_theory.proofs.NamingListLemmas.{name_by, naming-is}
 use Rattle.lalrpop_norm_theory.proofs.DerivableTypeLemmas.{type-in-table}
-use Rattle.lalrpop_norm_chain.specs.WrittenTypeFaults.{IsCallAt, IsDisagreeing, IsUntyped}
+use Rattle.lalrpop_norm_chain.specs.WrittenTypeFaults.{IsCallAt, IsDefaultOf, IsDisagreeing, IsUntyped, OwnAlternative}
 use Rattle.lalrpop_norm_chain.specs.StandingFaults.{IsRightToNames, IsStandingFault}
+use Rattle.lalrpop_norm_chain.specs.TokenFaults.{TokenFaultInWritten, enabled_places}
 
 -- where these lists are empty and no name begins with the prefix, the first pass finds nothing
 
@@ -245,16 +246,19 @@ one_given = refl
 abbrev default : List WrittenSymbol → Alternative
 default symbols = record (alt symbols) { action = Action.default }
 
-abbrev rule_X : List Alternative → Rule
-rule_X alternatives = record {
-  public = false;
-  name = codes "X";
+abbrev rule_at : Bool → String → TextSpan → List Alternative → Rule
+rule_at public n span alternatives = record {
+  public = public;
+  name = codes n;
   attributes = [];
-  span = (1, 8);
+  span = span;
   parameters = [];
   declared = None;
   alternatives = alternatives;
 }
+
+abbrev rule_X : List Alternative → Rule
+rule_X alternatives = rule_at false "X" (1, 8) alternatives
 
 abbrev of_X : List Alternative → Grammar
 of_X alternatives = grammar (WrittenItem.nonterminal (rule_X alternatives) ∷ [])
@@ -306,7 +310,29 @@ second_type = (
   ),
 )
 
-call_of_X : (alternatives : List Alternative) → InExpansion (enabled_of (of_X alternatives)) (Nonterminal.closed x)
+-- alternatives, and the places at which they are written
+
+abbrev choice_at : String → ℕ → List WrittenSymbol → Choice × Option Rank
+choice_at n place symbols = (
+  record {
+    origin = Origin.alternative (codes n) [] place;
+    expr = symbols;
+    condition = None;
+    action = Action.default;
+    attributes = [];
+  },
+  None,
+)
+
+abbrev place_in : Origin → ℕ
+place_in (Origin.alternative n args place) = place
+place_in _ = 9
+
+abbrev own_place : OwnAlternative → ℕ
+own_place (OwnAlternative.written c) = place_in c.0.origin
+own_place OwnAlternative.pass_down = 9
+
+abbrev call_of_X : (alternatives : List Alternative) → InExpansion (enabled_of (of_X alternatives)) (Nonterminal.closed x)
     → IsCallAt (enabled_of (of_X alternatives)) (of_X alternatives) x (1, 8)
 call_of_X alternatives i = record {
   name = codes "X";
@@ -324,6 +350,23 @@ two_stand : IsDisagreeing (enabled_of disagreeing) disagreeing (1, 8)
 two_stand = record {
   symbol = x;
   at = call_of_X _ (reached-in (enabled_of disagreeing) 0 (Nonterminal.closed x) (inl refl));
+  one = OwnAlternative.written (choice_at "X" 0 (lit "a" ∷ []));
+  other = OwnAlternative.written (choice_at "X" 1 (lit "b" ∷ id "X" ∷ []));
+  apart = λ e. let places : 0 ≡ 1 = ap own_place e in omega (arith, places);
+  one_of = record {
+    rule = _;
+    fits = record { rule = refl; arguments = refl; written = inl refl; leveled = refl; holds = tt };
+    undeclared = refl;
+    level_is = refl;
+    no_code = refl;
+  };
+  other_of = record {
+    rule = _;
+    fits = record { rule = refl; arguments = refl; written = inr (inl refl); leveled = refl; holds = tt };
+    undeclared = refl;
+    level_is = refl;
+    no_code = refl;
+  };
   first = text_type;
   second = two_texts;
   differ = λ e. cc;
@@ -348,6 +391,166 @@ one_refused p h = go (all-of (enabled_of itself) (Nonterminal.closed x ∷ []) r
         let two = only h.second (subst (λ (y : Closed). IsGrounded (enabled_of itself) y h.second) same h.second_is) in
         let both : Some h.first ≡ Some h.second = sym one ∙ two in
         h.differ (let f : h.first ≡ h.second = cc in f)
+
+-- S = X at bytes 1 to 5, X = { "a", "b" "c" } at 6 to 20: X's alternatives disagree; S has both types, by one alternative
+
+abbrev reader : Rule
+reader = rule_at true "S" (1, 5) (default (id "X" ∷ []) ∷ [])
+
+abbrev two_ways : Rule
+two_ways = rule_at false "X" (6, 20) (default (lit "a" ∷ []) ∷ default (lit "b" ∷ lit "c" ∷ []) ∷ [])
+
+abbrev inheriting : Grammar
+inheriting = grammar (WrittenItem.nonterminal reader ∷ WrittenItem.nonterminal two_ways ∷ [])
+
+x_there : InExpansion (enabled_of inheriting) (Nonterminal.closed x)
+x_there = reached-in (enabled_of inheriting) 0 (Nonterminal.closed x) (inr (inr (inl refl)))
+
+one_text : IsGrounded (enabled_of inheriting) x text_type
+one_text = (
+  2,
+  (
+    x_there,
+    inr (inl (record {
+      rule = _;
+      choice = _;
+      fits = record { rule = refl; arguments = refl; written = inl refl; leveled = refl; holds = tt };
+      undeclared = refl;
+      level_is = refl;
+      no_code = refl;
+      type_is = refl;
+    })),
+  ),
+)
+
+pair_of_texts : IsGrounded (enabled_of inheriting) x two_texts
+pair_of_texts = (
+  2,
+  (
+    x_there,
+    inr (inl (record {
+      rule = _;
+      choice = _;
+      fits = record { rule = refl; arguments = refl; written = inr (inl refl); leveled = refl; holds = tt };
+      undeclared = refl;
+      level_is = refl;
+      no_code = refl;
+      type_is = (_, refl, (refl, (refl, tt)));
+    })),
+  ),
+)
+
+own_alternatives_stand : IsDisagreeing (enabled_of inheriting) inheriting (6, 20)
+own_alternatives_stand = record {
+  symbol = x;
+  at = record {
+    name = codes "X";
+    args = Closeds.none;
+    level = None;
+    is_call = refl;
+    in_expansion = x_there;
+    rule = two_ways;
+    among = inr (inl refl);
+    name_is = refl;
+    span_is = refl;
+  };
+  one = OwnAlternative.written (choice_at "X" 0 (lit "a" ∷ []));
+  other = OwnAlternative.written (choice_at "X" 1 (lit "b" ∷ lit "c" ∷ []));
+  apart = λ e. let places : 0 ≡ 1 = ap own_place e in omega (arith, places);
+  one_of = record {
+    rule = _;
+    fits = record { rule = refl; arguments = refl; written = inl refl; leveled = refl; holds = tt };
+    undeclared = refl;
+    level_is = refl;
+    no_code = refl;
+  };
+  other_of = record {
+    rule = _;
+    fits = record { rule = refl; arguments = refl; written = inr (inl refl); leveled = refl; holds = tt };
+    undeclared = refl;
+    level_is = refl;
+    no_code = refl;
+  };
+  first = text_type;
+  second = two_texts;
+  differ = λ e. cc;
+  first_is = one_text;
+  second_is = pair_of_texts;
+}
+
+-- S's types are those of X
+s_has : (t : GroundType) → IsGrounded (enabled_of inheriting) x t →
+    IsGrounded (enabled_of inheriting) (Closed.call (codes "S") Closeds.none None) t
+s_has t (k, h) = (
+  suc k,
+  (
+    reached-in (enabled_of inheriting) 0 (Nonterminal.closed (Closed.call (codes "S") Closeds.none None)) (inr (inl refl)),
+    inr (inl (record {
+      rule = _;
+      choice = _;
+      fits = record { rule = refl; arguments = refl; written = inl refl; leveled = refl; holds = tt };
+      undeclared = refl;
+      level_is = refl;
+      no_code = refl;
+      type_is = h;
+    })),
+  ),
+)
+
+abbrev first_rule : List EnabledRule → EnabledRule
+first_rule [] = enabled_rule [] reader
+first_rule (r ∷ rs) = r
+
+-- and its rule has one alternative
+s_rule : (r : EnabledRule) → IsRule (enabled_of inheriting) (codes "S") r → enabled_rule [] reader ≡ r
+s_rule r e = ap first_rule e
+
+s_alternative : (args : Closeds) (level : Option ℕ) (a : OwnAlternative) →
+    IsDefaultOf (enabled_of inheriting) (codes "S") args level a → OwnAlternative.written (choice_at "S" 0 (id "X" ∷ [])) ≡ a
+s_alternative args level (OwnAlternative.written c) m =
+    ap OwnAlternative.written (only (subst (λ (r : EnabledRule). Among (ranked_choices r) c) (sym (s_rule m.rule m.fits.rule))
+    m.fits.written))
+  where
+    only : Among (choice_at "S" 0 (id "X" ∷ []) ∷ []) c → choice_at "S" 0 (id "X" ∷ []) ≡ c
+    only (inl e) = e
+    only (inr i) = absurd i
+s_alternative args level OwnAlternative.pass_down m =
+    let none : None ≡ Some m.to = ap (λ (r : EnabledRule). tighter r m.from) (s_rule m.rule m.is_rule) ∙ m.to_is in cc
+
+s_named : (r : Rule) → Among (rules_of inheriting.items) r → r.span ≡ (1, 5) → r.name ≡ codes "S"
+s_named r (inl e) s = ap (λ (q : Rule). q.name) (sym e)
+s_named r (inr (inl e)) s =
+    let starts : 6 ≡ 1 = ap (λ (q : Rule). q.span.0) e ∙ ap (λ (p : TextSpan). p.0) s in absurd (omega (arith, starts))
+s_named r (inr (inr i)) s = absurd i
+
+inherited_refused : IsDisagreeing (enabled_of inheriting) inheriting (1, 5) → ⊥
+inherited_refused h =
+    let named : h.at.name ≡ codes "S" = sym h.at.name_is ∙ s_named h.at.rule h.at.among h.at.span_is in
+    let one = s_alternative h.at.args h.at.level h.one
+    (subst (λ (n : Text). IsDefaultOf (enabled_of inheriting) n h.at.args h.at.level h.one) named h.one_of) in
+    let other = s_alternative h.at.args h.at.level h.other
+    (subst (λ (n : Text). IsDefaultOf (enabled_of inheriting) n h.at.args h.at.level h.other) named h.other_of) in
+    h.apart (sym one ∙ other)
+
+-- so nothing says of S that its alternatives disagree
+not_at_reader : (kind : NormErrorKind) (p : TextSpan) → kind ≡ kinds.TypesDisagree → p ≡ (1, 5) →
+    IsStandingFault finds never [] 10 inheriting kind p → ⊥
+not_at_reader kind p e s (IsStandingFault.check k q h) = subst (λ (x : NormErrorKind). CheckStands x q inheriting) e h
+not_at_reader kind p e s (IsStandingFault.duplicate n q a h) = cc
+not_at_reader kind p e s (IsStandingFault.no_definition n q a h) = cc
+not_at_reader kind p e s (IsStandingFault.macro_as_rule q a h) = cc
+not_at_reader kind p e s (IsStandingFault.level k q a h) = h
+not_at_reader kind p e s (IsStandingFault.arity q a h) = cc
+not_at_reader kind p e s (IsStandingFault.depth x q a h at) = cc
+not_at_reader kind p e s (IsStandingFault.condition k q a h) =
+    let told : HasWrongCondition (grammar_between finds inheriting) never ConditionError.other =
+    subst (λ (x : NormErrorKind). HasWrongCondition (grammar_between finds inheriting) never (condition_error x q)) e h in
+    told.holds
+not_at_reader kind p e s (IsStandingFault.token k q a h) =
+    subst (λ (x : NormErrorKind). TokenFaultInWritten (enabled_places [] inheriting) (enabled_of inheriting) inheriting x q) e h
+not_at_reader kind p e s (IsStandingFault.types_disagree q a h) =
+    inherited_refused (subst (λ (x : TextSpan). IsDisagreeing (enabled_of inheriting) inheriting x) s h)
+not_at_reader kind p e s (IsStandingFault.no_type n q a h) = cc
 
 abbrev circular : Grammar
 circular = of_X (default (id "X" ∷ []) ∷ [])

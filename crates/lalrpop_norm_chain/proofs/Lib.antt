@@ -26,6 +26,8 @@ pub mod ArityLemmas
 pub mod TokenFaultLemmas
 pub mod PartTypeLemmas
 pub mod PartEquationLemmas
+pub mod OwnAlternativeLemmas
+pub mod TwoAlternativeLemmas
 pub mod TypeFaultLemmas
 pub mod StandingLemmas
 pub mod ExamplesOfStandingFaults

@@ -57,7 +57,6 @@ use Rattle.lalrpop_norm_chain.proofs.ArityLemmas.{resolved_arity, arity_back, ar
 use Rattle.lalrpop_norm_chain.proofs.MadeConditionLemmas.{IsBlindToLevels, resolved_condition, leveled_condition}
 use Rattle.lalrpop_norm_chain.proofs.TokenFaultLemmas.{token_back, token_forth}
 use Rattle.lalrpop_norm_chain.proofs.TypeFaultLemmas.{disagreeing, untyped, none_disagrees, none_untyped}
-use Rattle.lalrpop_norm_chain.proofs.TypeFaultLemmas.{two_equations_no_part}
 
 -- levels
 
@@ -376,8 +375,7 @@ module _ (finds : Text → Text → Option Bool) (deep : Text → Bool) (feature
         IsStandingFault.types_disagree p right
         (subst (λ (q : TextSpan). IsDisagreeing (enabled_grammar finds features w) (without_disabled features w) q) u.2
         (disagreeing finds features w leveled expanded c u.0 i
-        (subst (λ (g : EnabledGrammar). HasTwoTypes g u.0.name) checked_is u.3)
-        (two_equations_no_part finds features w leveled expanded c u.0 i u.4)))
+        (subst (λ (g : EnabledGrammar). HasTwoTypes g u.0.name) checked_is u.3) u.4))
 
     untyped_stands : IsRightToTokens finds deep features limit w → (n : NonterminalString) (p : TextSpan) →
         TypeFaultStands (grammar_between finds checked) (rules_of checked.items) (TypeFault.untyped n.0 p) →

@@ -26,17 +26,14 @@ use Rattle.lalrpop_norm_theory.proofs.TypeLemmas.{step_grounded}
 use Rattle.lalrpop_norm_theory.specs.KeyRules.{IsKey, by_name, AreKeyChoices, AreTwoChoices}
 use Rattle.lalrpop_norm_theory.specs.LevelRules.{level_name, by_level_names}
 use Rattle.lalrpop_norm_theory.proofs.KeyRuleLemmas.{key_called}
-use Rattle.lalrpop_norm_theory.proofs.DroppingLemmas.{dropped_names, dropping_expansion}
-use Rattle.lalrpop_norm_theory.proofs.ResolvingLemmas.{resolving_expansion, resolved_names}
+use Rattle.lalrpop_norm_theory.proofs.DroppingLemmas.{dropped_names}
+use Rattle.lalrpop_norm_theory.proofs.ResolvingLemmas.{resolved_names}
 use Rattle.lalrpop_norm_theory.specs.LeveledGrammar.{ranked_alternatives, has_rank_level, leveled_alternative, level_alternatives}
 use Rattle.lalrpop_norm_theory.specs.LeveledGrammar.{pass_downs, leveled_grammar}
 use Rattle.lalrpop_norm_theory.specs.LevelLaws.{nonterminal_by_level, TellsOwnRules}
 use Rattle.lalrpop_norm_theory.proofs.LevelOrderLemmas.{one_rule}
 use Rattle.lalrpop_grammar_language.proofs.AmongLemmas.{text_found}
 use Rattle.lalrpop_norm_theory.proofs.LeveledRuleLemmas.{rule_of_key, rules_of-leveled, names_differ, key_there}
-use Rattle.lalrpop_norm_theory.proofs.LevelFitLemmas.{IsCallOf}
-use Rattle.lalrpop_norm_theory.proofs.LevelExpansionLemmas.{call_of, well_in}
-use Rattle.lalrpop_norm_theory.proofs.WellLeveledLemmas.{IsWellOrFaulty}
 use Rattle.lalrpop_norm_theory.specs.KeyTypes.{IsKeyDeclaration, repeat_ty}
 use Rattle.lalrpop_norm_theory.proofs.KeyStepLemmas.{macros_keep_types}
 use Rattle.lalrpop_norm_theory.proofs.NameBackLemmas.{names_back}
@@ -54,6 +51,8 @@ use Rattle.lalrpop_norm_chain.proofs.FrontLemmas.{closed_to}
 use Rattle.lalrpop_norm_chain.proofs.FrontLemmas.{levelable, same_leveled, prefix_leveled, types_expanded, has_rule}
 use Rattle.lalrpop_norm_chain.specs.WrittenTypeFaults.{IsCallAt, IsDisagreeing, IsUntyped}
 use Rattle.lalrpop_norm_chain.proofs.PartTypeLemmas.{key_typed}
+use Rattle.lalrpop_norm_chain.proofs.OwnAlternativeLemmas.{call_rule}
+use Rattle.lalrpop_norm_chain.proofs.TwoAlternativeLemmas.{two_defaults}
 use Rattle.lalrpop_norm_chain.proofs.PartEquationLemmas.{none_declared, not_one_alternative}
 use Rattle.lalrpop_norm_chain.proofs.SpanLemmas.{key_span}
 
@@ -249,25 +248,12 @@ module _ (finds : Text → Text → Option Bool) (features : List Text) (w level
       subst AreDifferent (names_of (rules_of (leveled_grammar named_level (resolved_part features w)).items))
       (names_differ finds (resolved_part features w) named_level c.levels.are_names)
 
-  call_rule : (n : Text) (args : Closeds) (level : Option ℕ) → InExpansion old (Nonterminal.closed (Closed.call n args level)) →
-      (r : Rule) × IsCallOf finds (resolved_part features w) r args level × (r.name ≡ n)
-  call_rule n args level i =
-      go (well_in finds (resolved_part features w) named_level (levelable finds features w leveled expanded c)
-      (Nonterminal.closed (Closed.call n args level))
-      ((resolving_expansion finds (without_disabled features w)).there (Nonterminal.closed (Closed.call n args level))
-      ((dropping_expansion finds features w c.read).there (Nonterminal.closed (Closed.call n args level)) i)))
-    where
-      go : IsWellOrFaulty (grammar_between finds (resolved_part features w)) (Closed.call n args level) →
-          (r : Rule) × IsCallOf finds (resolved_part features w) r args level × (r.name ≡ n)
-      go (inl e) = cc
-      go (inr h) = call_of finds (resolved_part features w) n args level h
-
   at_rule : (n : Text) (args : Closeds) (level : Option ℕ) → InExpansion old (Nonterminal.closed (Closed.call n args level)) →
       (r : Rule) → Among (rules_of leveled.items) r → r.name ≡ level_name named_level n level → (p : TextSpan) → p ≡ r.span →
       IsCallAt old d (Closed.call n args level) p
   at_rule n args level i r j name_is p span_is =
       let g = resolved_part features w in
-      let u = call_rule n args level i in
+      let u = call_rule finds features w leveled expanded c n args level i in
       let key : Among (rules_of (leveled_grammar named_level g).items) (rule_of_key named_level u.0 level) =
       subst (λ (rs : List Rule). Among rs (rule_of_key named_level u.0 level)) (sym (rules_of-leveled named_level g.items))
       (key_there named_level (rules_of g.items) u.0 level u.1.among u.1.has_level) in
@@ -412,29 +398,46 @@ module _ (finds : Text → Text → Option Bool) (features : List Text) (w level
   no_part_of q e same t Closed.faulty d h = absurd h
 
   -- so a rule with two equations is no part
-  pub two_equations_no_part : (q : Rule) → Among (rules_of expanded.items) q → HasTwoEquations q → is_part_rule q ≡ false
+  two_equations_no_part : (q : Rule) → Among (rules_of expanded.items) q → HasTwoEquations q → is_part_rule q ≡ false
   two_equations_no_part q i t =
       let u = from_key q i in
       no_part_of q (c.macros.expansion.rules u.key u.among).0 (key_rule_is q i u) t u.key
       (c.macros.types u.key (rule_between q) u.among (subst (λ (n : Text). IsRule new n (rule_between q)) u.name_is (rule_named q i)))
       (c.macros.expansion.rules u.key u.among).2.choices
 
-  -- two types
+  -- two types, where two alternatives differ
 
-  pub disagreeing : (q : Rule) → Among (rules_of expanded.items) q → HasTwoTypes new q.name → is_part_rule q ≡ false →
-      IsDisagreeing old d q.span
-  disagreeing q i t p = let u = from_key q i in go u (kind_of q i u p)
-    where
-      go : (u : FromKey q) → IsCallOrLook u.key → IsDisagreeing old d q.span
-      go u (IsCallOrLook.call n args level e) = record {
+  two_types_at : (q : Rule) → Among (rules_of expanded.items) q → HasTwoTypes new q.name → HasTwoEquations q → (u : FromKey q) →
+      IsCallAt old d u.source q.span → IsDisagreeing old d q.span
+  two_types_at q i t s u at =
+      let x : u.key ≡ by_level_names named_level (Closed.call at.name at.args at.level) =
+      u.key_is ∙ ap (by_level_names named_level) at.is_call in
+      let two =
+      two_defaults finds features w leveled expanded c q i s at.name at.args at.level
+      (subst (λ (y : Closed). InExpansion old (Nonterminal.closed y)) at.is_call at.in_expansion)
+      (subst (Among c.macros.keys) x u.among)
+      (subst (λ (n : Text). IsRule new n (rule_between q)) (u.name_is ∙ ap named_key x) (rule_named q i)) in
+      record {
         symbol = u.source;
-        at = call_at q i u n args level e;
+        at = at;
+        one = two.one;
+        other = two.other;
+        apart = two.apart;
+        one_of = two.one_of;
+        other_of = two.other_of;
         first = t.first;
         second = t.second;
         differ = t.differ;
         first_is = grounded_source q u t.first t.first_is;
         second_is = grounded_source q u t.second t.second_is;
       }
+
+  pub disagreeing : (q : Rule) → Among (rules_of expanded.items) q → HasTwoTypes new q.name → HasTwoEquations q →
+      IsDisagreeing old d q.span
+  disagreeing q i t s = let u = from_key q i in go u (kind_of q i u (two_equations_no_part q i s))
+    where
+      go : (u : FromKey q) → IsCallOrLook u.key → IsDisagreeing old d q.span
+      go u (IsCallOrLook.call n args level e) = two_types_at q i t s u (call_at q i u n args level e)
       go u (IsCallOrLook.ahead e) =
           absurd (t.differ (look_type mid t.first
           (subst (λ (x : Closed). IsGrounded mid x t.first) e ((grounded_key q u t.first).1 t.first_is))

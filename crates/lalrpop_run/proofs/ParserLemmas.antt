@@ -74,8 +74,8 @@ module _ (q : Question) (g : Grammar) (v : PreparedGrammar) (h : IsPreparedFor q
   name : v.start_name.0 ≡ v.written.prefix ++ v.start
   name = h.name_is ∙ sym (ap (λ (w : Grammar). w.prefix ++ q.start) h.written_is) ∙ sym (ap (λ (s : Text). v.written.prefix ++ s) h.start_is)
 
-  own_read : IsReadGrammar (grammar_view g) → IsReadGrammar (grammar_view v.written)
-  own_read read = subst (λ (w : Grammar). IsReadGrammar (grammar_view w)) (sym h.written_is) read
+  pub own_read : IsReadGrammar (grammar_view v.written)
+  own_read = h.prepared.read
 
   entries_asked : AreItsEntries (asked_of q) (grammar_view g) (scan_entries (lowered_view h.prepared.made).entries)
   entries_asked =
@@ -84,28 +84,28 @@ module _ (q : Question) (g : Grammar) (v : PreparedGrammar) (h : IsPreparedFor q
 
   pub conflicts_asked : (certificates : List Certificate) (shown : Vec WrittenConflict Global) (reply : Reply)
       → HasConflicts v certificates → AreWrittenConflicts v certificates shown.items → reply ≡ replies.Conflicts shown
-      → IsReadGrammar (grammar_view g) → HasItsTerminals v.expansion
+      → HasItsTerminals v.expansion
       → IsStrictlySortedBy (terminal_order.ghosts).cmp v.expansion.terminals.all → MayBeParsedFrom v.expansion v.start_name
       → IsNoParserReply q g reply
-  conflicts_asked certificates shown reply has are is read terminals ascending parsed =
+  conflicts_asked certificates shown reply has are is terminals ascending parsed =
       IsNoParserReply.conflicting (map conflict_view shown.items)
       (asked (λ fs n s w. IsConflicting (asked_with fs n s) (grammar_view w) (map conflict_view shown.items))
-      (conflicting_prepared v q.limit h.prepared name certificates shown.items has are (own_read read) terminals ascending parsed))
+      (conflicting_prepared v q.limit h.prepared name certificates shown.items has are own_read terminals ascending parsed))
       (shown, refl, (record { prepared = v; is_prepared = h; certificates = certificates; conflicts = has; written = are }), is)
 
   module _ (lr1 : IsLr1 (Contains (theory_grammar v.expansion)) v.start_name.0)
-      (one_tree : IsReadGrammar (grammar_view v.written) → HasOneTreeEach v) (read : IsReadGrammar (grammar_view g)) where
+      (one_tree : IsReadGrammar (grammar_view v.written) → HasOneTreeEach v) where
     parsed_asked : MayBeParsed (asked_of q) (grammar_view g)
     parsed_asked =
         asked (λ fs n s w. MayBeParsed (asked_with fs n s) (grammar_view w))
-        (parsed_prepared v q.limit h.prepared name lr1 (one_tree (own_read read)))
+        (parsed_prepared v q.limit h.prepared name lr1 (one_tree own_read))
 
     counted_by : (method : Method) (count : ℕ) → HasStatesBy method v count
         → HasStateCountBy method (own_question v q.limit) (grammar_view v.written) count
     counted_by methods.Canonical count has =
-        count_prepared v q.limit h.prepared name lr1 (one_tree (own_read read)) count has.counted
+        count_prepared v q.limit h.prepared name lr1 (one_tree own_read) count has.counted
     counted_by (methods.Lane copies) count has =
-        states_prepared v q.limit h.prepared name lr1 (one_tree (own_read read)) (states_over v.expansion.terminals has.states) count
+        states_prepared v q.limit h.prepared name lr1 (one_tree own_read) (states_over v.expansion.terminals has.states) count
         has.checked (has.count_is ∙ sym (length-map has.states _))
 
     pub counted : (method : Method) (count : ℕ) (reply : Reply) → q.method ≡ method → HasStatesBy method v count
@@ -126,12 +126,12 @@ module _ (q : Question) (g : Grammar) (v : PreparedGrammar) (h : IsPreparedFor q
         → IsAnswerTold v entries (chars text) limit reply) → IsParseReply q g text reply
     sentence text limit reply same by =
         let entries = scan_entries (lowered_view h.prepared.made).entries in
-        let own = subst (λ (n : ℕ). IsAnswerTold v entries (chars text) n reply) (sym same) (by (own_read read) entries h.prepared.scans) in
+        let own = subst (λ (n : ℕ). IsAnswerTold v entries (chars text) n reply) (sym same) (by own_read entries h.prepared.scans) in
         record {
           answer = WrittenAnswer.to_text own.answer;
           right = asked (λ fs n s w. IsRightAnswerTo (asked_with fs n s) (grammar_view w) (chars text) (WrittenAnswer.to_text own.answer))
               (right_by_entries (own_question v q.limit) (grammar_view v.written) entries (chars text) own.answer
-              (parsed_prepared v q.limit h.prepared name lr1 (one_tree (own_read read))) (entries_prepared v q.limit h.prepared name)
+              (parsed_prepared v q.limit h.prepared name lr1 (one_tree own_read)) (entries_prepared v q.limit h.prepared name)
               own.right);
           told = own.told;
         }

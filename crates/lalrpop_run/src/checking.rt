@@ -40,7 +40,7 @@ pub(crate) fn check_reply(
 /// The reply once the grammar is prepared: how many states its parser has, or its conflicts.
 fn states_reply(alloc: Global, prepared: &Prepared, method: Method) -> Result<Reply, AllocError>
     ensures { IfOk result (λ reply. (q : AskedQuestion) (g : WrittenGrammar) → q.method ≡ method
-        → IsPreparedFor q g prepared.now → IsReadGrammar (grammar_view g) → IsCheckReply q g reply) }
+        → IsPreparedFor q g prepared.now → IsCheckReply q g reply) }
 {
     match generate(alloc, prepared, method) {
         Ok(parser) => Ok(Reply::Parser(parser.state_count())),

@@ -1,9 +1,7 @@
 //! Conflicts as replies.
 
 ghost use Rattle.std.specs.Prelude.{IfOk};
-ghost use Rattle.lalrpop_grammar.specs.Views.{grammar_view};
 ghost use Rattle.lalrpop_grammar.specs.declared.grammar.Grammar.{Grammar as WrittenGrammar};
-ghost use Rattle.lalrpop_norm_theory.specs.Premises.{IsReadGrammar};
 ghost use Rattle.lalrpop_run_parser.specs.Parsers.{IsGenerateRefusal};
 ghost use Rattle.lalrpop_run.specs.Parsers.{IsNoParserReply, IsPreparedFor};
 ghost use Rattle.lalrpop_run.specs.Questions.{Question as AskedQuestion};
@@ -21,7 +19,7 @@ pub(crate) fn conflicts_reply(
 ) -> Result<Reply, AllocError>
     requires { IsGenerateRefusal prepared.now error }
     ensures { IfOk result (λ reply. (q : AskedQuestion) (g : WrittenGrammar) → IsPreparedFor q g prepared.now
-        → IsReadGrammar (grammar_view g) → IsNoParserReply q g reply) }
+        → IsNoParserReply q g reply) }
 {
     // what is known of the grammar
     prepared.known();

@@ -51,7 +51,7 @@ fn text_reply(
     limit: u64,
 ) -> Result<Reply, AllocError>
     ensures { IfOk result (λ reply. (q : AskedQuestion) (g : WrittenGrammar) → q.limit ≡ limit
-        → IsPreparedFor q g prepared.now → IsReadGrammar (grammar_view g) → IsParseReply q g text.now reply) }
+        → IsPreparedFor q g prepared.now → IsParseReply q g text.now reply) }
 {
     match generate(alloc, prepared, method) {
         Ok(parser) => tree_reply(alloc, &parser, text, limit),

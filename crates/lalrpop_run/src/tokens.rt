@@ -49,7 +49,7 @@ fn text_reply(
     text: &str,
 ) -> Result<Reply, AllocError>
     ensures { IfOk result (λ reply. (q : AskedQuestion) (g : WrittenGrammar) → IsPreparedFor q g prepared.now
-        → IsReadGrammar (grammar_view g) → IsTokensReply q g text.now reply) }
+        → IsTokensReply q g text.now reply) }
 {
     match generate(alloc, prepared, method) {
         Ok(parser) => scan_reply(alloc, &parser, text),

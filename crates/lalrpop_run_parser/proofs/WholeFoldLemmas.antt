@@ -284,13 +284,13 @@ unfold_told forests v read p actions origins actions_are origins_are prefixed ts
 
 -- a written tree is folded to one tree
 pub folded_trees_are_one : ForestsAreOne → FoldedTreesAreOne
-folded_trees_are_one one v read p t ts us a b =
+folded_trees_are_one one v p t ts us a b =
     let features = v.session.features.items in
-    let start_known = start_in_expansion finds is_too_deep features v.session.macro_recursion_limit (grammar_view v.written) read
+    let start_known = start_in_expansion finds is_too_deep features v.session.macro_recursion_limit (grammar_view v.written) p.read
     p.generable.faultless v.start p.generable.starts in
     one finds features (grammar_view v.written) v.written.prefix v.start (theory_grammar v.expansion) p.told.expansion start_known t
     (leaves t) ts us (a p.told).is_forest (b p.told).is_forest
 
 -- and a tree over productions is unfolded to one
 pub unfolded_trees_are_one : UnfoldedTreesAreOne
-unfolded_trees_are_one v read p t u ts a b = sym (a p.told).is_forest.stands ∙ (b p.told).is_forest.stands
+unfolded_trees_are_one v p t u ts a b = sym (a p.told).is_forest.stands ∙ (b p.told).is_forest.stands

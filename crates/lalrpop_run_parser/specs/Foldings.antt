@@ -10,7 +10,6 @@ use Rattle.lalrpop_lr1_core.specs.TheoryGrammars.{theory_grammar}
 use Rattle.lalrpop_lr1_interpret.specs.ExpandedViews.{expanded_view}
 use Rattle.lalrpop_lr1_interpret.specs.declared.parse.expanded_tree.ExpandedTree.{ExpandedTree}
 use Rattle.lalrpop_lr1_theory.specs.Spans.{SpannedForest}
-use Rattle.lalrpop_norm_theory.specs.Premises.{IsReadGrammar}
 use Rattle.lalrpop_run_prepare.specs.ToldExpansions.{AreToldExpansion}
 use Rattle.lalrpop_run_prepare.specs.PreparedGrammars.{IsPrepared, PreparedGrammar}
 use Rattle.lalrpop_run_theory.specs.AnswerLaws.{IsWrittenOf}
@@ -41,11 +40,11 @@ pub record IsUnfolded (v : PreparedGrammar) (ts : SpannedForest) (t : Tree) : Ty
 -- a written tree is folded to one tree: what is unfolded and folded again is the same
 abbrev pub FoldedTreesAreOne : Type 0
 FoldedTreesAreOne =
-    (v : PreparedGrammar) → IsReadGrammar (grammar_view v.written) → IsPrepared finds is_too_deep v → (t : Tree)
+    (v : PreparedGrammar) → IsPrepared finds is_too_deep v → (t : Tree)
     (ts us : SpannedForest) → IsExpansionOfTree v t ts → IsExpansionOfTree v t us → ts ≡ us
 
 -- a tree over productions is unfolded to one written tree, texts of leaves aside: what is folded and unfolded again is the same
 abbrev pub UnfoldedTreesAreOne : Type 0
 UnfoldedTreesAreOne =
-    (v : PreparedGrammar) → IsReadGrammar (grammar_view v.written) → IsPrepared finds is_too_deep v → (t u : Tree)
+    (v : PreparedGrammar) → IsPrepared finds is_too_deep v → (t u : Tree)
     (ts : SpannedForest) → IsExpansionOfTree v t ts → IsExpansionOfTree v u ts → with_shown t ≡ with_shown u

@@ -159,6 +159,7 @@ module _ (finds : Text → Text → Option Bool) (deep : Text → Bool) (v : Pre
     prepared = λ read.
         let n = normal read in
         record {
+          read = read;
           made = made;
           lowered_is = low;
           origins_are = origins;

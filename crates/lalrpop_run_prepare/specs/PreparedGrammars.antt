@@ -55,9 +55,11 @@ pub record HasNamedProductions (g : repr.Grammar) : Type 0 where
   pub under : StandUnderNames g.nonterminals
   pub ascending : IsStrictlySortedBy (names.ghosts).cmp (keys_of g.nonterminals)
 
--- Nothing is wrong with the grammar, nor with the start, which reaches nothing barren in the expansion before inlining, as it is written.
+-- The grammar is as one is read. Nothing is wrong with it, nor with the start, which reaches nothing barren in the expansion before
+-- inlining, as it is written.
 -- The plain productions are those of its expansion before inlining and after it, where the action of each tells its label, and the scanner cuts by the tokenizer's entries.
 pub record IsPrepared (finds : Text → Text → Option Bool) (deep : Text → Bool) (v : PreparedGrammar) : Type 0 where
+  pub read : IsReadGrammar (grammar_view v.written)
   pub made : Normalized
   pub lowered_is : made.grammar ≡ v.lowered
   pub origins_are : made.origins ≡ v.origins

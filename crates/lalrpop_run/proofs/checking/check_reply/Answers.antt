@@ -10,7 +10,7 @@ pub returns-in-Ok : goal.returns-in-Ok
 returns-in-Ok c =
     IfOk-weaker c.states_reply.result _ _
     (λ reply told read. told (question_view c.args.question) c.args.grammar refl
-    (lent (question_view c.args.question) c.args.grammar c.deref.ensures (c.in-Ok.ensures.prepared read)) read)
+    (lent (question_view c.args.question) c.args.grammar c.deref.ensures (c.in-Ok.ensures.prepared read)))
     c.states_reply.ensures
 
 pub returns-in-Err : goal.returns-in-Err

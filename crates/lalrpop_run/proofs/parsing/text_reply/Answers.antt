@@ -15,8 +15,8 @@ pub returns-in-Ok : goal.returns-in-Ok
 returns-in-Ok c =
     let v = c.args.prepared.now in
     IfOk-weaker c.tree_reply.result _ _
-    (λ reply told q g same prepared read.
-    sentence q g v prepared c.in-Ok.ensures.lr1 c.in-Ok.ensures.one_tree read c.args.text.now c.args.limit reply same
+    (λ reply told q g same prepared.
+    sentence q g v prepared c.in-Ok.ensures.lr1 c.in-Ok.ensures.one_tree c.args.text.now c.args.limit reply same
     (subst (λ (w : PreparedGrammar). IsReadGrammar (grammar_view w.written) → (entries : List ScanEntry) →
     IsScannerOf w.scanner entries → IsAnswerTold w entries (chars c.args.text.now) c.args.limit reply) c.in-Ok.ensures.prepared told))
     c.tree_reply.ensures
@@ -24,4 +24,4 @@ returns-in-Ok c =
 pub returns-in-Err : goal.returns-in-Err
 returns-in-Err c =
     IfOk-weaker c.conflicts_reply.result _ _
-    (λ reply told q g same prepared read. no_parser_parsed q g c.args.text.now reply (told q g prepared read)) c.conflicts_reply.ensures
+    (λ reply told q g same prepared. no_parser_parsed q g c.args.text.now reply (told q g prepared)) c.conflicts_reply.ensures

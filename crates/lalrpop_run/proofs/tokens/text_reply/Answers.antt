@@ -10,12 +10,12 @@ pub returns-in-Ok : goal.returns-in-Ok
 returns-in-Ok c =
     let v = c.args.prepared.now in
     IfOk-weaker c.scan_reply.result _ _
-    (λ reply told q g prepared read.
-    scanned q g v prepared c.in-Ok.ensures.lr1 c.in-Ok.ensures.one_tree read c.args.text.now reply
+    (λ reply told q g prepared.
+    scanned q g v prepared c.in-Ok.ensures.lr1 c.in-Ok.ensures.one_tree c.args.text.now reply
     (λ entries is. told entries (subst (λ (w : PreparedGrammar). IsScannerOf w.scanner entries) (sym c.in-Ok.ensures.prepared) is)))
     c.scan_reply.ensures
 
 pub returns-in-Err : goal.returns-in-Err
 returns-in-Err c =
-    IfOk-weaker c.conflicts_reply.result _ _ (λ reply told q g prepared read. IsTokensReply.no_parser (told q g prepared read))
+    IfOk-weaker c.conflicts_reply.result _ _ (λ reply told q g prepared. IsTokensReply.no_parser (told q g prepared))
     c.conflicts_reply.ensures
