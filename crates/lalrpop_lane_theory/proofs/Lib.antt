@@ -1,0 +1,11 @@
+pub mod LaneLemmas
+pub mod ColumnLemmas
+pub mod SpreadLemmas
+pub mod CarriedLemmas
+pub mod FewestLemmas
+pub mod AgreeLemmas
+pub mod ExamplesOfLanes
+pub mod ExamplesOfColumns
+pub mod ExamplesOfSpreadStates
+pub mod ExamplesOfPremises
+pub mod ExamplesOfAnswers

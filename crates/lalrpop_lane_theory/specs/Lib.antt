@@ -1,0 +1,6 @@
+pub mod Lanes
+pub mod Columns
+pub mod LaneTables
+pub mod SpreadStates
+pub mod CarriedConflicts
+pub mod LaneLaws
