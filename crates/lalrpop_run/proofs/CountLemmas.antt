@@ -13,16 +13,16 @@ use Rattle.lalrpop_run.specs.AnswersOfExpansions.{CountsAreOne}
 use Rattle.lalrpop_run.specs.RightAnswer.{IsRightStateCount}
 use Rattle.lalrpop_run.proofs.ExpansionAlikeLemmas.{counts_are_said_of_all}
 
-abbrev NotAmong : ℕ → List ℕ → Type 0
+abbrev pub NotAmong : ℕ → List ℕ → Type 0
 NotAmong x [] = ⊤
 NotAmong x (y ∷ ys) = (x ≡ y → ⊥) × NotAmong x ys
 
 -- no number stands twice
-abbrev Different : List ℕ → Type 0
+abbrev pub Different : List ℕ → Type 0
 Different [] = ⊤
 Different (x ∷ xs) = NotAmong x xs × Different xs
 
-abbrev Below : ℕ → List ℕ → Type 0
+abbrev pub Below : ℕ → List ℕ → Type 0
 Below m [] = ⊤
 Below m (x ∷ xs) = (x < m) × Below m xs
 
@@ -67,7 +67,7 @@ shrink m (x ∷ xs) d b = go (shrink m xs d.1 b.1) (cases_lt x m)
         }
 
 -- different numbers below a bound are at most as many
-at_most : (m : ℕ) (xs : List ℕ) → Different xs → Below m xs → length xs ≤ m
+pub at_most : (m : ℕ) (xs : List ℕ) → Different xs → Below m xs → length xs ≤ m
 at_most zero [] d b = omega arith
 at_most zero (x ∷ xs) d b = absurd (omega (arith, b.0))
 at_most (suc m) xs d b =

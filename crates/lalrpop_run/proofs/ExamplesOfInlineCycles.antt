@@ -73,7 +73,7 @@ S_is_not_cyclic h =
     let wrong : false ≡ true = (inlined_decided round (rule "S")).0 (first_inlined round (rule "S") (rule "S") h.1) in cc
 
 -- pub S = A; #[inline] A = B; #[inline] B = "b"
-abbrev straight : EnabledGrammar
+abbrev pub straight : EnabledGrammar
 straight = enabled_grammar finds [] (grammar (rule_of "S" (alt (id "A" ∷ []) ∷ [])
     ∷ private (inline ∷ []) "A" (alt (id "B" ∷ []) ∷ [])
     ∷ private (inline ∷ []) "B" (alt (lit "b" ∷ []) ∷ []) ∷ []))

@@ -40,7 +40,6 @@ use Rattle.lalrpop_norm_theory.proofs.RowListLemmas.{reached-each}
 use Rattle.lalrpop_norm_token_check.specs.Entries.{own_entry, tokenizer_entries}
 use Rattle.lalrpop_norm_token_check.specs.Patterns.{first_refused}
 use Rattle.lalrpop_run_prepare.specs.Carried.{IsCarried}
-use Rattle.lalrpop_run_prepare.specs.PrepareRefusals.{IsInlinable}
 use Rattle.lalrpop_run_theory.specs.Barren.{HasNoBarren, IsReachedFrom, IsWrittenStart}
 use Rattle.lalrpop_run_theory.specs.TextAnswers.{TextAnswer}
 use Rattle.lalrpop_run_theory.proofs.BarrenLemmas.{written_start_once}
@@ -49,6 +48,7 @@ use Rattle.lalrpop_run.specs.Asked.{Refusal, WrittenAnswer}
 use Rattle.lalrpop_run.specs.InlineCycles.{IsCyclic}
 use Rattle.lalrpop_run.specs.ListedFaults.{HasNoPassFault, IsFaultless, IsListedFault, IsPassFault}
 use Rattle.lalrpop_run.specs.RightAnswer.{IsRightAnswerTo}
+use Rattle.lalrpop_run.proofs.ExamplesOfInliningNumbers.{word_numbers}
 use Rattle.lalrpop_run.proofs.ExamplesOfOneWord.{a, kept_where_unmarked, one_word, rule_of_word, the_choice, unit_rule, word_of}
 use Rattle.lalrpop_run.proofs.ExamplesOfRightAnswers.{asked, asked_within}
 use Rattle.lalrpop_run.proofs.ExamplesOfUncarried.{AreCalm, IsCalm, calm_rules, only_rules}
@@ -407,10 +407,10 @@ word_acyclic x h = go (all-of (of_word true) (start ∷ rule "S" ∷ []) refl x 
     go (inr (inl e)) k = kept_where_unmarked (of_word true) (rule "S") refl (subst (IsInlined (of_word true)) (sym e) k)
     go (inr (inr i)) k = absurd i
 
-pub word_faultless : (limit : ℕ) → IsInlinable finds [] one_word → IsFaultless (asked_within limit) one_word
-word_faultless limit inlinable = record {
+pub word_faultless : (limit : ℕ) → IsFaultless (asked_within limit) one_word
+word_faultless limit = record {
   lowerable = record { carried = word_carried true; faultless = no_pass_fault limit true; starts = refl };
-  inlinable = record { acyclic = word_acyclic; numbers = inlinable };
+  inlinable = record { acyclic = word_acyclic; numbers = word_numbers };
   none_barren = none_barren;
 }
 

@@ -18,7 +18,6 @@ use Rattle.lalrpop_norm_token_check.specs.Entries.{own_entry}
 use Rattle.lalrpop_norm_token_check.specs.Patterns.{scan_entry}
 use Rattle.lalrpop_run_theory.specs.TextAnswers.{TextAnswer, terminals_of_tokens}
 use Rattle.lalrpop_run.specs.Asked.{WrittenAnswer}
-use Rattle.lalrpop_run_prepare.specs.PrepareRefusals.{IsInlinable}
 use Rattle.lalrpop_run.specs.RightAnswer.{AreItsEntries, HasTokens, IsRightAnswerTo}
 use Rattle.lalrpop_run.proofs.ExamplesOfPassFaults.{used_is, used_of_word}
 use Rattle.lalrpop_run.proofs.ExamplesOfRightAnswers.{asked, asked_within}
@@ -105,7 +104,7 @@ pub tree_before_no_token : (u : Tree) →
 tree_before_no_token u (IsRightAnswerTo.sentence tokens v h s) = no_tokens tokens h
 tree_before_no_token u (IsRightAnswerTo.stops tokens answer h s) = no_tokens tokens h
 
--- right places, where rules may be inlined
+-- right places
 
 -- it is cut by one entry
 abbrev pub word_entries : List ScanEntry
@@ -155,10 +154,9 @@ takes_a cs = (
         cc
 
 -- `aa?`: it has no token at its third byte
-pub no_token_told : IsInlinable finds [] one_word →
-    IsRightAnswerTo asked one_word (97 ∷ 97 ∷ 63 ∷ []) (WrittenAnswer.to_text (TextAnswer.no_token 2))
+pub no_token_told : IsRightAnswerTo asked one_word (97 ∷ 97 ∷ 63 ∷ []) (WrittenAnswer.to_text (TextAnswer.no_token 2))
 unfolding lib.Utf8.encode
-no_token_told h = IsRightAnswerTo.no_token word_entries 2 (word_parsed 1000 h) (are_word_entries 1000) (record {
+no_token_told = IsRightAnswerTo.no_token word_entries 2 (word_parsed 1000) (are_word_entries 1000) (record {
   pieces = Piece.taken 1 0 ∷ Piece.taken 1 0 ∷ [];
   rest = 63 ∷ [];
   cut = (takes_a (97 ∷ 63 ∷ []), (takes_a (63 ∷ []), refl));
@@ -182,28 +180,27 @@ abbrev pub token_at : ℕ → Token
 token_at at = leaf_token a (at, suc at)
 
 -- no letter has no tokens, `a` has one, and `aa` has two
-nothing_cut : IsInlinable finds [] one_word → HasTokens asked one_word [] []
-nothing_cut h = record {
-  parsed = word_parsed 1000 h;
+nothing_cut : HasTokens asked one_word [] []
+nothing_cut = record {
+  parsed = word_parsed 1000;
   entries = word_entries;
   are_entries = are_word_entries 1000;
   cut = record { pieces = []; cut = refl; tokens_are = refl };
 }
 
-pub one_cut : (limit : ℕ) → IsInlinable finds [] one_word →
-    HasTokens (asked_within limit) one_word (97 ∷ []) (token_at 0 ∷ [])
+pub one_cut : (limit : ℕ) → HasTokens (asked_within limit) one_word (97 ∷ []) (token_at 0 ∷ [])
 unfolding lib.Utf8.encode
-one_cut limit h = record {
-  parsed = word_parsed limit h;
+one_cut limit = record {
+  parsed = word_parsed limit;
   entries = word_entries;
   are_entries = are_word_entries limit;
   cut = record { pieces = Piece.taken 1 0 ∷ []; cut = (takes_a [], refl); tokens_are = refl };
 }
 
-two_cut : IsInlinable finds [] one_word → HasTokens asked one_word (97 ∷ 97 ∷ []) (token_at 0 ∷ token_at 1 ∷ [])
+two_cut : HasTokens asked one_word (97 ∷ 97 ∷ []) (token_at 0 ∷ token_at 1 ∷ [])
 unfolding lib.Utf8.encode
-two_cut h = record {
-  parsed = word_parsed 1000 h;
+two_cut = record {
+  parsed = word_parsed 1000;
   entries = word_entries;
   are_entries = are_word_entries 1000;
   cut = record { pieces = Piece.taken 1 0 ∷ Piece.taken 1 0 ∷ []; cut = (takes_a (97 ∷ []), (takes_a [], refl)); tokens_are = refl };
@@ -214,8 +211,8 @@ pub letter_admitted : AdmitsFrom finds [] one_word (codes "S") (nd "S" 0 (Tree.t
 letter_admitted = yes [] one_word "S" (nd "S" 0 (Tree.terminal (token_at 0) ∷ [])) refl
 
 -- an empty text ends too early
-pub end_told : IsInlinable finds [] one_word → IsRightAnswerTo asked one_word [] (WrittenAnswer.to_text TextAnswer.early_end)
-end_told h = IsRightAnswerTo.stops [] TextAnswer.early_end (nothing_cut h) (
+pub end_told : IsRightAnswerTo asked one_word [] (WrittenAnswer.to_text TextAnswer.early_end)
+end_told = IsRightAnswerTo.stops [] TextAnswer.early_end nothing_cut (
   ([], token_at 0 ∷ [], refl, (_, letter_admitted)),
   λ s.
       let lengths : ◌≡◌ {A = ℕ} 0 1 = ap length (sentence_is_letter [] s) in
@@ -223,9 +220,8 @@ end_told h = IsRightAnswerTo.stops [] TextAnswer.early_end (nothing_cut h) (
 )
 
 -- and the second letter of `aa` is wrong
-pub wrong_token_told : IsInlinable finds [] one_word →
-    IsRightAnswerTo asked one_word (97 ∷ 97 ∷ []) (WrittenAnswer.to_text (TextAnswer.wrong_token 1 (codes "a")))
-wrong_token_told h = IsRightAnswerTo.stops (token_at 0 ∷ token_at 1 ∷ []) (TextAnswer.wrong_token 1 (codes "a")) (two_cut h) (record {
+pub wrong_token_told : IsRightAnswerTo asked one_word (97 ∷ 97 ∷ []) (WrittenAnswer.to_text (TextAnswer.wrong_token 1 (codes "a")))
+wrong_token_told = IsRightAnswerTo.stops (token_at 0 ∷ token_at 1 ∷ []) (TextAnswer.wrong_token 1 (codes "a")) two_cut (record {
   number = 1;
   token = token_at 1;
   there = refl;

@@ -1,6 +1,6 @@
 -- Computed examples of refusals: a barren rule beside a tree, a macro that is barren before it is inlined, a private start, two trees
 -- of one text.
-use Rattle.std.proofs.Common.{◌≡◌, ℕ, List, [], ◌∷◌, refl, ap, sym, subst, inl, inr, None, false, true, ◌⊎◌, arith}
+use Rattle.std.proofs.Common.{◌≡◌, ℕ, List, [], ◌∷◌, refl, ap, sym, subst, inl, inr, None, false, true, ◌⊎◌, arith, ◌≤◌, ◌^◌}
 use Rattle.std.specs.Fmt.{digits}
 use Rattle.std.specs.Prelude.{codes}
 use Rattle.std.specs.Cmp.Lexicographic.{slice_cmp}
@@ -29,9 +29,9 @@ use Rattle.lalrpop_run_prepare.specs.Carried.{IsCarried}
 use Rattle.lalrpop_run.specs.Asked.{Refusal, ToldConflict, WrittenAnswer}
 use Rattle.lalrpop_run.specs.Check.{HasStateCountBy}
 use Rattle.lalrpop_run.specs.InlineCycles.{IsCyclic}
+use Rattle.lalrpop_run.specs.InliningNumbers.{HasNumbersEnough}
 use Rattle.lalrpop_run.specs.ListedFaults.{HasNoPassFault, IsListedFault}
 use Rattle.lalrpop_run.specs.RightAnswer.{HasTokens, IsRightAnswerTo, MayBeParsed}
-use Rattle.lalrpop_run_prepare.specs.PrepareRefusals.{IsInlinable}
 use Rattle.lalrpop_grammar_repr.specs.declared.methods.Method.{Method}
 use Rattle.lalrpop_run.proofs.ExamplesOfUncarried.{AreCalm, IsCalm, calm_rules, only_rules}
 use Rattle.lalrpop_run.proofs.ExamplesOfOneWord.{choice_at, kept_where_unmarked, private_rule, public_rule, unit_rule, word_of}
@@ -39,6 +39,7 @@ use Rattle.lalrpop_run.proofs.ExamplesOfPassFaults.{no_pass_fault, word_carried}
 use Rattle.lalrpop_run.proofs.ExamplesOfRightAnswers.{asked, parsed_where_counted}
 use Rattle.lalrpop_run.proofs.InlineCycleLemmas.{first_inlined}
 use Rattle.lalrpop_run.proofs.OneAnswerLemmas.{parsed_where_answered}
+use Rattle.lalrpop_run.proofs.PlainNumberLemmas.{plain_enough}
 
 abbrev Chosen : Type 0
 Chosen = Origin × RightSide
@@ -159,13 +160,21 @@ carried = record {
     of_A = all-among IsCalm (choice_at "A" 0 (lit "b" ∷ id "A" ∷ []) ∷ [])
         (all-among IsNoRecovery (lit "b" ∷ id "A" ∷ []) (tt, (tt, tt)), tt)
 
--- where the passes find nothing and rules may be inlined, the barren rule is right
-pub barren_rule : (text : List ℕ) → HasNoPassFault asked endless → IsInlinable finds [] endless →
+-- nothing is inlined
+endless_numbers : HasNumbersEnough g (codes "__")
+unfolding digits
+endless_numbers =
+    plain_enough g (codes "__") (start ∷ rule "S" ∷ rule "A" ∷ []) refl refl names
+    (naming-is g (leveled_key_text g) (codes "__") [] 2 (start ∷ rule "S" ∷ rule "A" ∷ []) refl refl refl)
+    (let few : 4 ≤ 2 ^ 32 = omega arith in few)
+
+-- where the passes find nothing, the barren rule is right
+pub barren_rule : (text : List ℕ) → HasNoPassFault asked endless →
     IsRightAnswerTo asked endless text (WrittenAnswer.refused (Refusal.barren (codes "A")))
-barren_rule text passed inlinable =
+barren_rule text passed =
     IsRightAnswerTo.fault (Refusal.barren (codes "A"))
     (IsListedFault.barren (codes "A") (record { carried = carried; faultless = passed; starts = refl })
-    (record { acyclic = acyclic; numbers = inlinable }) A_told)
+    (record { acyclic = acyclic; numbers = endless_numbers }) A_told)
   where
     acyclic : (x : Nonterminal) → IsCyclic g x → ⊥
     acyclic x h = go (all-of g (start ∷ rule "S" ∷ rule "A" ∷ []) refl x h.0) (first_inlined g x x h.1)

@@ -6,7 +6,6 @@ use Rattle.lalrpop_lr1_theory.specs.Productions.{Production}
 use Rattle.lalrpop_lr1_theory.specs.ValidItems.{CountsItemSets}
 use Rattle.lalrpop_run_theory.specs.TextAnswers.{AreExpansionOf}
 use Rattle.lalrpop_run_theory.proofs.ExamplesOfExpansions.{start}
-use Rattle.lalrpop_run_prepare.specs.PrepareRefusals.{IsInlinable}
 use Rattle.lalrpop_run.specs.RightAnswer.{IsRightStateCount, MayBeParsed}
 use Rattle.lalrpop_run.proofs.CountLemmas.{counts_are_one}
 use Rattle.lalrpop_run.proofs.ExamplesOfOneWord.{one_tree_each, one_word, there, two, two_are, two_counted, two_lr1}
@@ -14,10 +13,10 @@ use Rattle.lalrpop_run.proofs.ExamplesOfPassFaults.{word_faultless}
 use Rattle.lalrpop_run.proofs.ExamplesOfRightAnswers.{asked, asked_within}
 use Rattle.lalrpop_run.proofs.ExpansionAlikeLemmas.{counts_are_said_of_all}
 
--- where rules may be inlined, it may be parsed
-abbrev pub word_parsed : (limit : ℕ) → IsInlinable finds [] one_word → MayBeParsed (asked_within limit) one_word
-word_parsed limit h = record {
-  faultless = word_faultless limit h;
+-- it may be parsed
+abbrev pub word_parsed : (limit : ℕ) → MayBeParsed (asked_within limit) one_word
+word_parsed limit = record {
+  faultless = word_faultless limit;
   grammar = two;
   expansion = two_are;
   lr1 = two_lr1;
@@ -25,8 +24,8 @@ word_parsed limit h = record {
 }
 
 -- and there are three states
-pub three_states_right : IsInlinable finds [] one_word → IsRightStateCount asked one_word 3
-three_states_right h = record { parsed = word_parsed 1000 h; counted = two_counted }
+pub three_states_right : IsRightStateCount asked one_word 3
+three_states_right = record { parsed = word_parsed 1000; counted = two_counted }
 
 -- there are three whichever productions of the expansion are taken
 counted : (grammar : List Production) → AreExpansionOf finds [] one_word grammar → CountsItemSets (Contains grammar) (codes "__S") 3

@@ -20,7 +20,6 @@ use Rattle.lalrpop_run_theory.proofs.InlinedTestLemmas.{inlined_decided}
 use Rattle.lalrpop_run_theory.proofs.ExamplesOfExpansions.{n, rule, start, t}
 use Rattle.lalrpop_run_theory.specs.TextAnswers.{IsExpandedFrom, TextAnswer}
 use Rattle.lalrpop_run.specs.Asked.{WrittenAnswer}
-use Rattle.lalrpop_run_prepare.specs.PrepareRefusals.{IsInlinable}
 use Rattle.lalrpop_run.specs.RightAnswer.{IsRightAnswerTo}
 use Rattle.lalrpop_run.proofs.ExamplesOfRightAnswers.{asked_within}
 use Rattle.lalrpop_run.proofs.ExamplesOfOneWord.{a, by_S, by_start, from_S, from_start, g, has_S, of_S, one_tree_each}
@@ -64,11 +63,10 @@ tree_over_the_limit text (IsRightAnswerTo.sentence tokens u h s) =
     let size : expanded_size s.expanded ≡ 3 = ap expanded_size (one_expanded tokens s.expanded s.is_expanded) in
     omega (arith, size, s.small)
 
--- with three it is, where rules may be inlined
-pub tree_told : IsInlinable finds [] one_word →
-    IsRightAnswerTo (asked_within 3) one_word (97 ∷ []) (WrittenAnswer.to_text (TextAnswer.written the_tree))
-tree_told h =
-    IsRightAnswerTo.sentence (token_at 0 ∷ []) the_tree (one_cut 3 h)
+-- with three it is
+pub tree_told : IsRightAnswerTo (asked_within 3) one_word (97 ∷ []) (WrittenAnswer.to_text (TextAnswer.written the_tree))
+tree_told =
+    IsRightAnswerTo.sentence (token_at 0 ∷ []) the_tree (one_cut 3)
     (record { admitted = letter_admitted; expanded = the_expanded; is_expanded = expanded_is; small = omega arith })
 
 -- a run over the expansion shifts once and reduces twice
@@ -121,10 +119,9 @@ three_moves = (
 )
 
 -- and with two moves the limit is told
-pub limit_told : IsInlinable finds [] one_word →
-    IsRightAnswerTo (asked_within 2) one_word (97 ∷ []) (WrittenAnswer.to_text TextAnswer.over_limit)
-limit_told h =
-    IsRightAnswerTo.stops (token_at 0 ∷ []) TextAnswer.over_limit (one_cut 2 h)
+pub limit_told : IsRightAnswerTo (asked_within 2) one_word (97 ∷ []) (WrittenAnswer.to_text TextAnswer.over_limit)
+limit_told =
+    IsRightAnswerTo.stops (token_at 0 ∷ []) TextAnswer.over_limit (one_cut 2)
     (record { large = large; grammar = two; are_expansion = two_are; has_run = three_moves })
   where
     large : (u : Tree) (d : ExpandedTree Nonterminal Origin) → IsExpandedFrom finds [] one_word (codes "S") u (token_at 0 ∷ []) d →

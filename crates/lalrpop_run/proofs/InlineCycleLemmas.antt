@@ -59,7 +59,7 @@ one_name : (a b : Text) → ◌≡◌ {A = GrammarSymbol Text} (GrammarSymbol.no
 one_name a b e = cc
 
 -- a nonterminal of a right side is one of its names
-side_named : (side : List Symbol) (k : Text) → Among (side_by_names side) (GrammarSymbol.nonterminal k)
+pub side_named : (side : List Symbol) (k : Text) → Among (side_by_names side) (GrammarSymbol.nonterminal k)
     → Among (flat_map names_in_symbol side) k
 side_named [] k i = absurd i
 side_named (symbols.Nonterminal m ∷ side) k (inl e) = inl (one_name m.0 k e)
@@ -174,7 +174,7 @@ module _ (finds : Text → Text → Option Bool) (features : List Text) (w : Gra
   es = made.grammar.nonterminals
 
   -- its productions are the expansion's under its own names
-  abbrev under_own_names : IsNamedExpansion g w.prefix es
+  abbrev pub under_own_names : IsNamedExpansion g w.prefix es
   under_own_names = record {
     name_of = h.name_of;
     naming = h.naming;

@@ -6,6 +6,15 @@ pub mod ListedFaultLemmas
 pub mod RightAnswerLemmas
 pub mod InlineCycleLemmas
 pub mod ExamplesOfInlineCycles
+pub mod NumberedListLemmas
+pub mod NumberedLabelLemmas
+pub mod LabelBackLemmas
+pub mod LabelNumberLemmas
+pub mod NonterminalOrderLemmas
+pub mod InliningNumberLemmas
+pub mod PlainNumberLemmas
+pub mod OneOrderLemmas
+pub mod ExamplesOfInliningNumbers
 pub mod AlikeLemmas
 pub mod ItemAlikeLemmas
 pub mod RunAlikeLemmas

@@ -20,6 +20,7 @@ use Rattle.lalrpop_run.specs.ListedFaults.{IsInliningFault, IsListedFault, MayBe
 use Rattle.lalrpop_run.specs.Parsers.{IsNoParserReply, IsRefusedFor, SaysRefusal}
 use Rattle.lalrpop_run.specs.Questions.{Question, asked_of}
 use Rattle.lalrpop_run.proofs.InlineCycleLemmas.{acyclic_ordered, cycle_told}
+use Rattle.lalrpop_run.proofs.InliningNumberLemmas.{enough_told, too_many_told}
 use Rattle.lalrpop_run.specs.declared.replies.reply.Reply.{Reply}
 use Rattle.lalrpop_run.specs.declared.replies.reply.Reply.TheVariants as replies
 
@@ -58,7 +59,7 @@ module _ (q : Asked) (w : written.Grammar) where
   pub may_be_inlined : IsInlinable q.finds q.features w → MayBeInlined q w
   may_be_inlined h = record {
     acyclic = acyclic_ordered q.finds q.features w h.lowered h.normalized h.named h.inlined.order h.inlined.is_order;
-    numbers = h;
+    numbers = enough_told q.finds q.features w h.lowered h.normalized h.named h.inlined.order h.inlined.is_order h.inlined.numbers;
   }
 
   inlining_stands : (error : GenerateError) (h : IsInlineRefusal q.finds q.features w error)
@@ -71,7 +72,7 @@ module _ (q : Asked) (w : written.Grammar) where
       (sym (ap is_too_many fault.kind_is)) fault)
   inlining_stands error h (inr m) =
       IsInliningFault.too_many
-      (record { lowered = h.lowered; normalized = h.normalized; named = h.named; told = h.told; too_many = m })
+      (too_many_told q.finds q.features w h.lowered h.normalized h.named h.told m)
       (ap (λ (e : NormError). e.kind) m.error_is)
       (ap (λ (e : NormError). if is_too_many e.kind then w.span else span_view e.span) m.error_is)
 

@@ -1,5 +1,6 @@
 pub mod Asked
 pub mod InlineCycles
+pub mod InliningNumbers
 pub mod ListedFaults
 pub mod ToldConflicts
 pub mod RightAnswer
@@ -19,3 +20,4 @@ pub mod AnswersOfExpansions
 pub mod OneAnswer
 pub mod ConflictOrders
 pub mod AllConflicts
+pub mod NonterminalOrders

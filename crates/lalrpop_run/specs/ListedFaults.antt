@@ -4,26 +4,20 @@ use Rattle.lalrpop_grammar_symbols.specs.Symbols.{Text, TextSpan}
 use Rattle.lalrpop_grammar.specs.WrittenGrammar.{Grammar}
 use Rattle.lalrpop_grammar_language.specs.Expansion.{Nonterminal}
 use Rattle.lalrpop_grammar_language.specs.Starts.{has_start}
-use Rattle.lalrpop_grammar_repr.specs.declared.norm_error.NormError.{NormError}
 use Rattle.lalrpop_grammar_repr.specs.declared.norm_error.NormErrorKind.{NormErrorKind}
 use Rattle.lalrpop_grammar_repr.specs.declared.norm_error.NormErrorKind.TheVariants as kinds
 use Rattle.lalrpop_grammar_rules.specs.Finding.{IsSearch}
-use Rattle.lalrpop_lr1_inline.specs.InlinedGrammars.{IsTooManyNumbers}
 use Rattle.lalrpop_norm.specs.Normalizing.{HasNoWrittenFault, IsWrittenFault}
-use Rattle.lalrpop_norm_chain.specs.LoweredViews.{lowered_view}
 use Rattle.lalrpop_norm_chain.specs.MadeConditions.{HasConditionWhere}
-use Rattle.lalrpop_norm_chain.specs.Normalized.{IsNormalized}
 use Rattle.lalrpop_norm_chain.specs.StandingFaults.{IsRightToLevels}
-use Rattle.lalrpop_norm_lower.specs.declared.lowering.Normalized.{Normalized}
 use Rattle.lalrpop_norm_theory.specs.Between.{grammar_between, without_disabled}
 use Rattle.lalrpop_norm_theory.specs.Premises.{HasNoExtern}
 use Rattle.lalrpop_run_prepare.specs.Carried.{HasExtern, HasRecovery, IsCarried}
-use Rattle.lalrpop_run_prepare.specs.PreparedGrammars.{HasNamedProductions}
-use Rattle.lalrpop_run_prepare.specs.PrepareRefusals.{IsInlinable}
 use Rattle.lalrpop_run_prepare.specs.Refused.{IsGenerable}
 use Rattle.lalrpop_run_theory.specs.Barren.{HasNoBarren, IsLeastBarrenName}
 use Rattle.lalrpop_run.specs.Asked.{Asked, Refusal, enabled}
 use Rattle.lalrpop_run.specs.InlineCycles.{IsCycleFault, IsCyclic}
+use Rattle.lalrpop_run.specs.InliningNumbers.{HandsOutTooMany, HasNumbersEnough}
 
 -- a pass tells the fault with its place
 abbrev pub IsPassFault : Asked → Grammar → NormErrorKind → TextSpan → Type 0
@@ -42,24 +36,16 @@ MayGiveUp q w =
 abbrev pub MayBeLowered : Asked → Grammar → Type 0
 MayBeLowered q w = IsGenerable q.finds q.deep q.features q.macro_limit q.start w
 
--- Inlining hands out more numbers of actions than there are, those of the plain productions included.
-pub record HasTooManyNumbers (q : Asked) (w : Grammar) : Type 0 where
-  pub lowered : Normalized
-  pub normalized : IsNormalized q.finds q.features w (lowered_view lowered)
-  pub named : HasNamedProductions lowered.grammar
-  pub told : NormError
-  pub too_many : IsTooManyNumbers lowered.grammar told
-
 -- A nonterminal would have to be inlined into itself, told where it stands; or inlining hands out too many numbers, told where the whole
 -- grammar is written.
 pub data IsInliningFault (q : Asked) (w : Grammar) (kind : NormErrorKind) (p : TextSpan) : Type 0 where
   cycle : IsCycleFault q.finds q.features w kind p → IsInliningFault q w kind p
-  too_many : HasTooManyNumbers q w → kind ≡ kinds.TooManyActions → p ≡ w.span → IsInliningFault q w kind p
+  too_many : HandsOutTooMany (enabled q w) w.prefix → kind ≡ kinds.TooManyActions → p ≡ w.span → IsInliningFault q w kind p
 
 -- No nonterminal would have to be inlined into itself, and there are numbers enough.
 pub record MayBeInlined (q : Asked) (w : Grammar) : Type 0 where
   pub acyclic : (x : Nonterminal) → IsCyclic (enabled q w) x → ⊥
-  pub numbers : IsInlinable q.finds q.features w
+  pub numbers : HasNumbersEnough (enabled q w) w.prefix
 
 -- An extern block; `!`; what the passes tell; the start; what inlining tells; the least barren name: each only where none of those before
 -- it stands.
