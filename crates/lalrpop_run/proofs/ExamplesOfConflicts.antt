@@ -23,5 +23,5 @@ none_told q w text (IsRightAnswerTo.conflicts told h) =
 pub conflicts_of_one_word : (text : List ℕ) (told : List ToldConflict) →
     IsRightAnswerTo asked one.one_word text (WrittenAnswer.conflicting told) → ⊥
 conflicts_of_one_word text told (IsRightAnswerTo.conflicts all h) =
-    h.no_lr1 (lr1_is_said_of_all finds [] one.one_word (codes "S") one.two h.grammar (one.there start (inl refl)) one.two_are h.expansion
-    one.two_lr1)
+    h.no_lr1 (lr1_is_said_of_all finds [] one.one_word (codes "S") one.two h.grammar (one.there start (inl refl)) one.two_are
+    h.productions.expansion one.two_lr1)

@@ -46,7 +46,7 @@ use Rattle.lalrpop_run_theory.proofs.BarrenLemmas.{written_start_once}
 use Rattle.lalrpop_run_theory.proofs.ExamplesOfExpansions.{inline, n, place, rule, start, t}
 use Rattle.lalrpop_run.specs.Asked.{Refusal, WrittenAnswer}
 use Rattle.lalrpop_run.specs.InlineCycles.{IsCyclic}
-use Rattle.lalrpop_run.specs.ListedFaults.{HasNoPassFault, IsFaultless, IsListedFault, IsPassFault}
+use Rattle.lalrpop_run.specs.ListedFaults.{HasNoPassFault, IsFaultless, IsListedFault}
 use Rattle.lalrpop_run.specs.RightAnswer.{IsRightAnswerTo}
 use Rattle.lalrpop_run.proofs.ExamplesOfInliningNumbers.{word_numbers}
 use Rattle.lalrpop_run.proofs.ExamplesOfOneWord.{a, kept_where_unmarked, one_word, rule_of_word, the_choice, unit_rule, word_of}
@@ -425,7 +425,7 @@ inline_carried = record {
       (all-among IsCalm (the_choice ∷ []) (all-among IsNoRecovery (lit "a" ∷ []) (tt, tt), tt), tt));
 }
 
-inline_stands : IsPassFault asked public_inline kinds.PublicInline here
+inline_stands : IsWrittenFault asked.finds asked.deep asked.features asked.macro_limit public_inline kinds.PublicInline here
 inline_stands = IsWrittenFault.standing kinds.PublicInline here (IsStandingFault.check kinds.PublicInline here (inl refl))
 
 pub public_inline_told : (text : List ℕ) →

@@ -43,3 +43,16 @@ pub mod ToldOrderLemmas
 pub mod ConflictListLemmas
 pub mod ExamplesOfConflictOrders
 pub mod ExamplesOfAllConflicts
+pub mod FilledLabelLemmas
+pub mod LabelStepLemmas
+pub mod SoonerLemmas
+pub mod RecordOrderLemmas
+pub mod NumberedStepLemmas
+pub mod InlinedNumberLemmas
+pub mod NumberBackLemmas
+pub mod NumberedExpansionLemmas
+pub mod ItsProductionsLemmas
+pub mod LabelOrderLemmas
+pub mod OneNumberingLemmas
+pub mod ExamplesOfProductionOrders
+pub mod ExamplesOfToldConflicts

@@ -48,7 +48,7 @@ module _ (q : Asked) (w : written.Grammar) where
     (told, refl, refl, is),
   )
   before error some (IsGrammarRefusal.condition_limit carried may is) =
-      (Refusal.condition_limit, IsListedFault.condition_limit carried may, is)
+      (Refusal.condition_limit, IsListedFault.condition_limit carried may.0 may.1, is)
   before error some (IsGrammarRefusal.start carried none (IsStartRefusal.unknown known is)) =
       (Refusal.unknown_start q.start, IsListedFault.unknown_start carried none known, is)
   before error some (IsGrammarRefusal.start carried none (IsStartRefusal.private known public is)) =

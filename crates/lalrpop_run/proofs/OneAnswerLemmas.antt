@@ -162,4 +162,4 @@ parsed_where_answered q w text answer (IsRightAnswerTo.stops ts given has stop) 
 pub conflicts_give_no_answer : ConflictsGiveNoAnswer
 conflicts_give_no_answer q w text other told a i (IsRightAnswerTo.conflicts all h) k =
     let p = parsed_where_answered q w other a k in
-    h.no_lr1 (lr1_is_said_of_all q.finds q.features w q.start p.grammar h.grammar i p.expansion h.expansion p.lr1)
+    h.no_lr1 (lr1_is_said_of_all q.finds q.features w q.start p.grammar h.grammar i p.expansion h.productions.expansion p.lr1)

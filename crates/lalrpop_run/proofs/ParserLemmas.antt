@@ -91,7 +91,7 @@ module _ (q : Question) (g : Grammar) (v : PreparedGrammar) (h : IsPreparedFor q
       IsNoParserReply.conflicting (map conflict_view shown.items)
       (asked (λ fs n s w. IsConflicting (asked_with fs n s) (grammar_view w) (map conflict_view shown.items))
       (conflicting_prepared v q.limit h.prepared name certificates shown.items has are own_read terminals ascending parsed))
-      (shown, refl, (record { prepared = v; is_prepared = h; certificates = certificates; conflicts = has; written = are }), is)
+      (shown, refl, is)
 
   module _ (lr1 : IsLr1 (Contains (theory_grammar v.expansion)) v.start_name.0)
       (one_tree : IsReadGrammar (grammar_view v.written) → HasOneTreeEach v) where

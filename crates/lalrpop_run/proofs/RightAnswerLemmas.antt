@@ -5,6 +5,7 @@ use Rattle.lalrpop_grammar_symbols.specs.contracts.terminal.TerminalStringOrd.Th
 use Rattle.lalrpop_grammar.specs.Trees.{Tree}
 use Rattle.lalrpop_grammar.specs.Views.{grammar_view, tree_view}
 use Rattle.lalrpop_grammar.specs.WrittenGrammar as written
+use Rattle.lalrpop_grammar_language.specs.Enabled.{enabled_grammar}
 use Rattle.lalrpop_grammar_repr.specs.declared.grammar.Grammar as repr
 use Rattle.lalrpop_grammar_rules.specs.Search.{finds, is_too_deep}
 use Rattle.lalrpop_judge.specs.Certificates.{NumberedMove, ShownConflict, reduce_by, shift_of}
@@ -35,6 +36,7 @@ use Rattle.lalrpop_run.specs.ListedFaults.{IsFaultless}
 use Rattle.lalrpop_run.specs.Parsers.{conflict_view, kind_view}
 use Rattle.lalrpop_run.specs.RightAnswer.{AreItsEntries, HasTokens, IsRightAnswerTo, IsRightStateCount, MayBeParsed}
 use Rattle.lalrpop_run.specs.ToldConflicts.{AreToldOf, IsConflicting, kind_of_move, told_of}
+use Rattle.lalrpop_run.proofs.ItsProductionsLemmas.{AreToldInOrder, prepared_in_order}
 use Rattle.lalrpop_run.proofs.ToldOrderLemmas.{all_told}
 use Rattle.lalrpop_run.proofs.ListedFaultLemmas.{may_be_inlined}
 
@@ -132,12 +134,17 @@ module _ (v : PreparedGrammar) (limit : ℕ) (p : IsPrepared finds is_too_deep v
     counted = subst (λ s. CountsItemSets (Contains (theory_grammar v.expansion)) s count) name counted;
   }
 
+  -- its productions are numbered in the order of their labels
+  ordered : AreToldInOrder (enabled_grammar finds v.session.features.items (grammar_view v.written)) v.written.prefix
+      v.expansion.action_fn_defns v.origins (theory_grammar v.expansion)
+  ordered = prepared_in_order finds is_too_deep v p
+
   -- an unfolded tree is the written tree of what was unfolded
-  tree_told : (ts : SpannedForest) (t : Tree) → IsUnfolded v ts t → t ≡ written_of_forest p.told.expansion.label_of ts
-  tree_told ts t h = sym ((h.expands p.told).is_forest.stands ∙ h.shown)
+  tree_told : (ts : SpannedForest) (t : Tree) → IsUnfolded v ts t → t ≡ written_of_forest ordered.told.expansion.label_of ts
+  tree_told ts t h = sym ((h.expands ordered.told).is_forest.stands ∙ h.shown)
 
   conflict_told : (c : ShownConflict) (it : WrittenConflict) → IsWrittenConflict v c it
-      → conflict_view it ≡ told_of p.told.expansion.label_of c
+      → conflict_view it ≡ told_of ordered.told.expansion.label_of c
   conflict_told c it h =
       let kind1 = kinds_same c.move1 it.move1 h.kind1 in
       let tree1 = tree_told c.tree1 (tree_view it.tree1) h.tree1 in
@@ -155,8 +162,13 @@ module _ (v : PreparedGrammar) (limit : ℕ) (p : IsPrepared finds is_too_deep v
     conflicting_prepared = record {
       faultless = faultless_prepared;
       grammar = theory_grammar v.expansion;
-      expansion = p.told.expansion;
+      productions = record {
+        expansion = ordered.told.expansion;
+        order = ordered.order;
+        is_order = ordered.is_order;
+        in_order = ordered.in_order;
+      };
       no_lr1 = λ h. has.no_lr1 (subst (IsLr1 (Contains (theory_grammar v.expansion))) (sym name) h);
-      told_are = subst (λ s. AreToldOf (Contains (theory_grammar v.expansion)) s p.told.expansion.label_of (map conflict_view shown)) name
-          (all_told v p conflict_told certificates shown has are read terminals ascending parsed has.shifts);
+      told_are = subst (λ s. AreToldOf (Contains (theory_grammar v.expansion)) s ordered.told.expansion.label_of (map conflict_view shown)) name
+          (all_told v ordered.told conflict_told certificates shown has are read terminals ascending parsed has.shifts);
     }

@@ -21,3 +21,4 @@ pub mod OneAnswer
 pub mod ConflictOrders
 pub mod AllConflicts
 pub mod NonterminalOrders
+pub mod ProductionOrders

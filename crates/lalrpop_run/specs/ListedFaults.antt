@@ -19,22 +19,9 @@ use Rattle.lalrpop_run.specs.Asked.{Asked, Refusal, enabled}
 use Rattle.lalrpop_run.specs.InlineCycles.{IsCycleFault, IsCyclic}
 use Rattle.lalrpop_run.specs.InliningNumbers.{HandsOutTooMany, HasNumbersEnough}
 
--- a pass tells the fault with its place
-abbrev pub IsPassFault : Asked → Grammar → NormErrorKind → TextSpan → Type 0
-IsPassFault q w = IsWrittenFault q.finds q.deep q.features q.macro_limit w
-
--- no pass tells any
+-- no pass tells a fault
 abbrev pub HasNoPassFault : Asked → Grammar → Type 0
 HasNoPassFault q w = HasNoWrittenFault q.finds q.deep q.features q.macro_limit w
-
--- A search may be given up for its pattern's size: levels are right, and an alternative of a call that is made is under a search.
-abbrev pub MayGiveUp : Asked → Grammar → Type 0
-MayGiveUp q w =
-    IsRightToLevels q.features w × HasConditionWhere (grammar_between q.finds (without_disabled q.features w)) (λ t v. IsSearch t.test)
-
--- Nothing is there that isn't carried, no pass tells a fault, and a public rule is the start.
-abbrev pub MayBeLowered : Asked → Grammar → Type 0
-MayBeLowered q w = IsGenerable q.finds q.deep q.features q.macro_limit q.start w
 
 -- A nonterminal would have to be inlined into itself, told where it stands; or inlining hands out too many numbers, told where the whole
 -- grammar is written.
@@ -47,25 +34,28 @@ pub record MayBeInlined (q : Asked) (w : Grammar) : Type 0 where
   pub acyclic : (x : Nonterminal) → IsCyclic (enabled q w) x → ⊥
   pub numbers : HasNumbersEnough (enabled q w) w.prefix
 
--- An extern block; `!`; what the passes tell; the start; what inlining tells; the least barren name: each only where none of those before
--- it stands.
+-- An extern block; `!`; what the passes tell, or that a search is given up for its pattern's size; the start; what inlining tells; the
+-- least barren name: each only where none of those before it stands. A search may be given up where levels are right, and an alternative of
+-- a call that is made is under one.
 pub data IsListedFault (q : Asked) (w : Grammar) : Refusal → Type 0 where
   extern_block : HasExtern w → IsListedFault q w Refusal.extern_block
   recovery : HasNoExtern w → HasRecovery (enabled q w) → IsListedFault q w Refusal.recovery
-  passes : (kind : NormErrorKind) (p : TextSpan) → IsCarried q.finds q.features w → IsPassFault q w kind p
-      → IsListedFault q w (Refusal.fault kind p)
-  condition_limit : IsCarried q.finds q.features w → MayGiveUp q w → IsListedFault q w Refusal.condition_limit
+  passes : (kind : NormErrorKind) (p : TextSpan) → IsCarried q.finds q.features w
+      → IsWrittenFault q.finds q.deep q.features q.macro_limit w kind p → IsListedFault q w (Refusal.fault kind p)
+  condition_limit : IsCarried q.finds q.features w → IsRightToLevels q.features w
+      → HasConditionWhere (grammar_between q.finds (without_disabled q.features w)) (λ t v. IsSearch t.test)
+      → IsListedFault q w Refusal.condition_limit
   unknown_start : IsCarried q.finds q.features w → HasNoPassFault q w → has_start q.start false (enabled q w) ≡ false
       → IsListedFault q w (Refusal.unknown_start q.start)
   private_start : IsCarried q.finds q.features w → HasNoPassFault q w → has_start q.start false (enabled q w) ≡ true
       → has_start q.start true (enabled q w) ≡ false → IsListedFault q w (Refusal.private_start q.start)
-  inlining : (kind : NormErrorKind) (p : TextSpan) → MayBeLowered q w → IsInliningFault q w kind p
-      → IsListedFault q w (Refusal.fault kind p)
-  barren : (name : Text) → MayBeLowered q w → MayBeInlined q w → IsLeastBarrenName (enabled q w) w.prefix q.start name
-      → IsListedFault q w (Refusal.barren name)
+  inlining : (kind : NormErrorKind) (p : TextSpan) → IsGenerable q.finds q.deep q.features q.macro_limit q.start w
+      → IsInliningFault q w kind p → IsListedFault q w (Refusal.fault kind p)
+  barren : (name : Text) → IsGenerable q.finds q.deep q.features q.macro_limit q.start w → MayBeInlined q w
+      → IsLeastBarrenName (enabled q w) w.prefix q.start name → IsListedFault q w (Refusal.barren name)
 
 -- none stands
 pub record IsFaultless (q : Asked) (w : Grammar) : Type 0 where
-  pub lowerable : MayBeLowered q w
+  pub lowerable : IsGenerable q.finds q.deep q.features q.macro_limit q.start w
   pub inlinable : MayBeInlined q w
   pub none_barren : HasNoBarren (enabled q w) q.start

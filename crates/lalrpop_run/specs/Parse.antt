@@ -33,7 +33,7 @@ pub record IsAnswerTold (v : PreparedGrammar) (entries : List ScanEntry) (text :
 -- the reply tells the answer
 abbrev pub TellsWrittenAnswer : Question → Grammar → WrittenAnswer → Reply → Type 0
 TellsWrittenAnswer q g (WrittenAnswer.refused f) reply = TellsRefusal f reply
-TellsWrittenAnswer q g (WrittenAnswer.conflicting told) reply = TellsConflicts q g told reply
+TellsWrittenAnswer q g (WrittenAnswer.conflicting told) reply = TellsConflicts told reply
 TellsWrittenAnswer q g (WrittenAnswer.to_text answer) reply = TellsTextAnswer q.limit answer reply
 
 -- The right answer to the text is told.

@@ -7,13 +7,10 @@ use Rattle.lalrpop_grammar.specs.declared.grammar.Grammar.{Grammar}
 use Rattle.lalrpop_grammar.specs.Views.{grammar_view, tree_view}
 use Rattle.lalrpop_grammar.specs.WrittenGrammar as written
 use Rattle.lalrpop_grammar_repr.specs.declared.norm_error.NormError.{NormError}
-use Rattle.lalrpop_judge.specs.declared.certificates.certificate.Certificate.{Certificate}
 use Rattle.lalrpop_grammar_rules.specs.Search.{finds, is_too_deep}
-use Rattle.lalrpop_run_parser.specs.WrittenConflicts.{AreWrittenConflicts}
 use Rattle.lalrpop_run_parser.specs.declared.conflicts.written_conflict.WrittenConflict.{WrittenConflict}
 use Rattle.lalrpop_run_parser.specs.declared.conflicts.written_conflict.WrittenMove.{WrittenMove}
 use Rattle.lalrpop_run_parser.specs.declared.conflicts.written_conflict.WrittenMove.TheVariants as moves
-use Rattle.lalrpop_run_parser.specs.Parsers.{HasConflicts}
 use Rattle.lalrpop_run_prepare.specs.PreparedGrammars.{IsPrepared, PreparedGrammar}
 use Rattle.lalrpop_run_prepare.specs.PrepareRefusals.{IsPrepareRefusal}
 use Rattle.lalrpop_run_prepare.specs.declared.refusals.refusing.GenerateError.{GenerateError}
@@ -67,22 +64,13 @@ conflict_view it = record {
   tree2 = tree_view it.tree2;
 }
 
--- There is one for each conflict of the canonical states of the expansion, in their order.
-pub record AreAllConflicts (q : Question) (g : Grammar) (shown : List WrittenConflict) : Type 0 where
-  pub prepared : PreparedGrammar
-  pub is_prepared : IsPreparedFor q g prepared
-  pub certificates : List Certificate
-  pub conflicts : HasConflicts prepared certificates
-  pub written : AreWrittenConflicts prepared certificates shown
-
-abbrev pub TellsConflicts : Question → Grammar → List ToldConflict → Reply → Type 0
-TellsConflicts q g told reply =
-    (shown : Vec WrittenConflict Global) × (map conflict_view shown.items ≡ told) × AreAllConflicts q g shown.items
-    × (reply ≡ replies.Conflicts shown)
+abbrev pub TellsConflicts : List ToldConflict → Reply → Type 0
+TellsConflicts told reply =
+    (shown : Vec WrittenConflict Global) × (map conflict_view shown.items ≡ told) × (reply ≡ replies.Conflicts shown)
 
 -- The reply tells why the grammar has no parser for the question: a fault that stands, the first in order; or, where none does, the
 -- conflicts of its expansion.
 pub data IsNoParserReply (q : Question) (g : Grammar) (reply : Reply) : Type 0 where
   refused : (f : Refusal) → IsListedFault (asked_of q) (grammar_view g) f → TellsRefusal f reply → IsNoParserReply q g reply
-  conflicting : (told : List ToldConflict) → IsConflicting (asked_of q) (grammar_view g) told → TellsConflicts q g told reply
+  conflicting : (told : List ToldConflict) → IsConflicting (asked_of q) (grammar_view g) told → TellsConflicts told reply
       → IsNoParserReply q g reply

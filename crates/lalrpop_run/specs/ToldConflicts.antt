@@ -10,10 +10,10 @@ use Rattle.lalrpop_lr1_theory.specs.Productions.{Production}
 use Rattle.lalrpop_lr1_theory.specs.Spans.{without_spans}
 use Rattle.lalrpop_lr1_theory.specs.Trees.{roots}
 use Rattle.lalrpop_run_theory.specs.ExpansionTrees.{written_of_forest}
-use Rattle.lalrpop_run_theory.specs.TextAnswers.{AreExpansionOf}
 use Rattle.lalrpop_run.specs.AllConflicts.{AreConflictsInOrder, CertifiesPlaced, PlacedConflict}
 use Rattle.lalrpop_run.specs.Asked.{Asked, MoveKind, ToldConflict, name_of_start}
 use Rattle.lalrpop_run.specs.ListedFaults.{IsFaultless}
+use Rattle.lalrpop_run.specs.ProductionOrders.{AreItsProductions}
 
 abbrev pub kind_of_move : NumberedMove → MoveKind
 kind_of_move (shift_of t) = MoveKind.shift
@@ -51,6 +51,6 @@ pub record AreToldOf (G : Production → Type 0) (s : Text) (label_of : ℕ → 
 pub record IsConflicting (q : Asked) (w : Grammar) (told : List ToldConflict) : Type 0 where
   pub faultless : IsFaultless q w
   pub grammar : List Production
-  pub expansion : AreExpansionOf q.finds q.features w grammar
+  pub productions : AreItsProductions q w grammar
   pub no_lr1 : IsLr1 (Contains grammar) (name_of_start q w) → ⊥
-  pub told_are : AreToldOf (Contains grammar) (name_of_start q w) expansion.label_of told
+  pub told_are : AreToldOf (Contains grammar) (name_of_start q w) productions.expansion.label_of told

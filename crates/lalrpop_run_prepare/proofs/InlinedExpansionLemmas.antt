@@ -230,7 +230,8 @@ all_of_each P (x ∷ xs) h = All-cons P x xs (h x (inl refl)) (all_of_each P xs 
 
 module _ (g : EnabledGrammar) (prefix : Text) (before : Grammar) (before_sorted : AreSorted before.nonterminals)
     (before_own : StandUnderNames before.nonterminals) (n : IsNamedExpansion g prefix before.nonterminals) where
-  actions_once : StandOnce (production_actions before.nonterminals)
+  -- no two of its productions have one action
+  pub actions_once : StandOnce (production_actions before.nonterminals)
   actions_once =
       subst (λ (l : List ℕ). StandOnce l) (sym (actions_named before.nonterminals))
       (once_by_place (λ (p : NamedProduction). p.action) (named_productions before.nonterminals)
@@ -283,3 +284,9 @@ module _ (g : EnabledGrammar) (prefix : Text) (before : Grammar) (before_sorted 
   labels_by_actions after inlined known =
       let labels = labels_exist before after actions_once (all_known known) inlined in
       (labels.0, labels.1, λ k. refl)
+
+  -- and its names are those of the productions before inlining
+  pub names_by_actions : (after : Grammar) (inlined : IsInlinedGrammar before after) (known : AreKnown) →
+      (inlined_expansion after inlined known).name_of ≡ n.name_of
+  unfolding inlined_expansion labelled_expansion
+  names_by_actions after inlined known = refl

@@ -31,6 +31,7 @@ use Rattle.lalrpop_run_prepare.specs.NamedGrammars.{IsNamedExpansion, StandUnder
 use Rattle.lalrpop_run_prepare.specs.NamedLabels.{inlinings_back, label_back}
 use Rattle.lalrpop_run_prepare.proofs.InlinedEntryLemmas.{AreSorted, stands_named}
 use Rattle.lalrpop_run_prepare.proofs.InlinedExpansionLemmas.{all_known, inlined_expansion, is_seen, labels_by_actions}
+use Rattle.lalrpop_run_prepare.proofs.InlinedExpansionLemmas.{names_by_actions}
 use Rattle.lalrpop_run_prepare.proofs.NamedProductionLemmas.{back, back_is, entry_production}
 use Rattle.lalrpop_run_trees.specs.ActionLabels.{ChoiceInlinings, ChoiceLabel, TellsLabel, all_kept}
 use Rattle.lalrpop_run_prepare.specs.ToldExpansions.{AreToldExpansion}
@@ -111,3 +112,16 @@ module _ (g : EnabledGrammar) (prefix : Text) (before : Grammar) (sorted : AreSo
             subst (λ (r : theory.Production). TellsLabel whole origins r.action (length r.right) (expansion.label_of r.action)) s.seen_is
             own_label;
       }
+
+  -- its labels are those of the actions, back, and its names are those of the productions before inlining
+  pub told_labels : (many : length before.action_fn_defns ≡ length origins) (after : Grammar) (inlined : IsInlinedGrammar before after)
+      (known : (m : NonterminalString) (d : NonterminalData) (p : Production) → Among before.nonterminals (m, d) → Among d.productions p →
+      p.action.0 < length before.action_fn_defns) →
+      (lab : ℕ → Label Text ℕ) × AreActionLabels before after lab
+      × ((k : ℕ) → (told_expansion many after inlined known).expansion.label_of k
+      ≡ label_back (back g prefix before.nonterminals sorted own n) (lab k))
+      × ((told_expansion many after inlined known).expansion.name_of ≡ n.name_of)
+  unfolding told_expansion
+  told_labels many after inlined known =
+      let r = labels_by_actions g prefix before sorted own n after inlined known in
+      (r.0, r.1, r.2, names_by_actions g prefix before sorted own n after inlined known)
