@@ -1,5 +1,5 @@
 -- Computed examples of lanes: over the seven states of `S = C C; C = "c" C or "d"` without lookaheads, with two answers that are wrong.
-use Rattle.std.proofs.Common.{◌≡◌, ◌↔◌, ◌⊎◌, ℕ, suc, List, [], ◌∷◌, drop, None, Some, Contains, refl, sym, ap, subst}
+use Rattle.std.proofs.Common.{◌≡◌, ◌↔◌, ◌⊎◌, ℕ, suc, List, [], ◌∷◌, drop, length, None, Some, Contains, refl, sym, ap, subst}
 use Rattle.std.proofs.Common.{inl, inr, arith}
 use Rattle.lalrpop_grammar_symbols.specs.Symbols.{Terminal, Text}
 use Rattle.lalrpop_lr1_theory.specs.Productions.{Next, Production, Symbol, nonterminal, terminal}
@@ -9,6 +9,7 @@ use Rattle.lalrpop_lr1_theory.proofs.ExampleLemmas.{head_same, name, name_same, 
 use Rattle.lalrpop_lr1_theory.proofs.ExampleLemmas.{not_nonterminal, production, quoted, tail_same}
 use Rattle.lalrpop_lr1_theory.proofs.FirstTableLemmas.{said_first}
 use Rattle.lalrpop_lr1_theory.proofs.ListLemmas.{all_of}
+use Rattle.lalrpop_lane_theory.specs.CarriedConflicts.{HasNoCarriedConflict}
 use Rattle.lalrpop_lane_theory.specs.Lanes.{Lane, LaneAdds, LaneEnters, LaneNotes, TraceAdds, TraceEnters, TraceNotes, adds_end}
 use Rattle.lalrpop_lane_theory.specs.Lanes.{adds_first, begins_lane, enters_behind, enters_own, steps_back, steps_up}
 use Rattle.lalrpop_lane_theory.proofs.LaneLemmas.{lane_least}
@@ -150,9 +151,10 @@ first_behind n r j A b t ends_done d f = absurd (not_empty (nonterminal A) b d)
 first_behind n r j A b t two_done d f = absurd (not_empty (nonterminal A) b d)
 first_behind n r j A b t more_done d f = absurd (not_empty (nonterminal A) b d)
 
--- The lane from `C = "d" (*)` in state 4.
+-- The lanes from `C = "d" (*)` in state 4 and from `C = "c" C (*)` in state 6.
 data OnLane : ℕ → Production → ℕ → Type 0 where
   d_behind : OnLane 4 c_ends 1
+  more_behind : OnLane 6 c_more 2
   d_before : (n : ℕ) → BeginsC n → OnLane n c_ends 0
   second_c : OnLane 2 two_c 1
   first_c : OnLane 0 two_c 0
@@ -164,6 +166,7 @@ back_on : (k m n : ℕ) (q : Production) (i j : ℕ) (X : Symbol) → OnLane m q
 back_on k m n q i j X d_behind e (by_d l o) f = let z : 0 ≡ j = omega (arith, e) in subst (OnLane k c_ends) z (d_before k o)
 back_on k m n q i j X second_c e by_one f = let z : 0 ≡ j = omega (arith, e) in subst (OnLane 0 two_c) z first_c
 back_on k m n q i j X inner_c e (by_c l o) f = let z : 0 ≡ j = omega (arith, e) in subst (OnLane k c_more) z (c_before k o)
+back_on k m n q i j X more_behind e by_more f = let z : 1 ≡ j = omega (arith, e) in subst (OnLane 3 c_more) z inner_c
 back_on k m n q i j X l e t f = absurd (omega (arith, e, f))
 
 -- the items with the dot before C, and nothing behind it, and with the dot before S
@@ -225,13 +228,15 @@ up_on m q i r j b first_c e it d f = start_on m r j (before_other m r j 83 b it 
 up_on m q i r j b whole e it d f =
     let h = (before_other m r j 95 b it d (λ z. omega (arith, z))).0 in absurd (omega (arith, h))
 up_on m q i r j b d_behind e it d f = absurd (omega (arith, e))
+up_on m q i r j b more_behind e it d f = absurd (omega (arith, e))
 up_on m q i r j b second_c e it d f = absurd (omega (arith, e))
 up_on m q i r j b inner_c e it d f = absurd (omega (arith, e))
 
--- it comes nowhere else
-on_lane : (m : ℕ) (q : Production) (j : ℕ) → Lane G StandsIn LeadsOn 4 c_ends 1 m q j → OnLane m q j
-on_lane =
-    lane_least G StandsIn LeadsOn 4 c_ends 1 OnLane d_behind
+-- they come nowhere else
+on_lane : (n : ℕ) (p : Production) (i : ℕ) → OnLane n p i → (m : ℕ) (q : Production) (j : ℕ) →
+    Lane G StandsIn LeadsOn n p i m q j → OnLane m q j
+on_lane n p i from =
+    lane_least G StandsIn LeadsOn n p i OnLane from
     (λ m q j X b k v d e. back_on k m m q (suc j) j X v refl e refl)
     (λ m q r j b v it d f. up_on m q 0 r j b v refl it d f)
 
@@ -239,28 +244,45 @@ at_start : (m : ℕ) (q : Production) (j : ℕ) → OnLane m q j → q.left ≡ 
 at_start m q j whole e = refl
 at_start m q j first_c e = refl
 at_start m q j d_behind e = absurd (omega (arith, name_same 67 95 e))
+at_start m q j more_behind e = absurd (omega (arith, name_same 67 95 e))
 at_start m q j (d_before n o) e = absurd (omega (arith, name_same 67 95 e))
 at_start m q j second_c e = absurd (omega (arith, name_same 83 95 e))
 at_start m q j inner_c e = absurd (omega (arith, name_same 67 95 e))
 at_start m q j (c_before n o) e = absurd (omega (arith, name_same 67 95 e))
 
--- and the lane goes to all of these
+-- and both go to where the end and the terminals come from
 abbrev DLane : ℕ → Production → ℕ → Type 0
 DLane = Lane G StandsIn LeadsOn 4 c_ends 1
+
+abbrev MoreLane : ℕ → Production → ℕ → Type 0
+MoreLane = Lane G StandsIn LeadsOn 6 c_more 2
 
 lane_before : (n : ℕ) → BeginsC n → DLane n c_ends 0
 lane_before n o = steps_back (terminal d_token) [] n begins_lane refl (by_d n o)
 
-lane_second : DLane 2 two_c 1
-lane_second = steps_up two_c 1 [] (lane_before 2 behind_one) two_second refl ends
+more_before : (n : ℕ) → BeginsC n → MoreLane n c_more 0
+more_before n o =
+    steps_back (terminal c_token) (nonterminal c_name ∷ []) n
+    (steps_back (nonterminal c_name) [] 3 begins_lane refl by_more) refl (by_c n o)
 
-lane_first : DLane 0 two_c 0
-lane_first = steps_back (nonterminal c_name) (nonterminal c_name ∷ []) 0 lane_second refl by_one
+module _ (n : ℕ) (p : Production) (i : ℕ) (q : Production) (c_q : q.left ≡ c_name)
+    (goes : (m : ℕ) → BeginsC m → Lane G StandsIn LeadsOn n p i m q 0) where
+  lane_second : Lane G StandsIn LeadsOn n p i 2 two_c 1
+  lane_second = steps_up two_c 1 [] (goes 2 behind_one) two_second (ap (λ A. nonterminal A ∷ []) (sym c_q)) ends
 
-lane_whole : DLane 0 starts_s 0
-lane_whole = steps_up starts_s 0 [] lane_first start_first refl ends
+  lane_first : Lane G StandsIn LeadsOn n p i 0 two_c 0
+  lane_first = steps_back (nonterminal c_name) (nonterminal c_name ∷ []) 0 lane_second refl by_one
 
--- In state 0 it adds the end and both terminals, which are what is carried to the item, and nothing anywhere else.
+  lane_whole : Lane G StandsIn LeadsOn n p i 0 starts_s 0
+  lane_whole = steps_up starts_s 0 [] lane_first start_first refl ends
+
+  adds_behind : (t : Terminal) → First0 G (nonterminal c_name ∷ []) (Some t) →
+      LaneAdds G start_name StandsIn LeadsOn n p i 0 (Some t)
+  adds_behind t f =
+      adds_first two_c 0 (nonterminal c_name ∷ []) t (goes 0 at_first) two_first
+      (ap (λ A. nonterminal A ∷ nonterminal c_name ∷ []) (sym c_q)) f
+
+-- In state 0 they add the end and both terminals, which are what is carried to the items, and nothing anywhere else.
 abbrev IsAny : Next → Type 0
 IsAny x = (x ≡ None) ⊎ ((x ≡ Some c_token) ⊎ (x ≡ Some d_token))
 
@@ -268,24 +290,29 @@ any_of : (t : Terminal) → IsEither t → IsAny (Some t)
 any_of t (inl e) = inr (inl (ap Some e))
 any_of t (inr e) = inr (inr (ap Some e))
 
-d_adds : (m : ℕ) (x : Next) → LaneAdds G start_name StandsIn LeadsOn 4 c_ends 1 m x → (m ≡ 0) × IsAny x
-d_adds m x (adds_end {q = q} l e) = (at_start m q 0 (on_lane m q 0 l) e, inl refl)
-d_adds m x (adds_first {q = q} r j b t l it d f) =
+adds_any : (n : ℕ) (p : Production) (i : ℕ) → OnLane n p i → (m : ℕ) (x : Next) →
+    LaneAdds G start_name StandsIn LeadsOn n p i m x → (m ≡ 0) × IsAny x
+adds_any n p i from m x (adds_end {q = q} l e) = (at_start m q 0 (on_lane n p i from m q 0 l) e, inl refl)
+adds_any n p i from m x (adds_first {q = q} r j b t l it d f) =
     let h = first_behind m r j q.left b t it d f in (h.0, any_of t h.1)
 
-adds_d : (x : Next) → IsAny x → LaneAdds G start_name StandsIn LeadsOn 4 c_ends 1 0 x
-adds_d x (inl e) = subst (LaneAdds G start_name StandsIn LeadsOn 4 c_ends 1 0) (sym e) (adds_end lane_whole refl)
-adds_d x (inr (inl e)) =
-    subst (LaneAdds G start_name StandsIn LeadsOn 4 c_ends 1 0) (sym e)
-    (adds_first two_c 0 (nonterminal c_name ∷ []) c_token (lane_before 0 at_first) two_first refl c_begins)
-adds_d x (inr (inr e)) =
-    subst (LaneAdds G start_name StandsIn LeadsOn 4 c_ends 1 0) (sym e)
-    (adds_first two_c 0 (nonterminal c_name ∷ []) d_token (lane_before 0 at_first) two_first refl d_begins)
+any_added : (n : ℕ) (p : Production) (i : ℕ) (q : Production) → q.left ≡ c_name →
+    ((m : ℕ) → BeginsC m → Lane G StandsIn LeadsOn n p i m q 0) → (x : Next) → IsAny x →
+    LaneAdds G start_name StandsIn LeadsOn n p i 0 x
+any_added n p i q e goes x (inl h) =
+    subst (LaneAdds G start_name StandsIn LeadsOn n p i 0) (sym h) (adds_end (lane_whole n p i q e goes) refl)
+any_added n p i q e goes x (inr (inl h)) =
+    subst (LaneAdds G start_name StandsIn LeadsOn n p i 0) (sym h) (adds_behind n p i q e goes c_token c_begins)
+any_added n p i q e goes x (inr (inr h)) =
+    subst (LaneAdds G start_name StandsIn LeadsOn n p i 0) (sym h) (adds_behind n p i q e goes d_token d_begins)
 
-d_adds_just : (x : Next) → LaneAdds G start_name StandsIn LeadsOn 4 c_ends 1 0 x ↔ IsAny x
-d_adds_just x = (λ a. (d_adds 0 x a).1, adds_d x)
+d_adds : (x : Next) → LaneAdds G start_name StandsIn LeadsOn 4 c_ends 1 0 x ↔ IsAny x
+d_adds x = (λ a. (adds_any 4 c_ends 1 d_behind 0 x a).1, any_added 4 c_ends 1 c_ends refl lane_before x)
 
--- Its entries in its own state and in state 2 are empty.
+more_adds : (x : Next) → LaneAdds G start_name StandsIn LeadsOn 6 c_more 2 0 x ↔ IsAny x
+more_adds x = (λ a. (adds_any 6 c_more 2 more_behind 0 x a).1, any_added 6 c_more 2 c_more refl more_before x)
+
+-- The entries of the lane from `C = "d" (*)` in its own state and in state 2 are empty.
 own_entry : LaneEnters G start_name StandsIn LeadsOn 4 c_ends 1 4
 own_entry = enters_own
 
@@ -294,7 +321,10 @@ other_entry = enters_behind two_c 1 [] (lane_before 2 behind_one) two_second ref
 
 empty_entries : (x : Next) → (LaneAdds G start_name StandsIn LeadsOn 4 c_ends 1 4 x → ⊥)
     × (LaneAdds G start_name StandsIn LeadsOn 4 c_ends 1 2 x → ⊥)
-empty_entries x = (λ a. omega (arith, (d_adds 4 x a).0), λ a. omega (arith, (d_adds 2 x a).0))
+empty_entries x = (
+  λ a. omega (arith, (adds_any 4 c_ends 1 d_behind 4 x a).0),
+  λ a. omega (arith, (adds_any 4 c_ends 1 d_behind 2 x a).0),
+)
 
 -- A lane comes back to its own state and item: from `C = "c" (*) C` in state 3, over the edge by `"c"` from that state to itself.
 comes_back : Lane G StandsIn LeadsOn 3 c_more 1 3 c_more 1
@@ -331,9 +361,10 @@ reduction_enters = other_entry
 shift_notes_none : (k m : ℕ) → TraceNotes G StandsIn LeadsOn 3 (shift d_token) k m → ⊥
 shift_notes_none k m h = h
 
--- The lane from `S = C C (*)` in state 5.
+-- The lanes from `S = C C (*)` in state 5 and from `__S = S (*)` in state 1.
 data OnWhole : ℕ → Production → ℕ → Type 0 where
   both_behind : OnWhole 5 two_c 2
+  all_behind : OnWhole 1 starts_s 1
   second_before : OnWhole 2 two_c 1
   both_before : OnWhole 0 two_c 0
   all_before : OnWhole 0 starts_s 0
@@ -342,6 +373,7 @@ back_whole : (k m n : ℕ) (q : Production) (i j : ℕ) (X : Symbol) → OnWhole
     OnWhole k q j
 back_whole k m n q i j X both_behind e by_two f = let z : 1 ≡ j = omega (arith, e) in subst (OnWhole 2 two_c) z second_before
 back_whole k m n q i j X second_before e by_one f = let z : 0 ≡ j = omega (arith, e) in subst (OnWhole 0 two_c) z both_before
+back_whole k m n q i j X all_behind e by_s f = let z : 0 ≡ j = omega (arith, e) in subst (OnWhole 0 starts_s) z all_before
 back_whole k m n q i j X l e t f = absurd (omega (arith, e, f))
 
 start_whole : (n : ℕ) (r : Production) (j : ℕ) → IsStartItem n r j → OnWhole n r j
@@ -353,11 +385,13 @@ up_whole m q i r j b both_before e it d = start_whole m r j (before_other m r j 
 up_whole m q i r j b all_before e it d =
     let h = (before_other m r j 95 b it d (λ z. omega (arith, z))).0 in absurd (omega (arith, h))
 up_whole m q i r j b both_behind e it d = absurd (omega (arith, e))
+up_whole m q i r j b all_behind e it d = absurd (omega (arith, e))
 up_whole m q i r j b second_before e it d = absurd (omega (arith, e))
 
-on_whole : (m : ℕ) (q : Production) (j : ℕ) → Lane G StandsIn LeadsOn 5 two_c 2 m q j → OnWhole m q j
-on_whole =
-    lane_least G StandsIn LeadsOn 5 two_c 2 OnWhole both_behind
+on_whole : (n : ℕ) (p : Production) (i : ℕ) → OnWhole n p i → (m : ℕ) (q : Production) (j : ℕ) →
+    Lane G StandsIn LeadsOn n p i m q j → OnWhole m q j
+on_whole n p i from =
+    lane_least G StandsIn LeadsOn n p i OnWhole from
     (λ m q j X b k v d e. back_whole k m m q (suc j) j X v refl e refl)
     (λ m q r j b v it d f. up_whole m q 0 r j b v refl it d)
 
@@ -373,16 +407,73 @@ no_terminal m q i r j b t both_before e it d f =
 no_terminal m q i r j b t all_before e it d f =
     let h = (before_other m r j 95 b it d (λ z. omega (arith, z))).0 in omega (arith, h)
 no_terminal m q i r j b t both_behind e it d f = omega (arith, e)
+no_terminal m q i r j b t all_behind e it d f = omega (arith, e)
 no_terminal m q i r j b t second_before e it d f = omega (arith, e)
 
-only_end : (m : ℕ) (x : Next) → LaneAdds G start_name StandsIn LeadsOn 5 two_c 2 m x → x ≡ None
-only_end m x (adds_end l e) = refl
-only_end m x (adds_first {q = q} r j b t l it d f) = absurd (no_terminal m q 0 r j b t (on_whole m q 0 l) refl it d f)
+only_end : (n : ℕ) (p : Production) (i : ℕ) → OnWhole n p i → (m : ℕ) (x : Next) →
+    LaneAdds G start_name StandsIn LeadsOn n p i m x → (m ≡ 0) × (x ≡ None)
+only_end n p i from m x (adds_end {q = q} l e) = (at_zero m q 0 (on_whole n p i from m q 0 l) refl, refl)
+  where
+    at_zero : (m : ℕ) (q : Production) (i : ℕ) → OnWhole m q i → i ≡ 0 → m ≡ 0
+    at_zero m q i both_before e = refl
+    at_zero m q i all_before e = refl
+    at_zero m q i l e = absurd (omega (arith, e))
+only_end n p i from m x (adds_first {q = q} r j b t l it d f) =
+    absurd (no_terminal m q 0 r j b t (on_whole n p i from m q 0 l) refl it d f)
 
--- Two answers that are wrong: that `"c"` comes to this item; and that the lane from `C = "d" (*)` adds something in the state behind
+-- both add the end in state 0, and nothing else
+whole_adds : LaneAdds G start_name StandsIn LeadsOn 5 two_c 2 0 None
+whole_adds =
+    adds_end (steps_up starts_s 0 []
+    (steps_back (nonterminal c_name) (nonterminal c_name ∷ []) 0
+    (steps_back (nonterminal c_name) [] 2 begins_lane refl by_two) refl by_one) start_first refl ends) refl
+
+whole_just : (m : ℕ) (x : Next) → LaneAdds G start_name StandsIn LeadsOn 5 two_c 2 m x → (m ≡ 0) × (x ≡ None)
+whole_just = only_end 5 two_c 2 both_behind
+
+start_just : (m : ℕ) (x : Next) → LaneAdds G start_name StandsIn LeadsOn 1 starts_s 1 m x → (m ≡ 0) × (x ≡ None)
+start_just = only_end 1 starts_s 1 all_behind
+
+-- Two answers that are wrong: that `"c"` comes to `S = C C (*)`; and that the lane from `C = "d" (*)` adds something in the state behind
 -- `"c"`, where it asks what can come behind a C, too.
 wrong_terminal : (m : ℕ) → LaneAdds G start_name StandsIn LeadsOn 5 two_c 2 m (Some c_token) → ⊥
-wrong_terminal m a = none_same c_token (only_end m (Some c_token) a)
+wrong_terminal m a = none_same c_token (whole_just m (Some c_token) a).1
 
 wrong_state : (x : Next) → LaneAdds G start_name StandsIn LeadsOn 4 c_ends 1 3 x → ⊥
-wrong_state x a = omega (arith, (d_adds 3 x a).0)
+wrong_state x a = omega (arith, (adds_any 4 c_ends 1 d_behind 3 x a).0)
+
+-- What is carried over these states leaves no conflict: a state that has finished an item has no other, and shifts nothing.
+finished_one : (n k : ℕ) (p q : Production) (i j : ℕ) → StandsIn n p i → StandsIn k q j → i ≡ length p.right →
+    j ≡ length q.right → n ≡ k → p ≡ q
+finished_one n k p q i j start_done start_done e f h = refl
+finished_one n k p q i j ends_done ends_done e f h = refl
+finished_one n k p q i j two_done two_done e f h = refl
+finished_one n k p q i j more_done more_done e f h = refl
+finished_one n k p q i j it other e f h = absurd (omega (arith, e, f, h))
+
+leads_from : (n : ℕ) (x : Symbol) (m : ℕ) → LeadsOn n x m → BeginsC n
+leads_from n x m by_s = at_first
+leads_from n x m by_one = at_first
+leads_from n x m by_two = behind_one
+leads_from n x m by_more = behind_c
+leads_from n x m (by_c k o) = o
+leads_from n x m (by_d k o) = o
+
+begins_unfinished : (k : ℕ) → BeginsC k → (k ≡ 1 → ⊥) × (k ≡ 4 → ⊥) × (k ≡ 5 → ⊥) × (k ≡ 6 → ⊥)
+begins_unfinished k at_first = (λ e. omega (arith, e), λ e. omega (arith, e), λ e. omega (arith, e), λ e. omega (arith, e))
+begins_unfinished k behind_one = (λ e. omega (arith, e), λ e. omega (arith, e), λ e. omega (arith, e), λ e. omega (arith, e))
+begins_unfinished k behind_c = (λ e. omega (arith, e), λ e. omega (arith, e), λ e. omega (arith, e), λ e. omega (arith, e))
+
+finished_last : (n k : ℕ) (p : Production) (i : ℕ) → StandsIn n p i → BeginsC k → i ≡ length p.right → n ≡ k → ⊥
+finished_last n k p i start_done o e f = (begins_unfinished k o).0 (sym f)
+finished_last n k p i ends_done o e f = (begins_unfinished k o).1 (sym f)
+finished_last n k p i two_done o e f = (begins_unfinished k o).2 (sym f)
+finished_last n k p i more_done o e f = (begins_unfinished k o).3 (sym f)
+finished_last n k p i it o e f = omega (arith, e)
+
+no_carried_conflict : HasNoCarriedConflict G start_name StandsIn LeadsOn
+no_carried_conflict =
+    record {
+      reductions_apart = λ n p q x a b. finished_one n n p q (length p.right) (length q.right) a.0 b.0 refl refl refl;
+      shifts_apart = λ n p t m a e. finished_last n n p (length p.right) a.0 (leads_from n (terminal t) m e) refl refl;
+    }

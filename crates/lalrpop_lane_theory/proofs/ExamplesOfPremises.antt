@@ -1,17 +1,19 @@
--- Computed examples of what the laws ask: a start that isn't alone, and carried lookaheads that conflict.
-use Rattle.std.proofs.Common.{◌≡◌, ℕ, zero, suc, List, [], ◌∷◌, drop, None, Some, Contains, refl, sym, ap, arith}
+-- Computed examples of what the laws ask: a start that isn't alone, a state to which nothing leads, and carried lookaheads that conflict.
+use Rattle.std.proofs.Common.{◌≡◌, ℕ, zero, suc, List, [], ◌∷◌, drop, None, Some, Contains, refl, sym, ap, subst, arith}
 use Rattle.lalrpop_grammar_symbols.specs.Symbols.{Terminal, Text}
 use Rattle.lalrpop_lr1_theory.specs.Productions.{Next, Production, Symbol, nonterminal, terminal}
 use Rattle.lalrpop_lr1_theory.specs.FirstSets.{Derives, First0, ends, grows, keeps}
-use Rattle.lalrpop_lr1_theory.specs.Automata.{Carries, begins_with_end, in_kernel, passes_next, shifts_next, starts_next}
+use Rattle.lalrpop_lr1_theory.specs.Automata.{Carries, Closure, IsBegun, IsCover, begins_with_end, closed, in_kernel, passes_next}
+use Rattle.lalrpop_lr1_theory.specs.Automata.{shifts_next, starts_next}
 use Rattle.lalrpop_lr1_theory.proofs.ExampleLemmas.{head_same, name, name_same, none_same, not_empty, not_nonterminal, not_terminal}
-use Rattle.lalrpop_lr1_theory.proofs.ExampleLemmas.{production, quoted, tail_same}
+use Rattle.lalrpop_lr1_theory.proofs.ExampleLemmas.{nothing_in, production, quoted, tail_same}
 use Rattle.lalrpop_lr1_theory.proofs.ListLemmas.{all_of, contains_here}
-use Rattle.lalrpop_lane_theory.specs.CarriedConflicts.{CarriesToFinished, HasNoCarriedConflict}
+use Rattle.lalrpop_lane_theory.specs.CarriedConflicts.{CarriesToFinished, HasNoCarriedConflict, IsReachedCover}
 use Rattle.lalrpop_lane_theory.specs.Columns.{AllFitBeside}
 use Rattle.lalrpop_lane_theory.specs.LaneTables.{HasNextIn}
 use Rattle.lalrpop_lane_theory.specs.Lanes.{LaneAdds, adds_end, adds_first, begins_lane, steps_back}
 use Rattle.lalrpop_lane_theory.proofs.CarriedLemmas.{carried_given}
+use Rattle.lalrpop_lane_theory.proofs.LaneLemmas.{lanes_carried}
 
 -- A start on right sides, S of `S = "(" S ")" or "x"`: behind the bracket its items stand with the dot in front, so the lane from
 -- `S = (*) "x"` adds the end there; but nothing is carried there but the closing bracket, whichever the states.
@@ -75,6 +77,72 @@ module _ (Item : ℕ → Production → ℕ → Type 0) (Edge : ℕ → Symbol �
 
   end_added : LaneAdds (Contains brackets) s_name Item Edge 1 innermost 0 1 None
   end_added = adds_end begins_lane refl
+
+-- A state to which nothing leads, over `S = ` with the start S: states 0 and 1 both have its item, and no edges. They cover the items,
+-- and the lane from the item in state 1 adds the end there, but nothing is carried there.
+abbrev nothing : Production
+nothing = production 0 s_name []
+
+abbrev empty : List Production
+empty = nothing ∷ []
+
+data StandsAlone : ℕ → Production → ℕ → Type 0 where
+  in_first : StandsAlone 0 nothing 0
+  in_other : StandsAlone 1 nothing 0
+
+abbrev NoEdge : ℕ → Symbol → ℕ → Type 0
+NoEdge n x m = ⊥
+
+no_next : (n : ℕ) (p : Production) (i : ℕ) (x : Symbol) (b : List Symbol) → StandsAlone n p i → drop i p.right ≡ x ∷ b → ⊥
+no_next n p i x b in_first e = not_empty x b e
+no_next n p i x b in_other e = not_empty x b e
+
+closure_alone : (n : ℕ) (p : Production) (i : ℕ) → Closure (Contains empty) (StandsAlone n) p i → StandsAlone n p i
+closure_alone n p i (in_kernel q j k) = k
+closure_alone n p i (closed {p = q} {i = j} b r c d g) =
+    absurd (no_next n q j (nonterminal r.left) b (closure_alone n q j c) d)
+
+begun : (p : Production) (i : ℕ) → Closure (Contains empty) (IsBegun (Contains empty) s_name) p i → StandsAlone 0 p i
+begun p i (in_kernel q j u) =
+    subst (StandsAlone 0 q) (sym u.2)
+    (subst (λ r. StandsAlone 0 r 0) (all_of (λ r. nothing ≡ r) empty (refl, tt) q u.0) in_first)
+begun p i (closed {p = q} {i = j} b r c d g) = absurd (no_next 0 q j (nonterminal r.left) b (begun q j c) d)
+
+covers : IsCover (Contains empty) s_name StandsAlone NoEdge
+covers =
+    record {
+      start = λ p i. (start 0 p i, begun p i);
+      onward = λ n p i x b k d. absurd (no_next n p i x b k d);
+      one = λ n x m k e f. absurd e;
+      next = λ n x m e p i. absurd e;
+      only = λ n x m e. absurd e;
+    }
+  where
+    start : (n : ℕ) (p : Production) (i : ℕ) → StandsAlone n p i →
+        Closure (Contains empty) (IsBegun (Contains empty) s_name) p i
+    start n p i in_first = in_kernel nothing 0 ((0, omega arith, refl), refl, refl)
+    start n p i in_other = in_kernel nothing 0 ((0, omega arith, refl), refl, refl)
+
+carried_first : (n : ℕ) (p : Production) (i : ℕ) (x : Next) → Carries (Contains empty) s_name StandsAlone NoEdge n p i x → n ≡ 0
+carried_first n p i x (begins_with_end q g e) = refl
+carried_first n p i x (shifts_next X b m c d e) = absurd e
+carried_first n p i x (starts_next {p = q} {i = j} b r t c d g f) =
+    absurd (no_next n q j (nonterminal r.left) b (closure_alone n q j c) d)
+carried_first n p i x (passes_next {p = q} {i = j} b r y c d g f) = carried_first n q j y c
+
+not_carried_there : Carries (Contains empty) s_name StandsAlone NoEdge 1 nothing 0 None → ⊥
+not_carried_there c = omega (arith, carried_first 1 nothing 0 None c)
+
+added_there : LaneAdds (Contains empty) s_name StandsAlone NoEdge 1 nothing 0 1 None
+added_there = adds_end begins_lane refl
+
+not_reached : IsReachedCover (Contains empty) s_name StandsAlone NoEdge → ⊥
+not_reached states =
+    not_carried_there
+    ((lanes_carried (Contains empty) s_name StandsAlone NoEdge states 1 nothing 0 alone in_other None).1 (1, added_there))
+  where
+    alone : (q : Production) → Contains empty q → Contains q.right (nonterminal s_name) → ⊥
+    alone q g = all_of (λ r. Contains r.right (nonterminal s_name) → ⊥) empty (nothing_in (nonterminal s_name), tt) q g
 
 -- Carried lookaheads that conflict: `__S = S; S = "a" E "a", "b" E "b", "a" F "b" or "b" F "a"; E = "e"; F = "e"`. Of the states without
 -- lookaheads here stand those behind `"a"`, 1, behind `"b"`, 2, and behind `"e"`, 3.

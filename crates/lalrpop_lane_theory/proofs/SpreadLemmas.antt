@@ -111,6 +111,14 @@ module _ (Item : ℕ → Production → ℕ → Type 0) (Edge : ℕ → Symbol �
   pub of_other : (from copy n : ℕ) → (n ≡ copy → ⊥) → with_copy from copy n ≡ origin n
   of_other from copy n e = ap (λ b. cond b (origin from) (origin n)) (ne_eqb n copy e)
 
+  -- edges that another state had earlier lead on as its original's by the origins with the copy, too
+  pub copied_earlier : (from copy n : ℕ) (Leaving : Symbol → ℕ → Type 0) → (n ≡ copy → ⊥) → ((x : Symbol) → Leaving x copy → ⊥) →
+      LeadAsOriginal Edge origin (origin n) Leaving →
+      LeadAsOriginal Edge (with_copy from copy) (with_copy from copy n) Leaving
+  copied_earlier from copy n Leaving e none lead =
+      lead_on Edge origin (with_copy from copy) (origin n) (with_copy from copy n) Leaving Leaving (sym (of_other from copy n e))
+      (λ x m. (λ k. k, λ k. k)) (λ x m l. of_other from copy m (λ h. none x (subst (Leaving x) h l))) lead
+
   module _ (NewItem : ℕ → Production → ℕ → Type 0) (NewEdge : ℕ → Symbol → ℕ → Type 0) (Earlier : Symbol → ℕ → Type 0)
       (from copy : ℕ) (lead : LeadAsOriginal Edge origin (origin from) Earlier)
       (copied : IsCopied SpreadItem SpreadEdge NewItem NewEdge Earlier from copy) where

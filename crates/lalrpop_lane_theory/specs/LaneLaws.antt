@@ -1,7 +1,7 @@
 -- What the laws on lanes, columns and merged states say, over lists of productions and of states.
 use Rattle.std.specs.Prelude.{ℕ, ◌≤◌, List, [], length, ◌≡◌, ◌⊎◌, ◌↔◌, Contains}
 use Rattle.lalrpop_grammar_symbols.specs.Symbols.{Terminal, Text}
-use Rattle.lalrpop_lr1_theory.specs.Productions.{Next, Production}
+use Rattle.lalrpop_lr1_theory.specs.Productions.{Next, Production, Symbol}
 use Rattle.lalrpop_lr1_theory.specs.Trees.{Move}
 use Rattle.lalrpop_lr1_theory.specs.ValidItems.{NoneBarren}
 use Rattle.lalrpop_lr1_theory.specs.Automata.{Carries, IsCover}
@@ -43,12 +43,16 @@ SpreadStatesCover =
     IsCover (Contains grammar) s (HasItem originals) (HasEdge originals) → AreSpreadStates originals states origin →
     IsCover (Contains grammar) s (HasItem states) (HasEdge states)
 
--- states are spread over the originals, the copy by the original of what it is a copy of, and all others by theirs
+-- States are spread over the originals, the copy by the original of what it is a copy of, and all others by theirs. Edges that another
+-- state had earlier, and that led on as its original's, still do.
 pub record SpreadsCopy (originals states : List State) (origin : ℕ → ℕ) (from copy : ℕ) : Type 0 where
   pub new_origin : ℕ → ℕ
   pub of_copy : new_origin copy ≡ origin from
   pub of_other : (n : ℕ) → (n ≡ copy → ⊥) → new_origin n ≡ origin n
   pub spread : AreSpreadStates originals states new_origin
+  pub earlier : (n : ℕ) (state : State) → (n ≡ copy → ⊥) → ((x : Symbol) → LeavesBy state x copy → ⊥) →
+      LeadAsOriginal (HasEdge originals) origin (origin n) (LeavesBy state) →
+      LeadAsOriginal (HasEdge originals) new_origin (new_origin n) (LeavesBy state)
 
 -- spread states stay spread where one of them is copied, with the edges that it has or with any that lead on as its original's
 abbrev pub CopiesStaySpread : Type 0
