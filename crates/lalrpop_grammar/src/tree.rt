@@ -4,6 +4,7 @@ ghost use Rattle.std.specs.Prelude.{◌≡◌, IfOk, map, option_map};
 ghost use Rattle.lalrpop_grammar.specs.Trees.{trees};
 ghost use Rattle.lalrpop_grammar.specs.Views.{tree_view};
 ghost use Rattle.lalrpop_grammar.specs.Walks.{elements};
+ghost use Rattle.lalrpop_grammar.specs.declared.tree.WrittenTree.TheVariants.{Rule as rule_tree, Terminal as leaf};
 
 use lalrpop_grammar_symbols::{
     Atom, Boxed, List, NonterminalString, Span, Symbol, TerminalString, clone_symbols,
@@ -143,15 +144,8 @@ impl WrittenTree {
                 place,
                 children,
             } => {
-                let rule = rule.try_clone()?;
-                let args = clone_symbols(alloc, args.as_slice())?;
                 let children = clone_trees(alloc, children.as_slice())?;
-                Ok(WrittenTree::Rule {
-                    rule,
-                    args,
-                    place: *place,
-                    children,
-                })
+                rule_above(alloc, rule, args.as_slice(), *place, children)
             }
             WrittenTree::List(trees) => Ok(WrittenTree::List(clone_trees(
                 alloc,
@@ -168,17 +162,43 @@ impl WrittenTree {
                 terminal,
                 text,
                 span,
-            } => {
-                let text = text.try_clone()?;
-                Ok(WrittenTree::Terminal {
-                    terminal: terminal.try_clone()?,
-                    text,
-                    span: *span,
-                })
-            }
+            } => clone_leaf(terminal, text, *span),
             WrittenTree::Look => Ok(WrittenTree::Look),
         }
     }
+}
+
+/// The tree of these children, with copies of the rule's name and of the arguments.
+fn rule_above(
+    alloc: Global,
+    rule: &NonterminalString,
+    args: &[Symbol],
+    place: u32,
+    children: List<WrittenTree>,
+) -> Result<WrittenTree, AllocError>
+    ensures { IfOk result (λ made. made ≡ rule_tree rule.now args.now place children) }
+{
+    let rule = rule.try_clone()?;
+    let args = clone_symbols(alloc, args)?;
+    Ok(WrittenTree::Rule {
+        rule,
+        args,
+        place,
+        children,
+    })
+}
+
+/// A token with copies of its terminal and its text.
+fn clone_leaf(terminal: &TerminalString, text: &Atom, span: Span) -> Result<WrittenTree, AllocError>
+    ensures { IfOk result (λ made. made ≡ leaf terminal.now text.now span) }
+{
+    let text = text.try_clone()?;
+    let terminal = terminal.try_clone()?;
+    Ok(WrittenTree::Terminal {
+        terminal,
+        text,
+        span,
+    })
 }
 
 /// A copy of the boxed tree.

@@ -1,3 +1,4 @@
 mod AloneLemmas
 mod MapLemmas
 pub mod EqualLemmas
+mod PlainKindLemmas

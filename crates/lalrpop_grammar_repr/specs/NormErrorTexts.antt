@@ -36,6 +36,19 @@ norm_error_text kinds.TooManyActions = codes "too many actions"
 norm_error_text (kinds.CyclicInline name) =
     codes "cyclic inline directive: `" ++ name.0 ++ codes "` would have to be inlined into itself"
 
+-- the kind alone tells the message, and no part of the grammar
+abbrev pub IsPlainKind : NormErrorKind → Type 0
+IsPlainKind (kinds.DuplicateDefinition name) = ⊥
+IsPlainKind (kinds.UnknownAttribute name) = ⊥
+IsPlainKind (kinds.NoDefinition name) = ⊥
+IsPlainKind (kinds.MacroDepth limit) = ⊥
+IsPlainKind (kinds.NotInMatchBlock literal) = ⊥
+IsPlainKind (kinds.PatternRefused literal) = ⊥
+IsPlainKind (kinds.SameText first second) = ⊥
+IsPlainKind (kinds.NoType name) = ⊥
+IsPlainKind (kinds.CyclicInline name) = ⊥
+IsPlainKind _ = Unit {0}
+
 abbrev pub norm_fault_text : NormFault → Text
 norm_fault_text (faults.Norm error) = norm_error_text error.kind
 norm_fault_text faults.ConditionLimit = codes "condition limit"

@@ -2,7 +2,7 @@
 
 ghost use Rattle.std.specs.Prelude.{◌≡◌, ◌++◌, IfOk, Some, string_bytes};
 ghost use Rattle.std.specs.Fmt.{WritesOnOk};
-ghost use Rattle.lalrpop_grammar_repr.specs.NormErrorTexts.{norm_error_text};
+ghost use Rattle.lalrpop_grammar_repr.specs.NormErrorTexts.{IsPlainKind, norm_error_text};
 
 use lalrpop_grammar::{Atom, NonterminalString, Span, TerminalLiteral};
 use std::error::Error;
@@ -112,6 +112,40 @@ impl Drop for NormErrorKind {
     }
 }
 
+impl NormErrorKind {
+    /// The message, where the kind alone tells it; else nothing.
+    fn plain_message(&self) -> &'static str
+        ensures { IsPlainKind self.now → result.now ≡ norm_error_text self.now }
+    {
+        match self {
+            NormErrorKind::SecondMatchBlock => "second match block",
+            NormErrorKind::PublicInline => "public rules can't be inlined",
+            NormErrorKind::FirstWithoutLevel => "the first alternative needs a level",
+            NormErrorKind::LevelIsNoNumber => "level is no number",
+            NormErrorKind::SideOnTightestLevel => "no side on the tightest level",
+            NormErrorKind::UnknownSide => "unknown side",
+            NormErrorKind::ReservedPrefix => "reserved prefix",
+            NormErrorKind::NamedNotAllowed => "named symbol not allowed here",
+            NormErrorKind::EntryTwice => "entry listed twice",
+            NormErrorKind::WrongNumberOfArguments => "wrong number of arguments",
+            NormErrorKind::MacroAsRule => "macro used as a rule or rule as a macro",
+            NormErrorKind::ConditionOnOther => "condition on something else than a literal",
+            NormErrorKind::ConditionPattern => "condition pattern not read",
+            NormErrorKind::TypesDisagree => "alternatives disagree in type",
+            NormErrorKind::TooManyActions => "too many actions",
+            NormErrorKind::DuplicateDefinition(_)
+            | NormErrorKind::UnknownAttribute(_)
+            | NormErrorKind::NoDefinition(_)
+            | NormErrorKind::MacroDepth(_)
+            | NormErrorKind::NotInMatchBlock(_)
+            | NormErrorKind::PatternRefused(_)
+            | NormErrorKind::SameText(_, _)
+            | NormErrorKind::NoType(_)
+            | NormErrorKind::CyclicInline(_) => "",
+        }
+    }
+}
+
 impl Display for NormErrorKind {
     ghost output = { λ kind. Some (norm_error_text kind) };
 
@@ -120,30 +154,13 @@ impl Display for NormErrorKind {
             NormErrorKind::DuplicateDefinition(name) => {
                 write_name("duplicate definition of `", name, "`", f)
             }
-            NormErrorKind::SecondMatchBlock => f.write_str("second match block"),
             NormErrorKind::UnknownAttribute(name) => {
                 write_name("unknown attribute `", name, "`", f)
             }
-            NormErrorKind::PublicInline => f.write_str("public rules can't be inlined"),
-            NormErrorKind::FirstWithoutLevel => {
-                f.write_str("the first alternative needs a level")
-            }
-            NormErrorKind::LevelIsNoNumber => f.write_str("level is no number"),
-            NormErrorKind::SideOnTightestLevel => f.write_str("no side on the tightest level"),
-            NormErrorKind::UnknownSide => f.write_str("unknown side"),
-            NormErrorKind::ReservedPrefix => f.write_str("reserved prefix"),
-            NormErrorKind::NamedNotAllowed => f.write_str("named symbol not allowed here"),
-            NormErrorKind::EntryTwice => f.write_str("entry listed twice"),
             NormErrorKind::NoDefinition(name) => {
                 write_name("no definition found for `", name, "`", f)
             }
-            NormErrorKind::WrongNumberOfArguments => f.write_str("wrong number of arguments"),
-            NormErrorKind::MacroAsRule => { f.write_str("macro used as a rule or rule as a macro") }
             NormErrorKind::MacroDepth(limit) => write!(f, "macro depth above {limit}"),
-            NormErrorKind::ConditionOnOther => {
-                f.write_str("condition on something else than a literal")
-            }
-            NormErrorKind::ConditionPattern => f.write_str("condition pattern not read"),
             NormErrorKind::NotInMatchBlock(literal) => {
                 write!(f, "{literal} isn't in the match block")
             }
@@ -151,15 +168,14 @@ impl Display for NormErrorKind {
             NormErrorKind::SameText(first, second) => {
                 write!(f, "{first} and {second} match the same text")
             }
-            NormErrorKind::TypesDisagree => f.write_str("alternatives disagree in type"),
             NormErrorKind::NoType(name) => write_name("no type for `", &name.0, "`", f),
-            NormErrorKind::TooManyActions => f.write_str("too many actions"),
             NormErrorKind::CyclicInline(name) => write_name(
                 "cyclic inline directive: `",
                 &name.0,
                 "` would have to be inlined into itself",
                 f,
             ),
+            _ => f.write_str(self.plain_message()),
         }
     }
 }

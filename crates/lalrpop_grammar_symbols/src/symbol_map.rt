@@ -128,14 +128,14 @@ impl Symbol {
         match &self.kind {
             SymbolKind::AmbiguousId(name) => map.map_name(span, name),
             SymbolKind::Nonterminal(name) => map.map_nonterminal(span, name),
-            SymbolKind::Macro(call) => {
-                let args = map_all(alloc, map, call.args.as_slice())?;
-                map.map_call(span, &call.name, args)
-            }
-            SymbolKind::Expr(group) => {
-                let symbols = map_all(alloc, map, group.symbols.as_slice())?;
-                Ok(group_at(span, symbols))
-            }
+            SymbolKind::Macro(call) => map_macro(
+                alloc,
+                map,
+                span,
+                &call.name,
+                call.args.as_slice(),
+            ),
+            SymbolKind::Expr(group) => map_group(alloc, map, span, group.symbols.as_slice()),
             SymbolKind::Repeat(repeat) => {
                 let repeat = repeat.get();
                 let symbol = repeat.symbol.map(alloc, map)?;
@@ -155,6 +155,39 @@ impl Symbol {
             | SymbolKind::Error => copy_of(alloc, self),
         }
     }
+}
+
+/// What stands for a call of a macro, written there, once its arguments are mapped.
+#[cycle(map)]
+fn map_macro<F: SymbolMap>(
+    alloc: Global,
+    map: &mut F,
+    span: Span,
+    name: &NonterminalString,
+    args: &[Symbol],
+) -> Result<Symbol, F::Error>
+    ensures same { F.mapping map.new ≡ F.mapping map.old }
+    ensures value { IfOk result (λ symbol. symbol_view symbol ≡ (F.mapping map.old).of_call (span_view span) name.now.0
+        (map_symbols (F.mapping map.old) (symbols_view args.now))) }
+{
+    let args = map_all(alloc, map, args)?;
+    map.map_call(span, name, args)
+}
+
+/// A group, written there, of the symbols, each with its names and calls replaced.
+#[cycle(map)]
+fn map_group<F: SymbolMap>(
+    alloc: Global,
+    map: &mut F,
+    span: Span,
+    symbols: &[Symbol],
+) -> Result<Symbol, F::Error>
+    ensures same { F.mapping map.new ≡ F.mapping map.old }
+    ensures value { IfOk result (λ symbol. symbol_view symbol
+        ≡ Sym.expr (span_view span) (map_symbols (F.mapping map.old) (symbols_view symbols.now))) }
+{
+    let symbols = map_all(alloc, map, symbols)?;
+    Ok(group_at(span, symbols))
 }
 
 /// The symbols, in order, each with its names and calls replaced.

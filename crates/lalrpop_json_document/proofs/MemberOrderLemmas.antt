@@ -138,9 +138,8 @@ put_one_by_one done (m ∷ ms) ordered =
     ∙ put_one_by_one (done ++ m ∷ []) ms (subst (λ l. IsStrictlySortedBy (slice_cmp nat_cmp) (names l)) (sym parts) ordered)
     ∙ ap members_view parts
 
--- where ascending members are in a map, a further one that goes into the map is put among them
-pub put_in_map : (ms entries after : List Entry) (m : Entry) → Ascends ms → members_view entries ≡ put_all (members_view ms) no_members
-    → after ≡ insert_entry (λ a b. slice_cmp nat_cmp a.now b.now) entries m.0 m.1
-    → put m.0.now (view m.1) (members_view ms) ≡ members_view after
-put_in_map ms entries after m so same e =
-    ap (put m.0.now (view m.1)) (sym (same ∙ put_one_by_one [] ms so.in_order)) ∙ sym (ap members_view e ∙ inserted entries m.0 m.1)
+-- where ascending members are put into a map one by one, and then a further one, it is put among them
+pub put_in_map : (ms entries : List Entry) (m : Entry) → Ascends ms
+    → members_view entries ≡ put m.0.now (view m.1) (put_all (members_view ms) no_members)
+    → put m.0.now (view m.1) (members_view ms) ≡ members_view entries
+put_in_map ms entries m so same = ap (put m.0.now (view m.1)) (sym (put_one_by_one [] ms so.in_order)) ∙ sym same

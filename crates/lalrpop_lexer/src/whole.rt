@@ -1,11 +1,12 @@
 //! All states of the automaton with their transitions: the subset construction.
 
-ghost use Rattle.std.specs.Prelude.{◌≡◌, ◌++◌, ◌∷◌, [], length, IfOk, OnOk};
+ghost use Rattle.std.specs.Prelude.{◌≡◌, ℕ, ◌++◌, ◌∷◌, [], length, IfOk, OnOk, vec_len};
 ghost use Rattle.lalrpop_lexer_nfa.specs.Paths.{nfa_view};
 ghost use Rattle.lalrpop_lexer.specs.Explore.{AreClassesOf, edges_view};
 ghost use Rattle.lalrpop_lexer.specs.Groups.{AreGroups};
 ghost use Rattle.lalrpop_lexer.specs.Simulation.{AreApart};
 ghost use Rattle.lalrpop_lexer.specs.StateViews.{edges_in};
+ghost use Rattle.lalrpop_lexer.specs.States.{AreInside, AreNumbered, IsInterned};
 ghost use Rattle.lalrpop_lexer.specs.Tables.{AreTables};
 ghost use Rattle.lalrpop_lexer.specs.Automaton.{IsAutomaton};
 
@@ -49,6 +50,23 @@ fn push_state(
     Ok(())
 }
 
+/// The state that the empty word leads to, alone.
+fn first_state(alloc: Global, nfa: &Nfa, scratch: &mut StateSet) -> Result<States, AllocError>
+    requires bound { vec_len scratch.old.places ≡ vec_len nfa.now.states }
+    ensures found { IfOk result (λ known. (n : ℕ) × IsInterned (nfa_view nfa.now) (START.0 ∷ []) [] known.sets n) }
+    ensures sets { IfOk result (λ known. AreInside (vec_len nfa.now.states) known.sets) }
+    ensures numbered { IfOk result (λ known. AreNumbered (nfa_view nfa.now) known.sets known.numbers) }
+    ensures bound { vec_len scratch.new.places ≡ vec_len scratch.old.places }
+{
+    let numbers = Kernels::new(alloc, nfa.state_count())?;
+    let mut known = States {
+        sets: Slices::new(alloc),
+        numbers,
+    };
+    known.number_of(alloc, nfa, &[START.0], scratch)?;
+    Ok(known)
+}
+
 /// The states that words lead to, explored one by one as they are first seen.
 fn explored_states(
     alloc: Global,
@@ -62,12 +80,7 @@ fn explored_states(
     ensures tables { IfOk result (λ whole. AreTables (length whole.sets) whole.edges whole.rows) }
 {
     let mut scratch = StateSet::new(alloc, nfa.state_count())?;
-    let numbers = Kernels::new(alloc, nfa.state_count())?;
-    let mut known = States {
-        sets: Slices::new(alloc),
-        numbers,
-    };
-    known.number_of(alloc, nfa, &[START.0], &mut scratch)?;
+    let mut known = first_state(alloc, nfa, &mut scratch)?;
     let mut edges = Slices::new(alloc);
     let mut rows = Slices::new(alloc);
     'states: while edges.len() < known.sets.len() {

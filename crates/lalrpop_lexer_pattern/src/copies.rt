@@ -3,7 +3,7 @@
 ghost use Rattle.std.specs.Prelude.{◌≡◌, IfOk, map, option_map};
 ghost use Rattle.std.specs.String.{string_bytes};
 ghost use Rattle.lalrpop_lexer_pattern.specs.Meaning.{meaning};
-ghost use Rattle.lalrpop_lexer_pattern.specs.PlainHirs.{hir_view, plain_repeated};
+ghost use Rattle.lalrpop_lexer_pattern.specs.PlainHirs.{PlainHir, hir_view, plain_repeated};
 
 use crate::class::Class;
 use crate::set::CharacterSet;
@@ -52,14 +52,7 @@ impl Hir {
                 Hir::Literal(characters) => Hir::Literal(Vec::from_slice(alloc, characters)?),
                 Hir::Class(class) => Hir::Class(class.try_clone(alloc)?),
                 Hir::Look(look) => Hir::Look(*look),
-                Hir::Capture { name, sub } => {
-                    let name = clone_name(alloc, name)?;
-                    let sub = sub.copy(alloc)?;
-                    Hir::Capture {
-                        name,
-                        sub: Box::new(alloc, sub)?,
-                    }
-                }
+                Hir::Capture { name, sub } => group_of(alloc, name, sub.copy(alloc)?)?,
                 Hir::Repetition { repeats, sub } => {
                     around.push(*repeats)?;
                     tree = sub;
@@ -85,6 +78,18 @@ fn wrap_in_repeats(alloc: Global, mut around: Vec<Repeats>, tree: Hir) -> Result
         };
     }
     Ok(whole)
+}
+
+/// The tree as a group, with a copy of the name.
+fn group_of(alloc: Global, name: &Option<String>, tree: Hir) -> Result<Hir, AllocError>
+    ensures { IfOk result (λ group.
+        hir_view group ≡ PlainHir.capture (option_map string_bytes name.now) (hir_view tree)) }
+{
+    let sub = Box::new(alloc, tree)?;
+    Ok(Hir::Capture {
+        name: clone_name(alloc, name)?,
+        sub,
+    })
 }
 
 /// A copy of a name, if there is one.

@@ -1,7 +1,7 @@
 -- What the theory sees of lookaheads is what their numbers say: for the lookaheads of kernels.
 use Rattle.std.specs.Cmp.Lexicographic.{pointwise}
 use Rattle.std.specs.List.{range_with_len}
-use Rattle.std.specs.Prelude.{◌≡◌, ◌↔◌, ◌+◌, ◌<◌, ◌≤◌, ◌==◌, ℕ, zero, suc, true, List, []}
+use Rattle.std.specs.Prelude.{◌≡◌, ◌↔◌, ◌+◌, ◌<◌, ◌≤◌, ◌==◌, ℕ, suc, true, List, []}
 use Rattle.std.specs.Prelude.{Contains, filter, refl}
 use Rattle.std.proofs.Common.{◌∙◌, sym, subst}
 use Rattle.std.proofs.Math.Nat.{le-add_right, le-pred_of_lt, lt_of_le_of_lt, not-le_of_lt, zero-add}

@@ -1,5 +1,5 @@
 -- What a table of actions says, by its numbers, and when it says what states say: for the machine, and for whoever keeps a table.
-use Rattle.std.specs.Prelude.{ℕ, ◌<◌, ◌≤◌, List, length, Option, Some, None, ◌≡◌, slice_get}
+use Rattle.std.specs.Prelude.{ℕ, ◌-◌, ◌<◌, ◌≤◌, List, get_or, length, Option, Some, None, ◌≡◌, slice_get, take}
 use Rattle.lalrpop_grammar_symbols.specs.Symbols.{Text, Terminal}
 use Rattle.lalrpop_grammar_symbols.specs.Views.{terminal_view}
 use Rattle.lalrpop_grammar_symbols.specs.declared.names.NonterminalString.{NonterminalString}
@@ -46,6 +46,10 @@ pub record HasGoto (table : ActionTable) (n k m : ℕ) : Type 0 where
   pub inside : IsPlaceIn row.gotos place
   pub key : slice_get table.goto_keys.items place ≡ Some k
   pub target : slice_get table.targets.items place ≡ Some m
+
+-- the number stands under the last ones, so many of them
+abbrev pub StandsUnder : List ℕ → ℕ → ℕ → Type 0
+StandsUnder numbers count n = let left = take (length numbers - count) numbers in n ≡ get_or left (length left - 1) n
 
 -- parts of rows lie inside the lists
 pub record IsRowWithin (table : ActionTable) (row : TableRow) : Type 0 where

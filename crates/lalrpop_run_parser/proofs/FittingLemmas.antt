@@ -1,7 +1,7 @@
 -- Trees over the productions of an expansion have written trees that fit: at each node the children of each choice are those that
 -- the choice takes apart. So what folding looks for, it can find.
 use Rattle.std.proofs.Common.{◌≡◌, ◌+◌, ◌⊎◌, List, [], ◌∷◌, ◌++◌, refl, ap, sym, ◌∙◌, subst, inl, inr}
-use Rattle.lalrpop_grammar.specs.Trees.{Tree, Trees, trees}
+use Rattle.lalrpop_grammar.specs.Trees.{Tree, trees}
 use Rattle.lalrpop_grammar.specs.WrittenGrammar.{Origin}
 use Rattle.lalrpop_grammar_symbols.specs.Symbols.{Closed, Op, Text}
 use Rattle.lalrpop_grammar_language.specs.Derivations.{append_tree, first_tree, leaf_token, tree_by_origin}

@@ -1,9 +1,9 @@
 -- Where a production of an expansion passes a tree down as it is, ranks fall, and none is greater than a start's: so that folding ends.
 use Rattle.std.proofs.Common.{◌≡◌, ◌+◌, ◌-◌, ◌*◌, ◌⊎◌, ◌<◌, ◌≤◌, ℕ, suc, List, []}
 use Rattle.std.proofs.Common.{◌∷◌, ◌++◌, refl, ap, sym, ◌∙◌, arith, subst, inl, inr}
-use Rattle.std.proofs.Common.{Some, None, true, false, cond, Bool, length, length-append}
+use Rattle.std.proofs.Common.{Some, None, true, false, Bool, length, length-append}
 use Rattle.std.specs.Prelude.{Option, codes, filter, map, max, min, nat_le, nat_lt, option_and_then, option_map, if◌then◌else◌}
-use Rattle.lalrpop_grammar.specs.Trees.{Tree, Trees, trees}
+use Rattle.lalrpop_grammar.specs.Trees.{Tree, trees}
 use Rattle.lalrpop_grammar.specs.WrittenGrammar.{Attr, Origin}
 use Rattle.lalrpop_grammar_symbols.specs.Symbols.{Closed, Closeds, Op, Text}
 use Rattle.lalrpop_grammar_language.specs.Enabled.{Choice, EnabledGrammar, EnabledRule}
@@ -21,7 +21,7 @@ use Rattle.lalrpop_lr1_theory.specs.Productions as theory
 use Rattle.lalrpop_norm_theory.specs.Inlined.{IsInlined}
 use Rattle.lalrpop_grammar_language.specs.Labels.{Inlinings, Label}
 use Rattle.lalrpop_grammar_language.specs.Inlining.{Inlines, InlinesAll}
-use Rattle.lalrpop_run_theory.specs.Expansions.{AreExpansion, theory_side, theory_symbol}
+use Rattle.lalrpop_run_theory.specs.Expansions.{AreExpansion, theory_side}
 use Rattle.lalrpop_run_theory.proofs.ForestLemmas.{production_of}
 use Rattle.lalrpop_run_theory.proofs.ReachLemmas.{HoldsInside}
 use Rattle.lalrpop_run_trees.specs.ActionLabels.{ChoiceInlinings, ChoiceLabel, kept_count, kept_counts}
@@ -29,7 +29,7 @@ use Rattle.lalrpop_run_trees.specs.KeptTrees.{AreAllKeptBy, AreChildrenBy, AreKe
 use Rattle.lalrpop_run_trees.specs.TreeSizes.{tree_size, trees_size}
 use Rattle.lalrpop_run_trees.proofs.KeptLemmas.{kept_long}
 use Rattle.lalrpop_run_trees.proofs.SizeLemmas.{AllAtMost, kept_at_most, size_more, tree_positive}
-use Rattle.lalrpop_run_parser.specs.PassingRanks.{FallsAlong, IsLower, label_rank, passing_rank}
+use Rattle.lalrpop_run_parser.specs.PassingRanks.{FallsAlong, label_rank, passing_rank}
 
 -- no rank is greater than that of a start
 pub rank_bound : (x : Nonterminal) → passing_rank x ≤ 4294967298

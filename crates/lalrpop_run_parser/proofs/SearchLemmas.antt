@@ -1,6 +1,6 @@
 -- What one production, all of a nonterminal, and one part after the other say of the trees to which a part is folded; for the search.
 use Rattle.std.proofs.Common.{◌≡◌, ◌∙◌, ◌+◌, ◌-◌, ◌<◌, ◌≤◌, ◌⊎◌, ℕ, zero, suc, List, []}
-use Rattle.std.proofs.Common.{◌∷◌, ◌++◌, true, false, length, refl, ap, ap₂, sym, arith}
+use Rattle.std.proofs.Common.{◌∷◌, ◌++◌, false, length, ap, sym, arith}
 use Rattle.std.proofs.Common.{subst, inl, inr, map, take, drop, Contains}
 use Rattle.std.specs.Prelude.{None, Option, Some}
 use Rattle.std.proofs.lemmas.Bool.{true≢false}
@@ -25,14 +25,14 @@ use Rattle.lalrpop_lr1_theory.specs.Productions as theory
 use Rattle.lalrpop_lr1_theory.specs.Spans.{SpannedForest, leaf_at, node_at, none_at}
 use Rattle.lalrpop_run_trees.specs.ActionLabels.{ChoiceLabel, TellsLabel}
 use Rattle.lalrpop_run_trees.specs.KeptTrees.{AreKeptBy}
-use Rattle.lalrpop_run_trees.specs.PartViews.{AllWithin, TellsKept, shown_part}
+use Rattle.lalrpop_run_trees.specs.PartViews.{AllWithin, shown_part}
 use Rattle.lalrpop_run_trees.specs.declared.tree_parts.tree_part.TreePart.{TreePart}
 use Rattle.lalrpop_run_trees.proofs.KeptLemmas.{kept_once}
 use Rattle.lalrpop_run_parser.specs.Folds.{AreFoldedTo, AreRankedUnder, IsRankedWithin}
 use Rattle.lalrpop_run_parser.specs.FoldedTrees.{AreFoldable, AreOfGrammar, TellsFolded, TellsFoldedBy, TellsFoldedByAny, TellsPartFolded}
 use Rattle.lalrpop_run_parser.specs.PassingRanks.{label_rank}
-use Rattle.lalrpop_run_parser.proofs.FoldLemmas.{IsNodeOf, folded_long, folded_more, leaf_folded, leaf_only, node_folded, node_only}
-use Rattle.lalrpop_run_parser.proofs.FoldLemmas.{node_parts, none_at_place, none_folded, ranked_under}
+use Rattle.lalrpop_run_parser.proofs.FoldLemmas.{folded_more, node_folded, node_only}
+use Rattle.lalrpop_run_parser.proofs.FoldLemmas.{node_parts, ranked_under}
 use Rattle.lalrpop_run_parser.proofs.RankLemmas.{label_bound}
 
 -- what stands in front of a place, or from it on, is there; and nothing else is

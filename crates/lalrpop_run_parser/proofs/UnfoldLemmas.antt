@@ -2,10 +2,8 @@
 use Rattle.std.proofs.Common.{◌≡◌, ◌∙◌, ◌<◌, ℕ, zero, suc, List, [], ◌∷◌, length, refl, ap, ap₂, sym}
 use Rattle.std.proofs.Common.{arith, subst, map}
 use Rattle.std.specs.Prelude.{None, Option, Some, flat_map}
-use Rattle.std.proofs.lemmas.List.{append-nil}
-use Rattle.std.proofs.lemmas.Grind.{flat_map-append}
 use Rattle.lalrpop_grammar_symbols.specs.Symbols.{Terminal, TextSpan}
-use Rattle.lalrpop_grammar.specs.Trees.{Token, Tree, leaves}
+use Rattle.lalrpop_grammar.specs.Trees.{Tree, leaves}
 use Rattle.lalrpop_grammar_language.specs.Derivations.{leaf_token, with_shown}
 use Rattle.lalrpop_lr1_interpret.specs.ExpandedViews.{expanded_view, nth_tree, root_children, root_production, root_span, root_terminal}
 use Rattle.lalrpop_lr1_interpret.specs.declared.parse.expanded_tree.ExpandedTree.{ExpandedTree}
@@ -13,9 +11,9 @@ use Rattle.lalrpop_lr1_interpret.proofs.ExpandedLemmas.{views_long}
 use Rattle.lalrpop_lr1_theory.specs.Productions.{Production}
 use Rattle.lalrpop_lr1_theory.specs.Spans.{SpannedForest, leaf_at, node_at, none_at, without_spans}
 use Rattle.lalrpop_lr1_theory.specs.Trees.{AreOver, roots}
-use Rattle.lalrpop_run_trees.specs.ActionLabels.{ChoiceLabel, kept_count}
+use Rattle.lalrpop_run_trees.specs.ActionLabels.{ChoiceLabel}
 use Rattle.lalrpop_run_trees.specs.LabelledTrees.{IsPart, shown_trees, tree_by_label}
-use Rattle.lalrpop_run_trees.proofs.PartLemmas.{part_of_part, part_same, parts_joined, tree_leaves}
+use Rattle.lalrpop_run_trees.proofs.PartLemmas.{part_of_part, parts_joined, tree_leaves}
 use Rattle.lalrpop_run_trees.proofs.ShownTreeLemmas.{shown_tree}
 use Rattle.lalrpop_run_trees.proofs.TakenLemmas.{KeepSymbols, shown_count}
 use Rattle.lalrpop_run_trees.specs.KeptTrees.{forest_tokens}

@@ -37,7 +37,7 @@ use Rattle.lalrpop_run_prepare.specs.PreparedGrammars.{HasNamedProductions, IsPr
 use Rattle.lalrpop_run_prepare.proofs.StartLemmas.{start_in_expansion}
 use Rattle.lalrpop_run_theory.specs.AnswerLaws.{IsWrittenOf}
 use Rattle.lalrpop_run_trees.specs.ActionLabels.{ChoiceLabel, TellsLabel, kept_count}
-use Rattle.lalrpop_run_trees.specs.LabelledTrees.{IsPart, StandForTrees, shown_trees}
+use Rattle.lalrpop_run_trees.specs.LabelledTrees.{IsPart, shown_trees}
 use Rattle.lalrpop_run_trees.proofs.MadeTreeLemmas.{made_admitted}
 use Rattle.lalrpop_run_trees.proofs.PartLemmas.{part_same}
 use Rattle.lalrpop_run_trees.proofs.TakenLemmas.{KeepSymbols, shown_count, written_is_shown}

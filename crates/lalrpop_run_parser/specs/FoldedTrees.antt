@@ -5,7 +5,6 @@ use Rattle.std.specs.declared.alloc.Global.{Global}
 use Rattle.lalrpop_grammar.specs.Trees.{Tree}
 use Rattle.lalrpop_grammar.specs.declared.origin.Origin as choices
 use Rattle.lalrpop_grammar_repr.specs.Productions.{productions_of}
-use Rattle.lalrpop_grammar_repr.specs.declared.action.ActionFnDefn.{ActionFnDefn}
 use Rattle.lalrpop_grammar_repr.specs.declared.grammar.Grammar.{Grammar}
 use Rattle.lalrpop_grammar_repr.specs.declared.production.Production as repr
 use Rattle.lalrpop_grammar_symbols.specs.declared.names.NonterminalString.{NonterminalString}

@@ -2,8 +2,11 @@
 
 ghost use Rattle.std.specs.Prelude.{◌≡◌, Contains, IfErr, IfOk};
 ghost use Rattle.lalrpop_grammar.specs.Views.{grammar_view};
+ghost use Rattle.lalrpop_lr1_build.specs.CollapseAnswers.{states_over};
 ghost use Rattle.lalrpop_lr1_core.specs.TheoryGrammars.{theory_grammar};
 ghost use Rattle.lalrpop_lr1_theory.specs.Answers.{IsLr1};
+ghost use Rattle.lalrpop_lr1_interpret.specs.Columns.{AreColumnsOf};
+ghost use Rattle.lalrpop_lr1_interpret.specs.Tables.{IsTableOf};
 ghost use Rattle.lalrpop_norm_theory.specs.Premises.{IsReadGrammar};
 ghost use Rattle.lalrpop_run_parser.specs.Parsers.{HasOneTreeEach, HasStatesBy, HasTableBy};
 ghost use Rattle.lalrpop_run_parser.specs.Parsers.{HaveShiftsAscending, IsGenerateRefusal, ShowsConflicts};
@@ -14,7 +17,7 @@ use crate::witnesses::{Prepared, witnesses};
 use lalrpop_grammar_repr::methods::Method;
 use lalrpop_lane::build_lr1_states;
 use lalrpop_lr1_core::{Lr1State, Lr1TableConstructionError, TableFault};
-use lalrpop_lr1_interpret::parse::ActionTable;
+use lalrpop_lr1_interpret::parse::{ActionTable, Columns};
 use lalrpop_run_prepare::refusals::GenerateError;
 use lalrpop_run_theory::answers::one_written_tree;
 use std::alloc::{AllocError, Global};
@@ -44,6 +47,20 @@ fn conflicts_refusal<'p>(
     }
 }
 
+/// The table of the states, and for each entry of the scanner its column of the entry's terminal.
+fn table_with_columns<'p>(
+    alloc: Global,
+    prepared: &'p Prepared,
+    states: &[Lr1State<'p>],
+) -> Result<(ActionTable<'p>, Columns), AllocError>
+    ensures table { IfOk result (λ made. IsTableOf made.0 (states_over prepared.now.expansion.terminals states.now)) }
+    ensures columns { IfOk result (λ made. AreColumnsOf made.0 prepared.now.scanner.terminals.items made.1.numbers.items) }
+{
+    let table = ActionTable::new(alloc, states, &prepared.expansion().terminals)?;
+    let columns = table.columns_of(alloc, prepared.scanner().terminals())?;
+    Ok((table, columns))
+}
+
 /// The parser of the grammar for its start, by LR(1) states.
 ///
 /// # Errors
@@ -69,8 +86,7 @@ pub fn generate<'p>(
     match build_lr1_states(alloc, prepared.expansion(), start, method) {
         Ok(states) => {
             let built = states.as_slice();
-            let table = ActionTable::new(alloc, built, &prepared.expansion().terminals)?;
-            let columns = table.columns_of(alloc, prepared.scanner().terminals())?;
+            let (table, columns) = table_with_columns(alloc, prepared, built)?;
             Ok(Parser {
                 prepared,
                 table,

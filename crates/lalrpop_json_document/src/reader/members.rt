@@ -1,8 +1,8 @@
 //! The members of an object that is read: a list as long as each key is greater than the last, and a map from then on.
 
 ghost use Rattle.std.specs.Prelude.{◌≡◌, map, IfOk};
-ghost use Rattle.serde_json.specs.Data.{no_members};
-ghost use Rattle.lalrpop_json_document.specs.DocumentViews.{members_view};
+ghost use Rattle.serde_json.specs.Data.{no_members, put};
+ghost use Rattle.lalrpop_json_document.specs.DocumentViews.{members_view, view};
 ghost use Rattle.lalrpop_json_document.specs.MemberOrder.{is_above_last, put_all};
 
 use crate::{JsonValue, Members};
@@ -23,7 +23,7 @@ pub(crate) fn comes_last(members: &Members<'_>, key: &str) -> bool
 }
 
 /// The members in a map.
-pub(crate) fn map_of(alloc: Global, members: Members<'_>) -> Result<MemberMap<'_>, AllocError>
+fn map_of(alloc: Global, members: Members<'_>) -> Result<MemberMap<'_>, AllocError>
     ensures { IfOk result (λ found.
         members_view found.entries ≡ put_all (members_view members.entry.items) no_members) }
 {
@@ -31,6 +31,21 @@ pub(crate) fn map_of(alloc: Global, members: Members<'_>) -> Result<MemberMap<'_
     for (key, value) in members {
         drop(found.insert(key, value)?);
     }
+    Ok(found)
+}
+
+/// The members in a map, and one more: where its key is among theirs, its value takes the place of the other.
+pub(crate) fn map_with<'t>(
+    alloc: Global,
+    members: Members<'t>,
+    key: &'t str,
+    value: JsonValue<'t>,
+) -> Result<MemberMap<'t>, AllocError>
+    ensures { IfOk result (λ found. members_view found.entries
+        ≡ put key.now (view value.entry) (put_all (members_view members.entry.items) no_members)) }
+{
+    let mut found = map_of(alloc, members)?;
+    drop(found.insert(key, value)?);
     Ok(found)
 }
 

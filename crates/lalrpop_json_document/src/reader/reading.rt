@@ -6,7 +6,7 @@ ghost use Rattle.lalrpop_json_document.specs.DocumentViews.{items_view, members_
 ghost use Rattle.lalrpop_json_document.specs.TokenData.{items_data, members_behind, members_data, value_data};
 ghost use Rattle.lalrpop_json_document.specs.declared.reader.reading.Stop.TheVariants.{NotJson};
 
-use crate::reader::members::{MemberMap, comes_last, list_of, map_of};
+use crate::reader::members::{MemberMap, comes_last, list_of, map_with};
 use crate::reader::number::number_of;
 use crate::{JsonValue, Members};
 use json::{Invalid, Reader, Scratch, Token};
@@ -152,8 +152,7 @@ fn read_members<'t>(
         let member = read_value(alloc, reader, depth)?;
         if !comes_last(&found, key) {
             // From here on keys may come in any order and twice: of a doubled key the last value stays.
-            let mut unordered = map_of(alloc, found)?;
-            drop(unordered.insert(key, member)?);
+            let unordered = map_with(alloc, found, key, member)?;
             return read_unordered_members(alloc, reader, depth, unordered);
         }
         found.push((key, member))?;

@@ -1,6 +1,6 @@
 //! Cores of states: their items without lookaheads, and the numbers of these.
 
-ghost use Rattle.std.specs.Prelude.{◌≡◌, IfOk, map};
+ghost use Rattle.std.specs.Prelude.{◌≡◌, [], IfOk, map};
 ghost use Rattle.lalrpop_lr1_theory.specs.JoinedStates.{AreNumbersAsSeen};
 ghost use Rattle.lalrpop_lr1_build.specs.StateCores.{items_core, listed_core, core_in_state};
 
@@ -24,11 +24,15 @@ fn core_of<'g>(
     Ok(core)
 }
 
-/// For each state the number of its core. They are numbered as they are first seen.
-pub(crate) fn core_numbers(alloc: Global, states: &[Lr1State<'_>]) -> Result<Vec<usize>, AllocError>
+/// For each state the number of its core, where no core is known at first: these are put into the set.
+fn number_cores<'g>(
+    alloc: Global,
+    states: &[Lr1State<'g>],
+    cores: &mut IndexSet<List<(&'g Production, usize)>>,
+) -> Result<Vec<usize>, AllocError>
+    requires { cores.old.keys ≡ [] }
     ensures { IfOk result (λ numbers. AreNumbersAsSeen (map core_in_state states.now) numbers.items) }
 {
-    let mut cores = IndexSet::new(alloc);
     let mut numbers = Vec::new(alloc);
     for state in states {
         let core = core_of(alloc, state.items.vec.as_slice())?;
@@ -36,4 +40,12 @@ pub(crate) fn core_numbers(alloc: Global, states: &[Lr1State<'_>]) -> Result<Vec
         numbers.push(number)?;
     }
     Ok(numbers)
+}
+
+/// For each state the number of its core. They are numbered as they are first seen.
+pub(crate) fn core_numbers(alloc: Global, states: &[Lr1State<'_>]) -> Result<Vec<usize>, AllocError>
+    ensures { IfOk result (λ numbers. AreNumbersAsSeen (map core_in_state states.now) numbers.items) }
+{
+    let mut cores = IndexSet::new(alloc);
+    number_cores(alloc, states, &mut cores)
 }

@@ -1,6 +1,7 @@
 //! States by numbers.
 
 ghost use Rattle.std.specs.Prelude.{◌≡◌, ◌++◌, ◌∷◌, [], IfOk, OnOk, Some, slice_get};
+ghost use Rattle.lalrpop_sets.specs.Queues.{queue_of};
 ghost use Rattle.lalrpop_lr1_first.specs.ClosureTables.{IsClosureTable};
 ghost use Rattle.lalrpop_lr1_build.specs.Kernels.{AreKernelItems};
 ghost use Rattle.lalrpop_lr1_build.specs.Turns.{AreNumberedStates, AreStatesOf, IsTurn};
@@ -88,6 +89,18 @@ fn states_of_kernels<L: KernelLookahead>(
     Ok(states)
 }
 
+/// The set of this kernel alone.
+fn kernels_from<L: KernelLookahead>(
+    alloc: Global,
+    start: StateKernel<L>,
+) -> Result<KernelSet<StateKernel<L>>, AllocError>
+    ensures { IfOk result (λ kernels. kernels ≡ queue_of (start ∷ []) 0) }
+{
+    let mut kernels = KernelSet::new(alloc);
+    kernels.add_state(start)?;
+    Ok(kernels)
+}
+
 /// The states that are reached from a kernel, numbered as first seen: each has its kernel's closure, and edges to the states of
 /// its shifted items.
 pub fn states_by_numbers<L: KernelLookahead>(
@@ -99,7 +112,6 @@ pub fn states_by_numbers<L: KernelLookahead>(
     requires start { AreKernelItems L.marks L.in_order closures.now.numbered start.items }
     ensures { IfOk result (λ states. AreNumberedStates L.marks L.firsts L.in_order closures.now.numbered start states.items) }
 {
-    let mut kernels = KernelSet::new(alloc);
-    kernels.add_state(start)?;
+    let mut kernels = kernels_from(alloc, start)?;
     states_of_kernels(alloc, closures, &mut kernels)
 }

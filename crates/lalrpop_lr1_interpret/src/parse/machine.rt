@@ -1,6 +1,6 @@
 //! The machine: it runs a table over tokens, and its stack makes what is to be made.
 
-ghost use Rattle.std.specs.Prelude.{◌≡◌, ◌++◌, ◌∷◌, [], IfOk, List, MatchResult, OnOk, map};
+ghost use Rattle.std.specs.Prelude.{◌≡◌, ◌<◌, ◌-◌, ◌++◌, ◌∷◌, [], ℕ, IfNone, IfOk, IfSome, List, MatchResult, OnOk, length, map, take};
 ghost use Rattle.lalrpop_grammar_symbols.specs.Symbols.{Text};
 ghost use Rattle.lalrpop_grammar_symbols.specs.Views.{span_view, terminal_view};
 ghost use Rattle.lalrpop_lr1_theory.specs.CheckedStates.{AreCheckedStates, IsStartAlone};
@@ -9,7 +9,7 @@ ghost use Rattle.lalrpop_lr1_theory.specs.Spans.{none_at};
 ghost use Rattle.lalrpop_lr1_theory.specs.States.{State};
 ghost use Rattle.lalrpop_lr1_interpret.specs.Columns.{TellNumbers};
 ghost use Rattle.lalrpop_lr1_interpret.specs.Ends.{IsDone, IsEndOfRun, MayRun};
-ghost use Rattle.lalrpop_lr1_interpret.specs.Tables.{IsTableOf};
+ghost use Rattle.lalrpop_lr1_interpret.specs.Tables.{AreRowsWithin, HasGoto, IsTableOf, StandsUnder};
 
 use crate::parse::action_table::ActionTable;
 use crate::parse::table_row::TableAction;
@@ -61,6 +61,26 @@ fn first_numbers(alloc: Global) -> Result<Vec<usize>, AllocError>
     Ok(numbers)
 }
 
+/// Takes so many numbers off, and tells where the nonterminal leads from the state of the last of those that are left.
+fn goto_under(
+    table: &ActionTable<'_>,
+    numbers: &mut Vec<usize>,
+    count: usize,
+    nonterminal: usize,
+) -> Option<usize>
+    requires within { AreRowsWithin table.now }
+    requires fewer { count < length numbers.old.items }
+    requires there { (n : ℕ) → StandsUnder numbers.old.items count n → n < length table.now.rows.items }
+    ensures left { numbers.new.items ≡ take (length numbers.old.items - count) numbers.old.items }
+    ensures found { IfSome result (λ m. (n : ℕ) × StandsUnder numbers.old.items count n × HasGoto table.now n nonterminal m) }
+    ensures none { IfNone result ((n : ℕ) × StandsUnder numbers.old.items count n
+        × ((m : ℕ) → HasGoto table.now n nonterminal m → ⊥)) }
+{
+    let kept = numbers.len() - count;
+    numbers.truncate(kept);
+    table.goto(numbers[kept - 1], nonterminal)
+}
+
 /// Makes the moves of the table over the tokens from state 0, whose number alone stands there, and from no tree: until it accepts,
 /// or, where the parse isn't to be whole, until all tokens are shifted. The numbers are then those of the states on the stack.
 fn make_moves<'g, S: TreeStack<'g>>(
@@ -108,9 +128,7 @@ fn make_moves<'g, S: TreeStack<'g>>(
                 }
                 left -= 1;
                 stack.node(by.production)?;
-                let kept = numbers.len() - by.length;
-                numbers.truncate(kept);
-                match table.goto(numbers[kept - 1], by.nonterminal) {
+                match goto_under(table, numbers, by.length, by.nonterminal) {
                     Some(target) => push_number(numbers, target)?,
                     None => return Ok(()),
                 }

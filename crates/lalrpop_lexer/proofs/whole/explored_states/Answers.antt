@@ -9,17 +9,17 @@ use Rattle.lalrpop_lexer.specs.StateViews.{edges_in}
 use Rattle.lalrpop_lexer.specs.Tables.{AreTables}
 use Rattle.lalrpop_lexer.proofs.WholeLemmas.{explored_start, explored_end}
 use Rattle.lalrpop_lexer.proofs.StateViewLemmas.{explored_push, tables_none, tables_push}
-use Rattle.lalrpop_lexer.proofs.KernelLemmas.{numbered_none, states_at_most}
+use Rattle.lalrpop_lexer.proofs.KernelLemmas.{states_at_most}
 use Rattle.lalrpop_lexer.proofs.whole.explored_states.Goals as goal
 
 pub states-init : goal.states-init
 states-init c = record {
   explored = rw c.new-edges.ensures
-      (explored_start (nfa_view c.args.nfa.now) START.0 _ _ _ (λ s. refl) (rw c.new-3.ensures at c.in_ok-number_of.ensures.found));
+      (explored_start (nfa_view c.args.nfa.now) START.0 _ _ _ (λ s. refl) c.in_ok-known.ensures.found.1);
   tables = rw (c.new-edges.ensures, c.new-rows.ensures) tables_none;
-  sets = c.in_ok-number_of.ensures.sets;
-  numbered = c.in_ok-number_of.ensures.numbered;
-  bound = c.number_of.ensures.bound ∙ c.in_ok-scratch.ensures.bound ∙ c.state_count.ensures;
+  sets = c.in_ok-known.ensures.sets;
+  numbered = c.in_ok-known.ensures.numbered;
+  bound = c.first_state.ensures.bound ∙ c.in_ok-scratch.ensures.bound ∙ c.state_count.ensures;
 }
 
 pub states-preserved : goal.states-preserved
@@ -52,9 +52,6 @@ returns-clause-tables c =
     let all : length c.states.edges ≡ length c.states.known.sets =
     omega (arith, c.states-test.false, c.len.ensures, c.len-in-states.ensures, c.states.invariant.explored.within) in
     subst P all c.states.invariant.tables
-
-pub number_of-requires-clause-numbered : goal.number_of-requires-clause-numbered
-number_of-requires-clause-numbered c = rw (c.new-3.ensures, c.in_ok-numbers.ensures) (numbered_none (nfa_view c.args.nfa.now))
 
 pub states-smaller : goal.states-smaller
 states-smaller c =

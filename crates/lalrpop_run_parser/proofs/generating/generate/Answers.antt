@@ -1,11 +1,8 @@
-use Rattle.std.proofs.Common.{◌∙◌, List, Option, ap, length, subst, sym}
-use Rattle.lalrpop_grammar_symbols.specs.declared.terminal.TerminalString.{TerminalString}
+use Rattle.std.proofs.Common.{◌∙◌, ap, length, refl, subst}
 use Rattle.lalrpop_run_parser.proofs.GenerateLemmas.{conflicts_stand, is_table, one_tree_each, refusal_told, states_checked}
 use Rattle.lalrpop_run_parser.proofs.GenerateLemmas.{states_counted}
 use Rattle.lalrpop_grammar_repr.specs.declared.grammar.Grammar.{Grammar}
 use Rattle.lalrpop_lane.specs.BuilderAnswers.{AreLr1By}
-use Rattle.lalrpop_lexer_scan.specs.declared.scanner.Scanner.{Scanner}
-use Rattle.lalrpop_lr1_interpret.specs.Columns.{AreColumnsOf}
 use Rattle.lalrpop_run_parser.proofs.GenerateLemmas.{states_lr1, table_built}
 use Rattle.lalrpop_run_parser.proofs.generating.generate.Goals as goal
 
@@ -16,17 +13,14 @@ invariant_of-result c =
     states_checked v c.expansion.result.now c.in_ok-start.start c.expansion.ensures
     (c.in_ok-start.ensures ∙ c.start_name.ensures) c.in-Ok.states.items c.in-Ok.ensures.checked c.known.ensures.parsed in
     record {
-      table_runs = is_table v c.in-Ok.states.items checked c.in_ok-table-in-Ok.table c.expansion-in-Ok.result.now
-          c.as_slice-built.result.now (length c.as_slice-built.result.now) c.expansion-in-Ok.ensures c.as_slice-built.ensures.value
-          c.in_ok-table-in-Ok.ensures (ap length c.as_slice-built.ensures.value);
-      columns_are =
-          subst (λ (ts : List (Option TerminalString)). AreColumnsOf c.in_ok-table-in-Ok.table ts
-          c.in_ok-columns-in-Ok.columns.numbers.items)
-          (c.terminals.ensures ∙ ap (λ (s : Scanner). s.terminals.items) c.scanner.ensures) c.in_ok-columns-in-Ok.ensures;
+      table_runs = is_table v c.in-Ok.states.items checked c.in_ok-table-in-Ok.table v.expansion c.as_slice-built.result.now
+          (length c.as_slice-built.result.now) refl c.as_slice-built.ensures.value c.in_ok-table-in-Ok.ensures.table
+          (ap length c.as_slice-built.ensures.value);
+      columns_are = c.in_ok-table-in-Ok.ensures.columns;
     }
 
-pub returns-in_ok-columns-in-Ok-clause-states : goal.returns-in_ok-columns-in-Ok-clause-states
-returns-in_ok-columns-in-Ok-clause-states c =
+pub returns-in_ok-table-in-Ok-clause-states : goal.returns-in_ok-table-in-Ok-clause-states
+returns-in_ok-table-in-Ok-clause-states c =
     let v = c.args.prepared.now in
     let named = c.in_ok-start.ensures ∙ c.start_name.ensures in
     let checked =
@@ -36,26 +30,26 @@ returns-in_ok-columns-in-Ok-clause-states c =
     (length c.as_slice-built.result.now) checked c.in-Ok.ensures.states c.known.ensures.parsed
     (ap length c.as_slice-built.ensures.value)
 
-pub returns-in_ok-columns-in-Ok-clause-table : goal.returns-in_ok-columns-in-Ok-clause-table
-returns-in_ok-columns-in-Ok-clause-table c =
+pub returns-in_ok-table-in-Ok-clause-table : goal.returns-in_ok-table-in-Ok-clause-table
+returns-in_ok-table-in-Ok-clause-table c =
     let v = c.args.prepared.now in
     let named = c.in_ok-start.ensures ∙ c.start_name.ensures in
     let checked =
     states_checked v c.expansion.result.now c.in_ok-start.start c.expansion.ensures named c.in-Ok.states.items c.in-Ok.ensures.checked
     c.known.ensures.parsed in
-    table_built v c.in-Ok.states.items checked c.args.method c.in_ok-start.start c.in_ok-table-in-Ok.table c.expansion-in-Ok.result.now
-    c.as_slice-built.result.now (length c.as_slice-built.result.now) c.expansion-in-Ok.ensures named c.as_slice-built.ensures.value
-    (subst (λ (h : Grammar). AreLr1By c.args.method h c.in_ok-start.start c.in-Ok.states.items)
-    (c.expansion.ensures ∙ sym c.expansion-in-Ok.ensures) c.in-Ok.ensures.states) c.known.ensures.parsed
-    c.in_ok-table-in-Ok.ensures (ap length c.as_slice-built.ensures.value)
+    table_built v c.in-Ok.states.items checked c.args.method c.in_ok-start.start c.in_ok-table-in-Ok.table v.expansion
+    c.as_slice-built.result.now (length c.as_slice-built.result.now) refl named c.as_slice-built.ensures.value
+    (subst (λ (h : Grammar). AreLr1By c.args.method h c.in_ok-start.start c.in-Ok.states.items) c.expansion.ensures
+    c.in-Ok.ensures.states) c.known.ensures.parsed
+    c.in_ok-table-in-Ok.ensures.table (ap length c.as_slice-built.ensures.value)
 
-pub returns-in_ok-columns-in-Ok-clause-lr1 : goal.returns-in_ok-columns-in-Ok-clause-lr1
-returns-in_ok-columns-in-Ok-clause-lr1 c =
+pub returns-in_ok-table-in-Ok-clause-lr1 : goal.returns-in_ok-table-in-Ok-clause-lr1
+returns-in_ok-table-in-Ok-clause-lr1 c =
     states_lr1 c.args.prepared.now c.expansion.result.now c.in_ok-start.start c.expansion.ensures
     (c.in_ok-start.ensures ∙ c.start_name.ensures) c.in-Ok.ensures.lr1 c.known.ensures.parsed
 
-pub returns-in_ok-columns-in-Ok-clause-one_tree : goal.returns-in_ok-columns-in-Ok-clause-one_tree
-returns-in_ok-columns-in-Ok-clause-one_tree c =
+pub returns-in_ok-table-in-Ok-clause-one_tree : goal.returns-in_ok-table-in-Ok-clause-one_tree
+returns-in_ok-table-in-Ok-clause-one_tree c =
     let v = c.args.prepared.now in
     let checked =
     states_checked v c.expansion.result.now c.in_ok-start.start c.expansion.ensures

@@ -75,8 +75,8 @@ read_members-returns-then-not-comes_last t c =
     let member = c.in_ok-member.ensures in
     let turn = members_turn _ _ _ l.reader (members_view l.found.items) l.invariant.0 _ _ _ _ named member.read member.shorter in
     let put_in =
-    put_in_map l.found.items c.in_ok-unordered.unordered.entries c.insert.new.self.entries (c.in-Some.key, c.in_ok-member.member)
-    l.invariant.1 c.in_ok-unordered.ensures c.in_ok-insert.ensures.entries in
+    put_in_map l.found.items c.in_ok-unordered.unordered.entries (c.in-Some.key, c.in_ok-member.member) l.invariant.1
+    c.in_ok-unordered.ensures in
     let same =
     members_go_on _ _ _ _ _ turn (skip_value-shorter c.args.depth)
     ∙ ap (λ found. members_behind c.args.depth found c.read_value.new.reader) put_in in

@@ -1,4 +1,4 @@
-use Rattle.std.proofs.Common.{◌≡◌, ◌∙◌, ◌≤◌, ℕ, List, [], None, ap, arith, length, subst, sym}
+use Rattle.std.proofs.Common.{◌≡◌, ◌∙◌, ◌≤◌, List, [], None, ap, arith, length, subst, sym}
 use Rattle.std.proofs.lemmas.List.{take_all}
 use Rattle.lalrpop_lr1_build.specs.Shifts.{shifted_items, symbol_behind}
 use Rattle.lalrpop_lr1_build.specs.declared.states.kernel.StateKernel.{StateKernel}

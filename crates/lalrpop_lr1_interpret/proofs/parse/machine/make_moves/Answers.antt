@@ -6,7 +6,7 @@ use Rattle.lalrpop_lr1_core.specs.Views.{production_view}
 use Rattle.lalrpop_lr1_interpret.specs.Ends.{token_views}
 use Rattle.lalrpop_lr1_interpret.specs.Stacks.{HasChildren}
 use Rattle.lalrpop_lr1_interpret.specs.Tables.{IsActionBefore}
-use Rattle.lalrpop_lr1_interpret.proofs.RunLemmas.{as_read, behind_there, done, enough, has_children, is_stuck, not_both, read_behind}
+use Rattle.lalrpop_lr1_interpret.proofs.RunLemmas.{as_read, behind_there, done, enough, has_children, is_stuck, not_both}
 use Rattle.lalrpop_lr1_interpret.proofs.RunLemmas.{reduce_limit, reduce_on, running_start, shift_limit, shift_on, state_there}
 use Rattle.lalrpop_lr1_interpret.proofs.parse.machine.make_moves.Goals as goal
 use Rattle.lalrpop_lr1_interpret.proofs.parse.machine.make_moves.Goals.{else-not-whole-via-else-not-whole}
@@ -84,91 +84,36 @@ node-requires g c κs =
       roots_are = k.roots_are;
     } in ((refl, tt), made)
 
-pub overflow_sub-kept : goal.overflow_sub-kept
-overflow_sub-kept g c =
+pub goto_under-requires-clause-fewer : goal.goto_under-requires-clause-fewer
+goto_under-requires-clause-fewer g c =
     let k = has_children c.args.table.now c.args.tokens.now c.args.limit c.args.whole
     (g.S.TreeStack.stands c.moves.stack) c.moves.numbers.items c.moves.at
     c.moves.left c.moves.next c.moves.invariant.running c.index-state.result.now
     (as_read c.moves.numbers.items c.index-state.result.now (c.len.result - 1) c.index-state.ensures
     (omega arith)) c.requires.checked c.in-Some-Reduce.by (subst (IsActionBefore c.args.table.now c.index-state.result.now c.moves.next)
     (ap Some c.in-Some-Reduce.field-0-is) c.in-Some-Reduce.ensures) in
-    omega (
-      arith,
-      enough c.args.table.now c.args.tokens.now c.args.limit c.args.whole
-          (g.S.TreeStack.stands c.moves.stack) c.moves.numbers.items c.moves.at
-          c.moves.left c.moves.next c.moves.invariant.running c.index-state.result.now
-          (as_read c.moves.numbers.items c.index-state.result.now (c.len.result - 1) c.index-state.ensures
-          (omega arith)) c.requires.checked c.in-Some-Reduce.by (subst
-          (IsActionBefore c.args.table.now c.index-state.result.now c.moves.next)
-          (ap Some c.in-Some-Reduce.field-0-is) c.in-Some-Reduce.ensures) k.kept k.children k.stands k.roots_are,
-      c.len-in-Some-Reduce.ensures,
-    )
+    enough c.args.table.now c.args.tokens.now c.args.limit c.args.whole
+    (g.S.TreeStack.stands c.moves.stack) c.moves.numbers.items c.moves.at
+    c.moves.left c.moves.next c.moves.invariant.running c.index-state.result.now
+    (as_read c.moves.numbers.items c.index-state.result.now (c.len.result - 1) c.index-state.ensures
+    (omega arith)) c.requires.checked c.in-Some-Reduce.by (subst (IsActionBefore c.args.table.now c.index-state.result.now c.moves.next)
+    (ap Some c.in-Some-Reduce.field-0-is) c.in-Some-Reduce.ensures) k.kept k.children k.stands k.roots_are
 
-pub overflow_sub-kept-in-Some-Reduce : goal.overflow_sub-kept-in-Some-Reduce
-overflow_sub-kept-in-Some-Reduce g c =
+pub goto_under-requires-clause-there : goal.goto_under-requires-clause-there
+goto_under-requires-clause-there g c = λ n read.
     let k = has_children c.args.table.now c.args.tokens.now c.args.limit c.args.whole
     (g.S.TreeStack.stands c.moves.stack) c.moves.numbers.items c.moves.at
     c.moves.left c.moves.next c.moves.invariant.running c.index-state.result.now
     (as_read c.moves.numbers.items c.index-state.result.now (c.len.result - 1) c.index-state.ensures
     (omega arith)) c.requires.checked c.in-Some-Reduce.by (subst (IsActionBefore c.args.table.now c.index-state.result.now c.moves.next)
     (ap Some c.in-Some-Reduce.field-0-is) c.in-Some-Reduce.ensures) in
-    omega (
-      arith,
-      enough c.args.table.now c.args.tokens.now c.args.limit c.args.whole
-          (g.S.TreeStack.stands c.moves.stack) c.moves.numbers.items c.moves.at
-          c.moves.left c.moves.next c.moves.invariant.running c.index-state.result.now
-          (as_read c.moves.numbers.items c.index-state.result.now (c.len.result - 1) c.index-state.ensures
-          (omega arith)) c.requires.checked c.in-Some-Reduce.by (subst
-          (IsActionBefore c.args.table.now c.index-state.result.now c.moves.next)
-          (ap Some c.in-Some-Reduce.field-0-is) c.in-Some-Reduce.ensures) k.kept k.children k.stands k.roots_are,
-      c.len-in-Some-Reduce.ensures,
-    )
-
-pub index-requires : goal.index-requires
-index-requires g c =
-    let k = has_children c.args.table.now c.args.tokens.now c.args.limit c.args.whole
-    (g.S.TreeStack.stands c.moves.stack) c.moves.numbers.items c.moves.at
-    c.moves.left c.moves.next c.moves.invariant.running c.index-state.result.now
-    (as_read c.moves.numbers.items c.index-state.result.now (c.len.result - 1) c.index-state.ensures
-    (omega arith)) c.requires.checked c.in-Some-Reduce.by (subst (IsActionBefore c.args.table.now c.index-state.result.now c.moves.next)
-    (ap Some c.in-Some-Reduce.field-0-is) c.in-Some-Reduce.ensures) in
-    omega (
-      arith,
-      enough c.args.table.now c.args.tokens.now c.args.limit c.args.whole
-          (g.S.TreeStack.stands c.moves.stack) c.moves.numbers.items c.moves.at
-          c.moves.left c.moves.next c.moves.invariant.running c.index-state.result.now
-          (as_read c.moves.numbers.items c.index-state.result.now (c.len.result - 1) c.index-state.ensures
-          (omega arith)) c.requires.checked c.in-Some-Reduce.by (subst
-          (IsActionBefore c.args.table.now c.index-state.result.now c.moves.next)
-          (ap Some c.in-Some-Reduce.field-0-is) c.in-Some-Reduce.ensures) k.kept k.children k.stands k.roots_are,
-      c.len-in-Some-Reduce.ensures,
-      c.truncate.ensures.len,
-    )
-
-pub goto-requires-clause-there : goal.goto-requires-clause-there
-goto-requires-clause-there g c =
-    let k = has_children c.args.table.now c.args.tokens.now c.args.limit c.args.whole
-    (g.S.TreeStack.stands c.moves.stack) c.moves.numbers.items c.moves.at
-    c.moves.left c.moves.next c.moves.invariant.running c.index-state.result.now
-    (as_read c.moves.numbers.items c.index-state.result.now (c.len.result - 1) c.index-state.ensures
-    (omega arith)) c.requires.checked c.in-Some-Reduce.by (subst (IsActionBefore c.args.table.now c.index-state.result.now c.moves.next)
-    (ap Some c.in-Some-Reduce.field-0-is) c.in-Some-Reduce.ensures) in
-    let fewer = enough c.args.table.now c.args.tokens.now c.args.limit c.args.whole
-    (g.S.TreeStack.stands c.moves.stack) c.moves.numbers.items c.moves.at
-    c.moves.left c.moves.next c.moves.invariant.running c.index-state.result.now
-    (as_read c.moves.numbers.items c.index-state.result.now (c.len.result - 1) c.index-state.ensures
-    (omega arith)) c.requires.checked c.in-Some-Reduce.by (subst (IsActionBefore c.args.table.now c.index-state.result.now c.moves.next)
-    (ap Some c.in-Some-Reduce.field-0-is) c.in-Some-Reduce.ensures) k.kept k.children k.stands k.roots_are in
-    let left = c.len-in-Some-Reduce.result - c.in-Some-Reduce.by.length in
-    let kept : left ≡ length c.moves.numbers.items - c.in-Some-Reduce.by.length = omega (arith, c.len-in-Some-Reduce.ensures) in
-    let read = read_behind c.moves.numbers.items c.truncate.new.self.items left c.index.result.now (left - 1) c.truncate.ensures.items
-    (omega (arith, fewer, c.len-in-Some-Reduce.ensures)) c.index.ensures refl in
     behind_there c.args.table.now c.args.tokens.now c.args.limit c.args.whole
     (g.S.TreeStack.stands c.moves.stack) c.moves.numbers.items c.moves.at
     c.moves.left c.moves.next c.moves.invariant.running c.index-state.result.now
     (as_read c.moves.numbers.items c.index-state.result.now (c.len.result - 1) c.index-state.ensures
     (omega arith)) c.requires.checked c.in-Some-Reduce.by (subst (IsActionBefore c.args.table.now c.index-state.result.now c.moves.next)
-    (ap Some c.in-Some-Reduce.field-0-is) c.in-Some-Reduce.ensures) k.kept k.children k.stands k.roots_are left c.index.result.now kept read
+    (ap Some c.in-Some-Reduce.field-0-is) c.in-Some-Reduce.ensures) k.kept k.children k.stands k.roots_are
+    (length c.moves.numbers.items - c.in-Some-Reduce.by.length) n refl read
 
 pub moves-preserved : goal.moves-preserved
 moves-preserved g c =
@@ -178,16 +123,7 @@ moves-preserved g c =
     (as_read c.moves.numbers.items c.index-state.result.now (c.len.result - 1) c.index-state.ensures
     (omega arith)) c.requires.checked c.in-Some-Reduce.by (subst (IsActionBefore c.args.table.now c.index-state.result.now c.moves.next)
     (ap Some c.in-Some-Reduce.field-0-is) c.in-Some-Reduce.ensures) in
-    let fewer = enough c.args.table.now c.args.tokens.now c.args.limit c.args.whole
-    (g.S.TreeStack.stands c.moves.stack) c.moves.numbers.items c.moves.at
-    c.moves.left c.moves.next c.moves.invariant.running c.index-state.result.now
-    (as_read c.moves.numbers.items c.index-state.result.now (c.len.result - 1) c.index-state.ensures
-    (omega arith)) c.requires.checked c.in-Some-Reduce.by (subst (IsActionBefore c.args.table.now c.index-state.result.now c.moves.next)
-    (ap Some c.in-Some-Reduce.field-0-is) c.in-Some-Reduce.ensures) k.kept k.children k.stands k.roots_are in
-    let left = c.len-in-Some-Reduce.result - c.in-Some-Reduce.by.length in
-    let kept : left ≡ length c.moves.numbers.items - c.in-Some-Reduce.by.length = omega (arith, c.len-in-Some-Reduce.ensures) in
-    let read = read_behind c.moves.numbers.items c.truncate.new.self.items left c.index.result.now (left - 1) c.truncate.ensures.items
-    (omega (arith, fewer, c.len-in-Some-Reduce.ensures)) c.index.ensures refl in
+    let under = c.in-Some.ensures.found in
     record {
       running = reduce_on c.args.table.now c.args.tokens.now c.args.limit c.args.whole
           (g.S.TreeStack.stands c.moves.stack) c.moves.numbers.items c.moves.at
@@ -196,9 +132,10 @@ moves-preserved g c =
           (omega arith)) c.requires.checked c.in-Some-Reduce.by
           (subst (IsActionBefore c.args.table.now c.index-state.result.now c.moves.next)
           (ap Some c.in-Some-Reduce.field-0-is) c.in-Some-Reduce.ensures) k.kept k.children k.stands k.roots_are
-          left c.index.result.now c.in-Some.target (c.moves.left - 1) c.push_number-in-Some.new.numbers.items
-          (g.S.TreeStack.stands c.node.new.self) (omega (arith, c.if-left-eq0-2.false)) kept read c.in-Some.ensures.found
-          (c.in_ok-push_number-in-Some.ensures ∙ ap (λ l. l ++ c.in-Some.target ∷ []) c.truncate.ensures.items)
+          (length c.moves.numbers.items - c.in-Some-Reduce.by.length) under.0 c.in-Some.target (c.moves.left - 1)
+          c.push_number-in-Some.new.numbers.items
+          (g.S.TreeStack.stands c.node.new.self) (omega (arith, c.if-left-eq0-2.false)) refl under.1 under.2
+          (c.in_ok-push_number-in-Some.ensures ∙ ap (λ l. l ++ c.in-Some.target ∷ []) c.goto_under.ensures.left)
           (c.in_ok-node-in-Some-Reduce.ensures.node_stands k.kept k.children (take c.moves.at (token_views c.args.tokens.now))
           (subst (λ ts. g.S.TreeStack.stands c.moves.stack ts (take c.moves.at (token_views c.args.tokens.now))) k.stands
           c.moves.invariant.running.stands) k.roots_are)
@@ -209,31 +146,23 @@ moves-preserved g c =
       same = c.in_ok-node-in-Some-Reduce.ensures.same ∙ c.moves.invariant.same;
     }
 
-pub returns-in-None-goto-clause-ends : goal.returns-in-None-goto-clause-ends
-returns-in-None-goto-clause-ends g c = λ grammar s states alone ok is.
+pub returns-in-None-goto_under-clause-ends : goal.returns-in-None-goto_under-clause-ends
+returns-in-None-goto_under-clause-ends g c = λ grammar s states alone ok is.
     let k = has_children c.args.table.now c.args.tokens.now c.args.limit c.args.whole
     (g.S.TreeStack.stands c.moves.stack) c.moves.numbers.items c.moves.at
     c.moves.left c.moves.next c.moves.invariant.running c.index-state.result.now
     (as_read c.moves.numbers.items c.index-state.result.now (c.len.result - 1) c.index-state.ensures
     (omega arith)) c.requires.checked c.in-Some-Reduce.by (subst (IsActionBefore c.args.table.now c.index-state.result.now c.moves.next)
     (ap Some c.in-Some-Reduce.field-0-is) c.in-Some-Reduce.ensures) in
-    let fewer = enough c.args.table.now c.args.tokens.now c.args.limit c.args.whole
-    (g.S.TreeStack.stands c.moves.stack) c.moves.numbers.items c.moves.at
-    c.moves.left c.moves.next c.moves.invariant.running c.index-state.result.now
-    (as_read c.moves.numbers.items c.index-state.result.now (c.len.result - 1) c.index-state.ensures
-    (omega arith)) c.requires.checked c.in-Some-Reduce.by (subst (IsActionBefore c.args.table.now c.index-state.result.now c.moves.next)
-    (ap Some c.in-Some-Reduce.field-0-is) c.in-Some-Reduce.ensures) k.kept k.children k.stands k.roots_are in
-    let left = c.len-in-Some-Reduce.result - c.in-Some-Reduce.by.length in
-    let kept : left ≡ length c.moves.numbers.items - c.in-Some-Reduce.by.length = omega (arith, c.len-in-Some-Reduce.ensures) in
-    let read = read_behind c.moves.numbers.items c.truncate.new.self.items left c.index.result.now (left - 1) c.truncate.ensures.items
-    (omega (arith, fewer, c.len-in-Some-Reduce.ensures)) c.index.ensures refl in
+    let under = c.in-None-goto_under.ensures.none in
     done c.args.table.now c.args.tokens.now c.args.limit c.args.whole (g.S.TreeStack.stands c.moves.stack) c.moves.numbers.items c.moves.at
     c.moves.left c.moves.next c.moves.invariant.running c.index-state.result.now
     (as_read c.moves.numbers.items c.index-state.result.now (c.len.result - 1) c.index-state.ensures
     (omega arith)) c.requires.checked c.in-Some-Reduce.by (subst (IsActionBefore c.args.table.now c.index-state.result.now c.moves.next)
     (ap Some c.in-Some-Reduce.field-0-is) c.in-Some-Reduce.ensures) k.kept k.children k.stands k.roots_are
-    grammar s states ok is left c.index.result.now (c.moves.left - 1) c.truncate.new.self.items
-    (g.S.TreeStack.stands c.node.new.self) (omega (arith, c.if-left-eq0-2.false)) kept read c.in-None-goto.ensures.none
+    grammar s states ok is (length c.moves.numbers.items - c.in-Some-Reduce.by.length) under.0 (c.moves.left - 1)
+    c.goto_under.new.numbers.items
+    (g.S.TreeStack.stands c.node.new.self) (omega (arith, c.if-left-eq0-2.false)) refl under.1 under.2
     (c.in_ok-node-in-Some-Reduce.ensures.node_stands k.kept k.children (take c.moves.at (token_views c.args.tokens.now))
     (subst (λ ts. g.S.TreeStack.stands c.moves.stack ts (take c.moves.at (token_views c.args.tokens.now))) k.stands
     c.moves.invariant.running.stands) k.roots_are)

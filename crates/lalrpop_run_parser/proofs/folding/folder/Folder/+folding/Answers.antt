@@ -1,12 +1,12 @@
-use Rattle.std.proofs.Common.{◌≡◌, ◌∙◌, ◌+◌, ◌⊎◌, ◌∷◌, [], ◌++◌, ℕ, List, ap, arith, drop}
-use Rattle.std.proofs.Common.{inl, inr, length, map, refl, subst, sym, take, Contains}
+use Rattle.std.proofs.Common.{◌≡◌, ◌∙◌, ◌+◌, ◌⊎◌, ◌∷◌, [], ◌++◌, ap, arith, drop}
+use Rattle.std.proofs.Common.{map, refl, subst, sym, take, Contains}
 use Rattle.std.specs.Prelude.{IfOk, None, false}
 use Rattle.std.proofs.lemmas.Result.{IfOk-weaker}
 use Rattle.std.proofs.lemmas.List.{drop-map, drop_more, length-map, map-append, take-map, take_all, take_more}
 use Rattle.lalrpop_grammar_repr.specs.Productions.{productions_of}
 use Rattle.lalrpop_lr1_core.specs.TheoryGrammars.{theory_grammar}
 use Rattle.lalrpop_lr1_core.specs.Views.{production_symbol_view, production_view}
-use Rattle.lalrpop_lr1_interpret.specs.ExpandedViews.{expanded_view, expanded_views}
+use Rattle.lalrpop_lr1_interpret.specs.ExpandedViews.{expanded_views}
 use Rattle.lalrpop_lr1_theory.specs.Productions as theory
 use Rattle.lalrpop_grammar_repr.specs.declared.production.Production.{Production}
 use Rattle.lalrpop_run_trees.specs.KeptTrees.{AreKeptBy}

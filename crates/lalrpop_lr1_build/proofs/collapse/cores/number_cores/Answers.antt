@@ -4,7 +4,7 @@ use Rattle.lalrpop_lr1_theory.proofs.NumberLemmas.{IsNumbering, numbering_done, 
 use Rattle.lalrpop_lr1_build.specs.StateCores.{DottedProduction, core_in_state, items_core, listed_core}
 use Rattle.lalrpop_lr1_build.proofs.CoreLemmas.{cores_same, dotted_eq}
 use Rattle.lalrpop_lr1_build.proofs.ListLemmas.{get_here, map_last, take_get, take_whole}
-use Rattle.lalrpop_lr1_build.proofs.collapse.cores.core_numbers.Goals as goal
+use Rattle.lalrpop_lr1_build.proofs.collapse.cores.number_cores.Goals as goal
 
 pub loop-state-preserved : goal.loop-state-preserved
 loop-state-preserved c =
