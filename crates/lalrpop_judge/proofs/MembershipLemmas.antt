@@ -10,8 +10,6 @@ use Rattle.lalrpop_grammar_symbols.specs.declared.names.NonterminalString.{Nonte
 use Rattle.lalrpop_grammar_repr.specs.Productions.{productions_in}
 use Rattle.lalrpop_grammar_repr.specs.declared.production.NonterminalData.{NonterminalData}
 use Rattle.lalrpop_grammar_repr.specs.declared.production.Production.{Production}
-use Rattle.lalrpop_grammar_repr.specs.declared.production.Symbol.TheVariants as symbols
-use Rattle.lalrpop_lr1_theory.specs.Productions as theory
 use Rattle.lalrpop_lr1_theory.proofs.ExampleLemmas.{nothing_in}
 use Rattle.lalrpop_lr1_interpret.proofs.StackLemmas.{same_get}
 use Rattle.lalrpop_lr1_core.specs.Views.{production_view}
