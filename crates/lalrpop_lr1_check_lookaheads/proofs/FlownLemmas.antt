@@ -16,8 +16,7 @@ use Rattle.lalrpop_lr1_first.specs.declared.flowing.Edge.{Edge}
 use Rattle.lalrpop_lr1_first.proofs.ListLemmas.{or_cases, or_right}
 use Rattle.lalrpop_grammar_symbols.proofs.BoolLemmas.{and_both}
 use Rattle.lalrpop_lr1_check_lookaheads.proofs.MoveLemmas.{get_long}
-use Rattle.lalrpop_lr1_check_lookaheads.specs.LookaheadFlows.{FlowsAlong}
-use Rattle.lalrpop_lr1_check_lookaheads.specs.LookaheadReductions.{option_set}
+use Rattle.lalrpop_lr1_check_lookaheads.specs.LookaheadFlows.{FlowsAlong, option_set}
 use Rattle.lalrpop_lr1_check_lookaheads.specs.LookaheadSlots.{AreSlots, HasSlotMark, SlotKey, slot_keys, slot_sets}
 use Rattle.lalrpop_lr1_check_lookaheads.specs.declared.lookaheads.slots.Slots.{Slots}
 

@@ -1,5 +1,5 @@
 -- Items follow edges, as a listing of states tells it: for the test of states.
-use Rattle.std.proofs.Common.{◌≡◌, ◌∙◌, ℕ, List, [], ◌∷◌, length, map}
+use Rattle.std.proofs.Common.{◌≡◌, ◌∙◌, ℕ, List, length, map}
 use Rattle.lalrpop_lr1_theory.specs.States as states
 use Rattle.lalrpop_lr1_core.specs.Views.{lr_state_view}
 use Rattle.lalrpop_lr1_check_lookaheads.specs.ListTests.{HoldsAtEach}

@@ -27,7 +27,8 @@ use Rattle.lalrpop_lr1_theory.specs.PropagatedNexts.{LeadAlong}
 use Rattle.lalrpop_lr1_check_lookaheads.proofs.GainLemmas.{taken_one}
 use Rattle.lalrpop_lr1_theory.proofs.NameLemmas.{no_element}
 use Rattle.lalrpop_lr1_check_lookaheads.specs.PropagationEdges.{ArePropagationEdges, GainsEdges, PropagatesAtDot, PropagatesBySome, LeadsToSlot}
-use Rattle.lalrpop_lr1_check_lookaheads.specs.LookaheadSlots.{AreSlots, GainsSlotMarks, IsMarkIn, SlotKey, slot_key, slot_keys}
+use Rattle.lalrpop_lr1_check_lookaheads.specs.KeyedSets.{IsMarkIn}
+use Rattle.lalrpop_lr1_check_lookaheads.specs.LookaheadSlots.{AreSlots, GainsSlotMarks, SlotKey, slot_key, slot_keys}
 use Rattle.lalrpop_lr1_check_lookaheads.specs.declared.lookaheads.slots.Slots.{Slots}
 use Rattle.lalrpop_lr1_check_lookaheads.proofs.BroughtLemmas.{name_same}
 use Rattle.lalrpop_lr1_check_lookaheads.proofs.SlotLemmas.{key_of}

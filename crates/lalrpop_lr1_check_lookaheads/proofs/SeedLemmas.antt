@@ -15,7 +15,8 @@ use Rattle.lalrpop_lr1_first.proofs.ListLemmas.{or_cases}
 use Rattle.lalrpop_lr1_check_lookaheads.specs.Brought.{ClosesMarks, IsBegunMark, IsFirstMark}
 use Rattle.lalrpop_lr1_check_lookaheads.specs.PropagationEdges.{ArePropagationEdges}
 use Rattle.lalrpop_lr1_check_lookaheads.specs.LookaheadFlows.{AreSeeds, IsSlotEdge, ItemsBring}
-use Rattle.lalrpop_lr1_check_lookaheads.specs.LookaheadSlots.{GainsSlotMarks, HasSlotMark, IsMarkIn, SlotKey, slot_keys, slot_sets}
+use Rattle.lalrpop_lr1_check_lookaheads.specs.KeyedSets.{IsMarkIn}
+use Rattle.lalrpop_lr1_check_lookaheads.specs.LookaheadSlots.{GainsSlotMarks, HasSlotMark, SlotKey, slot_keys, slot_sets}
 use Rattle.lalrpop_lr1_check_lookaheads.specs.declared.lookaheads.slots.Slots.{Slots}
 use Rattle.lalrpop_lr1_check_lookaheads.proofs.SlotLemmas.{key_of}
 

@@ -1,5 +1,5 @@
 -- What a nonterminal behind a dot brings to its slot: that it is there, and what can come first behind it.
-use Rattle.std.specs.Prelude.{ℕ, ◌≡◌, ◌↔◌, ◌<◌, List, ◌∷◌, Contains, Option, None, Some, drop, map, slice_get}
+use Rattle.std.specs.Prelude.{ℕ, ◌≡◌, ◌↔◌, ◌<◌, List, ◌∷◌, Option, None, Some, drop, map, slice_get}
 use Rattle.std.specs.Borrow.{Bor}
 use Rattle.lalrpop_grammar_symbols.specs.Symbols.{Text}
 use Rattle.lalrpop_grammar_symbols.specs.declared.names.NonterminalString.{NonterminalString}
@@ -12,6 +12,7 @@ use Rattle.lalrpop_lr1_core.specs.Views.{next_of_number, production_symbol_view}
 use Rattle.lalrpop_lr1_core.specs.declared.item.Item.{Item}
 use Rattle.lalrpop_sets.specs.Tokens.{eof_number}
 use Rattle.lalrpop_lr1_first.specs.FirstSetsOf.{IsProductionOf}
+use Rattle.lalrpop_lr1_check_lookaheads.specs.KeyedSets.{OfSome}
 use Rattle.lalrpop_lr1_check_lookaheads.specs.LookaheadSlots.{AreSlots, HasSlotMark, SlotKey, slot_keys}
 use Rattle.lalrpop_lr1_check_lookaheads.specs.declared.lookaheads.slots.Slots.{Slots}
 
@@ -33,13 +34,6 @@ pub record BringsMark (g : Grammar) (n : ℕ) (symbols : List theory.Symbol) (ke
   pub state : key.state ≡ n
   pub before : symbols ≡ theory.nonterminal key.name ∷ rest
   pub mark_is : IsFirstMark g rest mark
-
--- some of the list brings the mark, and some with its place
-abbrev pub OfSome : {X : Type 0} → (X → SlotKey → Option ℕ → Type 0) → List X → SlotKey → Option ℕ → Type 0
-OfSome {X} Brings xs key mark = (x : X) × Contains xs x × Brings x key mark
-
-abbrev pub OfSomePlace : {X : Type 0} → (ℕ → X → SlotKey → Option ℕ → Type 0) → List X → SlotKey → Option ℕ → Type 0
-OfSomePlace {X} Brings xs key mark = (n : ℕ) × (x : X) × (slice_get xs n ≡ Some x) × Brings n x key mark
 
 -- what an item of the state brings
 abbrev pub ItemBrings : {L : Type 0} → Grammar → ℕ → Item L → SlotKey → Option ℕ → Type 0

@@ -1,4 +1,4 @@
--- By what items are hashed, and that items that compare as equal are hashed alike: for the set of listed items.
+-- By what items and ends are hashed, and that those which compare as equal are hashed alike: for the sets of them.
 use Rattle.std.specs.Prelude.{ℕ, ◌≡◌, ◌&&◌, ◌++◌, true, List, nat_eq}
 use Rattle.std.specs.Hash as fed
 use Rattle.std.proofs.Common.{◌∙◌, ap}
@@ -25,3 +25,16 @@ same_hash m n p q i j e =
     ap (λ k. item_hash k p.action.0 i) ((Decides-eqb m n).0 a.0)
     ∙ ap (λ k. item_hash n k i) ((Decides-eqb p.action.0 q.action.0).0 f.0)
     ∙ ap (λ k. item_hash n q.action.0 k) ((Decides-eqb i j).0 b.1)
+
+-- the number of an end's state, and that of its production's action
+abbrev pub end_hash : ℕ → ℕ → List (List ℕ)
+end_hash state action = fed.usize state ++ fed.u32 action
+
+pub same_end_hash : (m n : ℕ) (p q : Production) → (nat_eq m n && (productions.ghosts).eq p q) ≡ true →
+    end_hash m p.action.0 ≡ end_hash n q.action.0
+same_end_hash m n p q e =
+    let a = both_parts (nat_eq m n) _ e in
+    let c = both_parts ((names.ghosts).eq p.nonterminal q.nonterminal) _ a.1 in
+    let d = both_parts (pointwise (symbols.ghosts).eq p.symbols q.symbols) _ c.1 in
+    let f = both_parts (nat_eq p.action.0 q.action.0) _ d.1 in
+    ap (λ k. end_hash k p.action.0) ((Decides-eqb m n).0 a.0) ∙ ap (λ k. end_hash n k) ((Decides-eqb p.action.0 q.action.0).0 f.0)

@@ -7,8 +7,10 @@ pub mod Moves
 pub mod Reductions
 pub mod Listings
 pub mod CheckedTests
+pub mod KeyedSets
 pub mod LookaheadSlots
 pub mod Brought
 pub mod PropagationEdges
-pub mod LookaheadReductions
 pub mod LookaheadFlows
+pub mod Ends
+pub mod CarriedSets

@@ -1,6 +1,6 @@
 -- With what slots begin, and what flows from slot to slot: for the test of what is propagated.
 use Rattle.std.specs.Prelude.{ℕ, ◌≡◌, ◌↔◌, ◌⊎◌, ◌<◌, List, [], ◌∷◌, Contains, Option}
-use Rattle.std.specs.Prelude.{Some, length, slice_get, true}
+use Rattle.std.specs.Prelude.{None, Some, length, slice_get, true}
 use Rattle.lalrpop_grammar_symbols.specs.Symbols.{Text}
 use Rattle.lalrpop_grammar_repr.specs.declared.grammar.Grammar.{Grammar}
 use Rattle.lalrpop_grammar_repr.specs.declared.production.Production.{Production}
@@ -13,9 +13,9 @@ use Rattle.lalrpop_sets.specs.Tokens.{eof_number}
 use Rattle.lalrpop_lr1_first.specs.Numbers.{set_of_number}
 use Rattle.lalrpop_lr1_first.specs.Tables.{HasNumberedTerminal}
 use Rattle.lalrpop_lr1_first.specs.declared.flowing.Edge.{Edge}
-use Rattle.lalrpop_lr1_check_lookaheads.specs.Brought.{IsBegunMark, ItemBrings, OfSome, OfSomePlace}
-use Rattle.lalrpop_lr1_check_lookaheads.specs.LookaheadReductions.{option_set}
-use Rattle.lalrpop_lr1_check_lookaheads.specs.LookaheadSlots.{AreSlots, HasSlotMark, IsMarkIn, SlotKey, slot_sets}
+use Rattle.lalrpop_lr1_check_lookaheads.specs.Brought.{IsBegunMark, ItemBrings}
+use Rattle.lalrpop_lr1_check_lookaheads.specs.KeyedSets.{IsMarkIn, OfSome, OfSomePlace}
+use Rattle.lalrpop_lr1_check_lookaheads.specs.LookaheadSlots.{AreSlots, HasSlotMark, SlotKey, slot_sets}
 use Rattle.lalrpop_lr1_check_lookaheads.specs.declared.lookaheads.slots.Slots.{Slots}
 
 -- the terminals in the items of the states are numbered
@@ -46,6 +46,11 @@ pub record IsSlotEdge (slots : Slots) (e : Edge) : Type 0 where
 pub data FlowsAlong (edges : List Edge) (sets : List (List ℕ)) : ℕ → ℕ → Type 0 where
   stands : (j k : ℕ) → has (set_of_number sets j) k ≡ true → FlowsAlong edges sets j k
   flows : (e : Edge) (k : ℕ) → Contains edges e → FlowsAlong edges sets e.from k → FlowsAlong edges sets e.to k
+
+-- the tokens that are there
+abbrev pub option_set : Option (List ℕ) → List ℕ
+option_set None = []
+option_set (Some set) = set
 
 -- the sets have just what flows
 pub record AreFlown (slots : Slots) (edges : List Edge) (sets : List (Option (List ℕ))) : Type 0 where

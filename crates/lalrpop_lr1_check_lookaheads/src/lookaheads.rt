@@ -1,10 +1,14 @@
-//! Lookaheads of nonterminals in states, carried along edges, and whether the states reduce before all of them: a part of the
-//! test of states.
+//! Lookaheads of nonterminals in states, carried along edges to finished items: read off for each reduction, and whether the states
+//! reduce before all of them, a part of the test of states.
 //!
 //! A slot is a nonterminal in a state. What can come first behind a nonterminal is propagated to its slot, and from slot to slot goes
-//! what stands before a rest that derives nothing. In `specs/`, `LookaheadSlots` says what stands in slots, `Brought` what items bring
-//! to them, and `PropagationEdges` along which edges it is propagated.
+//! what stands before a rest that derives nothing. A production carries what its name's slot has to its end, in the state to which it
+//! leads. In `specs/`, `LookaheadSlots` says what stands in slots, `Brought` what items bring to them, `PropagationEdges` along which
+//! edges it is propagated, `Ends` what comes to ends, and `CarriedSets` what is read off.
 
+mod carried;
+mod ending;
+mod ends;
 mod propagated;
 mod propagation;
 mod reducing;
@@ -13,4 +17,4 @@ mod seeds;
 mod slots;
 mod walking;
 
-pub use propagated::reduces_before_lookaheads;
+pub use carried::{carried_lookaheads, reduces_before_lookaheads};

@@ -1,26 +1,23 @@
-//! Whether states reduce before all that is propagated to the names of their productions.
+//! What is propagated to the slots of nonterminals in states.
 
-ghost use Rattle.std.specs.Prelude.{◌≡◌, ◌≤◌, ◌↔◌, [], ℕ, List, Contains, IfOk, IsTrue, OnOk, Some, length, map};
+ghost use Rattle.std.specs.Prelude.{◌≡◌, ◌≤◌, [], ℕ, List, Contains, IfOk, OnOk, Some, length, map};
 ghost use Rattle.lalrpop_sets.specs.Tokens.{eof_number};
-ghost use Rattle.lalrpop_lr1_theory.specs.States.{HasEdge, HasItem, LookaheadSet, Reduces};
-ghost use Rattle.lalrpop_lr1_core.specs.Views.{lr_state_view, token_lookahead};
-ghost use Rattle.lalrpop_lr1_theory.specs.PropagatedNexts.{ReducesBeforeLookaheads};
-ghost use Rattle.lalrpop_lr1_first.specs.FirstSetsOf.{AreFirstSetsOf, IsProductionOf};
-ghost use Rattle.lalrpop_lr1_first.specs.NumberedGrammars.{HasItsTerminals, IsNumberTableOf, table_productions};
+ghost use Rattle.lalrpop_lr1_theory.specs.States.{LookaheadSet};
+ghost use Rattle.lalrpop_lr1_first.specs.FirstSetsOf.{AreFirstSetsOf};
+ghost use Rattle.lalrpop_lr1_first.specs.NumberedGrammars.{HasItsTerminals, table_productions};
 ghost use Rattle.lalrpop_lr1_barren.specs.NamedLists.{AreListedByName};
-ghost use Rattle.lalrpop_lr1_check_lookaheads.specs.LookaheadFlows.{AreFlown, AreSeeds, HaveKnownItems, IsSlotEdge};
+ghost use Rattle.lalrpop_lr1_check_lookaheads.specs.LookaheadFlows.{AreFlown, AreSeeds, IsSlotEdge};
 ghost use Rattle.lalrpop_lr1_check_lookaheads.specs.LookaheadSlots.{AreSlots, HasSlotMark, slot_keys, slot_sets};
 ghost use Rattle.lalrpop_lr1_check_lookaheads.specs.PropagationEdges.{ArePropagationEdges};
 
 use crate::lookaheads::propagation::propagation_edges;
-use crate::lookaheads::reducing::all_reduce;
 use crate::lookaheads::seeds::{close_slots, seed_all_items};
 use crate::lookaheads::slots::{Slot, Slots};
 use lalrpop_grammar_repr::{Grammar, TerminalSet};
 use lalrpop_grammar_symbols::NonterminalString;
 use lalrpop_lr1_barren::reachable::NamedProductions;
 use lalrpop_lr1_core::Lr1State;
-use lalrpop_lr1_first::{Edge, FirstSets, Numbered, flow};
+use lalrpop_lr1_first::{Edge, FirstSets, flow};
 use lalrpop_sets::TokenSet;
 use std::alloc::{AllocError, Global};
 
@@ -69,7 +66,7 @@ fn seeded_slots<'g>(
 }
 
 /// The slots to which something is propagated, each with what it is seeded with, and the edges along which they propagate it.
-fn slots_and_edges<'g>(
+pub(crate) fn slots_and_edges<'g>(
     alloc: Global,
     grammar: &Grammar,
     named: &NamedProductions<'_, 'g>,
@@ -101,7 +98,7 @@ fn option_sets(alloc: Global, sets: &[TokenSet]) -> Result<Vec<Option<TokenSet>>
 }
 
 /// The tokens of each slot, with those that come along the edges.
-fn flown_sets(
+pub(crate) fn flown_sets(
     alloc: Global,
     terminals: &TerminalSet,
     slots: &Slots<'_>,
@@ -117,36 +114,4 @@ fn flown_sets(
     let mut sets = option_sets(alloc, slots.sets.as_slice())?;
     flow(alloc, terminals, firsts.as_slice(), edges, &mut sets)?;
     Ok(sets)
-}
-
-/// Whether each state to which a production leads reduces by it before all that is propagated to its name where it begins, for any
-/// states, in whose items stand terminals of the grammar alone. The table is the grammar's.
-///
-/// # Errors
-///
-/// Memory is refused.
-pub fn reduces_before_lookaheads<'g>(
-    alloc: Global,
-    grammar: &Grammar,
-    table: &Numbered<'g>,
-    start: &'g NonterminalString,
-    states: &[Lr1State<'g>],
-) -> Result<bool, AllocError>
-    requires grammar { HasItsTerminals grammar.now }
-    requires table { IsNumberTableOf grammar.now table.now }
-    ensures { IfOk result (λ reduces. let seen = map (lr_state_view (token_lookahead grammar.now.terminals)) states.now in
-        HaveKnownItems grammar.now.terminals states.now → IsTrue reduces
-        ↔ ReducesBeforeLookaheads (IsProductionOf grammar.now) start.now.0 (HasItem seen) (HasEdge seen) (Reduces seen)) }
-{
-    let named = NamedProductions::new(alloc, table)?;
-    let (slots, edges) = slots_and_edges(alloc, grammar, &named, start, states)?;
-    let sets = flown_sets(alloc, &grammar.terminals, &slots, edges.as_slice())?;
-    all_reduce(
-        alloc,
-        &grammar.terminals,
-        states,
-        &named,
-        &slots,
-        sets.as_slice(),
-    )
 }

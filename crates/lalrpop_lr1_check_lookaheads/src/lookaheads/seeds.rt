@@ -6,7 +6,8 @@ ghost use Rattle.lalrpop_lr1_first.specs.FirstSetsOf.{AreFirstSetsOf};
 ghost use Rattle.lalrpop_lr1_first.specs.Listings.{lent};
 ghost use Rattle.lalrpop_lr1_first.specs.NumberedGrammars.{table_productions};
 ghost use Rattle.lalrpop_lr1_barren.specs.NamedLists.{AreListedByName};
-ghost use Rattle.lalrpop_lr1_check_lookaheads.specs.Brought.{BeginBrings, BringsMark, ClosesMarks, ItemBrings, OfSome, OfSomePlace};
+ghost use Rattle.lalrpop_lr1_check_lookaheads.specs.Brought.{BeginBrings, BringsMark, ClosesMarks, ItemBrings};
+ghost use Rattle.lalrpop_lr1_check_lookaheads.specs.KeyedSets.{OfSome, OfSomePlace};
 ghost use Rattle.lalrpop_lr1_check_lookaheads.specs.LookaheadSlots.{AreSlots, GainsSlotMarks, slot_key};
 
 use crate::lookaheads::rests::{name_at, tokens_of};

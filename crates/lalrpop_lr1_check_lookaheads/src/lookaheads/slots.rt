@@ -1,7 +1,8 @@
 //! Slots, by their numbers, with what is propagated to each.
 
 ghost use Rattle.std.specs.Prelude.{◌≡◌, ◌<◌, ◌^◌, [], IfOk, IfSome, OnOk, Some, slice_get};
-ghost use Rattle.lalrpop_lr1_check_lookaheads.specs.LookaheadSlots.{AreSlots, GainsSlotMarks, IsMarkIn, slot_key, slot_keys, slot_sets};
+ghost use Rattle.lalrpop_lr1_check_lookaheads.specs.KeyedSets.{IsMarkIn};
+ghost use Rattle.lalrpop_lr1_check_lookaheads.specs.LookaheadSlots.{AreSlots, GainsSlotMarks, slot_key, slot_keys, slot_sets};
 
 use indexmap::IndexSet;
 use lalrpop_grammar_repr::TerminalSet;
@@ -19,10 +20,19 @@ pub(crate) struct Slot<'g> {
 }
 
 /// Slots in the order in which they were found, each with the tokens that are propagated to it.
-#[derive(Drop)]
 pub(crate) struct Slots<'g> {
     pub(crate) keys: IndexSet<Slot<'g>>,
     pub(crate) sets: Vec<TokenSet>,
+}
+
+impl<'g> Drop for Slots<'g> {
+    /// Drops what it holds: where it is owned, that is one call.
+    fn drop(self) {
+        let Slots {
+            keys: _keys,
+            sets: _sets,
+        } = self;
+    }
 }
 
 impl<'g> Slots<'g> {

@@ -1,7 +1,8 @@
 use Rattle.std.proofs.Common.{◌≡◌, subst}
 use Rattle.std.proofs.lemmas.Result.{on_ok_weaker}
 use Rattle.lalrpop_lr1_first.specs.NumberedGrammars.{table_productions}
-use Rattle.lalrpop_lr1_check_lookaheads.specs.LookaheadSlots.{GainsSlotMarks, IsMarkIn}
+use Rattle.lalrpop_lr1_check_lookaheads.specs.KeyedSets.{IsMarkIn}
+use Rattle.lalrpop_lr1_check_lookaheads.specs.LookaheadSlots.{GainsSlotMarks}
 use Rattle.lalrpop_lr1_check_lookaheads.proofs.SeedLemmas.{seeds_are}
 use Rattle.lalrpop_lr1_check_lookaheads.proofs.SlotLemmas.{key_of}
 use Rattle.lalrpop_lr1_check_lookaheads.proofs.lookaheads.propagated.seed_slots.Goals as goal

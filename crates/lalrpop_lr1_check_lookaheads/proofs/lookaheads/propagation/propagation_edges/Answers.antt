@@ -3,7 +3,7 @@ use Rattle.lalrpop_lr1_first.specs.Listings.{lent}
 use Rattle.lalrpop_lr1_first.specs.NumberedGrammars.{table_productions}
 use Rattle.lalrpop_lr1_check_lookaheads.specs.PropagationEdges.{ArePropagationEdges, PropagatesBy, PropagatesBySome}
 use Rattle.lalrpop_lr1_check_lookaheads.specs.LookaheadSlots.{slot_key}
-use Rattle.lalrpop_lr1_check_lookaheads.proofs.BroughtLemmas.{key_there, keys_past}
+use Rattle.lalrpop_lr1_check_lookaheads.proofs.SlotLemmas.{key_there, keys_past}
 use Rattle.lalrpop_lr1_check_lookaheads.proofs.PropagationEdgeLemmas.{any_look, edges_as, propagation_ends, propagation_more, propagation_starts}
 use Rattle.lalrpop_lr1_check_lookaheads.proofs.NamedLemmas.{some_named}
 use Rattle.lalrpop_lr1_check_lookaheads.proofs.lookaheads.propagation.propagation_edges.Goals as goal

@@ -1,6 +1,7 @@
-use Rattle.lalrpop_lr1_check_lookaheads.specs.Brought.{ItemBrings, OfSome}
+use Rattle.lalrpop_lr1_check_lookaheads.specs.Brought.{ItemBrings}
+use Rattle.lalrpop_lr1_check_lookaheads.specs.KeyedSets.{OfSome}
 use Rattle.lalrpop_lr1_check_lookaheads.specs.LookaheadSlots.{GainsSlotMarks}
-use Rattle.lalrpop_lr1_check_lookaheads.proofs.BroughtLemmas.{OfFirst}
+use Rattle.lalrpop_lr1_check_lookaheads.proofs.KeyedSetLemmas.{OfFirst}
 use Rattle.lalrpop_lr1_check_lookaheads.proofs.lookaheads.seeds.seed_all_items.Given as goal
 
 abbrev pub invariant-loop-state : goal.invariant-loop-state

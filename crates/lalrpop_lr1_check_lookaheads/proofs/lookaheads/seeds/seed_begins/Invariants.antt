@@ -1,5 +1,6 @@
 use Rattle.std.proofs.Common.{take}
-use Rattle.lalrpop_lr1_check_lookaheads.specs.Brought.{BeginBrings, OfSome}
+use Rattle.lalrpop_lr1_check_lookaheads.specs.Brought.{BeginBrings}
+use Rattle.lalrpop_lr1_check_lookaheads.specs.KeyedSets.{OfSome}
 use Rattle.lalrpop_lr1_check_lookaheads.specs.LookaheadSlots.{GainsSlotMarks, slot_key}
 use Rattle.lalrpop_lr1_check_lookaheads.proofs.lookaheads.seeds.seed_begins.Given as goal
 

@@ -1,5 +1,6 @@
 use Rattle.std.proofs.Common.{take}
-use Rattle.lalrpop_lr1_check_lookaheads.specs.Brought.{ItemBrings, OfSome}
+use Rattle.lalrpop_lr1_check_lookaheads.specs.Brought.{ItemBrings}
+use Rattle.lalrpop_lr1_check_lookaheads.specs.KeyedSets.{OfSome}
 use Rattle.lalrpop_lr1_check_lookaheads.specs.LookaheadSlots.{GainsSlotMarks}
 use Rattle.lalrpop_lr1_check_lookaheads.proofs.lookaheads.seeds.seed_items.Given as goal
 

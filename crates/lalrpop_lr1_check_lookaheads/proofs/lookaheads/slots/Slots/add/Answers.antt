@@ -3,9 +3,9 @@ use Rattle.std.specs.Vec.{with_item}
 use Rattle.std.proofs.lemmas.Option.{slice_get_within}
 use Rattle.lalrpop_sets.specs.Bits.{has}
 use Rattle.lalrpop_lr1_first.proofs.ListLemmas.{at_read_set}
-use Rattle.lalrpop_lr1_check_lookaheads.specs.LookaheadSlots.{slot_key, slot_keys, slot_sets}
+use Rattle.lalrpop_lr1_check_lookaheads.specs.LookaheadSlots.{slot_key, slot_keys, slot_sets, slot_table}
 use Rattle.lalrpop_lr1_check_lookaheads.specs.declared.lookaheads.slots.Slots.{Slots}
-use Rattle.lalrpop_lr1_check_lookaheads.proofs.SlotLemmas.{gains_tokens}
+use Rattle.lalrpop_lr1_check_lookaheads.proofs.KeyedSetLemmas.{gains_tokens}
 use Rattle.lalrpop_lr1_check_lookaheads.proofs.lookaheads.slots.Slots.add.Goals as goal
 
 pub index_mut-requires : goal.index_mut-requires
@@ -29,7 +29,7 @@ returns c =
       c.in_ok-number.ensures.gained.are,
       slice_get_within (slot_keys mid) n (slot_key c.args.slot) c.in_ok-number.ensures.at,
     ) in
-    gains_tokens c.args.self.now mid new (slot_key c.args.slot) n c.union_with.new.self c.args.tokens.now
+    gains_tokens (slot_table c.args.self.now) (slot_table mid) (slot_table new) (slot_key c.args.slot) n c.union_with.new.self c.args.tokens.now
     c.in_ok-number.ensures.gained c.in_ok-number.ensures.at refl refl
     (λ k. c.in_ok-union_with.ensures.joined k
     ∙ ap (λ l. has l k || has c.args.tokens.now k)

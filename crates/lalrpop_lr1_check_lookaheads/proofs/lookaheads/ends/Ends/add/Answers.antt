@@ -1,0 +1,36 @@
+use Rattle.std.proofs.Common.{◌∙◌, ◌||◌, ◌<◌, arith, ap, length, refl}
+use Rattle.std.specs.Vec.{with_item}
+use Rattle.std.proofs.lemmas.Option.{slice_get_within}
+use Rattle.lalrpop_sets.specs.Bits.{has}
+use Rattle.lalrpop_lr1_first.proofs.ListLemmas.{at_read_set}
+use Rattle.lalrpop_lr1_check_lookaheads.specs.Ends.{end_key, end_table}
+use Rattle.lalrpop_lr1_check_lookaheads.specs.declared.lookaheads.ends.Ends.{Ends}
+use Rattle.lalrpop_lr1_check_lookaheads.proofs.KeyedSetLemmas.{gains_tokens}
+use Rattle.lalrpop_lr1_check_lookaheads.proofs.lookaheads.ends.Ends.add.Goals as goal
+
+pub index_mut-requires : goal.index_mut-requires
+index_mut-requires c =
+    let mid = end_table c.number_of.new.self in
+    omega (
+      arith,
+      c.in_ok-number.ensures.gained.are,
+      slice_get_within mid.keys c.in_ok-number.number (end_key c.args.end) c.in_ok-number.ensures.at,
+    )
+
+pub returns : goal.returns
+returns c =
+    let mid = end_table c.number_of.new.self in
+    let n = c.in_ok-number.number in
+    let new : Ends = record {
+      keys = c.number_of.new.self.keys;
+      sets = with_item c.number_of.new.self.sets c.in_ok-number.number c.union_with.new.self;
+    } in
+    let within : n < length mid.sets = omega (
+      arith,
+      c.in_ok-number.ensures.gained.are,
+      slice_get_within mid.keys n (end_key c.args.end) c.in_ok-number.ensures.at,
+    ) in
+    gains_tokens (end_table c.args.self.now) mid (end_table new) (end_key c.args.end) n c.union_with.new.self c.args.tokens.now
+    c.in_ok-number.ensures.gained c.in_ok-number.ensures.at refl refl
+    (λ k. c.in_ok-union_with.ensures.joined k
+    ∙ ap (λ l. has l k || has c.args.tokens.now k) (at_read_set mid.sets n c.index_mut.result.now within c.index_mut.ensures.value))
