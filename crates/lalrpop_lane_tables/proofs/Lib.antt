@@ -1,0 +1,4 @@
+pub mod AppliedLemmas
+mod ExamplesOfContextSets
+pub mod GatherLemmas
+pub mod InsertLemmas

@@ -1,0 +1,2 @@
+pub mod AppliedSets
+pub mod ColumnAnswers
