@@ -43,7 +43,7 @@ use Rattle.lalrpop_lr1_inline.proofs.MadeLabelLemmas.{labels_made}
 use Rattle.lalrpop_lr1_inline.proofs.StepLabelLemmas.{AreProductionsBy, step_labels}
 
 -- two ways to say which nonterminals are inlined tell the same productions
-same_productions : (M : BaseProductions Text ℕ) (In Same : Text → Type 0) (lab : ℕ → Label Text ℕ) (es : NonterminalEntries) →
+pub same_productions : (M : BaseProductions Text ℕ) (In Same : Text → Type 0) (lab : ℕ → Label Text ℕ) (es : NonterminalEntries) →
     ((x : Text) → In x ↔ Same x) → AreProductionsBy M In lab es → AreProductionsBy M Same lab es
 same_productions M In Same lab es e are = record {
   sound = λ x p i. inlines_same M In Same e (lab p.action.0) x (side_by_names p.symbols) (are.sound x p i);
@@ -51,7 +51,7 @@ same_productions M In Same lab es e are = record {
   once = are.once;
 }
 
-one_more_is : (front : List Text) (n x : Text) → OneMore (λ y. Among front y) n x ↔ Among (front ++ n ∷ []) x
+pub one_more_is : (front : List Text) (n x : Text) → OneMore (λ y. Among front y) n x ↔ Among (front ++ n ∷ []) x
 one_more_is front n x = (to, λ i. from (among_parts front (n ∷ []) x i))
   where
     to : OneMore (λ y. Among front y) n x → Among (front ++ n ∷ []) x
@@ -79,7 +79,7 @@ name_told (symbols.Nonterminal m) y e =
     let same : m.0 ≡ y = cc in
     inl same
 
-named_there : (es : NonterminalEntries) (x : Text) (choice : ℕ) (side : GrammarSymbols Text) (y : Text) →
+pub named_there : (es : NonterminalEntries) (x : Text) (choice : ℕ) (side : GrammarSymbols Text) (y : Text) →
     ProducesByAction es x choice side → Among side (GrammarSymbol.nonterminal y) → is_inlined_name es y ≡ true →
     Among (inlined_named_by es x) y
 named_there es x choice side y w i marked =

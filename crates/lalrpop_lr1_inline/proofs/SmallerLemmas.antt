@@ -119,7 +119,7 @@ inline_told a b e = cc
 pub some_told : (a b : ActionFnDefn) → Some a ≡ Some b → a ≡ b
 some_told a b e = cc
 
-first_or_later : (a b : ℕ) → a ≤ b → (b ≡ a) ⊎ (a + 1 ≤ b)
+pub first_or_later : (a b : ℕ) → a ≤ b → (b ≡ a) ⊎ (a + 1 ≤ b)
 first_or_later a b l = grind arith
 
 definitions_below : (actions whole : List ActionFnDefn) (least : ℕ) (ms : List (Production × List InlinedSymbol)) →

@@ -1,7 +1,6 @@
 -- Computed examples of what may be told of a written grammar, and of what may not.
-use Rattle.std.proofs.Common.{◌≡◌, ℕ, zero, suc, List, [], ◌∷◌, refl, sym, ◌∙◌, subst, inl, inr, ◌⊎◌}
+use Rattle.std.proofs.Common.{◌≡◌, ℕ, [], ◌∷◌, refl, ◌∙◌, subst, inl, inr, ◌⊎◌}
 use Rattle.std.proofs.Common.{Bool, false, ap, arith}
-use Rattle.std.specs.Prelude.{Option}
 use Rattle.lalrpop_grammar_symbols.specs.Symbols.{Text, TextSpan}
 use Rattle.lalrpop_grammar.specs.WrittenGrammar.{Grammar, WrittenItem}
 use Rattle.lalrpop_grammar_language.specs.Among.{Among}

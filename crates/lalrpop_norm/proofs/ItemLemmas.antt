@@ -9,7 +9,7 @@ use Rattle.lalrpop_grammar_symbols.specs.declared.terminal.TerminalString.{Termi
 use Rattle.lalrpop_grammar_symbols.specs.declared.span.Span.{Span}
 use Rattle.lalrpop_grammar.specs.declared.types.type_ref.TypeRef.{TypeRef}
 use Rattle.lalrpop_grammar.specs.WrittenGrammar as pure
-use Rattle.lalrpop_grammar.specs.WrittenGrammar.{Origin, Action, Ty, WrittenEntry, WrittenItem}
+use Rattle.lalrpop_grammar.specs.WrittenGrammar.{Ty, WrittenEntry}
 use Rattle.lalrpop_grammar.specs.Views.{alternative_view, condition_view, action_view, nonterminal_view, match_item_view}
 use Rattle.lalrpop_grammar.specs.Views.{mapping_view, item_view, type_view, origin_view}
 use Rattle.lalrpop_grammar.specs.declared.alternative.ActionKind.{ActionKind}

@@ -174,8 +174,8 @@ module _ (finds : Text → Text → Option Bool) (features : List Text) (w level
   expanded_in_order : HasRulesInOrder new
   expanded_in_order = keys_ordered mid new c.macros.key_of c.macros.keys c.macros.expansion c.macros.expanded leveled_in_order
 
-  printed : (x : Closed) → Among c.macros.keys x → c.macros.key_of x ≡ with_number (flat_key_text x) (c.macros.naming.number x)
-  printed x i = sym (c.macros.named x i) ∙ c.macros.naming.printed x (c.macros.expansion.reached x i)
+  printed : (x : Closed) → Among c.macros.keys x → c.macros.key_of x ≡ with_number (flat_key_text x) (c.macros.naming.naming.number x)
+  printed x i = sym (c.macros.named x i) ∙ c.macros.naming.naming.printed x (c.macros.expansion.reached x i)
 
   leveled_is_free : HasFreePrefix w.prefix mid
   leveled_is_free =
@@ -185,7 +185,7 @@ module _ (finds : Text → Text → Option Bool) (features : List Text) (w level
   expanded_is_free : HasFreePrefix w.prefix new
   expanded_is_free =
       keys_free mid new c.macros.key_of c.macros.keys c.macros.expansion w.prefix leveled_is_free c.macros.expanded
-      c.macros.naming.number printed
+      c.macros.naming.naming.number printed
 
   prefix_checked : checked.prefix ≡ w.prefix
   prefix_checked =

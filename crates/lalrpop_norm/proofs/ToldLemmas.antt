@@ -68,7 +68,7 @@ module _ (finds : Text → Text → Option Bool) (deep : Text → Bool) (feature
   none_stands right kind p (IsStandingFault.condition k q a h) = right.before.before.conditions (condition_error k q) h
   none_stands right kind p (IsStandingFault.token k q a h) = right.before.tokens k q h
   none_stands right kind p (IsStandingFault.types_disagree q a h) = right.agree q h
-  none_stands right kind p (IsStandingFault.no_type n q a h) = right.typed n.0 q h
+  none_stands right kind p (IsStandingFault.no_type n q a h) = right.typed q h.call
 
   -- the first pass
 
@@ -200,10 +200,14 @@ module _ (finds : Text → Text → Option Bool) (deep : Text → Bool) (feature
         action_told faults.Memory checks h = tt
         action_told faults.ConditionLimit checks h = absurd h
 
-        none_written : HasNoCheckFault w → HasFewActions checked → HasNoWrittenFault finds deep features limit w
-        none_written checks few kind p (IsWrittenFault.standing k q h) = none_stands to_types k q h
-        none_written checks few kind p (IsWrittenFault.actions q right many e) =
+        none_told : HasNoCheckFault w → HasFewActions checked → (kind : NormErrorKind) (p : TextSpan)
+            → IsWrittenFault finds deep features limit w kind p → ⊥
+        none_told checks few kind p (IsWrittenFault.standing k q h) = none_stands to_types k q h
+        none_told checks few kind p (IsWrittenFault.actions q right many e) =
             few_labels finds features w leveled expanded checked c checks first t few many
+
+        none_written : HasNoCheckFault w → HasFewActions checked → HasNoWrittenFault finds deep features limit w
+        none_written checks few = record { none = none_told checks few; typed = to_types.typed }
 
     pub later_told : (fault : NormFault) → HasNoCheckFault w → IsLaterFault first expanded fault → Told fault
     later_told fault checks (IsLaterFault.of_tokens h) = token_told fault h

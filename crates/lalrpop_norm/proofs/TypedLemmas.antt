@@ -1,5 +1,5 @@
 -- Where no fault of types stands in the expanded grammar, none stands in the written one; for the normalizer.
-use Rattle.std.proofs.Common.{◌≡◌, List, refl, ap, sym, ◌∙◌, subst, Bool, true, false, ℕ}
+use Rattle.std.proofs.Common.{◌≡◌, List, refl, ap, sym, ◌∙◌, subst, Bool, true, false}
 use Rattle.std.specs.Prelude.{Option}
 use Rattle.std.proofs.lemmas.Bool.{true≢false}
 use Rattle.lalrpop_grammar_symbols.specs.Symbols.{Text, TextSpan, Closed}
@@ -14,7 +14,8 @@ use Rattle.lalrpop_norm_theory.proofs.ExpansionListLemmas.{rule_there}
 use Rattle.lalrpop_norm_tyinfer.specs.TypeFaults.{HasNoType, HasNoTypeFault, TypeFault, is_part_rule, rule_symbol}
 use Rattle.lalrpop_norm_chain.specs.Chains.{IsMacroChain}
 use Rattle.lalrpop_norm_chain.proofs.FrontLemmas.{closed_to, has_rule, types_expanded}
-use Rattle.lalrpop_norm_chain.specs.WrittenTypeFaults.{IsDisagreeing, IsUntyped}
+use Rattle.lalrpop_norm_chain.proofs.TwoAlternativeLemmas.{disagreeing_types}
+use Rattle.lalrpop_norm_chain.specs.WrittenTypeFaults.{HasNoTypeAt, IsDisagreeing}
 
 -- each rule has a type, where none is told
 every_typed : (g : EnabledGrammar) (rs : List Rule) → HasNoTypeFault g rs → (r : Rule) → Among rs r → HasNoType g r.name → ⊥
@@ -65,6 +66,7 @@ module _ (finds : Text → Text → Option Bool) (features : List Text) (w level
   pub none_disagree : (p : TextSpan) → IsDisagreeing old (without_disabled features w) p → ⊥
   none_disagree p t =
       let s = rule_at t.symbol t.at.in_expansion in
+      let both = disagreeing_types old (without_disabled features w) p t in
       none (TypeFault.disagree s.0.span) (
         s.0,
         s.1,
@@ -74,14 +76,14 @@ module _ (finds : Text → Text → Option Bool) (features : List Text) (w level
           second = t.second;
           differ = t.differ;
           first_is = subst (λ (y : Closed). IsGrounded new y t.first) s.2
-              ((types_expanded finds features w leveled expanded c t.symbol t.first t.at.in_expansion).0 t.first_is);
+              ((types_expanded finds features w leveled expanded c t.symbol t.first t.at.in_expansion).0 both.0);
           second_is = subst (λ (y : Closed). IsGrounded new y t.second) s.2
-              ((types_expanded finds features w leveled expanded c t.symbol t.second t.at.in_expansion).0 t.second_is);
+              ((types_expanded finds features w leveled expanded c t.symbol t.second t.at.in_expansion).0 both.1);
         },
       )
 
-  pub all_typed : (n : Text) (p : TextSpan) → IsUntyped old w.prefix (without_disabled features w) n p → ⊥
-  all_typed n p t =
+  pub all_typed : (p : TextSpan) → HasNoTypeAt old (without_disabled features w) p → ⊥
+  all_typed p t =
       let s = rule_at t.symbol t.at.in_expansion in
       every_typed new (rules_of expanded.items) none s.0 s.1 (λ u h. t.no_type u
       ((types_expanded finds features w leveled expanded c t.symbol u t.at.in_expansion).1

@@ -16,7 +16,7 @@ use Rattle.lalrpop_norm_theory.specs.Premises.{IsReadGrammar, HasNoRecovery}
 use Rattle.lalrpop_norm_keys.specs.Tables.{HasEachOnce}
 use Rattle.lalrpop_norm_chain.specs.MadeConditions.{HasConditionWhere}
 use Rattle.lalrpop_norm_chain.specs.StandingFaults.{IsRightToLevels, IsRightToTokens, IsStandingFault}
-use Rattle.lalrpop_norm_chain.specs.WrittenTypeFaults.{IsDisagreeing, IsUntyped}
+use Rattle.lalrpop_norm_chain.specs.WrittenTypeFaults.{HasNoTypeAt, IsDisagreeing}
 
 -- The grammar looks as one that was read, and no enabled alternative has the symbol of error recovery.
 pub record IsNormalizable (finds : Text → Text → Option Bool) (features : List Text) (w : Grammar) : Type 0 where
@@ -28,8 +28,7 @@ pub record IsRightToTypes (finds : Text → Text → Option Bool) (deep : Text �
     (w : Grammar) : Type 0 where
   pub before : IsRightToTokens finds deep features limit w
   pub agree : (p : TextSpan) → IsDisagreeing (enabled_grammar finds features w) (without_disabled features w) p → ⊥
-  pub typed : (n : Text) (p : TextSpan)
-      → IsUntyped (enabled_grammar finds features w) w.prefix (without_disabled features w) n p → ⊥
+  pub typed : (p : TextSpan) → HasNoTypeAt (enabled_grammar finds features w) (without_disabled features w) p → ⊥
 
 -- the label is one of the expansion
 abbrev pub IsLabelOf : EnabledGrammar → WrittenLabel → Type 0
@@ -50,10 +49,11 @@ pub data IsWrittenFault (finds : Text → Text → Option Bool) (deep : Text →
   actions : (p : TextSpan) → IsRightToTypes finds deep features limit w → HasTooManyLabels (enabled_grammar finds features w)
       → w.span ≡ p → IsWrittenFault finds deep features limit w kinds.TooManyActions p
 
--- none stands
-abbrev pub HasNoWrittenFault : (Text → Text → Option Bool) → (Text → Bool) → List Text → ℕ → Grammar → Type 0
-HasNoWrittenFault finds deep features limit w =
-    (kind : NormErrorKind) (p : TextSpan) → IsWrittenFault finds deep features limit w kind p → ⊥
+-- None stands, and no call is without type.
+pub record HasNoWrittenFault (finds : Text → Text → Option Bool) (deep : Text → Bool) (features : List Text) (limit : ℕ)
+    (w : Grammar) : Type 0 where
+  pub none : (kind : NormErrorKind) (p : TextSpan) → IsWrittenFault finds deep features limit w kind p → ⊥
+  pub typed : (p : TextSpan) → HasNoTypeAt (enabled_grammar finds features w) (without_disabled features w) p → ⊥
 
 -- A fault that stands is told with its place; or a search was given up for a pattern's size, where levels are right and an
 -- alternative of a call that is made is under a search; or memory ran out.

@@ -12,14 +12,13 @@ use Rattle.lalrpop_grammar_language.specs.Closing.{right_side}
 use Rattle.lalrpop_grammar_language.specs.Admitting.{bind}
 use Rattle.lalrpop_grammar_language.proofs.PlaceLemmas.{among_map}
 use Rattle.lalrpop_grammar_language.proofs.SoundnessLemmas.{part-whole}
-use Rattle.lalrpop_norm_theory.proofs.LevelLemmas.{no_loosest}
 use Rattle.lalrpop_norm_theory.proofs.LevelOrderLemmas.{one_rule}
 use Rattle.lalrpop_norm_chain.specs.UsedLiterals.{AreFullExpansionEntries}
 use Rattle.lalrpop_norm_chain.proofs.PlainNameLemmas.{names_plain, read_tells_resolved}
 use Rattle.lalrpop_norm_chain.proofs.ItemLemmas.{no_tokenizer}
 use Rattle.lalrpop_norm_chain.proofs.UsedLiteralLemmas.{full_entries}
-use Rattle.lalrpop_grammar_language.specs.Levels.{loosest, has_levels}
-use Rattle.lalrpop_grammar_language.specs.Expansion.{GrammarSymbol, Nonterminal, RightSide, InExpansion, HasLevel, Produces}
+use Rattle.lalrpop_grammar_language.specs.Levels.{loosest}
+use Rattle.lalrpop_grammar_language.specs.Expansion.{GrammarSymbol, Nonterminal, RightSide, InExpansion, Produces}
 use Rattle.lalrpop_grammar_language.specs.Expansion.{IsWrittenProduction, WrittenLabel, grammar_symbol}
 use Rattle.lalrpop_grammar_repr.specs.Maps.{at_name}
 use Rattle.lalrpop_grammar.specs.declared.types.type_repr.TypeRepr.{TypeRepr}
@@ -27,6 +26,7 @@ use Rattle.lalrpop_norm_theory.specs.Between.{rule_between, written_name, gramma
 use Rattle.lalrpop_norm_theory.specs.Premises.{IsExpanded}
 use Rattle.lalrpop_norm_theory.specs.Same.{rename_symbol, SameExpansion}
 use Rattle.lalrpop_norm_theory.specs.Keys.{leveled_key_text, flat_key_text, IsNaming}
+use Rattle.lalrpop_norm_theory.specs.NamesByUse.{IsNamingByUse}
 use Rattle.lalrpop_norm_theory.specs.Inlined.{IsInlined, SameInlined}
 use Rattle.lalrpop_norm_theory.specs.Productions.{NamedProduction, StandsForLabel}
 use Rattle.lalrpop_norm_theory.specs.Types.{IsGrounded, SameTypes}
@@ -35,10 +35,12 @@ use Rattle.lalrpop_norm_theory.proofs.ExpansionListLemmas.{rule_there}
 use Rattle.lalrpop_norm_theory.specs.KeyRules.{by_name, nonterminal_by_name}
 use Rattle.lalrpop_norm_theory.specs.LevelRules.{by_level_names}
 use Rattle.lalrpop_norm_theory.proofs.KeyRuleLemmas.{key_called, in_keys}
-use Rattle.lalrpop_norm_theory.proofs.DroppingLemmas.{dropped_names}
-use Rattle.lalrpop_norm_theory.proofs.ResolvingLemmas.{resolved_names}
-use Rattle.lalrpop_norm_theory.specs.LevelLaws.{nonterminal_by_level}
-use Rattle.lalrpop_norm_theory.proofs.NameBackLemmas.{names_back}
+use Rattle.lalrpop_norm_theory.proofs.DroppingLemmas.{dropped_names_by_use}
+use Rattle.lalrpop_norm_theory.proofs.ResolvingLemmas.{resolved_names_by_use}
+use Rattle.lalrpop_norm_theory.specs.LevelLaws.{IsLevelable, nonterminal_by_level}
+use Rattle.lalrpop_norm_theory.proofs.LevelNameLemmas.{loosest_there}
+use Rattle.lalrpop_norm_theory.proofs.LeveledOrderLemmas.{written_in}
+use Rattle.lalrpop_norm_theory.proofs.NamesByUseLemmas.{naming_alike}
 use Rattle.lalrpop_norm_token_check.specs.Blocks.{block_groups}
 use Rattle.lalrpop_norm_token_check.specs.Entries.{with_entries}
 use Rattle.lalrpop_norm_tyinfer.specs.GroundViews.{type_repr_view}
@@ -49,7 +51,7 @@ use Rattle.lalrpop_norm_chain.specs.Lowered.{HasDefinition, IsRuleProduction, Is
 use Rattle.lalrpop_norm_chain.specs.Lowered.{LoweredGrammar, start_name}
 use Rattle.lalrpop_norm_chain.specs.Chains.{IsChain}
 use Rattle.lalrpop_norm_chain.proofs.ActionLemmas.{ChoicesActAsTold, acts_before, key_acts, leveled_part_acts}
-use Rattle.lalrpop_norm_chain.proofs.FrontLemmas.{levelable, same_leveled, same_expanded, prefix_leveled, block_is, inlined_expanded}
+use Rattle.lalrpop_norm_chain.proofs.FrontLemmas.{block_is, inlined_expanded, key_named, levelable, named_by_use, prefix_leveled, same_expanded, same_leveled}
 use Rattle.lalrpop_norm_chain.proofs.FrontLemmas.{types_expanded}
 use Rattle.lalrpop_norm_chain.specs.Normalized.{HasExpansionTypes}
 
@@ -226,37 +228,40 @@ module _ (finds : Text → Text → Option Bool) (features : List Text) (w : Gra
     names_agree : (x : Nonterminal) → InExpansion leveled x →
         c.front.macros.name_of x ≡ c.lowered.name_of (nonterminal_by_name key_of x)
     names_agree (Nonterminal.start n) i =
-        c.front.macros.naming.starts n i ∙ ap (λ (p : Text). p ++ n) (sym prefix_lowered) ∙ sym (c.lowered.start_names n)
+        c.front.macros.naming.naming.starts n i ∙ ap (λ (p : Text). p ++ n) (sym prefix_lowered) ∙ sym (c.lowered.start_names n)
     names_agree (Nonterminal.closed x) i =
         let k = in_keys leveled expanded_one key_of c.front.macros.keys c.front.macros.expansion x i in
         c.front.macros.named x k ∙ sym (key_name x k)
 
-    rule_reached : (r : EnabledRule) → IsRule leveled r.name r → r.parameters ≡ [] →
-        InExpansion leveled (Nonterminal.closed (Closed.call r.name Closeds.none (loosest r)))
+    levels_known : IsLevelable finds (resolved_part features w) level_of
+    levels_known = levelable finds features w c.leveled c.expanded c.front
+
+    rule_reached : (r : EnabledRule) → IsRule resolved r.name r → r.parameters ≡ [] →
+        InExpansion resolved (Nonterminal.closed (Closed.call r.name Closeds.none (loosest r)))
     rule_reached r is ps =
-        let flat : has_levels r ≡ false = c.front.levels.flat r (rule_there leveled r.name r is).0 in
-        (zero, inr (r, loosest r, is, ps, subst (HasLevel r) (sym (no_loosest r flat)) flat, refl))
+        (zero, inr (r, loosest r, is, ps, loosest_there finds (resolved_part features w) level_of levels_known r.name r is, refl))
 
-    named_leveled : IsNaming flat_key_text c.leveled.prefix leveled (λ x. c.lowered.name_of (nonterminal_by_name key_of x))
-    named_leveled =
-        naming_same flat_key_text c.leveled.prefix leveled c.front.macros.name_of (λ x. c.lowered.name_of (nonterminal_by_name key_of x))
-        names_agree rule_reached c.front.macros.naming
+    abbrev given_name : Nonterminal → Text
+    given_name x = key_named finds features w c.leveled c.expanded c.front x
 
-    named_resolved : IsNaming (leveled_key_text resolved) w.prefix resolved name_of
+    given_by_use : IsNamingByUse (leveled_key_text resolved) w.prefix resolved given_name
+    given_by_use = named_by_use finds features w c.leveled c.expanded c.front
+
+    names_same : (x : Nonterminal) → InExpansion resolved x → given_name x ≡ name_of x
+    names_same x i =
+        names_agree (nonterminal_by_level level_of x)
+        ((c.front.levels.expansion (read_tells_resolved features w c.front.read)).there x i)
+
+    named_resolved : IsNamingByUse (leveled_key_text resolved) w.prefix resolved name_of
     named_resolved =
-        names_back finds (resolved_part features w) level_of w.prefix (λ x. c.lowered.name_of (nonterminal_by_name key_of x))
-        (levelable finds features w c.leveled c.expanded c.front)
-        (read_tells_resolved features w c.front.read) (names_plain features w c.front.read)
-        (subst (λ (g : Grammar). IsNaming flat_key_text w.prefix (grammar_between finds g)
-        (λ x. c.lowered.name_of (nonterminal_by_name key_of x))) c.front.levels.value
-        (subst (λ (p : Text). IsNaming flat_key_text p leveled (λ x. c.lowered.name_of (nonterminal_by_name key_of x)))
-        (prefix_leveled finds features w c.leveled c.expanded c.front)
-        named_leveled))
+        naming_alike (leveled_key_text resolved) w.prefix resolved given_name name_of names_same
+        (λ x i. written_in finds (resolved_part features w) level_of levels_known x i) given_by_use
+        (naming_same (leveled_key_text resolved) w.prefix resolved given_name name_of names_same rule_reached given_by_use.naming)
 
-    pub named : IsNaming (leveled_key_text written) w.prefix written name_of
+    pub named : IsNamingByUse (leveled_key_text written) w.prefix written name_of
     named =
-        dropped_names finds features w w.prefix name_of c.front.read
-        (resolved_names finds (without_disabled features w) w.prefix name_of named_resolved)
+        dropped_names_by_use finds features w w.prefix name_of c.front.read
+        (resolved_names_by_use finds (without_disabled features w) w.prefix name_of named_resolved)
 
     -- what stands for a nonterminal of the expanded grammar
 
@@ -310,7 +315,7 @@ module _ (finds : Text → Text → Option Bool) (features : List Text) (w : Gra
             let name_of_x : name_of x ≡ start_name w.prefix n = cc in
             let there : InExpansion written x = (suc e.0, (label.head, label.choice, side, e.1, m, q)) in
             let same : x ≡ Nonterminal.start n =
-            named.apart x (Nonterminal.start n) there i (name_of_x ∙ sym (named.starts n i)) in
+            named.naming.apart x (Nonterminal.start n) there i (name_of_x ∙ sym (named.naming.starts n i)) in
             no_start_inside written label.head label.choice side n m
             (subst (λ (y : Nonterminal). Among side (GrammarSymbol.nonterminal y)) same q)
 
@@ -327,7 +332,7 @@ module _ (finds : Text → Text → Option Bool) (features : List Text) (w : Gra
     no_start_named n r i j e =
         let u = same_checked.no_other (Nonterminal.closed (Closed.call r.name Closeds.none None)) (rule_expands r j) in
         let name_so : name_of u.0 ≡ r.name = ap c.lowered.name_of (sym u.2) ∙ c.lowered.rule_names r.name in
-        let same : u.0 ≡ Nonterminal.start n = named.apart u.0 (Nonterminal.start n) u.1 i (name_so ∙ sym e) in
+        let same : u.0 ≡ Nonterminal.start n = named.naming.apart u.0 (Nonterminal.start n) u.1 i (name_so ∙ sym e) in
         let wrong : Nonterminal.closed (Closed.call r.name Closeds.none None) ≡ Nonterminal.start n = u.2 ∙ ap to same in
         cc
 
@@ -375,9 +380,9 @@ module _ (finds : Text → Text → Option Bool) (features : List Text) (w : Gra
             let there = start_from t.name t.start_there in
             let own : name_of (Nonterminal.closed x) ≡ name_of (Nonterminal.start t.name) =
             sym name_so ∙ t.nonterminal_is ∙ ap (λ (q : Text). start_name q t.name) prefix_written
-            ∙ sym (named.starts t.name there) in
+            ∙ sym (named.naming.starts t.name there) in
             let wrong : Nonterminal.closed x ≡ Nonterminal.start t.name =
-            named.apart (Nonterminal.closed x) (Nonterminal.start t.name) e there own in
+            named.naming.apart (Nonterminal.closed x) (Nonterminal.start t.name) e there own in
             absurd (let no : ⊥ = cc in no)
 
     -- what is inlined
@@ -448,7 +453,7 @@ module _ (finds : Text → Text → Option Bool) (features : List Text) (w : Gra
           let own : IsRule written r.name r = subst (λ (t : Text). IsRule written t r) (sym name_r) is in
           let rule_name : name_of (Nonterminal.closed (Closed.call n Closeds.none (loosest r))) ≡ n =
           ap (λ (t : Text). name_of (Nonterminal.closed (Closed.call t Closeds.none (loosest r)))) (sym name_r)
-          ∙ named.rules r own (start_plain written n r i is) ∙ name_r in
+          ∙ named.naming.rules r own (start_plain written n r i is) ∙ name_r in
           ap (λ (t : Text). at_name (nonterminal_of t) v.types) (c.lowered.start_names n)
           ∙ c.lowered.start_types n (same_checked.there (Nonterminal.start n) i)
           ∙ ap (λ (t : Text). at_name (nonterminal_of t) v.types) (sym rule_name);

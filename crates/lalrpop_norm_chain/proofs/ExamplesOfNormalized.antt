@@ -26,7 +26,9 @@ use Rattle.lalrpop_grammar.specs.declared.types.type_repr.TypeRepr.{TypeRepr}
 use Rattle.lalrpop_grammar.specs.declared.types.type_repr.TypeRepr.TheFolds.{fold-roll-TypeRepr}
 use Rattle.lalrpop_grammar.specs.declared.types.type_repr.TypeRepr.TheOpen as layer
 use Rattle.lalrpop_grammar.specs.declared.types.type_repr.TypeRepr.TheVariants as types
-use Rattle.lalrpop_norm_theory.specs.Keys.{leveled_key_text, IsNaming}
+use Rattle.lalrpop_norm_theory.specs.Keys.{leveled_key_text}
+use Rattle.lalrpop_norm_theory.specs.NamesByUse.{IsNamingByUse}
+use Rattle.lalrpop_norm_theory.proofs.UsedListLemmas.{keys-by-use}
 use Rattle.lalrpop_norm_theory.specs.Productions.{NamedProduction, AreProductions, StandsForLabel}
 use Rattle.lalrpop_norm_theory.specs.Inlined.{IsInlined}
 use Rattle.lalrpop_norm_theory.specs.Types.{GroundType, IsGrounded, text_type}
@@ -112,9 +114,15 @@ productions : AreProductions g name_of lowered.productions lowered.origins
 unfolding digits escape_byte
 productions = expansion_productions g 1 nonterminals name_of refl refl refl
 
-naming : IsNaming (leveled_key_text g) (codes "__") g name_of
+naming : IsNamingByUse (leveled_key_text g) (codes "__") g name_of
 unfolding digits
-naming = naming-is g (leveled_key_text g) (codes "__") [] 1 nonterminals refl refl refl
+naming = record {
+  naming = naming-is g (leveled_key_text g) (codes "__") [] 1 nonterminals refl refl refl;
+  levels = tt;
+  others = [];
+  in_order = keys-by-use g [] refl;
+  numbered = tt;
+}
 
 in_rule : InExpansion g (Nonterminal.closed s)
 in_rule = reached-in g 0 (Nonterminal.closed s) (inr (inl refl))

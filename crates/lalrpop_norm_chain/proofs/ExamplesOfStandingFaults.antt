@@ -34,10 +34,12 @@ use Rattle.std.specs.Fmt.{digits}
 use Rattle.lalrpop_norm_theory.specs.Keys.{leveled_key_text}
 use Rattle.lalrpop_norm_theory.specs.Types.{GroundType, GroundTypes, text_type, IsGrounded}
 use Rattle.lalrpop_norm_theory.proofs.NamingListLemmas.{name_by, naming-is}
+use Rattle.lalrpop_norm_theory.proofs.UsedListLemmas.{keys-by-use}
 use Rattle.lalrpop_norm_theory.proofs.DerivableTypeLemmas.{type-in-table}
-use Rattle.lalrpop_norm_chain.specs.WrittenTypeFaults.{IsCallAt, IsDefaultOf, IsDisagreeing, IsUntyped, OwnAlternative}
+use Rattle.lalrpop_norm_chain.specs.WrittenTypeFaults.{IsCallAt, IsDisagreeing, IsGivenBy, IsUntyped, OwnAlternative}
 use Rattle.lalrpop_norm_chain.specs.StandingFaults.{IsRightToNames, IsStandingFault}
 use Rattle.lalrpop_norm_chain.specs.TokenFaults.{TokenFaultInWritten, enabled_places}
+use Rattle.lalrpop_norm_chain.proofs.TwoAlternativeLemmas.{disagreeing_types}
 
 -- where these lists are empty and no name begins with the prefix, the first pass finds nothing
 
@@ -353,25 +355,33 @@ two_stand = record {
   one = OwnAlternative.written (choice_at "X" 0 (lit "a" ∷ []));
   other = OwnAlternative.written (choice_at "X" 1 (lit "b" ∷ id "X" ∷ []));
   apart = λ e. let places : 0 ≡ 1 = ap own_place e in omega (arith, places);
-  one_of = record {
-    rule = _;
-    fits = record { rule = refl; arguments = refl; written = inl refl; leveled = refl; holds = tt };
-    undeclared = refl;
-    level_is = refl;
-    no_code = refl;
-  };
-  other_of = record {
-    rule = _;
-    fits = record { rule = refl; arguments = refl; written = inr (inl refl); leveled = refl; holds = tt };
-    undeclared = refl;
-    level_is = refl;
-    no_code = refl;
-  };
   first = text_type;
   second = two_texts;
   differ = λ e. cc;
-  first_is = first_type;
-  second_is = second_type;
+  one_gives = (
+    record {
+      rule = _;
+      choice = _;
+      fits = record { rule = refl; arguments = refl; written = inl refl; leveled = refl; holds = tt };
+      undeclared = refl;
+      level_is = refl;
+      no_code = refl;
+      type_is = (1, refl);
+    },
+    refl,
+  );
+  other_gives = (
+    record {
+      rule = _;
+      choice = _;
+      fits = record { rule = refl; arguments = refl; written = inr (inl refl); leveled = refl; holds = tt };
+      undeclared = refl;
+      level_is = refl;
+      no_code = refl;
+      type_is = (_, refl, ((1, refl), (first_type, tt)));
+    },
+    refl,
+  );
 }
 
 abbrev itself : Grammar
@@ -387,8 +397,9 @@ one_refused p h = go (all-of (enabled_of itself) (Nonterminal.closed x ∷ []) r
     go (inr m) = absurd m
     go (inl e) =
         let same : h.symbol ≡ x = cc in
-        let one = only h.first (subst (λ (y : Closed). IsGrounded (enabled_of itself) y h.first) same h.first_is) in
-        let two = only h.second (subst (λ (y : Closed). IsGrounded (enabled_of itself) y h.second) same h.second_is) in
+        let types = disagreeing_types (enabled_of itself) itself p h in
+        let one = only h.first (subst (λ (y : Closed). IsGrounded (enabled_of itself) y h.first) same types.0) in
+        let two = only h.second (subst (λ (y : Closed). IsGrounded (enabled_of itself) y h.second) same types.1) in
         let both : Some h.first ≡ Some h.second = sym one ∙ two in
         h.differ (let f : h.first ≡ h.second = cc in f)
 
@@ -457,25 +468,33 @@ own_alternatives_stand = record {
   one = OwnAlternative.written (choice_at "X" 0 (lit "a" ∷ []));
   other = OwnAlternative.written (choice_at "X" 1 (lit "b" ∷ lit "c" ∷ []));
   apart = λ e. let places : 0 ≡ 1 = ap own_place e in omega (arith, places);
-  one_of = record {
-    rule = _;
-    fits = record { rule = refl; arguments = refl; written = inl refl; leveled = refl; holds = tt };
-    undeclared = refl;
-    level_is = refl;
-    no_code = refl;
-  };
-  other_of = record {
-    rule = _;
-    fits = record { rule = refl; arguments = refl; written = inr (inl refl); leveled = refl; holds = tt };
-    undeclared = refl;
-    level_is = refl;
-    no_code = refl;
-  };
   first = text_type;
   second = two_texts;
   differ = λ e. cc;
-  first_is = one_text;
-  second_is = pair_of_texts;
+  one_gives = (
+    record {
+      rule = _;
+      choice = _;
+      fits = record { rule = refl; arguments = refl; written = inl refl; leveled = refl; holds = tt };
+      undeclared = refl;
+      level_is = refl;
+      no_code = refl;
+      type_is = (1, refl);
+    },
+    refl,
+  );
+  other_gives = (
+    record {
+      rule = _;
+      choice = _;
+      fits = record { rule = refl; arguments = refl; written = inr (inl refl); leveled = refl; holds = tt };
+      undeclared = refl;
+      level_is = refl;
+      no_code = refl;
+      type_is = (_, refl, ((1, refl), ((1, refl), tt)));
+    },
+    refl,
+  );
 }
 
 -- S's types are those of X
@@ -505,16 +524,16 @@ first_rule (r ∷ rs) = r
 s_rule : (r : EnabledRule) → IsRule (enabled_of inheriting) (codes "S") r → enabled_rule [] reader ≡ r
 s_rule r e = ap first_rule e
 
-s_alternative : (args : Closeds) (level : Option ℕ) (a : OwnAlternative) →
-    IsDefaultOf (enabled_of inheriting) (codes "S") args level a → OwnAlternative.written (choice_at "S" 0 (id "X" ∷ [])) ≡ a
-s_alternative args level (OwnAlternative.written c) m =
-    ap OwnAlternative.written (only (subst (λ (r : EnabledRule). Among (ranked_choices r) c) (sym (s_rule m.rule m.fits.rule))
-    m.fits.written))
+s_alternative : (args : Closeds) (level : Option ℕ) (a : OwnAlternative) (t : GroundType) →
+    IsGivenBy (enabled_of inheriting) (codes "S") args level a t → OwnAlternative.written (choice_at "S" 0 (id "X" ∷ [])) ≡ a
+s_alternative args level (OwnAlternative.written c) t m =
+    ap OwnAlternative.written (only m.0.choice (subst (λ (r : EnabledRule). Among (ranked_choices r) m.0.choice)
+    (sym (s_rule m.0.rule m.0.fits.rule)) m.0.fits.written) ∙ m.1)
   where
-    only : Among (choice_at "S" 0 (id "X" ∷ []) ∷ []) c → choice_at "S" 0 (id "X" ∷ []) ≡ c
-    only (inl e) = e
-    only (inr i) = absurd i
-s_alternative args level OwnAlternative.pass_down m =
+    only : (p : Choice × Option Rank) → Among (choice_at "S" 0 (id "X" ∷ []) ∷ []) p → choice_at "S" 0 (id "X" ∷ []) ≡ p
+    only p (inl e) = e
+    only p (inr i) = absurd i
+s_alternative args level OwnAlternative.pass_down t m =
     let none : None ≡ Some m.to = ap (λ (r : EnabledRule). tighter r m.from) (s_rule m.rule m.is_rule) ∙ m.to_is in cc
 
 s_named : (r : Rule) → Among (rules_of inheriting.items) r → r.span ≡ (1, 5) → r.name ≡ codes "S"
@@ -526,10 +545,10 @@ s_named r (inr (inr i)) s = absurd i
 inherited_refused : IsDisagreeing (enabled_of inheriting) inheriting (1, 5) → ⊥
 inherited_refused h =
     let named : h.at.name ≡ codes "S" = sym h.at.name_is ∙ s_named h.at.rule h.at.among h.at.span_is in
-    let one = s_alternative h.at.args h.at.level h.one
-    (subst (λ (n : Text). IsDefaultOf (enabled_of inheriting) n h.at.args h.at.level h.one) named h.one_of) in
-    let other = s_alternative h.at.args h.at.level h.other
-    (subst (λ (n : Text). IsDefaultOf (enabled_of inheriting) n h.at.args h.at.level h.other) named h.other_of) in
+    let one = s_alternative h.at.args h.at.level h.one h.first
+    (subst (λ (n : Text). IsGivenBy (enabled_of inheriting) n h.at.args h.at.level h.one h.first) named h.one_gives) in
+    let other = s_alternative h.at.args h.at.level h.other h.second
+    (subst (λ (n : Text). IsGivenBy (enabled_of inheriting) n h.at.args h.at.level h.other h.second) named h.other_gives) in
     h.apart (sym one ∙ other)
 
 -- so nothing says of S that its alternatives disagree
@@ -558,11 +577,19 @@ circular = of_X (default (id "X" ∷ []) ∷ [])
 none_stands : IsUntyped (enabled_of circular) (codes "__") circular (codes "X") (1, 8)
 unfolding digits
 none_stands = record {
-  symbol = x;
-  at = call_of_X _ (reached-in (enabled_of circular) 0 (Nonterminal.closed x) (inl refl));
-  no_type = λ t h. let e : None ≡ Some t = type-in-table (enabled_of circular) [] (Nonterminal.closed x ∷ []) refl x t h in cc;
+  call = record {
+    symbol = x;
+    at = call_of_X _ (reached-in (enabled_of circular) 0 (Nonterminal.closed x) (inl refl));
+    no_type = λ t h. let e : None ≡ Some t = type-in-table (enabled_of circular) [] (Nonterminal.closed x ∷ []) refl x t h in cc;
+  };
   name_of = name_by (leveled_key_text (enabled_of circular)) (codes "__") [];
-  naming = naming-is (enabled_of circular) (leveled_key_text (enabled_of circular)) (codes "__") [] 1 (Nonterminal.closed x ∷ [])
-      refl refl refl;
+  naming = record {
+    naming = naming-is (enabled_of circular) (leveled_key_text (enabled_of circular)) (codes "__") [] 1 (Nonterminal.closed x ∷ [])
+        refl refl refl;
+    levels = tt;
+    others = [];
+    in_order = keys-by-use (enabled_of circular) [] refl;
+    numbered = tt;
+  };
   called = refl;
 }

@@ -5,19 +5,22 @@ use Rattle.std.specs.Prelude.{Option, None}
 use Rattle.lalrpop_grammar_symbols.specs.Symbols.{Text, Closed, Closeds}
 use Rattle.lalrpop_grammar.specs.WrittenGrammar.{Grammar}
 use Rattle.lalrpop_grammar_language.specs.Enabled.{EnabledGrammar, EnabledRule, IsRule, enabled_grammar}
-use Rattle.lalrpop_norm_chain.proofs.PlainNameLemmas.{read_tells_resolved}
+use Rattle.lalrpop_norm_chain.proofs.PlainNameLemmas.{names_plain, read_tells_resolved}
 use Rattle.lalrpop_norm_chain.proofs.ItemLemmas.{block_stays}
 use Rattle.lalrpop_grammar_language.specs.Expansion.{Nonterminal, InExpansion}
 use Rattle.lalrpop_norm_theory.specs.Between.{grammar_between, without_disabled}
 use Rattle.lalrpop_norm_theory.specs.Same.{SameExpansion}
+use Rattle.lalrpop_norm_theory.specs.Keys.{flat_key_text, leveled_key_text}
+use Rattle.lalrpop_norm_theory.specs.NamesByUse.{IsNamingByUse}
 use Rattle.lalrpop_norm_theory.specs.Inlined.{SameInlined}
 use Rattle.lalrpop_norm_theory.specs.Types.{SameTypes}
 use Rattle.lalrpop_norm_theory.proofs.PassLemmas.{SameExpansion-trans}
 use Rattle.lalrpop_norm_theory.specs.KeyRules.{by_name, nonterminal_by_name}
 use Rattle.lalrpop_norm_theory.specs.LevelRules.{by_level_names}
 use Rattle.lalrpop_norm_theory.proofs.KeyRuleLemmas.{key_called, in_keys, expanded as expanded_so, expanded_inlined}
-use Rattle.lalrpop_norm_theory.proofs.DroppingLemmas.{dropping_expansion, dropping_inlined, dropping_types}
-use Rattle.lalrpop_norm_theory.proofs.ResolvingLemmas.{resolving_expansion, resolving_inlined, resolving_types}
+use Rattle.lalrpop_norm_theory.proofs.DroppingLemmas.{dropped_names_by_use, dropping_expansion, dropping_inlined, dropping_types}
+use Rattle.lalrpop_norm_theory.proofs.ResolvingLemmas.{resolved_names_by_use, resolving_expansion, resolving_inlined, resolving_types}
+use Rattle.lalrpop_norm_theory.proofs.LeveledNamingLemmas.{naming_by_use_back}
 use Rattle.lalrpop_norm_theory.proofs.ResolvedLemmas.{right_names_resolve}
 use Rattle.lalrpop_norm_theory.specs.LevelLaws.{nonterminal_by_level, IsLevelable}
 use Rattle.lalrpop_norm_theory.proofs.LevelTypeLemmas.{levels_keep}
@@ -91,6 +94,22 @@ module _ (finds : Text → Text → Option Bool) (features : List Text) (w level
 
   pub prefix_leveled : leveled.prefix ≡ w.prefix
   prefix_leveled = ap (λ (g : Grammar). g.prefix) c.levels.value
+
+  -- names of keys, with those of levels
+  abbrev pub key_named : Nonterminal → Text
+  key_named x = c.macros.name_of (nonterminal_by_level level_of x)
+
+  pub named_by_use : IsNamingByUse (leveled_key_text at_resolved) w.prefix at_resolved key_named
+  named_by_use =
+      naming_by_use_back finds (resolved_part features w) level_of levelable (names_plain features w c.read) c.macros.name_of w.prefix
+      (read_tells_resolved features w c.read)
+      (subst (λ (g : Grammar). IsNamingByUse flat_key_text w.prefix (grammar_between finds g) c.macros.name_of) c.levels.value
+      (subst (λ (p : Text). IsNamingByUse flat_key_text p at_leveled c.macros.name_of) prefix_leveled c.macros.naming))
+
+  pub written_by_use : IsNamingByUse (leveled_key_text at_written) w.prefix at_written key_named
+  written_by_use =
+      dropped_names_by_use finds features w w.prefix key_named c.read
+      (resolved_names_by_use finds (without_disabled features w) w.prefix key_named named_by_use)
 
   pub block_is : block_groups expanded.items ≡ block_groups w.items
   block_is =

@@ -25,12 +25,12 @@ pub mod RightRankLemmas
 pub mod ArityLemmas
 pub mod TokenFaultLemmas
 pub mod PartTypeLemmas
-pub mod PartEquationLemmas
 pub mod OwnAlternativeLemmas
 pub mod TwoAlternativeLemmas
 pub mod TypeFaultLemmas
 pub mod StandingLemmas
 pub mod ExamplesOfStandingFaults
+pub mod ExamplesOfTypeFaults
 pub mod EntryLemmas
 pub mod ExamplesOfViews
 pub mod LoweredLemmas

@@ -15,7 +15,8 @@ use Rattle.lalrpop_grammar_language.specs.Expansion.{GrammarSymbol, Nonterminal,
 use Rattle.lalrpop_grammar_language.specs.Expansion.{WrittenLabel, origin_with}
 use Rattle.lalrpop_norm_theory.specs.Between.{grammar_between}
 use Rattle.lalrpop_norm_theory.specs.Same.{SameExpansion}
-use Rattle.lalrpop_norm_theory.specs.Keys.{leveled_key_text, IsNaming}
+use Rattle.lalrpop_norm_theory.specs.Keys.{leveled_key_text}
+use Rattle.lalrpop_norm_theory.specs.NamesByUse.{IsNamingByUse}
 use Rattle.lalrpop_norm_theory.specs.Productions.{NamedProduction, StandsForLabel}
 use Rattle.lalrpop_norm_theory.proofs.PassLemmas.{productions_before}
 use Rattle.lalrpop_norm_theory.proofs.ExpansionListLemmas.{rule_there}
@@ -72,7 +73,7 @@ module _ (finds : Text → Text → Option Bool) (features : List Text) (w : Gra
     same_checked : SameExpansion written checked to
     same_checked = chain.same_checked finds features w v c
 
-    named : IsNaming (leveled_key_text written) w.prefix written name_of
+    named : IsNamingByUse (leveled_key_text written) w.prefix written name_of
     named = chain.named finds features w v c
 
     prefix_written : v.prefix ≡ w.prefix
@@ -224,7 +225,7 @@ module _ (finds : Text → Text → Option Bool) (features : List Text) (w : Gra
           let name_r : r.name ≡ n = (rule_there written n r is).1 in
               let own : IsRule written r.name r = subst (λ (t : Text). IsRule written t r) (sym name_r) is in
               ap (λ (t : Text). name_of (Nonterminal.closed (Closed.call t Closeds.none (loosest r)))) (sym name_r)
-              ∙ named.rules r own (chain.start_plain written n r i is) ∙ name_r,
+              ∙ named.naming.rules r own (chain.start_plain written n r i is) ∙ name_r,
           (
             suc i.0,
             (

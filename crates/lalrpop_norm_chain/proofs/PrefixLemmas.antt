@@ -32,7 +32,7 @@ use Rattle.lalrpop_norm_theory.specs.LeveledGrammar.{leveled_grammar}
 use Rattle.lalrpop_norm_theory.specs.LevelNames.{numbered_text, plain_levels, plain_levels_of, tighter_levels, AreLevelNames}
 use Rattle.lalrpop_norm_theory.proofs.LevelOrderLemmas.{loosest_or_tighter}
 use Rattle.lalrpop_norm_theory.proofs.LeveledRuleLemmas.{rule_of_key, bares_of-leveled}
-use Rattle.lalrpop_norm_theory.proofs.PackedNameLemmas.{numbered_as}
+use Rattle.lalrpop_norm_theory.proofs.PackedNameLemmas.{macro_numbered, numbered_as}
 use Rattle.lalrpop_grammar_repr.specs.declared.norm_error.NormErrorKind.TheVariants as kinds
 use Rattle.lalrpop_norm_prevalidate.specs.Names.{SpannedName, name_in_entry, names_in_group, names_in_rule, names_in_item}
 use Rattle.lalrpop_norm_prevalidate.specs.Names.{has_prefix}
@@ -205,7 +205,7 @@ level_numbered g f a r j i t = go r.parameters refl
     go [] e =
         numbered_as f (map (λ q. q.name) (rules_of g.items)) (plain_levels g) a.plain (r.name, j)
         (flat_map_among plain_levels_of (rules_of g.items) r (r.name, j) i (level_of_plain r j t r.parameters (ap has_none e)))
-    go (p ∷ ps) e = a.of_macros r j i (λ none. some_left (sym e ∙ none)) t
+    go (p ∷ ps) e = macro_numbered g f a r j i (λ none. some_left (sym e ∙ none)) t
       where
         some_left : p ∷ ps ≡ [] → ⊥
         some_left x = cc

@@ -62,8 +62,8 @@ module _ (finds : Text → Text → Option Bool) (features : List Text) (w check
   -- the prefix
 
   printed : (x : Closed) → Among c.front.macros.keys x
-      → c.front.macros.key_of x ≡ with_number (flat_key_text x) (c.front.macros.naming.number x)
-  printed x i = sym (c.front.macros.named x i) ∙ c.front.macros.naming.printed x (c.front.macros.expansion.reached x i)
+      → c.front.macros.key_of x ≡ with_number (flat_key_text x) (c.front.macros.naming.naming.number x)
+  printed x i = sym (c.front.macros.named x i) ∙ c.front.macros.naming.naming.printed x (c.front.macros.expansion.reached x i)
 
   leveled_is_free : HasFreePrefix w.prefix leveled
   leveled_is_free =
@@ -73,7 +73,7 @@ module _ (finds : Text → Text → Option Bool) (features : List Text) (w check
   expanded_is_free : HasFreePrefix w.prefix expanded
   expanded_is_free =
       keys_free leveled expanded c.front.macros.key_of c.front.macros.keys c.front.macros.expansion w.prefix leveled_is_free
-      c.front.macros.expanded c.front.macros.naming.number printed
+      c.front.macros.expanded c.front.macros.naming.naming.number printed
 
   prefix_checked : checked.prefix ≡ w.prefix
   prefix_checked =

@@ -38,8 +38,8 @@ use Rattle.lalrpop_norm_keys.specs.MacroFaults.{TellsOfAlternative}
 use Rattle.lalrpop_norm_token_check.specs.Checked.{IsTokenChecked}
 use Rattle.lalrpop_norm_token_check.specs.Faults.{TokenFaultInExpanded, IsTokenFault}
 use Rattle.lalrpop_norm_token_check.specs.Places.{FirstPlaces}
-use Rattle.lalrpop_norm_tyinfer.specs.TypeFaults.{HasRuleTypes, HasTwoTypes, IsToldTypeFault, IsTypeFault, IsUntypedRule, TypeFault}
-use Rattle.lalrpop_norm_tyinfer.specs.TypeFaults.{TypeFaultStands, type_fault}
+use Rattle.lalrpop_norm_tyinfer.specs.TypeFaults.{HasDisagreeingAlternatives, HasRuleTypes, IsToldTypeFault, IsTypeFault}
+use Rattle.lalrpop_norm_tyinfer.specs.TypeFaults.{IsUntypedRule, TypeFault, TypeFaultStands, type_fault}
 use Rattle.lalrpop_norm_chain.specs.PremiseLaws.{resolved_part}
 use Rattle.lalrpop_norm_theory.specs.CallPlaces.{IsPlaceBelow}
 use Rattle.lalrpop_norm_theory.proofs.DeepPlaceLemmas.{deep_call_written}
@@ -48,7 +48,7 @@ use Rattle.lalrpop_norm_chain.proofs.ChainLemmas.{between_behind}
 use Rattle.lalrpop_norm_chain.proofs.FrontLemmas.{same_expanded, block_is, span_is, to}
 use Rattle.lalrpop_norm_chain.specs.MadeConditions.{HasConditionWhere, HasWrongCondition}
 use Rattle.lalrpop_norm_chain.specs.TokenFaults.{enabled_places}
-use Rattle.lalrpop_norm_chain.specs.WrittenTypeFaults.{IsDisagreeing, IsUntyped}
+use Rattle.lalrpop_norm_chain.specs.WrittenTypeFaults.{HasNoTypeAt, IsDisagreeing, IsUntyped}
 use Rattle.lalrpop_norm_chain.specs.StandingFaults.{IsRightToNames, IsRightToLevels, IsRightToMacros}
 use Rattle.lalrpop_norm_chain.specs.StandingFaults.{IsRightToTokens, IsStandingFault}
 use Rattle.lalrpop_norm_chain.specs.FaultLaws.{IsLevelChain}
@@ -375,7 +375,7 @@ module _ (finds : Text → Text → Option Bool) (deep : Text → Bool) (feature
         IsStandingFault.types_disagree p right
         (subst (λ (q : TextSpan). IsDisagreeing (enabled_grammar finds features w) (without_disabled features w) q) u.2
         (disagreeing finds features w leveled expanded c u.0 i
-        (subst (λ (g : EnabledGrammar). HasTwoTypes g u.0.name) checked_is u.3) u.4))
+        (subst (λ (g : EnabledGrammar). HasDisagreeingAlternatives g u.0.name) checked_is u.3)))
 
     untyped_stands : IsRightToTokens finds deep features limit w → (n : NonterminalString) (p : TextSpan) →
         TypeFaultStands (grammar_between finds checked) (rules_of checked.items) (TypeFault.untyped n.0 p) →
@@ -422,6 +422,12 @@ module _ (finds : Text → Text → Option Bool) (deep : Text → Bool) (feature
     no_among : {A : Type 0} (l : List A) (a : A) → l ≡ [] → Among l a → ⊥
     no_among l a e i = subst (λ m. Among m a) e i
 
+    pub all_typed : (table : List (NonterminalString × TypeRepr)) →
+        HasRuleTypes (grammar_between finds checked) (rules_of checked.items) table → (p : TextSpan) →
+        HasNoTypeAt (enabled_grammar finds features w) (without_disabled features w) p → ⊥
+    all_typed table types =
+        none_untyped finds features w leveled expanded c table (here (λ g rs. HasRuleTypes g rs table) types)
+
     pub none_stands : (table : List (NonterminalString × TypeRepr)) → IsRightToTokens finds deep features limit w →
         HasRuleTypes (grammar_between finds checked) (rules_of checked.items) table → (kind : NormErrorKind) (p : TextSpan) →
         IsStandingFault finds deep features limit w kind p → ⊥
@@ -440,4 +446,4 @@ module _ (finds : Text → Text → Option Bool) (deep : Text → Bool) (feature
     none_stands table right types kind p (IsStandingFault.types_disagree q a h) =
         none_disagrees finds features w leveled expanded c table (here (λ g rs. HasRuleTypes g rs table) types) q h
     none_stands table right types kind p (IsStandingFault.no_type n q a h) =
-        none_untyped finds features w leveled expanded c table (here (λ g rs. HasRuleTypes g rs table) types) n.0 q h
+        all_typed table types q h.call

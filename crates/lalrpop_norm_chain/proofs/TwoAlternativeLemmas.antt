@@ -1,39 +1,30 @@
--- Two equations of a rule are two alternatives of the written call that it stands for; for the faults of types.
-use Rattle.std.proofs.Common.{◌≡◌, ℕ, ◌<◌, List, [], ◌∷◌, refl, ap, sym, ◌∙◌, subst, Bool, true, inl, inr, arith}
-use Rattle.std.specs.Prelude.{◌≢◌, Option, Some, None, filter}
-use Rattle.lalrpop_grammar_symbols.specs.Symbols.{Text, Closed, Closeds}
-use Rattle.lalrpop_grammar.specs.WrittenGrammar.{Action, Alternative, Origin, Rule, Grammar, Ty, rules_of}
+-- Two alternatives of an expanded rule that give it types are two of the written call that it stands for; for the faults of types.
+use Rattle.std.proofs.Common.{◌≡◌, ℕ, List, [], ◌∷◌, ap, sym, ◌∙◌, subst, Bool, inl, inr}
+use Rattle.std.specs.Prelude.{◌≢◌, Option, None}
+use Rattle.lalrpop_grammar_symbols.specs.Symbols.{Text, TextSpan, Closed, Closeds}
+use Rattle.lalrpop_grammar.specs.WrittenGrammar.{Origin, Rule, Grammar, rules_of}
 use Rattle.lalrpop_grammar_language.specs.Among.{Among}
-use Rattle.lalrpop_grammar_language.specs.Enabled.{Choice, EnabledGrammar, IsRule, choice_of, enabled_grammar}
+use Rattle.lalrpop_grammar_language.specs.Enabled.{Choice, EnabledGrammar, IsRule, enabled_grammar}
 use Rattle.lalrpop_grammar_language.specs.Expansion.{InExpansion, Nonterminal}
+use Rattle.lalrpop_grammar_language.specs.Levels.{Rank, ranked_choices}
 use Rattle.lalrpop_grammar_language.proofs.AmongLemmas.{map_among}
-use Rattle.lalrpop_grammar_language.proofs.PlaceLemmas.{among_filter, among_map}
-use Rattle.lalrpop_norm_theory.specs.Between.{grammar_between, rule_between, with_origins}
+use Rattle.lalrpop_norm_theory.specs.Between.{grammar_between, rule_between}
 use Rattle.lalrpop_norm_theory.specs.LevelRules.{by_level_names}
 use Rattle.lalrpop_norm_theory.specs.Productions.{IsOriginBefore}
-use Rattle.lalrpop_norm_tyinfer.specs.Equations.{TypeEquation, TypeSource, equations_by, equations_of_rule, is_default_action}
-use Rattle.lalrpop_norm_tyinfer.specs.TypeFaults.{HasTwoEquations}
+use Rattle.lalrpop_norm_theory.specs.Types.{ByDefault, GroundType, IsGrounded}
+use Rattle.lalrpop_norm_theory.proofs.LevelChoiceLemmas.{choice_listed}
+use Rattle.lalrpop_norm_theory.proofs.LevelLemmas.{no_rank}
+use Rattle.lalrpop_norm_theory.proofs.LevelOrderLemmas.{one_rule}
+use Rattle.lalrpop_norm_theory.proofs.NumberingLemmas.{not_before_itself}
+use Rattle.lalrpop_norm_theory.proofs.TypeLemmas.{step_grounded}
+use Rattle.lalrpop_norm_tyinfer.specs.TypeFaults.{HasDisagreeingAlternatives}
 use Rattle.lalrpop_norm_chain.specs.Chains.{IsMacroChain}
 use Rattle.lalrpop_norm_chain.specs.PremiseLaws.{AreInOrder, HasRulesInOrder}
-use Rattle.lalrpop_norm_chain.specs.WrittenTypeFaults.{IsDefaultOf, OwnAlternative}
+use Rattle.lalrpop_norm_chain.specs.WrittenTypeFaults.{IsDisagreeing, IsGivenBy, OwnAlternative}
 use Rattle.lalrpop_norm_chain.proofs.OrderLemmas.{keys_ordered, leveled_ordered}
-use Rattle.lalrpop_norm_chain.proofs.OwnAlternativeLemmas.{default_stands, origin_given}
-use Rattle.lalrpop_norm_chain.proofs.PartEquationLemmas.{none_declared}
+use Rattle.lalrpop_norm_chain.proofs.OwnAlternativeLemmas.{StandsForGiver, giver_stands, origin_given}
 
 -- choices in order differ in what they tell
-
-not_before_itself : (o : Origin) → IsOriginBefore o o → ⊥
-not_before_itself (Origin.alternative n args i) h = let lt : i < i = h in omega (arith, lt)
-not_before_itself Origin.start h = absurd h
-not_before_itself Origin.pass_down h = absurd h
-not_before_itself Origin.plus_one h = absurd h
-not_before_itself Origin.plus_more h = absurd h
-not_before_itself Origin.star_none h = absurd h
-not_before_itself Origin.star_some h = absurd h
-not_before_itself Origin.opt_none h = absurd h
-not_before_itself Origin.opt_some h = absurd h
-not_before_itself Origin.group h = absurd h
-not_before_itself Origin.look h = absurd h
 
 before_another : (c d : Choice) → IsOriginBefore c.origin d.origin → c.origin ≡ d.origin → ⊥
 before_another c d h e = not_before_itself c.origin (subst (λ (x : Origin). IsOriginBefore c.origin x) (sym e) h)
@@ -45,105 +36,101 @@ one_in_order (c ∷ cs) o a b (inl f) (inr j) e = absurd (before_another c b (o.
 one_in_order (c ∷ cs) o a b (inr i) (inl k) e = absurd (before_another c a (o.0 a i) (ap (λ (x : Choice). x.origin) k ∙ sym e))
 one_in_order (c ∷ cs) o a b (inr i) (inr j) e = one_in_order cs o.1 a b i j e
 
--- an equation of a rule that has two is one of an alternative without user code
+-- what an alternative gives is a grounded type
 
-default_action : (a : Action) → is_default_action a ≡ true → a ≡ Action.default
-default_action Action.default e = refl
-default_action (Action.user t) e = absurd (let wrong : ⊥ = cc in wrong)
-default_action (Action.fallible t) e = absurd (let wrong : ⊥ = cc in wrong)
-default_action Action.lookahead e = absurd (let wrong : ⊥ = cc in wrong)
-default_action Action.lookbehind e = absurd (let wrong : ⊥ = cc in wrong)
+given_grounded : (g : EnabledGrammar) (n : Text) (args : Closeds) (level : Option ℕ) →
+    InExpansion g (Nonterminal.closed (Closed.call n args level)) → (a : OwnAlternative) (t : GroundType) →
+    IsGivenBy g n args level a t → IsGrounded g (Closed.call n args level) t
+given_grounded g n args level i (OwnAlternative.written x) t h = step_grounded g (Closed.call n args level) t (i, inr (inl h.0))
+given_grounded g n args level i OwnAlternative.pass_down t h = step_grounded g (Closed.call n args level) t (i, inr (inr h))
 
-record IsOfAlternative (q : Rule) (e : TypeEquation) : Type 0 where
-  alternative : Alternative
-  among : Among q.alternatives alternative
-  no_code : alternative.action ≡ Action.default
-  source_is : e.source ≡ TypeSource.symbols alternative.expr
-
--- as a choice
-abbrev as_choice : Alternative → Choice
-as_choice a = choice_of (a.origin, a)
-
-module _ (q : Rule) (t : HasTwoEquations q) where
-  undeclared : q.declared ≡ None
-  undeclared = go q.declared refl
-    where
-      go : (o : Option Ty) → q.declared ≡ o → o ≡ None
-      go None e = refl
-      go (Some y) e = absurd (none_declared q t y e)
-
-  of_equation : (e : TypeEquation) → Among (equations_of_rule q) e → IsOfAlternative q e
-  of_equation e i =
-      let m = among_map (λ (a : Alternative). record { rule = q; source = TypeSource.symbols a.expr })
-      (filter (λ (a : Alternative). is_default_action a.action) q.alternatives) e
-      (subst (λ (o : Option Ty). Among (equations_by q o) e) undeclared i) in
-      let n = among_filter (λ (a : Alternative). is_default_action a.action) q.alternatives m.0 m.1 in
-      record {
-        alternative = m.0;
-        among = n.0;
-        no_code = default_action m.0.action n.1;
-        source_is = sym (ap (λ (x : TypeEquation). x.source) m.2);
-      }
-
-  first : IsOfAlternative q t.first
-  first = of_equation t.first t.first_of
-
-  second : IsOfAlternative q t.second
-  second = of_equation t.second t.second_of
-
-  choice_there : (x : Alternative) → Among q.alternatives x → Among (rule_between q).choices (as_choice x)
-  choice_there x i =
-      map_among choice_of (with_origins q.alternatives) (x.origin, x)
-      (map_among (λ (y : Alternative). (y.origin, y)) q.alternatives x i)
-
-  -- those of the two equations tell different choices
-  told_apart : AreInOrder (rule_between q).choices → first.alternative.origin ≡ second.alternative.origin → ⊥
-  told_apart o e =
-      let same : as_choice first.alternative ≡ as_choice second.alternative =
-      one_in_order (rule_between q).choices o (as_choice first.alternative) (as_choice second.alternative)
-      (choice_there first.alternative first.among) (choice_there second.alternative second.among) e in
-      t.differ (first.source_is ∙ ap (λ (x : Choice). TypeSource.symbols x.expr) same ∙ sym second.source_is)
+-- so a call whose alternatives disagree has both types
+pub disagreeing_types : (g : EnabledGrammar) (d : Grammar) (p : TextSpan) (t : IsDisagreeing g d p) →
+    IsGrounded g t.symbol t.first × IsGrounded g t.symbol t.second
+disagreeing_types g d p t =
+    let there = subst (λ (y : Closed). InExpansion g (Nonterminal.closed y)) t.at.is_call t.at.in_expansion in (
+      subst (λ (y : Closed). IsGrounded g y t.first) (sym t.at.is_call)
+          (given_grounded g t.at.name t.at.args t.at.level there t.one t.first t.one_gives),
+      subst (λ (y : Closed). IsGrounded g y t.second) (sym t.at.is_call)
+          (given_grounded g t.at.name t.at.args t.at.level there t.other t.second t.other_gives),
+    )
 
 -- the passes up to macros
 
--- two alternatives of the call without user code, which differ
-pub record HasTwoDefaults (g : EnabledGrammar) (n : Text) (args : Closeds) (level : Option ℕ) : Type 0 where
+-- two alternatives of the call that differ give it types that differ
+pub record HasTwoGivers (g : EnabledGrammar) (n : Text) (args : Closeds) (level : Option ℕ) : Type 0 where
   pub one : OwnAlternative
   pub other : OwnAlternative
   pub apart : one ≢ other
-  pub one_of : IsDefaultOf g n args level one
-  pub other_of : IsDefaultOf g n args level other
+  pub first : GroundType
+  pub second : GroundType
+  pub differ : first ≢ second
+  pub one_gives : IsGivenBy g n args level one first
+  pub other_gives : IsGivenBy g n args level other second
+
+abbrev unranked : Choice → Choice × Option Rank
+unranked a = (a, None)
 
 module _ (finds : Text → Text → Option Bool) (features : List Text) (w leveled expanded : Grammar)
     (c : IsMacroChain finds features w leveled expanded) where
+  abbrev old : EnabledGrammar
+  old = enabled_grammar finds features w
+
+  abbrev new : EnabledGrammar
+  new = grammar_between finds expanded
+
   in_order : (q : Rule) → Among (rules_of expanded.items) q → AreInOrder (rule_between q).choices
   in_order q i =
-      keys_ordered (grammar_between finds leveled) (grammar_between finds expanded) c.macros.key_of c.macros.keys c.macros.expansion
-      c.macros.expanded
+      keys_ordered (grammar_between finds leveled) new c.macros.key_of c.macros.keys c.macros.expansion c.macros.expanded
       (subst (λ (x : Grammar). HasRulesInOrder (grammar_between finds x)) (sym c.levels.value)
       (leveled_ordered finds features w c.levels.names c.read))
       (rule_between q) (map_among rule_between (rules_of expanded.items) q i)
 
-  -- where the rule is that of a call's key and has two equations
-  pub two_defaults : (q : Rule) → Among (rules_of expanded.items) q → HasTwoEquations q → (n : Text) (args : Closeds)
-      (level : Option ℕ) → InExpansion (enabled_grammar finds features w) (Nonterminal.closed (Closed.call n args level)) →
+  -- a default alternative of the rule that stands for its name
+  pub written_in : (q : Rule) → IsRule new q.name (rule_between q) → (t : GroundType)
+      (b : ByDefault (IsGrounded new) new q.name Closeds.none None t) → Among (ranked_choices (rule_between q)) b.choice
+  written_in q is t b =
+      subst (λ x. Among (ranked_choices x) b.choice) (one_rule new q.name b.rule (rule_between q) b.fits.rule is) b.fits.written
+
+  -- choices of one rule that tell the same are the same
+  pub same_choice : (q : Rule) → Among (rules_of expanded.items) q → (x y : Choice × Option Rank) →
+      Among (ranked_choices (rule_between q)) x → Among (ranked_choices (rule_between q)) y → x.0.origin ≡ y.0.origin → x ≡ y
+  same_choice q i x y j k e =
+      let rule = rule_between q in
+      let flat = c.macros.expanded.no_levels rule (map_among rule_between (rules_of expanded.items) q i) in
+      let first : x ≡ unranked x.0 = ap (λ a. (x.0, a)) (no_rank rule x flat j) in
+      let second : y ≡ unranked y.0 = ap (λ a. (y.0, a)) (no_rank rule y flat k) in
+      first ∙ ap unranked (one_in_order rule.choices (in_order q i) x.0 y.0 (choice_listed rule x j) (choice_listed rule y k) e) ∙ sym second
+
+  -- what gives a rule of this name its type, where the name is that of a call's key
+  named_giver : (n : Text) (args : Closeds) (level : Option ℕ) → InExpansion old (Nonterminal.closed (Closed.call n args level)) →
+      Among c.macros.keys (by_level_names c.levels.names (Closed.call n args level)) → (m : Text) →
+      m ≡ c.macros.key_of (by_level_names c.levels.names (Closed.call n args level)) → (t : GroundType)
+      (b : ByDefault (IsGrounded new) new m Closeds.none None t) →
+      StandsForGiver finds features w leveled expanded c n args level b.choice.0.origin t
+  named_giver n args level i k m e t =
+      subst (λ (z : Text). (b : ByDefault (IsGrounded new) new z Closeds.none None t) →
+      StandsForGiver finds features w leveled expanded c n args level b.choice.0.origin t) (sym e)
+      (giver_stands finds features w leveled expanded c n args level i k t)
+
+  -- where the alternatives of a call's rule disagree, so do those of the call
+  pub two_givers : (q : Rule) → Among (rules_of expanded.items) q → IsRule new q.name (rule_between q) →
+      HasDisagreeingAlternatives new q.name → (n : Text) (args : Closeds) (level : Option ℕ) →
+      InExpansion old (Nonterminal.closed (Closed.call n args level)) →
       Among c.macros.keys (by_level_names c.levels.names (Closed.call n args level)) →
-      IsRule (grammar_between finds expanded) (c.macros.key_of (by_level_names c.levels.names (Closed.call n args level)))
-      (rule_between q) → HasTwoDefaults (enabled_grammar finds features w) n args level
-  two_defaults q i t n args level there k is =
-      let x = first q t in
-      let y = second q t in
-      let a =
-      default_stands finds features w leveled expanded c n args level there k (rule_between q) is (undeclared q t)
-      (as_choice x.alternative) (choice_there q t x.alternative x.among) x.no_code in
-      let b =
-      default_stands finds features w leveled expanded c n args level there k (rule_between q) is (undeclared q t)
-      (as_choice y.alternative) (choice_there q t y.alternative y.among) y.no_code in
+      q.name ≡ c.macros.key_of (by_level_names c.levels.names (Closed.call n args level)) → HasTwoGivers old n args level
+  two_givers q i is t n args level there k e =
+      let a = named_giver n args level there k q.name e t.first t.first_by in
+      let b = named_giver n args level there k q.name e t.second t.second_by in
       record {
         one = a.own;
         other = b.own;
-        apart = λ e. told_apart q t (in_order q i)
-            (a.told ∙ ap (origin_given finds features w leveled expanded c args) e ∙ sym b.told);
-        one_of = a.of_call;
-        other_of = b.of_call;
+        apart = λ same. t.apart (same_choice q i t.first_by.choice t.second_by.choice (written_in q is t.first t.first_by)
+            (written_in q is t.second t.second_by)
+            (a.told ∙ ap (origin_given finds features w leveled expanded c args) same ∙ sym b.told));
+        first = t.first;
+        second = t.second;
+        differ = t.differ;
+        one_gives = a.gives;
+        other_gives = b.gives;
       }

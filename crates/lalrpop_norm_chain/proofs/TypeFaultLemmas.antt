@@ -1,11 +1,11 @@
 -- The faults of types that are told of the expanded grammar stand in the written one; for the faults that stand there.
-use Rattle.std.proofs.Common.{◌≡◌, ℕ, zero, suc, List, [], ◌∷◌, refl, ap, sym, ◌∙◌, subst, Bool, true, false}
+use Rattle.std.proofs.Common.{◌≡◌, ℕ, List, [], ◌∷◌, refl, ap, sym, ◌∙◌, subst, Bool, true, false}
 use Rattle.std.proofs.Common.{inl, inr, ◌⊎◌}
-use Rattle.std.specs.Prelude.{Option, Some, None, IsSomeAnd, filter, map, ◌↔◌}
+use Rattle.std.specs.Prelude.{Option, Some, None, IsSomeAnd, codes, filter, map, ◌↔◌}
 use Rattle.std.proofs.lemmas.Bool.{true≢false, false_from_ne_true}
 use Rattle.lalrpop_grammar_symbols.specs.Symbols.{Text, TextSpan, Op, Argument, Closed, Closeds}
 use Rattle.lalrpop_grammar_symbols.specs.declared.names.NonterminalString.{NonterminalString}
-use Rattle.lalrpop_grammar.specs.WrittenGrammar.{Alternative, Origin, Rule, Grammar, rules_of}
+use Rattle.lalrpop_grammar.specs.WrittenGrammar.{Alternative, Origin, Rule, Grammar, Ty, Tys, rules_of}
 use Rattle.lalrpop_grammar_language.specs.Among.{Among}
 use Rattle.lalrpop_grammar_language.specs.Enabled.{EnabledGrammar, EnabledRule, Choice, IsRule, has_text, choice_of, enabled_grammar}
 use Rattle.lalrpop_grammar_language.specs.Levels.{Rank, ranked_choices, tighter}
@@ -15,7 +15,6 @@ use Rattle.lalrpop_grammar_language.proofs.PlaceLemmas.{among_filter, among_map}
 use Rattle.lalrpop_grammar_repr.specs.Maps.{at_name}
 use Rattle.lalrpop_grammar.specs.declared.types.type_repr.TypeRepr.{TypeRepr}
 use Rattle.lalrpop_norm_theory.specs.Between.{with_origins, rule_between, grammar_between, without_disabled}
-use Rattle.lalrpop_norm_theory.specs.Keys.{leveled_key_text, flat_key_text, IsNaming}
 use Rattle.lalrpop_norm_theory.specs.Premises.{AreDifferent}
 use Rattle.lalrpop_norm_theory.specs.Types.{GroundType, place_type, IsGrounded}
 use Rattle.lalrpop_grammar_language.proofs.AmongLemmas.{map_among}
@@ -26,34 +25,31 @@ use Rattle.lalrpop_norm_theory.proofs.TypeLemmas.{step_grounded}
 use Rattle.lalrpop_norm_theory.specs.KeyRules.{IsKey, by_name, AreKeyChoices, AreTwoChoices}
 use Rattle.lalrpop_norm_theory.specs.LevelRules.{level_name, by_level_names}
 use Rattle.lalrpop_norm_theory.proofs.KeyRuleLemmas.{key_called}
-use Rattle.lalrpop_norm_theory.proofs.DroppingLemmas.{dropped_names}
-use Rattle.lalrpop_norm_theory.proofs.ResolvingLemmas.{resolved_names}
 use Rattle.lalrpop_norm_theory.specs.LeveledGrammar.{ranked_alternatives, has_rank_level, leveled_alternative, level_alternatives}
 use Rattle.lalrpop_norm_theory.specs.LeveledGrammar.{pass_downs, leveled_grammar}
 use Rattle.lalrpop_norm_theory.specs.LevelLaws.{nonterminal_by_level, TellsOwnRules}
+use Rattle.lalrpop_norm_theory.proofs.LevelChoiceLemmas.{choice_listed}
 use Rattle.lalrpop_norm_theory.proofs.LevelOrderLemmas.{one_rule}
 use Rattle.lalrpop_grammar_language.proofs.AmongLemmas.{text_found}
 use Rattle.lalrpop_norm_theory.proofs.LeveledRuleLemmas.{rule_of_key, rules_of-leveled, names_differ, key_there}
 use Rattle.lalrpop_norm_theory.specs.KeyTypes.{IsKeyDeclaration, repeat_ty}
 use Rattle.lalrpop_norm_theory.proofs.KeyStepLemmas.{macros_keep_types}
-use Rattle.lalrpop_norm_theory.proofs.NameBackLemmas.{names_back}
 use Rattle.lalrpop_norm_tyinfer.specs.GroundViews.{type_repr_view}
-use Rattle.lalrpop_norm_tyinfer.specs.TypeFaults.{rule_symbol, nonterminal_of, HasTwoTypes, HasNoType, is_part_rule, is_part_choice}
+use Rattle.lalrpop_norm_tyinfer.specs.TypeFaults.{rule_symbol, nonterminal_of, HasNoType, is_part_rule, is_part_choice}
 use Rattle.lalrpop_norm_tyinfer.specs.TypeFaults.{is_part_origin}
-use Rattle.lalrpop_norm_tyinfer.specs.TypeFaults.{IsUntypedRule, HasRuleTypes, HasTwoEquations}
+use Rattle.lalrpop_norm_tyinfer.specs.TypeFaults.{IsUntypedRule, HasDisagreeingAlternatives, HasRuleTypes}
 use Rattle.lalrpop_norm_chain.specs.PremiseLaws.{resolved_part}
 use Rattle.lalrpop_norm_chain.specs.Chains.{IsMacroChain}
 use Rattle.lalrpop_norm_chain.proofs.SourceLemmas.{resolved_source, leveled_source}
-use Rattle.lalrpop_norm_chain.proofs.PlainNameLemmas.{names_plain, read_tells_resolved}
+use Rattle.lalrpop_norm_chain.proofs.PlainNameLemmas.{read_tells_resolved}
 use Rattle.lalrpop_norm_chain.proofs.ActiveLemmas.{zip_front}
 use Rattle.lalrpop_norm_chain.proofs.OrderLemmas.{instance_from}
 use Rattle.lalrpop_norm_chain.proofs.FrontLemmas.{closed_to}
-use Rattle.lalrpop_norm_chain.proofs.FrontLemmas.{levelable, same_leveled, prefix_leveled, types_expanded, has_rule}
-use Rattle.lalrpop_norm_chain.specs.WrittenTypeFaults.{IsCallAt, IsDisagreeing, IsUntyped}
+use Rattle.lalrpop_norm_chain.proofs.FrontLemmas.{has_rule, key_named, levelable, same_leveled, types_expanded, written_by_use}
+use Rattle.lalrpop_norm_chain.specs.WrittenTypeFaults.{HasNoTypeAt, IsCallAt, IsDisagreeing, IsUntyped}
 use Rattle.lalrpop_norm_chain.proofs.PartTypeLemmas.{key_typed}
 use Rattle.lalrpop_norm_chain.proofs.OwnAlternativeLemmas.{call_rule}
-use Rattle.lalrpop_norm_chain.proofs.TwoAlternativeLemmas.{two_defaults}
-use Rattle.lalrpop_norm_chain.proofs.PartEquationLemmas.{none_declared, not_one_alternative}
+use Rattle.lalrpop_norm_chain.proofs.TwoAlternativeLemmas.{disagreeing_types, same_choice, two_givers, written_in}
 use Rattle.lalrpop_norm_chain.proofs.SpanLemmas.{key_span}
 
 -- where names differ, a rule is found by its name
@@ -165,13 +161,9 @@ arguments_no_part args Origin.opt_some = refl
 arguments_no_part args Origin.group = refl
 arguments_no_part args Origin.look = refl
 
-look_type : (g : EnabledGrammar) (t : GroundType) → IsGrounded g Closed.lookahead t → t ≡ place_type
-look_type g t (zero, h) = absurd h
-look_type g t (suc k, h) = h.1
-
-behind_type : (g : EnabledGrammar) (t : GroundType) → IsGrounded g Closed.lookbehind t → t ≡ place_type
-behind_type g t (zero, h) = absurd h
-behind_type g t (suc k, h) = h.1
+-- `usize`, as the rules of lookarounds declare it
+abbrev place_ty : Ty
+place_ty = Ty.nominal (codes "usize") Tys.none
 
 -- the passes up to macros
 
@@ -372,97 +364,89 @@ module _ (finds : Text → Text → Option Bool) (features : List Text) (w level
       no_part_key q (c.macros.expansion.rules u.key u.among).0 (key_rule_is q i u) u.key (c.macros.expansion.keys_only u.key u.among)
       (c.macros.expansion.rules u.key u.among).2.choices p
 
-  -- the rule of a repeat declares a type, and that of a group has one alternative
-  no_part_of : (q : Rule) (e : EnabledRule) → rule_between q ≡ e → HasTwoEquations q → (x : Closed)
-      → IsKeyDeclaration mid named_key c.macros.keys x q.declared → AreKeyChoices mid named_key x e.choices → is_part_rule q ≡ false
-  no_part_of q e same t (Closed.call n args level) d h = instance_no_part n args level q e same h
-  no_part_of q e same t (Closed.repeat op y) d h = absurd (none_declared q t (repeat_ty op d.0) d.1)
-  no_part_of q e same t (Closed.group ys) d h =
-      let u = first_choice q e same h.0 [] h.1 in
-      absurd (not_one_alternative q t u.0 (u.2 ∙ ap (λ l. u.0 ∷ l) (no_more u.1 (behind u.0 u.1 u.2))))
+  -- The rule of a repeat or a lookaround declares a type, and that of a group has one alternative: so one whose alternatives disagree
+  -- is that of a call.
+  abbrev IsSomeCall : Closed → Type 0
+  IsSomeCall x = (n : Text) × (args : Closeds) × (level : Option ℕ) × (x ≡ Closed.call n args level)
+
+  call_of_key : (q : Rule) → Among (rules_of expanded.items) q → HasDisagreeingAlternatives new q.name → (e : EnabledRule) →
+      rule_between q ≡ e → (x : Closed) → IsKeyDeclaration mid named_key c.macros.keys x q.declared →
+      AreKeyChoices mid named_key x e.choices → IsSomeCall x
+  call_of_key q i t e same x d h = go x d h
     where
-      behind : (a : Alternative) (rest : List Alternative) → q.alternatives ≡ a ∷ rest → map choice_of (with_origins rest) ≡ []
-      behind a rest f =
-          let list : map choice_of (with_origins (a ∷ rest)) ≡ h.0 ∷ [] =
-          ap (λ (x : List Alternative). map choice_of (with_origins x)) (sym f) ∙ ap (λ (x : EnabledRule). x.choices) same ∙ h.1 in
-          cc
+      is : IsRule new q.name (rule_between q)
+      is = rule_named q i
 
-      no_more : (rest : List Alternative) → map choice_of (with_origins rest) ≡ [] → rest ≡ []
-      no_more [] f = refl
-      no_more (a ∷ rest) f = absurd (let wrong : ⊥ = cc in wrong)
-  no_part_of q e same t Closed.lookahead d h = part_of q e same h.0 [] h.1 Origin.look h.2.origin
-  no_part_of q e same t Closed.lookbehind d h = part_of q e same h.0 [] h.1 Origin.look h.2.origin
-  no_part_of q e same t (Closed.terminal z) d h = absurd h
-  no_part_of q e same t (Closed.choose y) d h = absurd h
-  no_part_of q e same t (Closed.name m n y) d h = absurd h
-  no_part_of q e same t Closed.faulty d h = absurd h
+      undeclared : q.declared ≡ None
+      undeclared =
+          ap (λ (r : EnabledRule). r.declared) (sym (one_rule new q.name t.first_by.rule (rule_between q) t.first_by.fits.rule is))
+          ∙ t.first_by.undeclared
 
-  -- so a rule with two equations is no part
-  two_equations_no_part : (q : Rule) → Among (rules_of expanded.items) q → HasTwoEquations q → is_part_rule q ≡ false
-  two_equations_no_part q i t =
+      not_declared : (y : Ty) → q.declared ≡ Some y → ⊥
+      not_declared y f = let none : None ≡ Some y = sym undeclared ∙ f in cc
+
+      first : Among (ranked_choices (rule_between q)) t.first_by.choice
+      first = written_in finds features w leveled expanded c q is t.first t.first_by
+
+      second : Among (ranked_choices (rule_between q)) t.second_by.choice
+      second = written_in finds features w leveled expanded c q is t.second t.second_by
+
+      alone : (o : Choice) → e.choices ≡ o ∷ [] → (p : Choice × Option Rank) → Among (ranked_choices (rule_between q)) p → o ≡ p.0
+      alone o f p m =
+          only (subst (λ (l : List Choice). Among l p.0) f
+          (subst (λ (r : EnabledRule). Among r.choices p.0) same (choice_listed (rule_between q) p m)))
+        where
+          only : Among (o ∷ []) p.0 → o ≡ p.0
+          only (inl k) = k
+          only (inr k) = absurd k
+
+      not_alone : (o : Choice) → e.choices ≡ o ∷ [] → ⊥
+      not_alone o f =
+          t.apart (same_choice finds features w leveled expanded c q i t.first_by.choice t.second_by.choice first second
+          (ap (λ (k : Choice). k.origin) (sym (alone o f t.first_by.choice first) ∙ alone o f t.second_by.choice second)))
+
+      go : (x : Closed) → IsKeyDeclaration mid named_key c.macros.keys x q.declared → AreKeyChoices mid named_key x e.choices →
+          IsSomeCall x
+      go (Closed.call n args level) d h = (n, args, level, refl)
+      go (Closed.repeat op y) d h = absurd (not_declared (repeat_ty op d.0) d.1)
+      go (Closed.group ys) d h = absurd (not_alone h.0 h.1)
+      go Closed.lookahead d h = absurd (not_declared place_ty d)
+      go Closed.lookbehind d h = absurd (not_declared place_ty d)
+      go (Closed.terminal z) d h = absurd h
+      go (Closed.choose y) d h = absurd h
+      go (Closed.name m n y) d h = absurd h
+      go Closed.faulty d h = absurd h
+
+  -- two alternatives disagree
+
+  pub disagreeing : (q : Rule) → Among (rules_of expanded.items) q → HasDisagreeingAlternatives new q.name → IsDisagreeing old d q.span
+  disagreeing q i t =
       let u = from_key q i in
-      no_part_of q (c.macros.expansion.rules u.key u.among).0 (key_rule_is q i u) t u.key
+      let k =
+      call_of_key q i t (c.macros.expansion.rules u.key u.among).0 (key_rule_is q i u) u.key
       (c.macros.types u.key (rule_between q) u.among (subst (λ (n : Text). IsRule new n (rule_between q)) u.name_is (rule_named q i)))
-      (c.macros.expansion.rules u.key u.among).2.choices
-
-  -- two types, where two alternatives differ
-
-  two_types_at : (q : Rule) → Among (rules_of expanded.items) q → HasTwoTypes new q.name → HasTwoEquations q → (u : FromKey q) →
-      IsCallAt old d u.source q.span → IsDisagreeing old d q.span
-  two_types_at q i t s u at =
+      (c.macros.expansion.rules u.key u.among).2.choices in
+      let at = call_at q i u k.0 k.1 k.2 k.3 in
       let x : u.key ≡ by_level_names named_level (Closed.call at.name at.args at.level) =
       u.key_is ∙ ap (by_level_names named_level) at.is_call in
       let two =
-      two_defaults finds features w leveled expanded c q i s at.name at.args at.level
+      two_givers finds features w leveled expanded c q i (rule_named q i) t at.name at.args at.level
       (subst (λ (y : Closed). InExpansion old (Nonterminal.closed y)) at.is_call at.in_expansion)
-      (subst (Among c.macros.keys) x u.among)
-      (subst (λ (n : Text). IsRule new n (rule_between q)) (u.name_is ∙ ap named_key x) (rule_named q i)) in
+      (subst (Among c.macros.keys) x u.among) (u.name_is ∙ ap named_key x) in
       record {
         symbol = u.source;
         at = at;
         one = two.one;
         other = two.other;
         apart = two.apart;
-        one_of = two.one_of;
-        other_of = two.other_of;
-        first = t.first;
-        second = t.second;
-        differ = t.differ;
-        first_is = grounded_source q u t.first t.first_is;
-        second_is = grounded_source q u t.second t.second_is;
+        first = two.first;
+        second = two.second;
+        differ = two.differ;
+        one_gives = two.one_gives;
+        other_gives = two.other_gives;
       }
 
-  pub disagreeing : (q : Rule) → Among (rules_of expanded.items) q → HasTwoTypes new q.name → HasTwoEquations q →
-      IsDisagreeing old d q.span
-  disagreeing q i t s = let u = from_key q i in go u (kind_of q i u (two_equations_no_part q i s))
-    where
-      go : (u : FromKey q) → IsCallOrLook u.key → IsDisagreeing old d q.span
-      go u (IsCallOrLook.call n args level e) = two_types_at q i t s u (call_at q i u n args level e)
-      go u (IsCallOrLook.ahead e) =
-          absurd (t.differ (look_type mid t.first
-          (subst (λ (x : Closed). IsGrounded mid x t.first) e ((grounded_key q u t.first).1 t.first_is))
-          ∙ sym (look_type mid t.second
-          (subst (λ (x : Closed). IsGrounded mid x t.second) e ((grounded_key q u t.second).1 t.second_is)))))
-      go u (IsCallOrLook.behind e) =
-          absurd (t.differ (behind_type mid t.first
-          (subst (λ (x : Closed). IsGrounded mid x t.first) e ((grounded_key q u t.first).1 t.first_is))
-          ∙ sym (behind_type mid t.second
-          (subst (λ (x : Closed). IsGrounded mid x t.second) e ((grounded_key q u t.second).1 t.second_is)))))
-
   -- no type
-
-  abbrev written_name : Nonterminal → Text
-  written_name x = c.macros.name_of (nonterminal_by_level named_level x)
-
-  named : IsNaming (leveled_key_text old) w.prefix old written_name
-  named =
-      dropped_names finds features w w.prefix written_name c.read
-      (resolved_names finds (without_disabled features w) w.prefix written_name
-      (names_back finds (resolved_part features w) named_level w.prefix c.macros.name_of (levelable finds features w leveled expanded c)
-      (read_tells_resolved features w c.read) (names_plain features w c.read)
-      (subst (λ (g : Grammar). IsNaming flat_key_text w.prefix (grammar_between finds g) c.macros.name_of) c.levels.value
-      (subst (λ (p : Text). IsNaming flat_key_text p mid c.macros.name_of) (prefix_leveled finds features w leveled expanded c)
-      c.macros.naming))))
 
   untyped_call : (q : Rule) → Among (rules_of expanded.items) q → HasNoType new q.name → is_part_rule q ≡ false →
       IsUntyped old w.prefix d q.name q.span
@@ -470,11 +454,13 @@ module _ (finds : Text → Text → Option Bool) (features : List Text) (w level
     where
       go : (u : FromKey q) → IsCallOrLook u.key → IsUntyped old w.prefix d q.name q.span
       go u (IsCallOrLook.call n args level e) = record {
-        symbol = u.source;
-        at = call_at q i u n args level e;
-        no_type = λ t h. none t (source_grounded q u t h);
-        name_of = written_name;
-        naming = named;
+        call = record {
+          symbol = u.source;
+          at = call_at q i u n args level e;
+          no_type = λ t h. none t (source_grounded q u t h);
+        };
+        name_of = key_named finds features w leveled expanded c;
+        naming = written_by_use finds features w leveled expanded c;
         called = ap (λ (x : Closed). c.macros.name_of (Nonterminal.closed x))
             (sym u.key_is) ∙ c.macros.named u.key u.among ∙ sym u.name_is;
       }
@@ -539,15 +525,16 @@ module _ (finds : Text → Text → Option Bool) (features : List Text) (w level
       (p : TextSpan) → IsDisagreeing old d p → ⊥
   none_disagrees table types p t =
       let s = rule_at t.symbol t.at.in_expansion in
+      let both = disagreeing_types old d p t in
       t.differ (types.once s.0 t.first t.second s.1
       (subst (λ (y : Closed). IsGrounded new y t.first) s.2
-      ((types_expanded finds features w leveled expanded c t.symbol t.first t.at.in_expansion).0 t.first_is))
+      ((types_expanded finds features w leveled expanded c t.symbol t.first t.at.in_expansion).0 both.0))
       (subst (λ (y : Closed). IsGrounded new y t.second) s.2
-      ((types_expanded finds features w leveled expanded c t.symbol t.second t.at.in_expansion).0 t.second_is)))
+      ((types_expanded finds features w leveled expanded c t.symbol t.second t.at.in_expansion).0 both.1)))
 
   pub none_untyped : (table : List (NonterminalString × TypeRepr)) → HasRuleTypes new (rules_of expanded.items) table →
-      (n : Text) (p : TextSpan) → IsUntyped old w.prefix d n p → ⊥
-  none_untyped table types n p t =
+      (p : TextSpan) → HasNoTypeAt old d p → ⊥
+  none_untyped table types p t =
       let s = rule_at t.symbol t.at.in_expansion in
       some_type (at_name (nonterminal_of s.0.name) table) (λ r. IsGrounded new (rule_symbol s.0.name) (type_repr_view r))
       (types.typed s.0 s.1) (λ r h. t.no_type (type_repr_view r)

@@ -8,7 +8,8 @@ use Rattle.lalrpop_grammar_language.specs.Expansion.{Nonterminal}
 use Rattle.lalrpop_grammar.specs.declared.types.type_repr.TypeRepr.{TypeRepr}
 use Rattle.lalrpop_norm_theory.specs.Between.{grammar_between, without_disabled}
 use Rattle.lalrpop_norm_theory.specs.Premises.{IsReadGrammar, IsExpanded}
-use Rattle.lalrpop_norm_theory.specs.Keys.{flat_key_text, IsNaming}
+use Rattle.lalrpop_norm_theory.specs.Keys.{flat_key_text}
+use Rattle.lalrpop_norm_theory.specs.NamesByUse.{IsNamingByUse}
 use Rattle.lalrpop_norm_theory.specs.KeyRules.{IsMacroExpansion}
 use Rattle.lalrpop_norm_theory.specs.KeyTypes.{DeclareKeyTypes}
 use Rattle.lalrpop_norm_theory.specs.NameFaults.{HasRightNames}
@@ -30,9 +31,9 @@ pub record IsMacroResult (finds : Text → Text → Option Bool) (g made : Gramm
   pub expansion : IsMacroExpansion (grammar_between finds g) (grammar_between finds made) key_of keys
   pub types : DeclareKeyTypes (grammar_between finds g) (grammar_between finds made) key_of keys
   pub expanded : IsExpanded (grammar_between finds made)
-  -- the keys' names, with those of starts, are names of the expansion
+  -- the keys' names, with those of starts, are names of the expansion, given in order of first use
   pub name_of : Nonterminal → Text
-  pub naming : IsNaming flat_key_text g.prefix (grammar_between finds g) name_of
+  pub naming : IsNamingByUse flat_key_text g.prefix (grammar_between finds g) name_of
   pub named : (x : Closed) → Among keys x → name_of (Nonterminal.closed x) ≡ key_of x
   -- the rule of a rule or of an instance stands where its rule does
   pub rule_spans : (n : Text) (args : Closeds) (q : Rule) → Among keys (Closed.call n args None) → Among (rules_of made.items) q

@@ -5,6 +5,7 @@ use Rattle.lalrpop_grammar_symbols.specs.Symbols.{Text, TextSpan, Terminal, Clos
 use Rattle.lalrpop_grammar_symbols.specs.Views.{span_view}
 use Rattle.lalrpop_grammar_symbols.specs.declared.names.NonterminalString.{NonterminalString}
 use Rattle.lalrpop_grammar.specs.WrittenGrammar.{Grammar, rules_of}
+use Rattle.lalrpop_grammar_language.specs.Enabled.{enabled_grammar}
 use Rattle.lalrpop_grammar_rules.specs.Finding.{IsSearch}
 use Rattle.lalrpop_grammar_repr.specs.declared.norm_error.NormError.{NormError}
 use Rattle.lalrpop_grammar_repr.specs.declared.norm_error.NormErrorKind.{NormErrorKind}
@@ -32,6 +33,7 @@ use Rattle.lalrpop_norm_chain.specs.MadeConditions.{HasConditionWhere, HasWrongC
 use Rattle.lalrpop_norm_chain.specs.TokenFaults.{enabled_places}
 use Rattle.lalrpop_norm_chain.specs.StandingFaults.{IsRightToNames, IsRightToLevels, IsRightToMacros}
 use Rattle.lalrpop_norm_chain.specs.StandingFaults.{IsRightToTokens, IsStandingFault}
+use Rattle.lalrpop_norm_chain.specs.WrittenTypeFaults.{HasNoTypeAt}
 
 -- the passes over what is disabled, names and levels, on a grammar that was read
 pub record IsLevelChain (finds : Text → Text → Option Bool) (features : List Text) (w leveled : Grammar) : Type 0 where
@@ -119,11 +121,12 @@ TypeFaultsStand =
     → IsTypeFault checked (faults.Norm error)
     → IsStandingFault finds deep features limit w error.kind (span_view error.span)
 
--- where each rule has its one type, no fault stands
+-- where each rule has its one type, no fault stands, and no call is without type
 abbrev pub NoFaultStands : Type 0
 NoFaultStands =
     (finds : Text → Text → Option Bool) (deep : Text → Bool) (features : List Text) (limit : ℕ)
     (w leveled expanded checked : Grammar) (first : FirstPlaces) (table : List (NonterminalString × TypeRepr))
     → IsRightToTokens finds deep features limit w → IsMacroChain finds features w leveled expanded
     → IsTokenChecked first expanded checked → HasRuleTypes (grammar_between finds checked) (rules_of checked.items) table
-    → (kind : NormErrorKind) (p : TextSpan) → IsStandingFault finds deep features limit w kind p → ⊥
+    → ((kind : NormErrorKind) (p : TextSpan) → IsStandingFault finds deep features limit w kind p → ⊥)
+    × ((p : TextSpan) → HasNoTypeAt (enabled_grammar finds features w) (without_disabled features w) p → ⊥)

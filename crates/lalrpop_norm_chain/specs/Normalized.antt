@@ -10,7 +10,8 @@ use Rattle.lalrpop_grammar_language.specs.Expansion.{GrammarSymbol, Nonterminal,
 use Rattle.lalrpop_grammar_repr.specs.Maps.{at_name}
 use Rattle.lalrpop_grammar.specs.declared.types.type_repr.TypeRepr.{TypeRepr}
 use Rattle.lalrpop_lexer_pattern.specs.Wins.{HasNoTie}
-use Rattle.lalrpop_norm_theory.specs.Keys.{leveled_key_text, IsNaming}
+use Rattle.lalrpop_norm_theory.specs.Keys.{leveled_key_text}
+use Rattle.lalrpop_norm_theory.specs.NamesByUse.{IsNamingByUse}
 use Rattle.lalrpop_norm_theory.specs.Productions.{NamedProduction, AreProductions, StandsForLabel}
 use Rattle.lalrpop_norm_theory.specs.Inlined.{IsInlined}
 use Rattle.lalrpop_norm_theory.specs.Types.{GroundType, IsGrounded}
@@ -56,9 +57,9 @@ pub record HasWrittenSpans (finds : Text → Text → Option Bool) (features : L
 
 -- The lowered grammar is the written one's, with what the features leave of it.
 pub record IsNormalized (finds : Text → Text → Option Bool) (features : List Text) (w : Grammar) (v : LoweredGrammar) : Type 0 where
-  -- names of the expansion's nonterminals, which the fields below speak by
+  -- names of the expansion's nonterminals, given in order of first use, which the fields below speak by
   pub name_of : Nonterminal → Text
-  pub naming : IsNaming (leveled_key_text (enabled_grammar finds features w)) w.prefix (enabled_grammar finds features w) name_of
+  pub naming : IsNamingByUse (leveled_key_text (enabled_grammar finds features w)) w.prefix (enabled_grammar finds features w) name_of
   pub prefix : v.prefix ≡ w.prefix
   -- one production, origin and action for each written choice
   pub productions : AreProductions (enabled_grammar finds features w) name_of v.productions v.origins

@@ -32,7 +32,7 @@ pub fn token_faults_stand()
     ensures none { RightTokensAreRight }
 {}
 
-/// The law of faults of types. Two types that differ are told of no repeat and no group, since those have one equation.
+/// The law of faults of types. Two types that differ are told where two alternatives give them, so of no repeat and no group.
 pub fn type_faults_stand()
     ensures { TypeFaultsStand }
 {}

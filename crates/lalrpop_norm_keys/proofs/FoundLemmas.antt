@@ -126,7 +126,7 @@ later_calls before now later known all e f h =
     ap (map closed_view) h ∙ sym (drop-map closed_view (length before) now) ∙ ap (drop (length before)) f
     ∙ ap (λ n. drop n all) (sym (length-map before closed_view) ∙ ap length e)
 
-no_calls : (xs : List ClosedSymbol) → length xs ≡ 0 → map closed_view xs ≡ []
+pub no_calls : (xs : List ClosedSymbol) → length xs ≡ 0 → map closed_view xs ≡ []
 no_calls [] e = refl
 no_calls (x ∷ xs) e = let wrong : ⊥ = omega (arith, e) in absurd wrong
 
@@ -195,7 +195,7 @@ found_round g flat depth walked next all a calls w = one_deeper g depth walked n
     split x (inr i) = inr i
 
 -- what stands behind the known calls is what was found
-later_found : (g : EnabledGrammar) (ys known all later : List Closed) → (w : FindsCalls g ys known all)
+pub later_found : (g : EnabledGrammar) (ys known all later : List Closed) → (w : FindsCalls g ys known all)
     → later ≡ drop (length known) all → later ≡ w.found
 later_found g ys known all later w e = e ∙ ap (drop (length known)) w.all_is ∙ drop_at known w.found (length known) refl
 

@@ -113,6 +113,25 @@ keys_of_leveled g flat y c k known mid a =
     call_and_standing g y known mid mid a
     (nothing_stands g y mid (λ z s. leveled_is_barren g flat y (c y (inl refl)) k s.origin s.side s.produced))
 
+-- calls that were added before are found all the same
+pub keys_begun : (g : EnabledGrammar) (ys begun all : List Closed) → AddsKeys [] ys begun → FindsKeys g ys begun all
+    → FindsKeys g ys [] all
+keys_begun g ys begun all a v = record {
+  stay = λ z i. absurd i;
+  themselves = v.themselves;
+  stand = v.stand;
+  no_other = λ z i. no_other z (v.no_other z i);
+}
+  where
+    OfSome : Closed → Type 0
+    OfSome z = (y : Closed) × Among ys y × ((y ≡ z) ⊎ KeyStandsIn g y z)
+
+    no_other : (z : Closed) → Among begun z ⊎ OfSome z → ⊥ ⊎ OfSome z
+    no_other z (inl i) =
+        let w = adds_extend [] ys begun a in
+        inr (z, w.of_added z (subst (λ l. Among l z) w.all_is i), inl refl)
+    no_other z (inr s) = inr s
+
 -- no calls
 pub keys_of_none : (g : EnabledGrammar) (known : List Closed) → FindsKeys g [] known known
 keys_of_none g known = record {

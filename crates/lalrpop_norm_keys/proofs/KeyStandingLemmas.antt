@@ -1,6 +1,6 @@
 -- Keys that are met beside a right side are those that stand in it, and each that stands there is met; for the law of places.
 use Rattle.std.proofs.Common.{◌≡◌, ℕ, ◌+◌, List, [], ◌∷◌, ◌++◌, refl, ap, sym, subst, cond, Bool}
-use Rattle.std.proofs.Common.{true, false, inl, inr, ◌⊎◌}
+use Rattle.std.proofs.Common.{true, false, inl, inr}
 use Rattle.std.specs.Prelude.{map}
 use Rattle.lalrpop_grammar_symbols.specs.Symbols.{TextSpan, Sym, Syms, syms, WrittenSymbol, Closed, Closeds, closed_list}
 use Rattle.lalrpop_grammar_language.specs.Among.{Among}

@@ -37,3 +37,9 @@ pub mod RenamedKeyLemmas
 pub mod LeveledKeyLemmas
 pub mod WrittenKeyLemmas
 pub mod ExamplesOfKeyPlaces
+pub mod UseFrontLemmas
+pub mod MixedUseLemmas
+pub mod UseSideLemmas
+pub mod OrderedCallLemmas
+pub mod OrderedKeyLemmas
+pub mod PlainUseLemmas

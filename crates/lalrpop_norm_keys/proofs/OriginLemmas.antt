@@ -79,7 +79,8 @@ parts_plain (p ∷ ps) = ap (λ l. cons_option (level_part p) l) (parts_plain ps
 pub same_levels : (r : EnabledRule) → levels (plain_rule r) ≡ levels r
 same_levels r = ap (filter_map level_part) (ranked_plain r) ∙ parts_plain (ranked_choices r)
 
-loosest_plain : (r : EnabledRule) → loosest (plain_rule r) ≡ loosest r
+-- and so does the loosest
+pub loosest_plain : (r : EnabledRule) → loosest (plain_rule r) ≡ loosest r
 loosest_plain r = ap greatest (same_levels r)
 
 -- the next tighter level stays the same without origins

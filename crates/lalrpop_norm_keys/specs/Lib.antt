@@ -18,3 +18,4 @@ pub mod Views
 pub mod MetKeys
 pub mod KeyPlaces
 pub mod KeyPlaceLaws
+pub mod UseSearch

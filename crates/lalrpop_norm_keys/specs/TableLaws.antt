@@ -9,10 +9,12 @@ use Rattle.lalrpop_norm_theory.specs.Depth.{IsTooDeep}
 use Rattle.lalrpop_norm_theory.specs.Premises.{HasNoLevels}
 use Rattle.lalrpop_norm_theory.specs.Rounds.{AreCallsToDepth}
 use Rattle.lalrpop_norm_theory.specs.KeyTables.{IsKeyTable}
+use Rattle.lalrpop_norm_theory.specs.UsedKeys.{IsListByUse}
 use Rattle.lalrpop_grammar_repr.specs.declared.session.NormFault.{NormFault}
 use Rattle.lalrpop_norm_keys.specs.Arity.{arity_faults}
 use Rattle.lalrpop_norm_keys.specs.FoundCalls.{TellsOfMadeCall}
 use Rattle.lalrpop_norm_keys.specs.SearchPremises.{CanSearch}
+use Rattle.lalrpop_norm_keys.specs.UseSearch.{AreCallsByUse}
 
 -- nothing of the rule is disabled under the features
 pub record IsActiveRule (features : List Text) (r : Rule) : Type 0 where
@@ -41,6 +43,17 @@ KeysStayBetween =
     (finds : Text → Text → Option Bool) (features : List Text) (w : Grammar) → HasAllActive features (rules_of w.items)
     → (calls keys : List Closed) → IsKeyTable (enabled_grammar finds features w) calls keys
     → IsKeyTable (grammar_between finds w) calls keys
+
+-- and keys and calls in order of first use
+abbrev pub OrderStaysBetween : Type 0
+OrderStaysBetween =
+    (finds : Text → Text → Option Bool) (features : List Text) (w : Grammar) → HasAllActive features (rules_of w.items)
+    → (keys : List Closed) → IsListByUse (enabled_grammar finds features w) keys → IsListByUse (grammar_between finds w) keys
+
+abbrev pub CallOrderStaysBetween : Type 0
+CallOrderStaysBetween =
+    (finds : Text → Text → Option Bool) (features : List Text) (w : Grammar) → HasAllActive features (rules_of w.items)
+    → (calls : List Closed) → AreCallsByUse (enabled_grammar finds features w) calls → AreCallsByUse (grammar_between finds w) calls
 
 -- what is told of a condition is told of one there
 abbrev pub FaultsStayBetween : Type 0

@@ -10,7 +10,9 @@ ghost use Rattle.lalrpop_grammar_rules.specs.Details.{choices_view, enabled_rule
 ghost use Rattle.lalrpop_grammar_rules.specs.Ranks.{rank_view};
 ghost use Rattle.lalrpop_grammar_rules.specs.RuleTable.{IsKept, IsTable, rules_view, rules_with};
 ghost use Rattle.lalrpop_grammar_rules.specs.Views.{binding_of, closed_view, closeds};
+ghost use Rattle.lalrpop_norm_theory.specs.KeyTables.{keys_in_all};
 ghost use Rattle.lalrpop_norm_theory.specs.Premises.{HasNoLevels};
+ghost use Rattle.lalrpop_norm_theory.specs.UsedKeys.{KeyUses};
 ghost use Rattle.lalrpop_norm_keys.specs.AskedConditions.{AreAskable, AsksRightly};
 ghost use Rattle.lalrpop_norm_keys.specs.MacroFaults.{IsAskable, TellsOfAlternative};
 ghost use Rattle.lalrpop_norm_keys.specs.Instances.{AddsSide, AddsSides, AreTight, HasKeysOf, TellsOfCall, TellsOfSome, kept_from};
@@ -128,7 +130,7 @@ fn bound_symbols<F: Finder>(
 }
 
 /// The symbols on the right sides of the call of a rule: of the alternatives whose conditions hold for the arguments, in order.
-/// Their calls are just those that stand in the call; where no rule has levels, so are their keys.
+/// Their calls are just those that stand in the call; where no rule has levels, so are their keys, which the call uses in this order.
 ///
 /// # Errors
 ///
@@ -147,6 +149,9 @@ pub(crate) fn symbols_of<F: Finder>(
     ensures keys { IfOk result (λ xs. HasNoLevels (rules_view rules.now)
         → HasKeysOf (rules_with (F.finds finder.now) rules.now)
         (Closed.call name.now (closeds (map closed_view args.now)) None) (map closed_view xs)) }
+    ensures order { IfOk result (λ xs. HasNoLevels (rules_view rules.now)
+        → KeyUses (rules_with (F.finds finder.now) rules.now)
+        (Closed.call name.now (closeds (map closed_view args.now)) None) (keys_in_all (closeds (map closed_view xs)))) }
     ensures asked { OnOk result (AsksRightly (rules_with (F.finds finder.now) rules.now) (F.too_deep finder.now)
         name.now (closeds (map closed_view args.now))) }
     ensures fault { IfErr result (TellsOfCall (rules_with (F.finds finder.now) rules.now) (F.too_deep finder.now)

@@ -8,6 +8,8 @@ ghost use Rattle.lalrpop_grammar_rules.specs.RuleTable.{IsTable, rules_view, rul
 ghost use Rattle.lalrpop_grammar_rules.specs.Views.{closed_view, closeds};
 ghost use Rattle.lalrpop_norm_theory.specs.Premises.{HasNoLevels};
 ghost use Rattle.lalrpop_norm_theory.specs.KeyTables.{IsKeyTable};
+ghost use Rattle.lalrpop_norm_theory.specs.UsedKeys.{IsListByUse, KeyUses};
+ghost use Rattle.lalrpop_norm_keys.specs.UseSearch.{AddsUsesOf, AreCallsByUse, UsesWithItself};
 ghost use Rattle.lalrpop_norm_keys.specs.Tables.{IsKeyIndex, table_keys};
 ghost use Rattle.lalrpop_norm_keys.specs.AskedConditions.{AskRightly, AsksRightly, HasAskedConditions};
 ghost use Rattle.lalrpop_norm_keys.specs.FoundCalls.{AreCalls, TellsOfAnyCall, TellsOfMadeCall, TellsOfOneCall};
@@ -41,6 +43,9 @@ fn add_standing<F: Finder>(
     ensures found { OnOk result (HasNoLevels (rules_view rules.now)
         → AddsStanding (rules_with (F.finds finder.now) rules.now)
         (Closed.call name.now (closeds (map closed_view args.now)) None) (table_keys keys.old) (table_keys keys.new)) }
+    ensures order { OnOk result (HasNoLevels (rules_view rules.now)
+        → AddsUsesOf (KeyUses (rules_with (F.finds finder.now) rules.now))
+        (Closed.call name.now (closeds (map closed_view args.now)) None ∷ []) (table_keys keys.old) (table_keys keys.new)) }
     ensures asked { OnOk result (AsksRightly (rules_with (F.finds finder.now) rules.now) (F.too_deep finder.now)
         name.now (closeds (map closed_view args.now))) }
     ensures fault { IfErr result (TellsOfCall (rules_with (F.finds finder.now) rules.now) (F.too_deep finder.now)
@@ -65,6 +70,9 @@ fn add_keys_of<F: Finder>(
     ensures index { OnOk result (IsKeyIndex keys.new) }
     ensures found { OnOk result (HasNoLevels (rules_view rules.now) → AreCalls (closed_view call.now ∷ [])
         → FindsKeys (rules_with (F.finds finder.now) rules.now)
+        (closed_view call.now ∷ []) (table_keys keys.old) (table_keys keys.new)) }
+    ensures order { OnOk result (HasNoLevels (rules_view rules.now)
+        → AddsUsesOf (UsesWithItself (rules_with (F.finds finder.now) rules.now))
         (closed_view call.now ∷ []) (table_keys keys.old) (table_keys keys.new)) }
     ensures asked { OnOk result (AskRightly (rules_with (F.finds finder.now) rules.now) (F.too_deep finder.now)
         (closed_view call.now ∷ [])) }
@@ -92,6 +100,9 @@ fn add_keys_of_calls<F: Finder>(
     ensures found { OnOk result (HasNoLevels (rules_view rules.now) → AreCalls (map closed_view calls.now)
         → FindsKeys (rules_with (F.finds finder.now) rules.now)
         (map closed_view calls.now) (table_keys keys.old) (table_keys keys.new)) }
+    ensures order { OnOk result (HasNoLevels (rules_view rules.now)
+        → AddsUsesOf (UsesWithItself (rules_with (F.finds finder.now) rules.now))
+        (map closed_view calls.now) (table_keys keys.old) (table_keys keys.new)) }
     ensures asked { OnOk result (AskRightly (rules_with (F.finds finder.now) rules.now) (F.too_deep finder.now)
         (map closed_view calls.now)) }
     ensures fault { IfErr result (TellsOfOneCall (rules_with (F.finds finder.now) rules.now) (F.too_deep finder.now)
@@ -103,8 +114,9 @@ fn add_keys_of_calls<F: Finder>(
     Ok(())
 }
 
-/// The keys of the grammar, each once: its rules that are no macros, these calls, and what stands in both. That rests on calls that
-/// are all that the grammar makes, and on rules without levels, of which no two share a name and the features disable none.
+/// The keys of the grammar, each once: its rules that are no macros, as they are written, and then these calls, and what stands in
+/// both, each where it is used first. That rests on calls that are all that the grammar makes, in order of first use, and on rules
+/// without levels, of which no two share a name and the features disable none.
 ///
 /// # Errors
 ///
@@ -123,6 +135,11 @@ pub fn find_keys<F: Finder>(
         CanSearch (rules_with (F.finds finder.now) rules.now) rules.now.features.now (grammar_view grammar.now)
         → AreAllCalls (rules_with (F.finds finder.now) rules.now) (table_keys calls.now)
         → IsKeyTable (rules_with (F.finds finder.now) rules.now) (table_keys calls.now) (table_keys keys)) }
+    ensures order { IfOk result (λ keys.
+        CanSearch (rules_with (F.finds finder.now) rules.now) rules.now.features.now (grammar_view grammar.now)
+        → AreAllCalls (rules_with (F.finds finder.now) rules.now) (table_keys calls.now)
+        → AreCallsByUse (rules_with (F.finds finder.now) rules.now) (table_keys calls.now)
+        → IsListByUse (rules_with (F.finds finder.now) rules.now) (table_keys keys)) }
     ensures asked { IfOk result (λ keys.
         CanSearch (rules_with (F.finds finder.now) rules.now) rules.now.features.now (grammar_view grammar.now)
         → AreAllCalls (rules_with (F.finds finder.now) rules.now) (table_keys calls.now)
@@ -135,6 +152,7 @@ pub fn find_keys<F: Finder>(
 {
     let mut keys = KeyTable::new(alloc);
     let plain = plain_rules(alloc, grammar)?;
+    keys.add_all(alloc, plain.as_slice())?;
     add_keys_of_calls(alloc, finder, rules, plain.as_slice(), &mut keys)?;
     add_keys_of_calls(alloc, finder, rules, calls.keys(), &mut keys)?;
     Ok(keys)

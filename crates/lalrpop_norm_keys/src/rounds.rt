@@ -4,7 +4,7 @@ ghost use Rattle.std.specs.Prelude.{◌≡◌, [], ◌∷◌, IfErr, IfOk, OnOk,
 ghost use Rattle.lalrpop_grammar_symbols.specs.Symbols.{Closed};
 ghost use Rattle.lalrpop_grammar.specs.Views.{grammar_view};
 ghost use Rattle.lalrpop_grammar_language.specs.Among.{Among};
-ghost use Rattle.lalrpop_grammar_rules.specs.RuleTable.{IsTable, rules_with};
+ghost use Rattle.lalrpop_grammar_rules.specs.RuleTable.{IsTable, rules_view, rules_with};
 ghost use Rattle.lalrpop_grammar_rules.specs.Views.{closed_view, closeds};
 ghost use Rattle.lalrpop_norm_keys.specs.Tables.{IsKeyIndex, table_keys};
 ghost use Rattle.lalrpop_norm_keys.specs.FoundCalls.{FindsCalls, HasCallIndex, HasFoundCalls, IsToldAt, TellsOfAnyCall};
@@ -12,6 +12,8 @@ ghost use Rattle.lalrpop_norm_keys.specs.FoundCalls.{TellsOfMadeCall, TellsOfOne
 ghost use Rattle.lalrpop_norm_keys.specs.Instances.{TellsOfCall};
 ghost use Rattle.lalrpop_norm_keys.specs.SearchPremises.{CanSearch};
 ghost use Rattle.lalrpop_norm_keys.specs.StandingCalls.{CallStandsIn};
+ghost use Rattle.lalrpop_norm_keys.specs.UseSearch.{AddsUsesOf, HasCallsByUse, UsesCalls};
+ghost use Rattle.lalrpop_norm_theory.specs.Premises.{HasNoLevels};
 
 use crate::called::unleveled_call;
 use crate::callers::place_of_call;
@@ -24,6 +26,7 @@ use lalrpop_grammar_rules::Rules;
 use lalrpop_grammar_rules::closed::{ClosedSymbol, Finder};
 use lalrpop_grammar_symbols::{Atom, List, Span};
 use std::alloc::{AllocError, Global};
+use std::mem;
 
 /// What the search for calls finds.
 #[derive(Drop)]
@@ -48,6 +51,9 @@ fn add_calls_of<F: Finder>(
     ensures index { OnOk result (IsKeyIndex calls.new) }
     ensures found { OnOk result (FindsCalls (rules_with (F.finds finder.now) rules.now)
         (Closed.call name.now (closeds (map closed_view args.now)) None ∷ []) (table_keys calls.old) (table_keys calls.new)) }
+    ensures order { OnOk result (HasNoLevels (rules_view rules.now)
+        → AddsUsesOf (UsesCalls (rules_with (F.finds finder.now) rules.now))
+        (Closed.call name.now (closeds (map closed_view args.now)) None ∷ []) (table_keys calls.old) (table_keys calls.new)) }
     ensures fault { IfErr result (TellsOfCall (rules_with (F.finds finder.now) rules.now) (F.too_deep finder.now)
         name.now (closeds (map closed_view args.now))) }
 {
@@ -70,6 +76,9 @@ fn add_calls_of_call<F: Finder>(
     ensures index { OnOk result (IsKeyIndex calls.new) }
     ensures found { OnOk result (FindsCalls (rules_with (F.finds finder.now) rules.now)
         (closed_view call.now ∷ []) (table_keys calls.old) (table_keys calls.new)) }
+    ensures order { OnOk result (HasNoLevels (rules_view rules.now)
+        → AddsUsesOf (UsesCalls (rules_with (F.finds finder.now) rules.now))
+        (closed_view call.now ∷ []) (table_keys calls.old) (table_keys calls.new)) }
     ensures fault { IfErr result (TellsOfOneCall (rules_with (F.finds finder.now) rules.now) (F.too_deep finder.now)
         (closed_view call.now ∷ [])) }
 {
@@ -91,6 +100,9 @@ fn add_round<F: Finder>(
     requires index { IsKeyIndex calls.old }
     ensures index { OnOk result (IsKeyIndex calls.new) }
     ensures found { OnOk result (FindsCalls (rules_with (F.finds finder.now) rules.now)
+        (map closed_view callers.now) (table_keys calls.old) (table_keys calls.new)) }
+    ensures order { OnOk result (HasNoLevels (rules_view rules.now)
+        → AddsUsesOf (UsesCalls (rules_with (F.finds finder.now) rules.now))
         (map closed_view callers.now) (table_keys calls.old) (table_keys calls.new)) }
     ensures fault { IfErr result (TellsOfOneCall (rules_with (F.finds finder.now) rules.now) (F.too_deep finder.now)
         (map closed_view callers.now)) }
@@ -139,6 +151,9 @@ fn next_round<F: Finder>(
     ensures index { OnOk result (IsKeyIndex calls.new) }
     ensures found { OnOk result (FindsCalls (rules_with (F.finds finder.now) rules.now)
         (map closed_view callers.now) (table_keys calls.old) (table_keys calls.new)) }
+    ensures order { OnOk result (HasNoLevels (rules_view rules.now)
+        → AddsUsesOf (UsesCalls (rules_with (F.finds finder.now) rules.now))
+        (map closed_view callers.now) (table_keys calls.old) (table_keys calls.new)) }
     ensures next { IfOk result (λ next. map closed_view next ≡ drop (length (table_keys calls.old)) (table_keys calls.new)) }
     ensures fault { IfErr result (TellsOfOneCall (rules_with (F.finds finder.now) rules.now) (F.too_deep finder.now)
         (map closed_view callers.now)) }
@@ -146,6 +161,41 @@ fn next_round<F: Finder>(
     let known = calls.keys().len();
     add_round(alloc, finder, rules, callers, calls)?;
     Ok(copies_from(alloc, calls.keys(), known)?)
+}
+
+/// The calls that were found last, and those in which they stand.
+#[derive(Drop)]
+struct LastCalls {
+    callers: List<ClosedSymbol>,
+    next: List<ClosedSymbol>,
+}
+
+impl LastCalls {
+    /// One round further: what was found last are the callers then.
+    fn go_on<F: Finder>(
+        &mut self,
+        alloc: Global,
+        finder: &F,
+        rules: &Rules<'_>,
+        calls: &mut KeyTable,
+    ) -> Result<(), NormFault>
+        requires table { IsTable rules.now }
+        requires index { IsKeyIndex calls.old }
+        ensures index { OnOk result (IsKeyIndex calls.new) }
+        ensures found { OnOk result (FindsCalls (rules_with (F.finds finder.now) rules.now)
+            (map closed_view self.old.next) (table_keys calls.old) (table_keys calls.new)) }
+        ensures order { OnOk result (HasNoLevels (rules_view rules.now)
+            → AddsUsesOf (UsesCalls (rules_with (F.finds finder.now) rules.now))
+            (map closed_view self.old.next) (table_keys calls.old) (table_keys calls.new)) }
+        ensures callers { OnOk result (self.new.callers ≡ self.old.next) }
+        ensures next { OnOk result (map closed_view self.new.next ≡ drop (length (table_keys calls.old)) (table_keys calls.new)) }
+        ensures fault { IfErr result (TellsOfOneCall (rules_with (F.finds finder.now) rules.now) (F.too_deep finder.now)
+            (map closed_view self.old.next)) }
+    {
+        let later = next_round(alloc, finder, rules, self.next.as_slice(), calls)?;
+        self.callers = mem::replace(&mut self.next, later);
+        Ok(())
+    }
 }
 
 /// The call, as one that is too deep, with its place in the first of the others in which it stands.
@@ -170,9 +220,9 @@ fn tell_deep_call<F: Finder>(
     }
 }
 
-/// The calls that the grammar makes, by least depth: round by round those that stand in what was found before. They are all, unless
-/// one is deeper than the limit, which is told with its place. That rests on rules without levels, of which no two share a name
-/// and the features disable none.
+/// The calls that the grammar makes, by least depth: round by round those that stand in what was found before, each where it is used
+/// first. They are all, unless one is deeper than the limit, which is told with its place. That rests on rules without levels, of
+/// which no two share a name and the features disable none.
 ///
 /// # Errors
 ///
@@ -191,23 +241,25 @@ pub fn find_calls<F: Finder>(
     ensures found { IfOk result (λ found.
         CanSearch (rules_with (F.finds finder.now) rules.now) rules.now.features.now (grammar_view grammar.now)
         → HasFoundCalls (rules_with (F.finds finder.now) rules.now) limit found) }
+    ensures order { IfOk result (λ found.
+        CanSearch (rules_with (F.finds finder.now) rules.now) rules.now.features.now (grammar_view grammar.now)
+        → HasCallsByUse (rules_with (F.finds finder.now) rules.now) found) }
     ensures fault { IfErr result (λ fault.
         CanSearch (rules_with (F.finds finder.now) rules.now) rules.now.features.now (grammar_view grammar.now)
         → TellsOfMadeCall (rules_with (F.finds finder.now) rules.now) (F.too_deep finder.now) fault) }
     ensures condition { IfErr result (TellsOfAnyCall (rules_with (F.finds finder.now) rules.now) (F.too_deep finder.now)) }
 {
     let mut calls = KeyTable::new(alloc);
-    let mut callers = plain_rules(alloc, grammar)?;
-    let mut next = next_round(alloc, finder, rules, callers.as_slice(), &mut calls)?;
+    let callers = plain_rules(alloc, grammar)?;
+    let next = next_round(alloc, finder, rules, callers.as_slice(), &mut calls)?;
+    let mut last = LastCalls { callers, next };
     let mut round = 0;
     while round < limit {
-        let later = next_round(alloc, finder, rules, next.as_slice(), &mut calls)?;
-        callers = next;
-        next = later;
+        last.go_on(alloc, finder, rules, &mut calls)?;
         round += 1;
     }
-    match next.as_slice().split_first() {
+    match last.next.as_slice().split_first() {
         None => Ok(FoundCalls::All(calls)),
-        Some((call, _)) => tell_deep_call(alloc, finder, rules, callers.as_slice(), call),
+        Some((call, _)) => tell_deep_call(alloc, finder, rules, last.callers.as_slice(), call),
     }
 }

@@ -18,6 +18,7 @@ use Rattle.lalrpop_norm_theory.specs.Between.{grammar_between}
 use Rattle.lalrpop_norm_theory.specs.Rounds.{AreCallsToDepth}
 use Rattle.lalrpop_norm_theory.proofs.DepthLemmas.{none_too_deep}
 use Rattle.lalrpop_norm_theory.specs.KeyTables.{IsKeyTable}
+use Rattle.lalrpop_norm_theory.specs.UsedKeys.{IsListByUse}
 use Rattle.lalrpop_norm_keys.specs.Tables.{table_keys}
 use Rattle.lalrpop_norm_keys.specs.declared.key_table.key_table.KeyTable.{KeyTable}
 use Rattle.lalrpop_norm_keys.specs.Arity.{arity_faults}
@@ -25,6 +26,7 @@ use Rattle.lalrpop_norm_keys.specs.AskedConditions.{HasAskedConditions}
 use Rattle.lalrpop_norm_theory.specs.CallPlaces.{IsPlaceBelow}
 use Rattle.lalrpop_norm_keys.specs.FoundCalls.{HasFoundCalls, TellsOfMadeCall}
 use Rattle.lalrpop_norm_keys.specs.SearchPremises.{AreAllCalls, CanSearch}
+use Rattle.lalrpop_norm_keys.specs.UseSearch.{AreCallsByUse, HasCallsByUse}
 use Rattle.lalrpop_norm_keys.specs.declared.rounds.FoundCalls.{FoundCalls}
 use Rattle.lalrpop_norm_keys.specs.declared.rounds.FoundCalls.TheVariants as found
 use Rattle.lalrpop_norm_macros.specs.MacroKeys.{HasMacroKeys}
@@ -32,8 +34,9 @@ use Rattle.lalrpop_norm_macros.specs.MacroPass.{IsMacroFault, IsReadyForMacros}
 use Rattle.lalrpop_norm_macros.proofs.ConditionLemmas.{asks_there, none_wrong}
 use Rattle.lalrpop_norm_macros.proofs.FaultLemmas.{told_condition, told_depth}
 use Rattle.lalrpop_norm_macros.proofs.ResultLemmas.{right_keys}
-use Rattle.lalrpop_norm_macros.proofs.TableLemmas.{alike, all_calls, arity_between, calls_between, can_search, keys_between}
-use Rattle.lalrpop_norm_macros.proofs.TableLemmas.{place_between, told_between, too_deep_between}
+use Rattle.lalrpop_norm_macros.proofs.TableLemmas.{alike, all_calls, arity_between, call_order_between, call_order_there}
+use Rattle.lalrpop_norm_macros.proofs.TableLemmas.{calls_between, can_search, keys_between, order_between, place_between, told_between}
+use Rattle.lalrpop_norm_macros.proofs.TableLemmas.{too_deep_between}
 
 module _ (finds : Text → Text → Option Bool) (deep : Text → Bool) (limit : ℕ) (t : table.Rules) (w : Grammar)
     (of : IsOfGrammar [] w t) where
@@ -54,6 +57,14 @@ module _ (finds : Text → Text → Option Bool) (deep : Text → Bool) (limit :
       calls_between finds t w of ready limit (table_keys calls)
       (subst (HasFoundCalls of_table limit) is (h (can_search finds t w of ready))).1
 
+  -- in order of first use
+  pub call_order_ready : (answer : FoundCalls) (calls : KeyTable) → answer ≡ found.All calls
+      → (CanSearch of_table t.features.now w → HasCallsByUse of_table answer) → IsReadyForMacros finds w
+      → AreCallsByUse between (table_keys calls)
+  call_order_ready answer calls is h ready =
+      call_order_between finds t w of ready (table_keys calls)
+      (subst (HasCallsByUse of_table) is (h (can_search finds t w of ready)))
+
   -- or one that is too deep, with its place
   pub deep_call_told : (answer : FoundCalls) (x : ClosedSymbol) (span : Span) → answer ≡ found.TooDeep x span → Finds answer
       → (e : NormError) → e.kind ≡ kinds.MacroDepth limit → e.span ≡ span → IsMacroFault finds deep limit w (faults.Norm e)
@@ -70,17 +81,21 @@ module _ (finds : Text → Text → Option Bool) (deep : Text → Bool) (limit :
   pub keys_ready : {T E : Type 0} (calls : List Closed) (answer : Result T E) (keys : T → List Closed)
       → arity_faults (rules_view t) (rules_of w.items) ≡ []
       → (IsReadyForMacros finds w → AreCallsToDepth between limit calls [])
+      → (IsReadyForMacros finds w → AreCallsByUse between calls)
       → IfOk answer (λ x. CanSearch of_table t.features.now w → AreAllCalls of_table calls → IsKeyTable of_table calls (keys x))
+      → IfOk answer (λ x. CanSearch of_table t.features.now w → AreAllCalls of_table calls → AreCallsByUse of_table calls
+      → IsListByUse of_table (keys x))
       → IfOk answer (λ x. CanSearch of_table t.features.now w → AreAllCalls of_table calls → HasAskedConditions of_table deep)
       → IfOk answer (λ x. IsReadyForMacros finds w → HasMacroKeys finds deep limit w (keys x))
-  keys_ready calls (Ok x) keys none are held asked = λ ready.
+  keys_ready calls (Ok x) keys none are by_use held order asked = λ ready.
       let can = can_search finds t w of ready in
       let all = all_calls finds t w of ready limit calls (are ready) in
       let counted : arity_faults between (rules_of w.items) ≡ [] = sym (arity_between finds t w of ready) ∙ none in
       let low : limit ≤ limit = omega arith in
       record {
         keys_right = right_keys finds w ready counted limit calls (keys x) (are ready)
-            (keys_between finds t w of ready calls (keys x) (held can all));
+            (keys_between finds t w of ready calls (keys x) (held can all))
+            (order_between finds t w of ready (keys x) (order can all (call_order_there finds t w of ready calls (by_use ready))));
         none = record {
           arity = counted;
           depth = none_too_deep between limit limit calls low (are ready);
@@ -88,7 +103,7 @@ module _ (finds : Text → Text → Option Bool) (deep : Text → Bool) (limit :
               (asks_there of_table between (alike finds t w of ready) deep (asked can all));
         };
       }
-  keys_ready calls (Err e) keys none are held asked = held
+  keys_ready calls (Err e) keys none are by_use held order asked = held
 
   -- or what is told of a condition
   pub keys_told : {T : Type 0} (calls : List Closed) (answer : Result T NormFault)

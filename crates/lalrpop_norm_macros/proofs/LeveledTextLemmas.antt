@@ -27,7 +27,7 @@ use Rattle.lalrpop_norm_theory.proofs.LevelAttrLemmas.{key_parameters}
 use Rattle.lalrpop_norm_theory.proofs.LeveledRuleLemmas.{leveled_rules_are, names_differ, rule_key, rule_of_key}
 use Rattle.lalrpop_norm_theory.proofs.LevelOrderLemmas.{falling-has, falling-only, loosest-among, loosest_or_tighter}
 use Rattle.lalrpop_norm_theory.proofs.LevelNameLemmas.{after}
-use Rattle.lalrpop_norm_theory.proofs.PackedNameLemmas.{number_cut, numbered_as, numbered_stays}
+use Rattle.lalrpop_norm_theory.proofs.PackedNameLemmas.{macro_numbered, number_cut, numbered_as, numbered_stays}
 use Rattle.lalrpop_norm_theory.proofs.RightLevelLemmas.{has_loosest}
 use Rattle.lalrpop_norm_precedence.proofs.OrderLemmas.{Falls, falling-falls}
 use Rattle.lalrpop_norm_precedence.proofs.RankLevelLemmas.{flat_order}
@@ -301,7 +301,7 @@ module _ (finds : Text → Text → Option Bool) (g : Grammar) (f : Text → ℕ
           (before_tilde q.name ≡ q.name) ⊎ IsLevelName q.name
       go r j ps (IsNameOf.written e) = inl (subst (λ n. before_tilde n ≡ n) (sym e) (clear r j))
       go r j ps (IsNameOf.tighter l t e) =
-          let v = w.names.of_macros r l j ps t in
+          let v = macro_numbered g f w.names r l j ps t in
           inr (record { base = r.name; level = l; number = v.0; plain = clear r j; is = e ∙ v.1 })
 
   -- the law

@@ -9,6 +9,7 @@ pub mod LeveledTextLemmas
 pub mod PlainTextLemmas
 pub mod PrefixLemmas
 pub mod ExpansionNameLemmas
+pub mod UsedNameLemmas
 mod ExamplesOfKeyNames
 pub mod ArgumentLemmas
 pub mod NamedKeyLemmas

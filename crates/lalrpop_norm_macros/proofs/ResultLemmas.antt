@@ -8,8 +8,10 @@ use Rattle.lalrpop_grammar_language.specs.Enabled.{EnabledGrammar}
 use Rattle.lalrpop_grammar_repr.specs.declared.session.NormFault.{NormFault}
 use Rattle.lalrpop_norm_theory.specs.Between.{grammar_between, rule_between}
 use Rattle.lalrpop_norm_theory.specs.Rounds.{AreCallsToDepth}
+use Rattle.lalrpop_norm_theory.specs.LevelNames.{times_taken}
 use Rattle.lalrpop_norm_theory.proofs.ExpansionListLemmas.{rule_there}
 use Rattle.lalrpop_norm_theory.specs.KeyTables.{IsKeyTable}
+use Rattle.lalrpop_norm_theory.specs.UsedKeys.{IsListByUse}
 use Rattle.lalrpop_norm_theory.proofs.KeyTableLemmas.{table_expansion}
 use Rattle.lalrpop_norm_chain.specs.Chains.{IsMacroResult}
 use Rattle.lalrpop_norm_chain.specs.PremiseLaws.{entries_of_items}
@@ -19,9 +21,12 @@ use Rattle.lalrpop_norm_token_check.specs.Blocks.{block_groups}
 use Rattle.lalrpop_norm_keys.specs.Tables.{HasEachOnce}
 use Rattle.lalrpop_norm_keys.specs.Arity.{arity_faults}
 use Rattle.lalrpop_norm_keys.specs.FoundCalls.{TellsOfMadeCall}
-use Rattle.lalrpop_norm_macros.specs.KeyNames.{AreKeyNames, HasFoundKeys, HoldKeyNames, IsNameable}
+use Rattle.lalrpop_norm_macros.specs.KeyNames.{AreKeyNames, HasFoundKeys, HoldKeyNames, IsNameable, times_by_rules}
 use Rattle.lalrpop_norm_macros.specs.NameLaws.{nonterminal_name}
+use Rattle.lalrpop_norm_macros.specs.OrderedNames.{key_names_from, key_names_of}
 use Rattle.lalrpop_norm_macros.proofs.ExpansionNameLemmas.{expansion_named}
+use Rattle.lalrpop_norm_macros.proofs.FoundNamingLemmas.{texts_between}
+use Rattle.lalrpop_norm_macros.proofs.UsedNameLemmas.{named_by_use}
 use Rattle.lalrpop_norm_macros.specs.FinishedRules.{AreFinishedRules, IsFinishedRule}
 use Rattle.lalrpop_norm_macros.specs.KeyRuleLaws.{AreRulesUnderNames, HasRightKeys, TellsOfRightKeys}
 use Rattle.lalrpop_norm_macros.specs.RuleItems.{grammar_with_rules, other_items}
@@ -77,8 +82,8 @@ module _ (finds : Text → Text → Option Bool) (w : Grammar) where
 
   -- the keys of a grammar that is ready, where no wrong number of arguments is told
   pub right_keys : IsReadyForMacros finds w → arity_faults g (rules_of w.items) ≡ [] → (depth : ℕ) (calls keys : List Closed)
-      → AreCallsToDepth g depth calls [] → IsKeyTable g calls keys → HasRightKeys finds [] w keys
-  right_keys ready none depth calls keys found table = record {
+      → AreCallsToDepth g depth calls [] → IsKeyTable g calls keys → IsListByUse g keys → HasRightKeys finds [] w keys
+  right_keys ready none depth calls keys found table order = record {
     active = ready.active;
     right = right_by_counts finds w ready.resolved ready.recovery none;
     flat = ready.flat;
@@ -86,6 +91,7 @@ module _ (finds : Text → Text → Option Bool) (w : Grammar) where
     calls = calls;
     found = found;
     table = table;
+    in_order = order;
   }
 
   -- so names for them are names of keys
@@ -93,7 +99,8 @@ module _ (finds : Text → Text → Option Bool) (w : Grammar) where
   keys_found keys k = record { calls = k.calls; depth = k.depth; found = k.found; table = k.table }
 
   module _ (ready : IsReadyForMacros finds w) (keys : List Closed) (right : HasRightKeys finds [] w keys) (once : HasEachOnce keys)
-      (f : Closed → Text) (names : AreKeyNames g keys f) (places : ℕ → TextSpan) (placed : ArePlacedFrom g places 0 keys)
+      (f : Closed → Text) (names : AreKeyNames g keys f) (given : map f keys ≡ key_names_from (times_by_rules g) keys)
+      (places : ℕ → TextSpan) (placed : ArePlacedFrom g places 0 keys)
       (made : List Rule) (done : AreFinishedRules finds w f places keys made) where
     abbrev expanded : Grammar
     expanded = grammar_with_rules w made
@@ -152,7 +159,8 @@ module _ (finds : Text → Text → Option Bool) (w : Grammar) where
           types = finished_declarations finds w f keys right.calls places made right.flat right.table once names.apart names.own done;
           expanded = finished_expanded finds w f keys right.calls places made right.flat right.table once names.apart names.own done;
           name_of = nonterminal_name w.prefix f;
-          naming = expansion_named g h f keys w.prefix names expansion ready.prefix;
+          naming = named_by_use g right.flat keys (keys_found keys right) right.in_order f given w.prefix
+              (expansion_named g h f keys w.prefix names expansion ready.prefix);
           named = λ x i. refl;
           rule_spans = span_of_rule;
           key_spans = span_of_shape;
@@ -166,24 +174,28 @@ module _ (finds : Text → Text → Option Bool) (w : Grammar) where
 
   -- the rules that are written under names of keys
   pub written_result : IsReadyForMacros finds w → (keys : List Closed) → HasRightKeys finds [] w keys → HasEachOnce keys
-      → (names : List Text) → HoldKeyNames g keys names → (places : ℕ → TextSpan) → ArePlacedFrom g places 0 keys
-      → (made : List Rule) → AreRulesUnderNames finds [] w keys names places made → IsMacroResult finds w (grammar_with_rules w made)
-  written_result ready keys right once names (f, is, are) places placed made under =
-      macro_result ready keys right once f are places placed made (under right f (sym is))
+      → (names : List Text) → HoldKeyNames g keys names → names ≡ key_names_of (rules_of w.items) keys → (places : ℕ → TextSpan)
+      → ArePlacedFrom g places 0 keys → (made : List Rule) → AreRulesUnderNames finds [] w keys names places made
+      → IsMacroResult finds w (grammar_with_rules w made)
+  written_result ready keys right once names (f, is, are) in_turn places placed made under =
+      macro_result ready keys right once f are
+      (sym is ∙ in_turn ∙ ap (λ ts. key_names_from (λ t. times_taken t ts) keys) (texts_between (rules_of w.items))) places placed made
+      (under right f (sym is))
 
   -- the same of what is answered, by a table under no features
   pub written_ok : {T E : Type 0} (view : T → List Rule) (answer : Result T E) (features : List Text) → features ≡ []
       → (keys : List Closed) → HasEachOnce keys → (names given : List Text) → given ≡ names
-      → (IsNameable g → HasFoundKeys g keys → HoldKeyNames g keys names) → (places : ℕ → TextSpan)
+      → (IsNameable g → HasFoundKeys g keys → HoldKeyNames g keys names) → names ≡ key_names_of (rules_of w.items) keys
+      → (places : ℕ → TextSpan)
       → (HasRightKeys finds [] w keys → ArePlacedFrom g places 0 keys)
       → IfOk answer (λ made. AreRulesUnderNames finds features w keys given places (view made))
       → IfOk answer (λ made. IsReadyForMacros finds w → HasRightKeys finds [] w keys
       → IsMacroResult finds w (grammar_with_rules w (view made)))
-  written_ok view (Ok made) features none keys once names given same hold places placed under = λ ready right.
-      written_result ready keys right once names (hold ready.nameable (keys_found keys right)) places (placed right) (view made)
+  written_ok view (Ok made) features none keys once names given same hold in_turn places placed under = λ ready right.
+      written_result ready keys right once names (hold ready.nameable (keys_found keys right)) in_turn places (placed right) (view made)
       (subst (λ l. AreRulesUnderNames finds [] w keys l places (view made)) same
       (subst (λ fs. AreRulesUnderNames finds fs w keys given places (view made)) none under))
-  written_ok view (Err e) features none keys once names given same hold places placed under = under
+  written_ok view (Err e) features none keys once names given same hold in_turn places placed under = under
 
   -- and of what is told
   pub told_of_keys : {T : Type 0} (deep : Text → Bool) (answer : Result T NormFault) (features : List Text) → features ≡ []

@@ -12,13 +12,16 @@ use Rattle.lalrpop_norm_theory.specs.Between.{grammar_between}
 use Rattle.lalrpop_norm_theory.specs.Depth.{IsTooDeep}
 use Rattle.lalrpop_norm_theory.specs.Rounds.{AreCallsToDepth}
 use Rattle.lalrpop_norm_theory.specs.KeyTables.{IsKeyTable}
+use Rattle.lalrpop_norm_theory.specs.UsedKeys.{IsListByUse}
 use Rattle.lalrpop_norm_keys.specs.Arity.{arity_faults}
 use Rattle.lalrpop_norm_theory.specs.CallPlaces.{IsPlaceBelow}
 use Rattle.lalrpop_norm_keys.specs.FoundCalls.{TellsOfMadeCall}
 use Rattle.lalrpop_norm_keys.specs.SearchPremises.{AreAllCalls, CanSearch}
+use Rattle.lalrpop_norm_keys.specs.UseSearch.{AreCallsByUse}
 use Rattle.lalrpop_norm_keys.proofs.FaultLemmas.{arity_alike, made_alike}
 use Rattle.lalrpop_norm_keys.proofs.OriginLemmas.{plain_grammar}
 use Rattle.lalrpop_norm_keys.proofs.PlainGrammarLemmas.{calls_alike, keys_alike, table_alike, too_deep_alike}
+use Rattle.lalrpop_norm_keys.proofs.PlainUseLemmas.{call_order_alike, list_alike}
 use Rattle.lalrpop_norm_keys.proofs.PremiseLemmas.{flat_back, single_back}
 use Rattle.lalrpop_norm_macros.specs.MacroPass.{IsReadyForMacros}
 use Rattle.lalrpop_norm_macros.proofs.PlaceLemmas.{place_alike}
@@ -63,6 +66,17 @@ module _ (finds : Text → Text → Option Bool) (t : table.Rules) (w : Grammar)
   pub keys_between : (calls keys : List Closed) → IsKeyTable of_table calls keys → IsKeyTable between calls keys
   keys_between calls keys k = keys_alike of_table between alike calls keys k
 
+  -- orders of first use
+  pub call_order_between : (calls : List Closed) → AreCallsByUse of_table calls → AreCallsByUse between calls
+  call_order_between calls u = call_order_alike of_table between alike calls u
+
+  pub call_order_there : (calls : List Closed) → AreCallsByUse between calls → AreCallsByUse of_table calls
+  call_order_there calls u = call_order_alike between of_table (sym alike) calls u
+
+  pub order_between : (keys : List Closed) → IsListByUse of_table keys → IsListByUse between keys
+  order_between keys u = list_alike of_table between alike keys u
+
+  -- what is told of conditions
   pub told_between : (deep : Text → Bool) (f : NormFault) → TellsOfMadeCall of_table deep f → TellsOfMadeCall between deep f
   told_between deep f h = made_alike of_table between alike deep f h
 

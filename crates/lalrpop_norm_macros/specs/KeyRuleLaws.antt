@@ -14,6 +14,7 @@ use Rattle.lalrpop_norm_theory.specs.Types.{SameTypes}
 use Rattle.lalrpop_norm_theory.specs.KeyRules.{IsMacroExpansion, by_name, nonterminal_by_name}
 use Rattle.lalrpop_norm_theory.specs.KeyTables.{AreKeyRules, IsKeyTable}
 use Rattle.lalrpop_norm_theory.specs.KeyTypes.{DeclareKeyTypes}
+use Rattle.lalrpop_norm_theory.specs.UsedKeys.{IsListByUse}
 use Rattle.lalrpop_norm_keys.specs.Tables.{HasEachOnce}
 use Rattle.lalrpop_norm_keys.specs.Arity.{arity_faults}
 use Rattle.lalrpop_norm_keys.specs.FoundCalls.{TellsOfMadeCall}
@@ -23,7 +24,7 @@ use Rattle.lalrpop_norm_macros.specs.RuleItems.{grammar_with_rules}
 use Rattle.lalrpop_norm_macros.specs.UsableSymbols.{IsRightGrammar}
 
 -- A grammar between two passes of which nothing is disabled under the features, whose names are resolved, without levels and
--- without `!` in an alternative; its calls are found, and these are its keys.
+-- without `!` in an alternative; its calls are found, and these are its keys, in order of first use.
 pub record HasRightKeys (finds : Text → Text → Option Bool) (features : List Text) (w : Grammar) (keys : List Closed) : Type 0 where
   pub active : HasAllActive features (rules_of w.items)
   pub right : IsRightGrammar (grammar_between finds w)
@@ -32,6 +33,7 @@ pub record HasRightKeys (finds : Text → Text → Option Bool) (features : List
   pub calls : List Closed
   pub found : AreCallsToDepth (grammar_between finds w) depth calls []
   pub table : IsKeyTable (grammar_between finds w) calls keys
+  pub in_order : IsListByUse (grammar_between finds w) keys
 
 -- for such a grammar these are the finished rules of the keys under these names
 abbrev pub AreRulesUnderNames : (Text → Text → Option Bool) → List Text → Grammar → List Closed → List Text

@@ -25,3 +25,11 @@ AreAddedUnder k p cs made = AreAddedAlternatives (AreSymbolsFor k) p cs made
 
 abbrev pub IsAddedRuleUnder : KeyNames → Closed → Text → TextSpan → Rule → Type 0
 IsAddedRuleUnder k x n p made = IsAddedRule (AreSymbolsFor k) (IsRepeatTypeUnder k) x n p made
+
+-- the rule of a key that is no call; of one that is no repeat, no group and no lookaround either nothing is said
+abbrev pub IsPartRuleUnder : KeyNames → Closed → Text → TextSpan → Rule → Type 0
+IsPartRuleUnder k (Closed.repeat op x) n p made = IsAddedRuleUnder k (Closed.repeat op x) n p made
+IsPartRuleUnder k (Closed.group xs) n p made = IsAddedRuleUnder k (Closed.group xs) n p made
+IsPartRuleUnder k Closed.lookahead n p made = IsAddedRuleUnder k Closed.lookahead n p made
+IsPartRuleUnder k Closed.lookbehind n p made = IsAddedRuleUnder k Closed.lookbehind n p made
+IsPartRuleUnder k _ n p made = Unit {0}

@@ -11,7 +11,7 @@ use Rattle.lalrpop_grammar_repr.specs.declared.session.NormFault.{NormFault}
 use Rattle.lalrpop_grammar_repr.specs.declared.session.NormFault.TheVariants as faults
 use Rattle.lalrpop_grammar_rules.specs.RuleTable.{IsTable, rules_with}
 use Rattle.lalrpop_norm_keys.specs.Tables.{IsKeyIndex}
-use Rattle.lalrpop_norm_macros.specs.RulesUnder.{IsAddedRuleUnder, IsInstanceRuleUnder}
+use Rattle.lalrpop_norm_macros.specs.RulesUnder.{IsInstanceRuleUnder, IsPartRuleUnder}
 use Rattle.lalrpop_norm_macros.specs.FinishedRules.{AreRulesFrom}
 use Rattle.lalrpop_norm_macros.specs.KeyInstances.{TellsOfOneIn}
 use Rattle.lalrpop_norm_macros.specs.KeyNaming.{SpellsNames}
@@ -39,14 +39,7 @@ IsCallRule c finds n args name made =
 -- the rule of a key under a name, which is written there where it isn't a call's
 abbrev pub IsRuleOfKey : KeyRules → (Text → Text → Option Bool) → Closed → Text → TextSpan → Rule → Type 0
 IsRuleOfKey c finds (Closed.call n args level) name p made = IsCallRule c finds n args name made
-IsRuleOfKey c finds (Closed.repeat op x) name p made = IsAddedRuleUnder c.names.now (Closed.repeat op x) name p made
-IsRuleOfKey c finds (Closed.group xs) name p made = IsAddedRuleUnder c.names.now (Closed.group xs) name p made
-IsRuleOfKey c finds Closed.lookahead name p made = IsAddedRuleUnder c.names.now Closed.lookahead name p made
-IsRuleOfKey c finds Closed.lookbehind name p made = IsAddedRuleUnder c.names.now Closed.lookbehind name p made
-IsRuleOfKey c finds (Closed.terminal t) name p made = Unit {0}
-IsRuleOfKey c finds (Closed.choose x) name p made = Unit {0}
-IsRuleOfKey c finds (Closed.name m n x) name p made = Unit {0}
-IsRuleOfKey c finds Closed.faulty name p made = Unit {0}
+IsRuleOfKey c finds x name p made = IsPartRuleUnder c.names.now x name p made
 
 -- something is told of a condition of the called rule, or memory ran out
 abbrev pub TellsOfCalledRule : KeyRules → (Text → Text → Option Bool) → (Text → Bool) → Text → Closeds → NormFault

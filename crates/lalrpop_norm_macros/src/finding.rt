@@ -7,6 +7,7 @@ ghost use Rattle.lalrpop_grammar_rules.specs.RuleTable.{IsOfGrammar, IsTable};
 ghost use Rattle.lalrpop_norm_theory.specs.Between.{grammar_between};
 ghost use Rattle.lalrpop_norm_theory.specs.Rounds.{AreCallsToDepth};
 ghost use Rattle.lalrpop_norm_keys.specs.Tables.{IsKeyIndex, table_keys};
+ghost use Rattle.lalrpop_norm_keys.specs.UseSearch.{AreCallsByUse};
 ghost use Rattle.lalrpop_norm_macros.specs.MacroKeys.{HasMacroKeys};
 ghost use Rattle.lalrpop_norm_macros.specs.MacroPass.{IsMacroFault, IsReadyForMacros};
 
@@ -30,7 +31,7 @@ fn depth_error(limit: u16, span: Span) -> NormError
     }
 }
 
-/// The calls that the grammar makes, where none is deeper than the limit.
+/// The calls that the grammar makes, in order of first use, where none is deeper than the limit.
 fn calls_within<F: Finder>(
     alloc: Global,
     finder: &F,
@@ -43,6 +44,8 @@ fn calls_within<F: Finder>(
     ensures index { IfOk result IsKeyIndex }
     ensures found { IfOk result (λ calls. IsReadyForMacros (F.finds finder.now) (grammar_view grammar.now)
         → AreCallsToDepth (grammar_between (F.finds finder.now) (grammar_view grammar.now)) limit (table_keys calls) []) }
+    ensures order { IfOk result (λ calls. IsReadyForMacros (F.finds finder.now) (grammar_view grammar.now)
+        → AreCallsByUse (grammar_between (F.finds finder.now) (grammar_view grammar.now)) (table_keys calls)) }
     ensures fault { IfErr result (IsMacroFault (F.finds finder.now) (F.too_deep finder.now) limit (grammar_view grammar.now)) }
 {
     match find_calls(alloc, finder, grammar, rules, limit)? {

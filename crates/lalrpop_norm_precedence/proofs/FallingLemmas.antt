@@ -1,77 +1,37 @@
 -- Levels in order: each is followed by the next tighter one, and the first is the loosest; for the rules of levels.
-use Rattle.std.proofs.Common.{◌≡◌, ℕ, ◌<◌, Bool, true, false, List, [], ◌∷◌, refl, ap, sym, ◌∙◌, cond, arith}
-use Rattle.std.proofs.lemmas.Bool.{eqb-true, eqb-false, ltb-true, ltb-false, lt-ltb}
+use Rattle.std.proofs.Common.{◌≡◌, ℕ, ◌<◌, Bool, true, false, List, [], ◌∷◌, refl, ap, sym, ◌∙◌, cond, arith, inl, inr}
+use Rattle.std.proofs.lemmas.Bool.{eqb-true, ltb-true, ltb-false, lt-ltb}
 use Rattle.std.specs.Prelude.{filter, nat_lt, ◌==◌}
+use Rattle.lalrpop_grammar_language.specs.Among.{Among}
 use Rattle.lalrpop_grammar_language.specs.Enabled.{EnabledRule}
-use Rattle.lalrpop_grammar_language.specs.Levels.{greatest, levels, loosest, tighter}
+use Rattle.lalrpop_grammar_language.specs.Levels.{levels, loosest, tighter}
 use Rattle.lalrpop_norm_theory.specs.LeveledGrammar.{put_level, falling_levels, levels_in_order}
 use Rattle.lalrpop_norm_theory.proofs.LevelOrderLemmas.{front, falling-front}
+use Rattle.lalrpop_norm_precedence.proofs.OrderLemmas.{Falls, falling-falls}
 
 -- the levels below another
 abbrev below : ℕ → List ℕ → List ℕ
 below j = filter (λ n. nat_lt n j)
 
--- what falls
-
-abbrev AllBelow : ℕ → List ℕ → Type 0
-AllBelow m [] = Unit {0}
-AllBelow m (n ∷ ns) = (n < m) × AllBelow m ns
-
-abbrev Falls : List ℕ → Type 0
-Falls [] = Unit {0}
-Falls (n ∷ ns) = AllBelow n ns × Falls ns
-
-below-wider : (m k : ℕ) → k < m → (ns : List ℕ) → AllBelow k ns → AllBelow m ns
-below-wider m k h [] w = tt
-below-wider m k h (n ∷ ns) w =
-    let under = w.0 in let first : n < m = omega (arith, under, h) in (first, below-wider m k h ns w.1)
-
-below-put : (m n : ℕ) → n < m → (ns : List ℕ) → AllBelow m ns → AllBelow m (put_level n ns)
-below-put m n h [] w = (h, tt)
-below-put m n h (k ∷ ks) w = go (n == k) (nat_lt k n) (below-put m n h ks w.1)
-  where
-    go : (b c : Bool) → AllBelow m (put_level n ks) → AllBelow m (cond b (k ∷ ks) (cond c (n ∷ k ∷ ks) (k ∷ put_level n ks)))
-    go true c more = w
-    go false true more = (h, w)
-    go false false more = (w.0, more)
-
-falls-put : (n : ℕ) (ns : List ℕ) → Falls ns → Falls (put_level n ns)
-falls-put n [] w = (tt, tt)
-falls-put n (k ∷ ks) w = go (n == k) refl (nat_lt k n) refl (falls-put n ks w.1)
-  where
-    go : (b : Bool) → (n == k) ≡ b → (c : Bool) → nat_lt k n ≡ c → Falls (put_level n ks)
-        → Falls (cond b (k ∷ ks) (cond c (n ∷ k ∷ ks) (k ∷ put_level n ks)))
-    go true e c f more = w
-    go false e true f more = let under = ltb-true k n f in ((under, below-wider n k under ks w.0), w)
-    go false e false f more =
-        let over = ltb-false k n f in
-        let apart = eqb-false n k e in
-        let under : n < k = omega (arith, over, apart) in
-        (below-put k n under ks w.0, more)
-
-falling-falls : (ns : List ℕ) → Falls (falling_levels ns)
-falling-falls [] = tt
-falling-falls (n ∷ ns) = falls-put n (falling_levels ns) (falling-falls ns)
-
-all-kept : (m : ℕ) (ns : List ℕ) → AllBelow m ns → below m ns ≡ ns
+all-kept : (m : ℕ) (ns : List ℕ) → ((k : ℕ) → Among ns k → k < m) → below m ns ≡ ns
 all-kept m [] w = refl
-all-kept m (n ∷ ns) w = go (nat_lt n m) refl (all-kept m ns w.1)
+all-kept m (n ∷ ns) w = go (nat_lt n m) refl (all-kept m ns (λ k i. w k (inr i)))
   where
     go : (b : Bool) → nat_lt n m ≡ b → below m ns ≡ ns → cond b (n ∷ below m ns) (below m ns) ≡ n ∷ ns
     go true e more = ap (λ l. n ∷ l) more
-    go false e more = let over = ltb-false n m e in let under = w.0 in absurd (omega (arith, over, under))
+    go false e more = let over = ltb-false n m e in let under : n < m = w n (inl refl) in absurd (omega (arith, over, under))
 
 -- each of the levels is followed by those of all that are below it
 abbrev pub Follow : List ℕ → List ℕ → Type 0
 Follow all [] = Unit {0}
 Follow all (n ∷ ns) = (filter (λ m. nat_lt m n) all ≡ ns) × Follow all ns
 
-follow-more : (m : ℕ) (all ns : List ℕ) → AllBelow m ns → Follow all ns → Follow (m ∷ all) ns
+follow-more : (m : ℕ) (all ns : List ℕ) → ((k : ℕ) → Among ns k → k < m) → Follow all ns → Follow (m ∷ all) ns
 follow-more m all [] w h = tt
-follow-more m all (n ∷ ns) w h = (go (nat_lt m n) refl, follow-more m all ns w.1 h.1)
+follow-more m all (n ∷ ns) w h = (go (nat_lt m n) refl, follow-more m all ns (λ k i. w k (inr i)) h.1)
   where
     go : (b : Bool) → nat_lt m n ≡ b → cond b (m ∷ below n all) (below n all) ≡ ns
-    go true e = let over = ltb-true m n e in let under = w.0 in absurd (omega (arith, over, under))
+    go true e = let over = ltb-true m n e in let under : n < m = w n (inl refl) in absurd (omega (arith, over, under))
     go false e = h.0
 
 follow-falls : (ns : List ℕ) → Falls ns → Follow ns ns

@@ -11,15 +11,16 @@ use Rattle.lalrpop_grammar_language.proofs.ComparisonLemmas.{same_text-refl}
 use Rattle.lalrpop_grammar_rules.proofs.BareNameLemmas.{same_text-sym}
 use Rattle.lalrpop_norm_theory.specs.Between.{grammar_between, rule_between}
 use Rattle.lalrpop_norm_theory.specs.Premises.{AreDifferent, IsResolved}
-use Rattle.lalrpop_norm_theory.specs.LevelNames.{AreLevelNames, HasNoTildes, numbered_text, times_taken}
+use Rattle.lalrpop_norm_theory.specs.LevelNames.{AreLevelNames, HasNoTildes, plain_levels, texts_behind, times_taken}
 use Rattle.lalrpop_norm_precedence.specs.declared.level_names.levels.RuleLevels.{RuleLevels}
 use Rattle.lalrpop_norm_precedence.specs.LevelTables.{HasPlainParameters, HoldLevelNames, rule_levels_view}
 use Rattle.lalrpop_norm_precedence.specs.TakenTimes.{AreSmallTimes}
-use Rattle.lalrpop_norm_precedence.specs.GivenNames.{Times, beside_parameters, given_tables, taken_behind_plain, taken_behind_macros}
+use Rattle.lalrpop_norm_precedence.specs.GivenNames.{Times, given_tables, taken_behind_plain, taken_behind_macros}
 use Rattle.lalrpop_norm_precedence.proofs.TakenLemmas.{taken_more}
 use Rattle.lalrpop_norm_precedence.proofs.GivenLemmas.{order_of, levels_by, name_of_level, tables-found, tables-levels}
 use Rattle.lalrpop_norm_precedence.proofs.GivenLemmas.{AreGiven, given-apart, rule-given, named-tables}
-use Rattle.lalrpop_norm_precedence.proofs.StandingLemmas.{AreTimesOf, loosest-named, rules-numbered, tighter-numbered, unhidden}
+use Rattle.lalrpop_norm_precedence.proofs.StandingLemmas.{AreTimesOf, loosest-named, macros-numbered, rules-numbered}
+use Rattle.lalrpop_norm_precedence.proofs.StandingLemmas.{texts-taken, tighter-numbered, unhidden}
 use Rattle.lalrpop_norm_precedence.proofs.ApartLemmas.{none-among}
 use Rattle.lalrpop_norm_precedence.proofs.AllApartLemmas.{names-apart}
 
@@ -152,9 +153,10 @@ module _ (finds : Text → Text → Option Bool) (g : Grammar) (plain macros : T
         loosest-named name_in_tables r w.0 w.1;
     plain =
         rules-numbered name_in_tables last_plain last_macros all_rules plain macros all-given (map (λ r. r.name) all_rules) counted;
-    of_macros = λ r j i m l.
-        let w = tighter-numbered name_in_tables last_plain last_macros all_rules plain macros all-given r j i l in
-        (beside_parameters r.parameters (numbered_text r.name j) w.0 (numbered_text r.name j), w.1);
+    of_macros =
+        macros-numbered name_in_tables last_plain last_macros all_rules plain macros all-given
+        (texts_behind (map (λ r. r.name) all_rules) (plain_levels g))
+        (λ t. ap (λ h. h t) waits ∙ texts-taken all_rules plain (map (λ r. r.name) all_rules) counted t);
     apart =
         names-apart name_in_tables last_plain last_macros room space all_rules plain macros all-given clear
         (resolved-differ finds g resolved)

@@ -4,7 +4,7 @@ use Rattle.std.specs.List.Sorted.{IsSorted}
 use Rattle.std.specs.Ordering.{nat_cmp}
 use Rattle.std.proofs.Common.{◌≡◌, ℕ, zero, suc, ◌<◌, List, [], ◌∷◌, ◌++◌, refl, ap, sym, ◌∙◌, subst}
 use Rattle.std.proofs.Common.{cond, Bool, true, false}
-use Rattle.std.proofs.Common.{inl, inr, ◌⊎◌, arith, length, get_or, reverse, Contains, AllPairs, IsPermutation}
+use Rattle.std.proofs.Common.{inl, inr, ◌⊎◌, arith, length, get_or, reverse, AllPairs, IsPermutation}
 use Rattle.std.specs.Prelude.{nat_lt, ◌==◌, eqb}
 use Rattle.std.proofs.lemmas.Bool.{eqb-false, ltb-true, ltb-false}
 use Rattle.std.proofs.lemmas.Grind.{reverse_onto}

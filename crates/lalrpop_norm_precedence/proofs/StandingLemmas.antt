@@ -10,17 +10,19 @@ use Rattle.lalrpop_grammar.specs.WrittenGrammar.{Rule}
 use Rattle.lalrpop_grammar_language.specs.Among.{Among}
 use Rattle.lalrpop_grammar_language.specs.Enabled.{has_text}
 use Rattle.lalrpop_grammar_language.specs.Levels.{levels, loosest}
+use Rattle.lalrpop_grammar_language.specs.Starts.{has_none}
 use Rattle.lalrpop_grammar_language.proofs.ComparisonLemmas.{same_text-refl}
 use Rattle.lalrpop_norm_theory.specs.Between.{rule_between}
 use Rattle.lalrpop_norm_theory.specs.Keys.{with_number, before_tilde}
 use Rattle.lalrpop_norm_theory.specs.LevelRules.{level_name}
 use Rattle.lalrpop_norm_theory.specs.LevelNames.{after_first, numbered_text, plain_levels_of, tighter_levels, times_taken}
-use Rattle.lalrpop_norm_theory.specs.LevelNames.{AreNumberedInOrder}
+use Rattle.lalrpop_norm_theory.specs.LevelNames.{AreNumberedBeside, AreNumberedInOrder, beside_own, macro_levels_of, texts_behind}
 use Rattle.lalrpop_norm_theory.proofs.LevelOrderLemmas.{falling-has, falling-only, loosest_or_tighter, loosest-among}
 use Rattle.lalrpop_grammar_language.proofs.AmongLemmas.{found_text}
 use Rattle.lalrpop_norm_theory.proofs.PackedNameLemmas.{number_cut, numbered_stays}
 use Rattle.lalrpop_norm_precedence.specs.GivenNames.{Times, once_more, beside_parameters, given_name, taken_behind, given_names}
 use Rattle.lalrpop_norm_precedence.specs.GivenNames.{taken_behind_all, given_table_of, given_table, taken_behind_rule}
+use Rattle.lalrpop_norm_precedence.specs.GivenNames.{taken_behind_plain}
 use Rattle.lalrpop_norm_precedence.proofs.OrderLemmas.{Falls, falling-falls}
 use Rattle.lalrpop_norm_precedence.proofs.NumberLemmas.{no_number}
 use Rattle.lalrpop_norm_precedence.proofs.TakenLemmas.{taken_more}
@@ -68,10 +70,43 @@ more-of : (text : Text) (times : Times) (taken : List Text) → AreTimesOf times
 more-of text times taken same t =
     ap (λ n. cond (bytes_eq t text) (suc n) n) (same t) ∙ sym (taken_more t text taken)
 
-module _ (f : Text → ℕ → Text) (r : Rule) (none : r.parameters ≡ []) where
+module _ (r : Rule) (none : r.parameters ≡ []) where
   beside_none : (text : Text) (times : Times) → beside_parameters r.parameters text times ≡ times
   beside_none text times = ap (λ ps. beside_parameters ps text times) none
 
+  -- one level more is counted
+  level-more : (j : ℕ) (times : Times) (taken : List Text) → AreTimesOf times taken →
+      AreTimesOf (taken_behind r times j) (numbered_text r.name j ∷ taken)
+  level-more j times taken same =
+      subst (λ h. AreTimesOf (once_more (numbered_text r.name j) h) (numbered_text r.name j ∷ taken))
+      (sym (beside_none (numbered_text r.name j) times)) (more-of (numbered_text r.name j) times taken same)
+
+  texts-on : (js : List ℕ) (times : Times) (taken : List Text) → AreTimesOf times taken → (ks : List (Text × ℕ)) (last : Times) →
+      ((more : List Text) → AreTimesOf (taken_behind_all r times js) more → AreTimesOf last (texts_behind more ks)) →
+      AreTimesOf last (texts_behind taken (map (λ j. (r.name, j)) js ++ ks))
+  texts-on [] times taken same ks last later = later taken same
+  texts-on (j ∷ js) times taken same ks last later =
+      texts-on js (taken_behind r times j) (numbered_text r.name j ∷ taken) (level-more j times taken same) ks last later
+
+-- what plain rules take is counted
+pub texts-taken : (rs : List Rule) (plain : Times) (taken : List Text) → AreTimesOf plain taken →
+    AreTimesOf (taken_behind_plain rs plain) (texts_behind taken (flat_map plain_levels_of rs))
+texts-taken [] plain taken same = same
+texts-taken (r ∷ rs) plain taken same =
+    go (has_none r.parameters) refl (texts-taken rs plain taken same) (λ more h. texts-taken rs (taken_behind_rule r plain) more h)
+  where
+    go : (b : Bool) → has_none r.parameters ≡ b →
+        AreTimesOf (taken_behind_plain rs plain) (texts_behind taken (flat_map plain_levels_of rs)) →
+        ((more : List Text) → AreTimesOf (taken_behind_rule r plain) more →
+        AreTimesOf (taken_behind_plain rs (taken_behind_rule r plain)) (texts_behind more (flat_map plain_levels_of rs))) →
+        AreTimesOf (if b then taken_behind_plain rs (taken_behind_rule r plain) else taken_behind_plain rs plain)
+        (texts_behind taken ((if b then map (λ j. (r.name, j)) (tighter_levels r) else []) ++ flat_map plain_levels_of rs))
+    go true none other later =
+        texts-on r (no_parameters r.parameters none) (tighter_levels r) plain taken same (flat_map plain_levels_of rs)
+        (taken_behind_plain rs (taken_behind_rule r plain)) later
+    go false some other later = other
+
+module _ (f : Text → ℕ → Text) (r : Rule) (none : r.parameters ≡ []) where
   numbered-on : (js : List ℕ) (times : Times) (taken : List Text) → AreTimesOf times taken →
       levels_by (f r.name) js ≡ given_names r times js →
       (ks : List (Text × ℕ)) →
@@ -82,11 +117,40 @@ module _ (f : Text → ℕ → Text) (r : Rule) (none : r.parameters ≡ []) whe
       let parts =
       named-parts (j, f r.name j) (j, given_name r times j) (levels_by (f r.name) js) (given_names r (taken_behind r times j) js) e in (
         parts.0
-            ∙ ap (λ h. with_number (numbered_text r.name j) (h (numbered_text r.name j))) (beside_none (numbered_text r.name j) times)
+            ∙ ap (λ h. with_number (numbered_text r.name j) (h (numbered_text r.name j)))
+            (beside_none r none (numbered_text r.name j) times)
             ∙ ap (with_number (numbered_text r.name j)) (same (numbered_text r.name j)),
-        numbered-on js (taken_behind r times j) (numbered_text r.name j ∷ taken)
-            (subst (λ h. AreTimesOf (once_more (numbered_text r.name j) h) (numbered_text r.name j ∷ taken))
-            (sym (beside_none (numbered_text r.name j) times)) (more-of (numbered_text r.name j) times taken same))
+        numbered-on js (taken_behind r times j) (numbered_text r.name j ∷ taken) (level-more r none j times taken same) parts.1 ks
+            later,
+      )
+
+-- those of macros behind them, each beside the parameters of its rule
+
+module _ (f : Text → ℕ → Text) (r : Rule) where
+  beside-own : (text : Text) (times : Times) (taken : List Text) → AreTimesOf times taken →
+      AreTimesOf (beside_parameters r.parameters text times) (beside_own r.parameters text taken)
+  beside-own text times taken same = go (has_text text r.parameters)
+    where
+      go : (b : Bool) → AreTimesOf (if b then once_more text times else times) (if b then text ∷ taken else taken)
+      go true = more-of text times taken same
+      go false = same
+
+  numbered-beside : (js : List ℕ) (times : Times) (taken : List Text) → AreTimesOf times taken →
+      levels_by (f r.name) js ≡ given_names r times js →
+      (ks : List (Rule × ℕ)) →
+      ((more : List Text) → AreTimesOf (taken_behind_all r times js) more → AreNumberedBeside f more ks) →
+      AreNumberedBeside f taken (map (λ j. (r, j)) js ++ ks)
+  numbered-beside [] times taken same e ks later = later taken same
+  numbered-beside (j ∷ js) times taken same e ks later =
+      let parts =
+      named-parts (j, f r.name j) (j, given_name r times j) (levels_by (f r.name) js) (given_names r (taken_behind r times j) js) e in
+      let beside : AreTimesOf (beside_parameters r.parameters (numbered_text r.name j) times)
+      (beside_own r.parameters (numbered_text r.name j) taken) = beside-own (numbered_text r.name j) times taken same in (
+        parts.0 ∙ ap (with_number (numbered_text r.name j)) (beside (numbered_text r.name j)),
+        numbered-beside js (taken_behind r times j)
+            (numbered_text r.name j ∷ beside_own r.parameters (numbered_text r.name j) taken)
+            (more-of (numbered_text r.name j) (beside_parameters r.parameters (numbered_text r.name j) times)
+            (beside_own r.parameters (numbered_text r.name j) taken) beside)
             parts.1 ks later,
       )
 
@@ -105,6 +169,21 @@ module _ (f : Text → ℕ → Text) (last_plain last_macros : Times) where
       subst (λ b. AreNumberedInOrder f taken
       ((if b then map (λ j. (r.name, j)) (tighter_levels r) else []) ++ flat_map plain_levels_of rs))
       (sym g.0) (rules-numbered rs plain (taken_behind_rule r macros) g.2 taken same)
+
+  pub macros-numbered : (rs : List Rule) (plain macros : Times) → AreGiven f last_plain last_macros rs plain macros →
+      (taken : List Text) → AreTimesOf macros taken → AreNumberedBeside f taken (flat_map macro_levels_of rs)
+  macros-numbered [] plain macros g taken same = tt
+  macros-numbered (r ∷ rs) plain macros (inl g) taken same =
+      subst (λ b. AreNumberedBeside f taken
+      ((if b then [] else map (λ j. (r, j)) (tighter_levels r)) ++ flat_map macro_levels_of rs))
+      (sym g.0) (macros-numbered rs (taken_behind_rule r plain) macros g.2 taken same)
+  macros-numbered (r ∷ rs) plain macros (inr g) taken same =
+      subst (λ b. AreNumberedBeside f taken
+      ((if b then [] else map (λ j. (r, j)) (tighter_levels r)) ++ flat_map macro_levels_of rs))
+      (sym g.0)
+      (numbered-beside f r (tighter_levels r) macros taken same (tighter-given (f r.name) r macros g.1)
+      (flat_map macro_levels_of rs)
+      (λ more h. macros-numbered rs plain (taken_behind_rule r macros) g.2 more h))
 
   -- each tighter level has a number
   pub tighter-numbered : (rs : List Rule) (plain macros : Times) → AreGiven f last_plain last_macros rs plain macros →

@@ -1,5 +1,5 @@
 -- Chains of macro calls are the same under the names of the levels; for the law of chains.
-use Rattle.std.proofs.Common.{◌≡◌, ℕ, zero, suc, [], ◌∷◌, ◌++◌, refl, ap, sym, ◌∙◌, subst, Bool}
+use Rattle.std.proofs.Common.{◌≡◌, ℕ, zero, suc, ◌++◌, refl, ap, sym, ◌∙◌, subst, Bool}
 use Rattle.std.specs.Prelude.{Option, map}
 use Rattle.lalrpop_grammar_symbols.specs.Symbols.{Text, Closed, Closeds}
 use Rattle.lalrpop_grammar.specs.WrittenGrammar.{Grammar}

@@ -1,6 +1,6 @@
 -- Places of calls in what is left under the features are places in the written grammar; for the law of places.
-use Rattle.std.proofs.Common.{◌≡◌, ℕ, ◌+◌, List, [], ◌∷◌, refl, ap, sym, ◌∙◌, Bool}
-use Rattle.std.specs.Prelude.{Option, ◌||◌, if◌then◌else◌}
+use Rattle.std.proofs.Common.{ℕ, List, refl, ap, sym, Bool}
+use Rattle.std.specs.Prelude.{Option}
 use Rattle.lalrpop_grammar_symbols.specs.Symbols.{Text, Sym, WrittenSymbol, TextSpan, Closed}
 use Rattle.lalrpop_grammar.specs.WrittenGrammar.{Grammar}
 use Rattle.lalrpop_grammar_language.specs.Enabled.{EnabledGrammar, enabled_grammar}

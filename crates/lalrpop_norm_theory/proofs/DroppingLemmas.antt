@@ -27,6 +27,8 @@ use Rattle.lalrpop_norm_theory.proofs.RuleChangeLemmas.{changed_expansion, chang
 use Rattle.lalrpop_norm_theory.proofs.ClosedNameLemmas.{name_closed, side_kept, listed_stay, symbol_stays}
 use Rattle.lalrpop_norm_theory.proofs.TypeChangeLemmas.{mapped_type, mapped_by_itself, KeepsDeclared, symbol_kept, changed_types}
 use Rattle.lalrpop_norm_theory.proofs.TypeChangeLemmas.{changed_chains}
+use Rattle.lalrpop_norm_theory.specs.NamesByUse.{IsNamingByUse}
+use Rattle.lalrpop_norm_theory.proofs.UseChangeLemmas.{naming_before}
 
 -- ranks aren't asked of cfg attributes
 
@@ -191,4 +193,15 @@ pub dropped_names : (finds : Text → Text → Option Bool) (features : List Tex
 dropped_names finds features g prefix name_of w a =
     let k = rules_changed finds features g w in
     changed_naming cfg_change (enabled_grammar finds features g) (grammar_between finds (without_disabled features g)) k
+    (sides_kept (enabled_grammar finds features g) (grammar_between finds (without_disabled features g)) k) prefix name_of a
+
+-- and so are names that are given by use
+pub dropped_names_by_use : (finds : Text → Text → Option Bool) (features : List Text) (g : Grammar) (prefix : Text)
+    (name_of : Nonterminal → Text) → IsReadGrammar g
+    → IsNamingByUse (leveled_key_text (grammar_between finds (without_disabled features g))) prefix
+    (grammar_between finds (without_disabled features g)) name_of
+    → IsNamingByUse (leveled_key_text (enabled_grammar finds features g)) prefix (enabled_grammar finds features g) name_of
+dropped_names_by_use finds features g prefix name_of w a =
+    let k = rules_changed finds features g w in
+    naming_before cfg_change (enabled_grammar finds features g) (grammar_between finds (without_disabled features g)) k
     (sides_kept (enabled_grammar finds features g) (grammar_between finds (without_disabled features g)) k) prefix name_of a

@@ -2,7 +2,7 @@
 use Prim.Native.String.{String}
 use Rattle.std.specs.Fmt.{digits}
 use Rattle.std.specs.Str.{bytes_eq}
-use Rattle.std.proofs.Common.{◌≡◌, ◌≢◌, ℕ, List, [], ◌∷◌, refl, ap, sym, true, false, inl, inr}
+use Rattle.std.proofs.Common.{◌≡◌, ℕ, List, [], ◌∷◌, refl, ap, sym, true, false, inl, inr}
 use Rattle.std.specs.Prelude.{codes, map, length}
 use Rattle.std.proofs.lemmas.Bool.{true≢false}
 use Rattle.lalrpop_grammar_symbols.specs.Symbols.{Text}
@@ -12,11 +12,10 @@ use Rattle.lalrpop_grammar_language.specs.Enabled.{has_text}
 use Rattle.lalrpop_grammar_language.specs.Levels.{loosest}
 use Rattle.lalrpop_grammar_language.proofs.WrittenTreeLemmas.{lit, id, level, side, with, alt, texts, grammar}
 use Rattle.lalrpop_norm_theory.specs.Between.{rule_between}
-use Rattle.lalrpop_norm_theory.specs.Keys.{with_number}
 use Rattle.lalrpop_norm_theory.proofs.AmongLemmas.{all-among}
 use Rattle.lalrpop_norm_theory.specs.LevelRules.{level_name}
 use Rattle.lalrpop_norm_theory.specs.LeveledGrammar.{leveled_grammar}
-use Rattle.lalrpop_norm_theory.specs.LevelNames.{AreLevelNames, tighter_levels, numbered_text, plain_levels, leveled_keys}
+use Rattle.lalrpop_norm_theory.specs.LevelNames.{AreLevelNames, tighter_levels, plain_levels, leveled_keys}
 use Rattle.lalrpop_norm_theory.proofs.ExamplesOfLevels.{at, item, nonterminal, names, parameter_named, five_levels, five_names}
 
 -- the names of the rules, in order
@@ -29,11 +28,6 @@ IsKept f r = level_name f r.name (loosest (rule_between r)) ≡ r.name
 abbrev IsUnhidden : (Text → ℕ → Text) → Rule → Type 0
 IsUnhidden f r = (j : ℕ) → Among (tighter_levels r) j → has_text (f r.name j) r.parameters ≡ false
 
--- a name that is the text with a number, where the rule is a macro
-abbrev IsNumbered : (Text → ℕ → Text) → Rule → Type 0
-IsNumbered f r = r.parameters ≢ [] → (j : ℕ) → Among (tighter_levels r) j →
-    (k : ℕ) × (f r.name j ≡ with_number (numbered_text r.name j) k)
-
 -- five levels are called by their numbers, the loosest by the rule's name
 five : rule_names (leveled_grammar five_names five_levels) ≡ texts ("E" ∷ "E4" ∷ "E3" ∷ "E2" ∷ "E1" ∷ [])
 five = refl
@@ -43,7 +37,7 @@ unfolding digits
 five_named = record {
   loosest_kept = all-among (IsKept five_names) (rules_of five_levels.items) (refl, tt);
   plain = (refl, (refl, (refl, (refl, tt))));
-  of_macros = λ r j i m l. all-among (IsNumbered five_names) (rules_of five_levels.items) (λ h. absurd (h refl), tt) r i m j l;
+  of_macros = tt;
   apart = (refl, (refl, (refl, (refl, (refl, tt)))));
   not_hidden = λ r j i l. all-among (IsUnhidden five_names) (rules_of five_levels.items) (λ j l. refl, tt) r i j l;
 }
@@ -71,8 +65,7 @@ unfolding digits
 crossed_named = record {
   loosest_kept = all-among (IsKept (crossed_by "E12~2")) (rules_of crossed.items) (refl, (refl, tt));
   plain = (refl, (refl, (refl, (refl, tt))));
-  of_macros = λ r j i m l.
-      all-among (IsNumbered (crossed_by "E12~2")) (rules_of crossed.items) (λ h. absurd (h refl), (λ h. absurd (h refl), tt)) r i m j l;
+  of_macros = tt;
   apart = (refl, (refl, (refl, (refl, (refl, (refl, tt))))));
   not_hidden = λ r j i l.
       all-among (IsUnhidden (crossed_by "E12~2")) (rules_of crossed.items) (λ j l. refl, (λ j l. refl, tt)) r i j l;
@@ -105,8 +98,7 @@ unfolding digits
 beside_named = record {
   loosest_kept = all-among (IsKept (beside_by "Expr2~2")) (rules_of beside_rule.items) (refl, (refl, tt));
   plain = (refl, (refl, tt));
-  of_macros = λ r j i m l. all-among (IsNumbered (beside_by "Expr2~2")) (rules_of beside_rule.items)
-      (λ h. absurd (h refl), (λ h. absurd (h refl), tt)) r i m j l;
+  of_macros = tt;
   apart = (refl, (refl, (refl, (refl, tt))));
   not_hidden = λ r j i l.
       all-among (IsUnhidden (beside_by "Expr2~2")) (rules_of beside_rule.items) (λ j l. refl, (λ j l. refl, tt)) r i j l;
@@ -134,18 +126,19 @@ unfolding digits
 parameter_named_so = record {
   loosest_kept = all-among (IsKept (names (("E", 1, "E1~2") ∷ []))) (rules_of parameter_named.items) (refl, (refl, tt));
   plain = tt;
-  of_macros = λ r j i m l. all-among (IsNumbered (names (("E", 1, "E1~2") ∷ []))) (rules_of parameter_named.items)
-      (λ h. absurd (h refl), (λ h. all-among NumberedE (1 ∷ []) ((1, refl), tt), tt)) r i m j l;
+  of_macros = (refl, tt);
   apart = (refl, (refl, (refl, tt)));
   not_hidden = λ r j i l. all-among (IsUnhidden (names (("E", 1, "E1~2") ∷ []))) (rules_of parameter_named.items)
       (λ j l. refl, (all-among UnhiddenE (1 ∷ []) (refl, tt), tt)) r i j l;
 }
   where
-    NumberedE : ℕ → Type 0
-    NumberedE j = (k : ℕ) × (names (("E", 1, "E1~2") ∷ []) (codes "E") j ≡ with_number (numbered_text (codes "E") j) k)
-
     UnhiddenE : ℕ → Type 0
     UnhiddenE j = has_text (names (("E", 1, "E1~2") ∷ []) (codes "E") j) (texts ("E1" ∷ [])) ≡ false
+
+-- and no number is left out before it
+number_of_macro_refused : AreLevelNames parameter_named (names (("E", 1, "E1~8") ∷ [])) → ⊥
+unfolding digits
+number_of_macro_refused w = true≢false (sym (ap (λ t. bytes_eq t (codes "E1~2")) w.of_macros.0))
 
 -- macros' levels wait for those of plain rules: X<T> = { L12 .., L13 .. } beside X1 = { L2 .., L3 .. }
 abbrev macro_first : Grammar
@@ -161,6 +154,11 @@ plain_alone = refl
 macro_first_refused : AreLevelNames macro_first (names (("X", 12, "X12") ∷ ("X1", 2, "X12~2") ∷ [])) → ⊥
 unfolding digits
 macro_first_refused w = true≢false (sym (ap (λ t. bytes_eq t (codes "X12")) w.plain.0))
+
+-- a macro's level has the number behind theirs, and no other
+macro_alone_refused : AreLevelNames macro_first (names (("X", 12, "X12") ∷ ("X1", 2, "X12") ∷ [])) → ⊥
+unfolding digits
+macro_alone_refused w = true≢false (sym (ap (λ t. bytes_eq t (codes "X12~2")) w.of_macros.0))
 
 keys_in_order : length (leveled_keys crossed) ≡ 6
 keys_in_order = refl

@@ -36,7 +36,8 @@ firsts_unranked : (cs : List Choice) → map (λ p. p.0) (map unranked cs) ≡ c
 firsts_unranked [] = refl
 firsts_unranked (c ∷ cs) = ap (λ l. c ∷ l) (firsts_unranked cs)
 
-firsts : (r : EnabledRule) → map (λ p. p.0) (ranked_choices r) ≡ r.choices
+-- the alternatives themselves
+pub firsts : (r : EnabledRule) → map (λ p. p.0) (ranked_choices r) ≡ r.choices
 firsts r = go (has_levels r)
   where
     go : (b : Bool) → map (λ p. p.0) (cond b (with_ranks None r.choices) (map unranked r.choices)) ≡ r.choices

@@ -2,7 +2,7 @@
 use Rattle.std.specs.Str.{bytes_eq}
 use Rattle.std.proofs.Common.{◌≡◌, ℕ, List, [], ◌∷◌, refl, ap, sym, ◌∙◌, subst, cond, Bool, true, false, inl, inr}
 use Rattle.std.proofs.Common.{◌⊎◌, arith}
-use Rattle.std.specs.Prelude.{Option, Some, None, map, filter, max, nat_lt, ◌==◌, ◌||◌}
+use Rattle.std.specs.Prelude.{Option, Some, None, map, filter, max, nat_lt, ◌==◌}
 use Rattle.std.proofs.lemmas.Bool.{eqb-true, ltb-true, ltb-false, true≢false, or_parts}
 use Rattle.lalrpop_grammar_symbols.specs.Symbols.{Text}
 use Rattle.lalrpop_grammar_language.specs.Among.{Among}
@@ -39,7 +39,8 @@ put-keeps n j (m ∷ ms) h = go (n == m) (nat_lt m n) h (λ k. put-keeps n j ms 
     go false false (inl e) ih = inl e
     go false false (inr k) ih = inr (ih k)
 
-put-only : (n j : ℕ) (ms : List ℕ) → Among (put_level n ms) j → (n ≡ j) ⊎ Among ms j
+-- and no other but it
+pub put-only : (n j : ℕ) (ms : List ℕ) → Among (put_level n ms) j → (n ≡ j) ⊎ Among ms j
 put-only n j [] h = h
 put-only n j (m ∷ ms) h = go (n == m) (nat_lt m n) h (λ k. put-only n j ms k)
   where

@@ -28,7 +28,7 @@ use Rattle.lalrpop_norm_theory.proofs.LevelOrderLemmas.{loosest_or_tighter}
 use Rattle.lalrpop_norm_theory.proofs.LeveledRuleLemmas.{level_of_leveled, written_rule}
 use Rattle.lalrpop_norm_theory.proofs.RightLevelLemmas.{has_loosest}
 use Rattle.lalrpop_norm_theory.proofs.LevelNameLemmas.{before, own_rule}
-use Rattle.lalrpop_norm_theory.proofs.PackedNameLemmas.{number_cut, numbered_stays, numbered_as}
+use Rattle.lalrpop_norm_theory.proofs.PackedNameLemmas.{macro_numbered, number_cut, numbered_stays, numbered_as}
 use Rattle.lalrpop_norm_theory.proofs.WellLeveledLemmas.{IsWellCall, IsWell, AreWell, IsWellOrFaulty}
 
 -- a level's name
@@ -40,7 +40,8 @@ pub data IsNamedLevel (finds : Text → Text → Option Bool) (g : Grammar) (f :
   tighter : (j : ℕ) → level ≡ Some j → Among (tighter_levels r) j → loosest (rule_between r) ≢ Some j →
       level_text (before finds g) r.name level ≡ numbered_text r.name j → IsNamedLevel finds g f r level
 
-text_of_rule : (finds : Text → Text → Option Bool) (g : Grammar) (f : Text → ℕ → Text) → IsLevelable finds g f →
+-- the loosest level prints as the rule, another one with its number
+pub text_of_rule : (finds : Text → Text → Option Bool) (g : Grammar) (f : Text → ℕ → Text) → IsLevelable finds g f →
     (r : Rule) →
     Among (rules_of g.items) r → (j m : ℕ) → loosest (rule_between r) ≡ Some m →
     level_text (before finds g) r.name (Some j) ≡ (if j == m then r.name else numbered_text r.name j)
@@ -100,7 +101,7 @@ numbered_name finds g f w r i j t = go r.parameters refl
     go : (ps : List Text) → r.parameters ≡ ps → (k : ℕ) × (f r.name j ≡ with_number (numbered_text r.name j) k)
     go [] e =
         numbered_as f (map (λ q. q.name) (rules_of g.items)) (plain_levels g) w.names.plain (r.name, j) (plain_listed g r j i e t)
-    go (p ∷ ps) e = w.names.of_macros r j i (λ none. some_left p ps (sym e ∙ none)) t
+    go (p ∷ ps) e = macro_numbered g f w.names r j i (λ none. some_left p ps (sym e ∙ none)) t
 
 -- how keys print
 

@@ -80,3 +80,12 @@ pub mod ResolvedPlaceLemmas
 pub mod DroppedPlaceLemmas
 pub mod DeepPlaceLemmas
 pub mod ExamplesOfWrittenPlaces
+pub mod FirstUseLemmas
+pub mod UsedKeyLemmas
+pub mod NamesByUseLemmas
+pub mod UsedListLemmas
+pub mod ExamplesOfFirstUse
+pub mod UseChangeLemmas
+pub mod LevelUseLemmas
+pub mod LeveledOrderLemmas
+pub mod LeveledNamingLemmas

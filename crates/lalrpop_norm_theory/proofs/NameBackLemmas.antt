@@ -71,7 +71,7 @@ same_key finds g f w r q level other i h j k e =
 -- no key prints as a macro's tighter level is called
 
 -- a macro at a tighter level
-record IsMacroLevel (g : Grammar) (r : Rule) (j : ℕ) : Type 0 where
+pub record IsMacroLevel (g : Grammar) (r : Rule) (j : ℕ) : Type 0 where
   pub among : Among (rules_of g.items) r
   pub macro : r.parameters ≢ []
   pub level : Among (tighter_levels r) j
@@ -128,7 +128,8 @@ no_such_text finds g f w r j m q level i h none e (IsNamedLevel.tighter l is t f
         (plain_listed g q l i none t) (sym text ∙ e) in
         no_plain_level finds g f w r j m u.0 u.1 u.2
 
-no_such_key : (finds : Text → Text → Option Bool) (g : Grammar) (f : Text → ℕ → Text) → IsLevelable finds g f →
+-- none of the expansion does
+pub no_such_key : (finds : Text → Text → Option Bool) (g : Grammar) (f : Text → ℕ → Text) → IsLevelable finds g f →
     (r : Rule) (j : ℕ) → IsMacroLevel g r j → (x : Closed) → InExpansion (before finds g) (Nonterminal.closed x) →
     leveled_key_text (before finds g) x ≡ f r.name j → ⊥
 no_such_key finds g f w r j m x i e =

@@ -27,7 +27,8 @@ level_text_kept w g h k n None = refl
 level_text_kept w g h k n (Some level) =
     ap (text_at_level n level) (named_kept w g h k n) ∙ text_at_kept w k.ranks n level (rules_named g n)
 
-key_text_kept : (w : RuleChange) (g h : EnabledGrammar) → HasChangedRules w g h → (x : Closed) →
+-- keys print alike
+pub key_text_kept : (w : RuleChange) (g h : EnabledGrammar) → HasChangedRules w g h → (x : Closed) →
     leveled_key_text h x ≡ leveled_key_text g x
 key_text_kept w g h k x = ap (λ f. closed_text f x) texts
   where

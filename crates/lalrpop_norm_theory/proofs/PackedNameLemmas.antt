@@ -1,7 +1,7 @@
 -- The names of the levels' rules leave no number out; for the law of names.
 use Rattle.std.specs.Fmt.{digits, digits_onto, digit_glyph}
 use Rattle.std.specs.Str.{bytes_eq}
-use Rattle.std.proofs.Common.{◌≡◌, ℕ, zero, suc, ◌<◌, List, [], ◌∷◌, ◌++◌, refl, ap, sym, ◌∙◌}
+use Rattle.std.proofs.Common.{◌≡◌, ◌≢◌, ℕ, zero, suc, ◌<◌, List, [], ◌∷◌, ◌++◌, refl, ap, sym, ◌∙◌}
 use Rattle.std.proofs.Common.{subst, cond, Bool, true, false, inl, inr, ◌⊎◌, arith}
 use Rattle.std.proofs.Common.{length}
 use Rattle.std.specs.Prelude.{Option, Some, None, map, filter, codes, decimal, ◌+◌, ◌==◌, ◌/◌, ◌%◌}
@@ -26,7 +26,8 @@ use Rattle.lalrpop_grammar_language.proofs.AmongLemmas.{among_flat_map}
 use Rattle.lalrpop_norm_theory.proofs.ExpansionListLemmas.{rule_there}
 use Rattle.lalrpop_norm_theory.specs.LevelRules.{level_name}
 use Rattle.lalrpop_norm_theory.specs.LevelNames.{tighter_levels, numbered_text, plain_levels_of, plain_levels, times_taken}
-use Rattle.lalrpop_norm_theory.specs.LevelNames.{AreNumberedInOrder}
+use Rattle.lalrpop_norm_theory.specs.LevelNames.{AreLevelNames, AreNumberedBeside, AreNumberedInOrder, beside_own, macro_levels}
+use Rattle.lalrpop_norm_theory.specs.LevelNames.{macro_levels_of, texts_behind}
 use Rattle.lalrpop_norm_theory.specs.LevelNames.{HasNoTildes, IsNextAmongRules, HasPackedNames}
 use Rattle.lalrpop_norm_theory.specs.LevelLaws.{IsLevelable}
 use Rattle.lalrpop_norm_theory.proofs.LevelOrderLemmas.{loosest_or_tighter, tighter-among}
@@ -142,6 +143,27 @@ numbered_as f taken [] w k i = absurd i
 numbered_as f taken (l ∷ ks) w k (inl e) =
     subst (λ z. (m : ℕ) × (f z.0 z.1 ≡ with_number (numbered_text z.0 z.1) m)) e (times_taken (numbered_text l.0 l.1) taken, w.0)
 numbered_as f taken (l ∷ ks) w k (inr i) = numbered_as f (numbered_text l.0 l.1 ∷ taken) ks w.1 k i
+
+-- so is each level of a macro
+numbered_beside : (f : Text → ℕ → Text) (taken : List Text) (ks : List (Rule × ℕ)) → AreNumberedBeside f taken ks →
+    (k : Rule × ℕ) → Among ks k → (m : ℕ) × (f k.0.name k.1 ≡ with_number (numbered_text k.0.name k.1) m)
+numbered_beside f taken [] w k i = absurd i
+numbered_beside f taken (l ∷ ks) w k (inl e) =
+    subst (λ (z : Rule × ℕ). (m : ℕ) × (f z.0.name z.1 ≡ with_number (numbered_text z.0.name z.1) m)) e
+    (times_taken (numbered_text l.0.name l.1) (beside_own l.0.parameters (numbered_text l.0.name l.1) taken), w.0)
+numbered_beside f taken (l ∷ ks) w k (inr i) =
+    numbered_beside f (numbered_text l.0.name l.1 ∷ beside_own l.0.parameters (numbered_text l.0.name l.1) taken) ks w.1 k i
+
+pub macro_numbered : (g : Grammar) (f : Text → ℕ → Text) → AreLevelNames g f → (r : Rule) (j : ℕ) → Among (rules_of g.items) r →
+    r.parameters ≢ [] → Among (tighter_levels r) j → (m : ℕ) × (f r.name j ≡ with_number (numbered_text r.name j) m)
+macro_numbered g f a r j i some t =
+    numbered_beside f (texts_behind (map (λ q. q.name) (rules_of g.items)) (plain_levels g)) (macro_levels g) a.of_macros (r, j)
+    (flat_map_among macro_levels_of (rules_of g.items) r (r, j) i (listed r.parameters some))
+  where
+    listed : (ps : List Text) → ps ≢ [] →
+        Among {A = Rule × ℕ} (if has_none ps then [] else map (λ l. (r, l)) (tighter_levels r)) (r, j)
+    listed [] h = absurd (h refl)
+    listed (p ∷ ps) h = map_among (λ l. (r, l)) (tighter_levels r) j t
 
 -- the written rules' names
 

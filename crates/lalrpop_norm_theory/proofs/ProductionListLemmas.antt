@@ -1,6 +1,6 @@
 -- The productions of a nonterminal, the roots and the nonterminals of an expansion as lists, with what they mean; for the
 -- examples.
-use Rattle.std.proofs.Common.{◌≡◌, ◌≢◌, ℕ, List, [], ◌∷◌, ◌++◌, refl, ap, sym, ◌∙◌, subst, cond, Bool}
+use Rattle.std.proofs.Common.{◌≡◌, ℕ, List, [], ◌∷◌, ◌++◌, refl, ap, sym, ◌∙◌, subst, cond, Bool}
 use Rattle.std.proofs.Common.{true, false, inl}
 use Rattle.std.proofs.Common.{inr, ◌⊎◌, length}
 use Rattle.std.specs.Prelude.{Option, Some, None, ◌==◌, ◌&&◌, map, is_some, if◌then◌else◌}

@@ -1,7 +1,7 @@
 -- Renamed occurrences: what they are counted by, and that names stay resolved; for the laws of levels.
 use Rattle.std.specs.Str.{bytes_eq}
 use Rattle.std.proofs.Common.{◌≡◌, ℕ, ◌+◌, List, [], ◌∷◌, refl, ap, sym, ◌∙◌, subst, cond, Bool, true}
-use Rattle.std.proofs.Common.{false, inl, inr, ◌⊎◌}
+use Rattle.std.proofs.Common.{false, inl, inr}
 use Rattle.std.specs.Prelude.{Some, None, is_some, not, ◌&&◌, if◌then◌else◌}
 use Rattle.lalrpop_grammar_symbols.specs.Symbols.{Text, TextSpan, Terminal, Syms, Sym, syms, WrittenSymbol, Closed}
 use Rattle.lalrpop_grammar_symbols.specs.Subsymbols.{subsymbols, subsymbols_of}

@@ -29,6 +29,8 @@ use Rattle.lalrpop_norm_theory.proofs.ClosedNameLemmas.{scope_in, name_closed, s
 use Rattle.lalrpop_norm_theory.proofs.TypeChangeLemmas.{mapped_type, mapped_types, KeepsDeclared, symbol_kept, changed_types}
 use Rattle.lalrpop_norm_theory.proofs.TypeChangeLemmas.{changed_chains}
 use Rattle.lalrpop_norm_theory.proofs.NameUseLemmas.{IsUse, use_is, no_value, no_rule_named}
+use Rattle.lalrpop_norm_theory.specs.NamesByUse.{IsNamingByUse}
+use Rattle.lalrpop_norm_theory.proofs.UseChangeLemmas.{naming_before}
 
 -- rules with resolved names
 
@@ -272,4 +274,12 @@ pub resolved_names : (finds : Text → Text → Option Bool) (g : Grammar) (pref
     IsNaming (leveled_key_text (grammar_between finds g)) prefix (grammar_between finds g) name_of
 resolved_names finds g prefix name_of a =
     changed_naming (name_change (defined_names g)) (grammar_between finds g) (grammar_between finds (resolved_grammar g))
+    (rules_changed finds g) (sides_kept finds g) prefix name_of a
+
+-- and so are names that are given by use
+pub resolved_names_by_use : (finds : Text → Text → Option Bool) (g : Grammar) (prefix : Text) (name_of : Nonterminal → Text)
+    → IsNamingByUse (leveled_key_text (grammar_between finds (resolved_grammar g))) prefix (grammar_between finds (resolved_grammar g))
+    name_of → IsNamingByUse (leveled_key_text (grammar_between finds g)) prefix (grammar_between finds g) name_of
+resolved_names_by_use finds g prefix name_of a =
+    naming_before (name_change (defined_names g)) (grammar_between finds g) (grammar_between finds (resolved_grammar g))
     (rules_changed finds g) (sides_kept finds g) prefix name_of a

@@ -60,13 +60,35 @@ AreNumberedInOrder f taken (k ∷ ks) =
     (f k.0 k.1 ≡ with_number (numbered_text k.0 k.1) (times_taken (numbered_text k.0 k.1) taken))
     × AreNumberedInOrder f (numbered_text k.0 k.1 ∷ taken) ks
 
--- The names of levels in a grammar without what is disabled. A level of a macro is called by its text too, with some number
--- where it is taken: no nonterminal has its name.
+-- those of macros, each with its rule, in the same order
+abbrev pub macro_levels_of : Rule → List (Rule × ℕ)
+macro_levels_of r = if has_none r.parameters then [] else map (λ j. (r, j)) (tighter_levels r)
+
+abbrev pub macro_levels : Grammar → List (Rule × ℕ)
+macro_levels g = flat_map macro_levels_of (rules_of g.items)
+
+-- the texts that are taken once these levels have names
+abbrev pub texts_behind : List Text → List (Text × ℕ) → List Text
+texts_behind taken [] = taken
+texts_behind taken (k ∷ ks) = texts_behind (numbered_text k.0 k.1 ∷ taken) ks
+
+-- a text that is a parameter of the rule is taken once more
+abbrev pub beside_own : List Text → Text → List Text → List Text
+beside_own parameters text taken = if has_text text parameters then text ∷ taken else taken
+
+-- Levels of macros are numbered so, too, each beside the parameters of its rule.
+abbrev pub AreNumberedBeside : (Text → ℕ → Text) → List Text → List (Rule × ℕ) → Type 0
+AreNumberedBeside f taken [] = Unit {0}
+AreNumberedBeside f taken (k ∷ ks) =
+    (f k.0.name k.1 ≡ with_number (numbered_text k.0.name k.1)
+    (times_taken (numbered_text k.0.name k.1) (beside_own k.0.parameters (numbered_text k.0.name k.1) taken)))
+    × AreNumberedBeside f (numbered_text k.0.name k.1 ∷ beside_own k.0.parameters (numbered_text k.0.name k.1) taken) ks
+
+-- The names of levels in a grammar without what is disabled. Levels of macros come behind those of plain rules.
 pub record AreLevelNames (g : Grammar) (f : Text → ℕ → Text) : Type 0 where
   pub loosest_kept : (r : Rule) → Among (rules_of g.items) r → level_name f r.name (loosest (rule_between r)) ≡ r.name
   pub plain : AreNumberedInOrder f (map (λ r. r.name) (rules_of g.items)) (plain_levels g)
-  pub of_macros : (r : Rule) (j : ℕ) → Among (rules_of g.items) r → r.parameters ≢ [] → Among (tighter_levels r) j →
-      (k : ℕ) × (f r.name j ≡ with_number (numbered_text r.name j) k)
+  pub of_macros : AreNumberedBeside f (texts_behind (map (λ r. r.name) (rules_of g.items)) (plain_levels g)) (macro_levels g)
   -- no two rules of the leveled grammar share a name
   pub apart : AreDifferent (map (name_of_leveled_key f) (leveled_keys g))
   -- no parameter hides a tighter level of its own rule

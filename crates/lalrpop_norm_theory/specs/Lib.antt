@@ -26,3 +26,7 @@ pub mod TypeLaws
 pub mod CallPlaces
 pub mod WrittenPlaces
 pub mod PlaceLaws
+pub mod FirstUse
+pub mod UsedKeys
+pub mod NamesByUse
+pub mod UseLaws

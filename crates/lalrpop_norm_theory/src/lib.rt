@@ -6,3 +6,4 @@ pub mod expansion;
 pub mod level_laws;
 pub mod name_laws;
 pub mod place_law;
+pub mod use_law;

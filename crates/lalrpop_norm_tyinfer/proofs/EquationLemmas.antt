@@ -15,13 +15,14 @@ use Rattle.lalrpop_grammar_language.proofs.ComparisonLemmas.{same_text-refl}
 use Rattle.lalrpop_grammar_language.proofs.PlaceLemmas.{among_filter, among_map, same_text-eq}
 use Rattle.lalrpop_norm_theory.specs.Between.{grammar_between, rule_between, with_origins}
 use Rattle.lalrpop_norm_theory.specs.Premises.{IsExpanded}
-use Rattle.lalrpop_norm_theory.specs.Types.{CallStep, GroundType, IsGrounded, IsGroundedIn, TypeStep}
+use Rattle.lalrpop_norm_theory.specs.Types.{ByDefault, CallStep, GroundType, IsGrounded, IsGroundedIn, TypeStep}
 use Rattle.lalrpop_norm_theory.specs.Types.{chosen_or_all, text_type}
 use Rattle.lalrpop_grammar_language.proofs.AmongLemmas.{flat_map_among}
 use Rattle.lalrpop_grammar_language.proofs.AmongLemmas.{map_among}
 use Rattle.lalrpop_grammar_language.proofs.AmongLemmas.{among_flat_map}
 use Rattle.lalrpop_norm_theory.proofs.LevelLemmas.{keeps, no_loosest, ranked_flat}
 use Rattle.lalrpop_norm_theory.proofs.TypeLemmas.{step_grounded, step_wider}
+use Rattle.lalrpop_norm_theory.proofs.TypeListLemmas.{AreTypedOver, tuple_over}
 use Rattle.lalrpop_norm_tyinfer.specs.TypesByTable.{KnownNames, RuleTypes, each_ground_type, known_names, tuple_of_types}
 use Rattle.lalrpop_norm_tyinfer.specs.Equations.{AllAgree, TypeEquation, TypeSource, equations_by}
 use Rattle.lalrpop_norm_tyinfer.specs.Equations.{equations_of_rule, is_default_action, source_ground_type, type_equations}
@@ -165,11 +166,12 @@ module _ (finds : Text → Text → Option Bool) (h : Grammar) (w : IsExpanded (
     holds_always : (q : EnabledRule) (c : Option Condition) → c ≡ None → Holds g (bind q Closeds.none) c
     holds_always q c e = subst (λ d. Holds g (bind q Closeds.none) d) (sym e) tt
 
-    alternative_step : (r : Rule) → Among (rules_of h.items) r → r.declared ≡ None → (x : Alternative) → Among r.alternatives x
+    -- an alternative without user code gives the rule its type
+    alternative_default : (r : Rule) → Among (rules_of h.items) r → r.declared ≡ None → (x : Alternative) → Among r.alternatives x
         → is_default_action x.action ≡ true → (t : GroundType)
         → source_ground_type (known_names h) table (TypeSource.symbols x.expr) ≡ Some t
-        → CallStep g (HasGroundType table) r.name Closeds.none None t
-    alternative_step r i e x j d t f =
+        → (b : ByDefault (HasGroundType table) g r.name Closeds.none None t) × (b.choice.0.expr ≡ x.expr)
+    alternative_default r i e x j d t f =
         let q = rule_between r in
         let a = between r i in
         let c = choice_of (x.origin, x) in
@@ -181,26 +183,34 @@ module _ (finds : Text → Text → Option Bool) (h : Grammar) (w : IsExpanded (
         subst (λ l. Among l p) (sym (ranked_flat q (w.no_levels q a))) (map_among (λ (y : Choice). (y, None)) q.choices c one) in
         let level_at = λ (k : ℕ). allowed_level q None (occurrences_in (bind q Closeds.none) q.name (syms c.expr)) k in
         let found : source_ground_type (names_between g) table (TypeSource.symbols x.expr) ≡ Some t =
-        subst (λ k. source_ground_type k table (TypeSource.symbols x.expr) ≡ Some t) (sym names) f in
-        inr (inl (record {
-          rule = q;
-          choice = p;
-          fits = record {
-            rule = w.rules q a;
-            arguments = sym (ap length (w.no_macros q a));
-            written = ranked;
-            leveled = sym (w.no_levels q a);
-            holds = holds_always q c.condition (w.choices q c a one).unconditional;
-          };
-          undeclared = e;
-          level_is = refl;
-          no_code = no_code x.action d;
-          type_is = tuple_from table _ t
-              (ap (λ l. option_map tuple_of_types (each_ground_type l))
-              (alternative_types g w table (bind q Closeds.none) (no_bound g w q a) q.name level_at
-              (λ k. no_loosest q (w.no_levels q a)) 0 c.expr (expanded_symbols g w q a p ranked))
-              ∙ found);
-        }))
+        subst (λ k. source_ground_type k table (TypeSource.symbols x.expr) ≡ Some t) (sym names) f in (
+          record {
+            rule = q;
+            choice = p;
+            fits = record {
+              rule = w.rules q a;
+              arguments = sym (ap length (w.no_macros q a));
+              written = ranked;
+              leveled = sym (w.no_levels q a);
+              holds = holds_always q c.condition (w.choices q c a one).unconditional;
+            };
+            undeclared = e;
+            level_is = refl;
+            no_code = no_code x.action d;
+            type_is = tuple_from table _ t
+                (ap (λ l. option_map tuple_of_types (each_ground_type l))
+                (alternative_types g w table (bind q Closeds.none) (no_bound g w q a) q.name level_at
+                (λ k. no_loosest q (w.no_levels q a)) 0 c.expr (expanded_symbols g w q a p ranked))
+                ∙ found);
+          },
+          refl,
+        )
+
+    alternative_step : (r : Rule) → Among (rules_of h.items) r → r.declared ≡ None → (x : Alternative) → Among r.alternatives x
+        → is_default_action x.action ≡ true → (t : GroundType)
+        → source_ground_type (known_names h) table (TypeSource.symbols x.expr) ≡ Some t
+        → CallStep g (HasGroundType table) r.name Closeds.none None t
+    alternative_step r i e x j d t f = inr (inl (alternative_default r i e x j d t f).0)
 
     -- an equation's type is one step of a derivation
     pub equation_step : (e : TypeEquation) → Among (type_equations h) e → (t : GroundType)
@@ -303,6 +313,42 @@ module _ (finds : Text → Text → Option Bool) (h : Grammar) (w : IsExpanded (
         step_grounded g (rule_symbol e.rule.name) t
         (step_wider g (HasGroundType table) (IsGrounded g) (λ x u k. typed_symbol right x u k) (rule_symbol e.rule.name) t
         (in_expansion e.rule (equation_rule h e i), equation_step e i t f))
+
+    all_typed : ((n : Text) (t : GroundType) → table n ≡ Some t → IsGrounded g (rule_symbol n) t) → (xs : List Closed)
+        → AreTypedOver (HasGroundType table) (IsGrounded g) xs xs
+    all_typed right [] = tt
+    all_typed right (x ∷ xs) = (λ t i. typed_symbol right x t i, all_typed right xs)
+
+    -- a default alternative that gives its rule the type, with the symbols of the equation
+    abbrev pub IsDefaultOfSource : Text → GroundType → TypeSource → Type 0
+    IsDefaultOfSource n t s =
+        (b : ByDefault (IsGrounded g) g n Closeds.none None t) × (TypeSource.symbols b.choice.0.expr ≡ s)
+
+    -- so an equation of a rule that declares no type is one of an alternative of it
+    pub equation_default : ((n : Text) (t : GroundType) → table n ≡ Some t → IsGrounded g (rule_symbol n) t) → (r : Rule)
+        → Among (rules_of h.items) r → r.declared ≡ None → (e : TypeEquation) → Among (equations_of_rule r) e → (t : GroundType)
+        → source_ground_type (known_names h) table e.source ≡ Some t → IsDefaultOfSource r.name t e.source
+    equation_default right r i undeclared e k t f =
+        let m = among_map (λ (a : Alternative). record { rule = r; source = TypeSource.symbols a.expr })
+        (filter (λ (a : Alternative). is_default_action a.action) r.alternatives) e
+        (subst (λ (o : Option Ty). Among (equations_by r o) e) undeclared k) in
+        let n = among_filter (λ (a : Alternative). is_default_action a.action) r.alternatives m.0 m.1 in
+        let source : TypeSource.symbols m.0.expr ≡ e.source = ap (λ (x : TypeEquation). x.source) m.2 in
+        let u = alternative_default r i undeclared m.0 n.0 n.1 t
+        (subst (λ s. source_ground_type (known_names h) table s ≡ Some t) (sym source) f) in
+        let b = u.0 in
+        let side = chosen_or_all (right_side g b.rule (bind b.rule Closeds.none) b.choice) in (
+          record {
+            rule = b.rule;
+            choice = b.choice;
+            fits = b.fits;
+            undeclared = b.undeclared;
+            level_is = b.level_is;
+            no_code = b.no_code;
+            type_is = tuple_over (HasGroundType table) (IsGrounded g) side side t (all_typed right side) b.type_is;
+          },
+          ap TypeSource.symbols u.1 ∙ source,
+        )
 
     -- where all equations agree, the table has what one step gives by it
     found_step : AllAgree (known_names h) table (type_equations h) → (x : Closed) (t : GroundType)

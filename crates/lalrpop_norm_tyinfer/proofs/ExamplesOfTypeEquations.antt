@@ -6,6 +6,7 @@ use Rattle.std.specs.Str.{bytes_eq}
 use Rattle.lalrpop_grammar_symbols.specs.Symbols.{Op, Sym, Terminal, Text, WrittenSymbol}
 use Rattle.lalrpop_grammar.specs.WrittenGrammar.{Action, Alternative, Grammar, Rule, Ty, Tys, WrittenItem}
 use Rattle.lalrpop_grammar_language.specs.Among.{Among}
+use Rattle.lalrpop_grammar_language.specs.Enabled.{EnabledRule}
 use Rattle.lalrpop_grammar_language.proofs.PlaceLemmas.{same_text-eq}
 use Rattle.lalrpop_grammar_language.proofs.WrittenTreeLemmas.{alt, grammar, here, lit, maps}
 use Rattle.lalrpop_grammar_repr.specs.declared.norm_error.NormErrorKind.{NormErrorKind}
@@ -13,11 +14,11 @@ use Rattle.lalrpop_grammar_repr.specs.declared.norm_error.NormErrorKind.TheVaria
 use Rattle.lalrpop_grammar_repr.specs.declared.session.NormFault.{NormFault}
 use Rattle.lalrpop_grammar_repr.specs.declared.session.NormFault.TheVariants as faults
 use Rattle.lalrpop_norm_theory.specs.Types.{GroundType, GroundTypes, IsGrounded, text_type}
-use Rattle.lalrpop_norm_theory.specs.Between.{grammar_between}
+use Rattle.lalrpop_norm_theory.specs.Between.{grammar_between, rule_between}
 use Rattle.lalrpop_norm_theory.specs.Premises.{IsExpanded}
 use Rattle.lalrpop_norm_tyinfer.specs.TypesByTable.{RuleTypes, chosen_symbols, known_names}
 use Rattle.lalrpop_norm_tyinfer.specs.Equations.{TypeEquation, TypeSource, source_ground_type, type_equations}
-use Rattle.lalrpop_norm_tyinfer.specs.TypeFaults.{HasTwoEquations, IsTypeFault, WhereExpanded, nonterminal_of, rule_symbol}
+use Rattle.lalrpop_norm_tyinfer.specs.TypeFaults.{HasDisagreeingAlternatives, IsTypeFault, WhereExpanded, nonterminal_of, rule_symbol}
 use Rattle.lalrpop_norm_tyinfer.specs.NamedRules.{rules_in_source}
 use Rattle.lalrpop_norm_tyinfer.specs.TerminalTypes.{grammar_terminals}
 use Rattle.lalrpop_norm_tyinfer.specs.ProgramViews.{IsRightTable}
@@ -173,20 +174,19 @@ differing_told =
     (text_right disagreeing (record { rule = two_kinds; source = TypeSource.symbols (lit "a" ∷ []) }) (inl refl) refl refl) refl
     (Err (told kinds.TypesDisagree 1 8)) (refl, text_type, refl, λ e. cc)
 
--- where X declares a type, no two equations differ, so no two types are told of it
+-- where X declares a type, its alternatives give it none, so no two types are told of it
 abbrev declared_x : Rule
 declared_x = rule_typed "X" (Some (Ty.id (codes "T"))) (default (lit "a" ∷ []) ∷ default (lit "b" ∷ rule "X" ∷ []) ∷ [])
 
-abbrev declared_one : TypeEquation
-declared_one = record { rule = declared_x; source = TypeSource.declared (Ty.id (codes "T")) }
+abbrev first_rule : List EnabledRule → EnabledRule
+first_rule [] = rule_between declared_x
+first_rule (r ∷ rs) = r
 
-declared_refused : HasTwoEquations declared_x → ⊥
-declared_refused h = go h.first_of h.second_of
-  where
-    go : Among (declared_one ∷ []) h.first → Among (declared_one ∷ []) h.second → ⊥
-    go (inl f) (inl s) = h.differ (ap (λ (e : TypeEquation). e.source) (sym f ∙ s))
-    go (inl f) (inr j) = absurd j
-    go (inr i) k = absurd i
+declared_refused : (finds : Text → Text → Option Bool)
+    → HasDisagreeingAlternatives (grammar_between finds (of_rules (declared_x ∷ []))) (codes "X") → ⊥
+declared_refused finds h =
+    let same : rule_between declared_x ≡ h.first_by.rule = ap first_rule h.first_by.fits.rule in
+    let wrong : Some (Ty.id (codes "T")) ≡ None = ap (λ (r : EnabledRule). r.declared) same ∙ h.first_by.undeclared in cc
 
 -- X = { "a", X } has that of "a" alone
 abbrev x_itself : Rule

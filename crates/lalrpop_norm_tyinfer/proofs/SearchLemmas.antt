@@ -1,10 +1,12 @@
 -- What is found at one equation, as faults of the grammar; for the search for types.
 use Rattle.std.proofs.Common.{◌≡◌, ◌∙◌, ◌<◌, ℕ, zero, suc, ap, sym, refl, subst, inl, inr, List, [], ◌∷◌}
 use Rattle.std.proofs.Common.{arith, get_or, length}
-use Rattle.std.specs.Prelude.{Bool, IfErr, MatchResult, Option, Some, Result, Ok, Err}
+use Rattle.std.specs.Prelude.{Bool, IfErr, MatchResult, Option, Some, None, Result, Ok, Err}
 use Rattle.lalrpop_grammar_symbols.specs.Symbols.{Text}
-use Rattle.lalrpop_grammar.specs.WrittenGrammar.{Grammar, rules_of}
+use Rattle.lalrpop_grammar.specs.WrittenGrammar.{Grammar, Rule, Ty, rules_of}
 use Rattle.lalrpop_grammar_language.specs.Among.{Among}
+use Rattle.lalrpop_grammar_language.specs.Enabled.{Choice}
+use Rattle.lalrpop_grammar_language.specs.Levels.{Rank}
 use Rattle.lalrpop_grammar_repr.specs.declared.session.NormFault.{NormFault}
 use Rattle.lalrpop_grammar_repr.specs.declared.session.NormFault.TheVariants as faults
 use Rattle.lalrpop_grammar.specs.declared.types.type_repr.TypeRepr.{TypeRepr}
@@ -13,13 +15,24 @@ use Rattle.lalrpop_norm_theory.specs.Premises.{IsExpanded}
 use Rattle.lalrpop_norm_theory.specs.Types.{GroundType}
 use Rattle.lalrpop_grammar_language.proofs.AmongLemmas.{map_among}
 use Rattle.lalrpop_norm_tyinfer.specs.TypesByTable.{RuleTypes, known_names}
-use Rattle.lalrpop_norm_tyinfer.specs.Equations.{TypeEquation, equations_of_rule, source_ground_type, type_equations}
-use Rattle.lalrpop_norm_tyinfer.specs.TypeFaults.{HasTwoEquations, IsToldTypeFault, IsTypeFault}
+use Rattle.lalrpop_norm_tyinfer.specs.Equations.{TypeEquation, TypeSource, equations_by, equations_of_rule, source_ground_type, type_equations}
+use Rattle.lalrpop_norm_tyinfer.specs.TypeFaults.{HasDisagreeingAlternatives, IsToldTypeFault, IsTypeFault}
 use Rattle.lalrpop_norm_tyinfer.specs.Searching.{IsDisagreement, IsNewType}
 use Rattle.lalrpop_norm_tyinfer.specs.ProgramViews.{AreEquations, IsRightTable, equation_view, grammar_of}
 use Rattle.lalrpop_norm_tyinfer.specs.declared.equations.Equation.{Equation}
 use Rattle.lalrpop_norm_tyinfer.specs.declared.names.Names.{Names}
-use Rattle.lalrpop_norm_tyinfer.proofs.EquationLemmas.{equation_grounded, equation_own, equation_rule, rule_by_name}
+use Rattle.lalrpop_norm_tyinfer.proofs.EquationLemmas.{equation_default, equation_own, equation_rule, rule_by_name}
+
+-- a rule with equations of two sources declares no type
+no_type_declared : (r : Rule) (d e : TypeEquation) → Among (equations_of_rule r) d → Among (equations_of_rule r) e
+    → (d.source ≡ e.source → ⊥) → r.declared ≡ None
+no_type_declared r d e i j apart = go r.declared i j
+  where
+    go : (o : Option Ty) → Among (equations_by r o) d → Among (equations_by r o) e → o ≡ None
+    go None k l = refl
+    go (Some y) (inl f) (inl h) = absurd (apart (ap (λ (x : TypeEquation). x.source) (sym f ∙ h)))
+    go (Some y) (inl f) (inr l) = absurd l
+    go (Some y) (inr k) l = absurd k
 
 -- a type that differs from the table's is a fault of the rule
 pub disagreement : (g : Grammar) (e : TypeEquation) (table : RuleTypes) (t : GroundType) → Among (type_equations g) e
@@ -32,31 +45,36 @@ disagreement g e table t i right f (Err (faults.Norm error)) h = λ finds w.
       e.rule,
       equation_rule g e i,
       refl,
-      record {
-        first = h.1;
-        second = t;
-        differ = h.3;
-        first_is = right.grounded finds w e.rule.name h.1 h.2;
-        second_is = equation_grounded finds g w table (right.grounded finds w) e i t f;
-      },
-      two_equations finds w (right.given e.rule.name h.1 h.2),
+      disagreeing finds w (right.given e.rule.name h.1 h.2),
     )
   where
-    -- that of the table's type and this one
-    two_equations : (finds : Text → Text → Option Bool) → IsExpanded (grammar_between finds g)
+    -- the alternative of the table's type and that of this one
+    disagreeing : (finds : Text → Text → Option Bool) → IsExpanded (grammar_between finds g)
         → (d : TypeEquation) × Among (type_equations g) d × (d.rule.name ≡ e.rule.name)
-        × (source_ground_type (known_names g) table d.source ≡ Some h.1) → HasTwoEquations e.rule
-    two_equations finds w u = record {
-      first = u.0;
-      second = e;
-      first_of = subst (λ r. Among (equations_of_rule r) u.0)
-          (rule_by_name finds g w u.0.rule e.rule (equation_rule g u.0 u.1) (equation_rule g e i) u.2) (equation_own g u.0 u.1);
-      second_of = equation_own g e i;
-      differ = λ same.
-          let known : Some h.1 ≡ Some t = sym u.3 ∙ ap (source_ground_type (known_names g) table) same ∙ f in
-          let wrong : h.1 ≡ t = cc in
-          h.3 wrong;
-    }
+        × (source_ground_type (known_names g) table d.source ≡ Some h.1)
+        → HasDisagreeingAlternatives (grammar_between finds g) e.rule.name
+    disagreeing finds w u =
+        let d : TypeEquation = u.0 in
+        let own : Among (equations_of_rule e.rule) d =
+        subst (λ r. Among (equations_of_rule r) d)
+        (rule_by_name finds g w d.rule e.rule (equation_rule g d u.1) (equation_rule g e i) u.2) (equation_own g d u.1) in
+        let apart : d.source ≡ e.source → ⊥ =
+        λ same.
+        let known : Some h.1 ≡ Some t = sym u.3 ∙ ap (source_ground_type (known_names g) table) same ∙ f in
+        let wrong : h.1 ≡ t = cc in
+        h.3 wrong in
+        let undeclared = no_type_declared e.rule d e own (equation_own g e i) apart in
+        let grounded = right.grounded finds w in
+        let first = equation_default finds g w table grounded e.rule (equation_rule g e i) undeclared d own h.1 u.3 in
+        let second = equation_default finds g w table grounded e.rule (equation_rule g e i) undeclared e (equation_own g e i) t f in
+        record {
+          first = h.1;
+          second = t;
+          differ = h.3;
+          first_by = first.0;
+          second_by = second.0;
+          apart = λ same. apart (sym first.1 ∙ ap (λ (x : Choice × Option Rank). TypeSource.symbols x.0.expr) same ∙ second.1);
+        }
 disagreement g e table t i right f (Err faults.Memory) h = absurd h
 disagreement g e table t i right f (Err faults.ConditionLimit) h = absurd h
 

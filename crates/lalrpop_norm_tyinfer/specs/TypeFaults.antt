@@ -14,8 +14,7 @@ use Rattle.lalrpop_grammar_repr.specs.declared.session.NormFault.TheVariants as 
 use Rattle.lalrpop_grammar.specs.declared.types.type_repr.TypeRepr.{TypeRepr}
 use Rattle.lalrpop_norm_theory.specs.Between.{grammar_between}
 use Rattle.lalrpop_norm_theory.specs.Premises.{IsExpanded}
-use Rattle.lalrpop_norm_theory.specs.Types.{GroundType, IsGrounded}
-use Rattle.lalrpop_norm_tyinfer.specs.Equations.{TypeEquation, equations_of_rule}
+use Rattle.lalrpop_norm_theory.specs.Types.{ByDefault, GroundType, IsGrounded}
 use Rattle.lalrpop_norm_tyinfer.specs.GroundViews.{type_repr_view}
 
 -- the closed symbol of a rule of an expanded grammar
@@ -77,18 +76,18 @@ TypeFaultStands g rs (TypeFault.untyped n p) =
     (r : Rule) × Among rs r × (r.span ≡ p) × (r.name ≡ n) × IsUntypedRule g rs r
 TypeFaultStands g rs TypeFault.other = ⊥
 
--- two of the rule's equations differ: so it declares no type, and two alternatives without user code give it types
-pub record HasTwoEquations (r : Rule) : Type 0 where
-  pub first : TypeEquation
-  pub second : TypeEquation
-  pub first_of : Among (equations_of_rule r) first
-  pub second_of : Among (equations_of_rule r) second
-  pub differ : first.source ≢ second.source
+-- Two alternatives of the rule without user code differ and give it types that differ, where it declares none.
+pub record HasDisagreeingAlternatives (g : EnabledGrammar) (n : Text) : Type 0 where
+  pub first : GroundType
+  pub second : GroundType
+  pub differ : first ≢ second
+  pub first_by : ByDefault (IsGrounded g) g n Closeds.none None first
+  pub second_by : ByDefault (IsGrounded g) g n Closeds.none None second
+  pub apart : first_by.choice ≢ second_by.choice
 
--- A fault is told of a rule that has it: that two types differ, of one to which two equations give types.
+-- A fault is told of a rule that has it: that two types differ, of one whose own alternatives disagree.
 abbrev pub IsToldTypeFault : EnabledGrammar → List Rule → TypeFault → Type 0
-IsToldTypeFault g rs (TypeFault.disagree p) =
-    (r : Rule) × Among rs r × (r.span ≡ p) × HasTwoTypes g r.name × HasTwoEquations r
+IsToldTypeFault g rs (TypeFault.disagree p) = (r : Rule) × Among rs r × (r.span ≡ p) × HasDisagreeingAlternatives g r.name
 IsToldTypeFault g rs (TypeFault.untyped n p) = TypeFaultStands g rs (TypeFault.untyped n p)
 IsToldTypeFault g rs TypeFault.other = ⊥
 

@@ -24,12 +24,13 @@ use Rattle.lalrpop_norm_theory.proofs.ExpansionListLemmas.{all-of}
 use Rattle.lalrpop_norm_theory.proofs.NamingListLemmas.{name_by, naming-is}
 use Rattle.lalrpop_norm_theory.proofs.ProductionListLemmas.{is_production, listed, productions_of}
 use Rattle.lalrpop_norm_theory.proofs.RowListLemmas.{reached-each}
+use Rattle.lalrpop_norm_theory.proofs.UsedListLemmas.{keys-by-use}
 use Rattle.lalrpop_run_theory.proofs.ExamplesOfExpansions.{L, end, inline, inlined, kept, n, place, private, rule, start, t}
 use Rattle.lalrpop_run_theory.proofs.InlinedTestLemmas.{inlined_decided}
 use Rattle.lalrpop_run.specs.InliningNumbers.{HandsOutTooMany, HasNumbersEnough, HaveNumbers, IsLabelAtStep}
 use Rattle.lalrpop_run.specs.NonterminalOrders.{AreChosenSides, AreInlinedNamed, ChosenSide, IsNonterminalOrder, NonterminalWalk}
 use Rattle.lalrpop_run.proofs.ExamplesOfInlineCycles.{straight}
-use Rattle.lalrpop_run.proofs.ExamplesOfOneWord.{kept_where_unmarked, two_are}
+use Rattle.lalrpop_run.proofs.ExamplesOfOneWord.{kept_where_unmarked}
 use Rattle.lalrpop_run.proofs.ExamplesOfOneWord as word
 use Rattle.lalrpop_run.proofs.NumberedListLemmas.{few_among, once_back}
 use Rattle.lalrpop_run.proofs.PlainNumberLemmas.{label_listed, labels_of, plain_enough, plain_not_too_many}
@@ -37,7 +38,7 @@ use Rattle.lalrpop_run.proofs.PlainNumberLemmas.{label_listed, labels_of, plain_
 -- pub S = "a": nothing is inlined, and there are numbers enough for two productions
 pub word_numbers : HasNumbersEnough word.g (codes "__")
 word_numbers =
-    plain_enough word.g (codes "__") (start ∷ rule "S" ∷ []) refl refl two_are.name_of two_are.naming
+    plain_enough word.g (codes "__") (start ∷ rule "S" ∷ []) refl refl word.names word.word_naming
     (let few : 2 ≤ 2 ^ 32 = omega arith in few)
 
 -- so they are not too many
@@ -467,7 +468,13 @@ pub pairs_numbers : HasNumbersEnough pairs (codes "__")
 unfolding digits
 pairs_numbers = record {
   name_of = names;
-  naming = naming-is pairs (leveled_key_text pairs) (codes "__") [] 2 three refl refl refl;
+  naming = record {
+    naming = naming-is pairs (leveled_key_text pairs) (codes "__") [] 2 three refl refl refl;
+    levels = tt;
+    others = [];
+    in_order = keys-by-use pairs [] refl;
+    numbered = tt;
+  };
   order = rule "A" ∷ [];
   is_order = pairs_order;
   few = λ labels h.

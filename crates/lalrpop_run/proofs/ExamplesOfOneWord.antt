@@ -17,10 +17,12 @@ use Rattle.lalrpop_grammar_language.specs.Sentences.{IsSentence}
 use Rattle.lalrpop_grammar_language.proofs.WrittenTreeLemmas.{alt, finds, grammar, here, lit, nd, texts}
 use Rattle.lalrpop_norm_theory.specs.Inlined.{IsInlined}
 use Rattle.lalrpop_norm_theory.specs.Keys.{leveled_key_text}
+use Rattle.lalrpop_norm_theory.specs.NamesByUse.{IsNamingByUse}
 use Rattle.lalrpop_norm_theory.proofs.ExpansionListLemmas.{all-of}
 use Rattle.lalrpop_norm_theory.proofs.NamingListLemmas.{name_by, naming-is}
 use Rattle.lalrpop_norm_theory.proofs.ProductionListLemmas.{is_production, listed}
 use Rattle.lalrpop_norm_theory.proofs.RowListLemmas.{reached-each}
+use Rattle.lalrpop_norm_theory.proofs.UsedListLemmas.{keys-by-use}
 use Rattle.lalrpop_grammar_language.specs.Labels.{Inlinings, Label}
 use Rattle.lalrpop_grammar_language.specs.Inlining.{Inlines, InlinesAll}
 use Rattle.lalrpop_lr1_theory.specs.Answers.{IsLr1}
@@ -39,7 +41,8 @@ use Rattle.lalrpop_lr1_theory.proofs.ValidMoveLemmas.{lr1_from_automaton}
 use Rattle.lalrpop_run_theory.specs.Expansions.{StandsForInlined, theory_side}
 use Rattle.lalrpop_run_theory.specs.ExpansionTrees.{is_inlined_nonterminal}
 use Rattle.lalrpop_run_theory.specs.TextAnswers.{AreExpansionOf, terminals_of_tokens}
-use Rattle.lalrpop_run_theory.proofs.ExamplesOfExpansions.{I, L, end, kept, label_at, n, name, place, production, rule, start, t}
+use Rattle.lalrpop_run_theory.proofs.ExamplesOfExpansions.{I, L, end, kept, label_at, n, name, one_start, place, production}
+use Rattle.lalrpop_run_theory.proofs.ExamplesOfExpansions.{rule, start, t}
 use Rattle.lalrpop_run_theory.proofs.ExamplesOfExpansions as written
 use Rattle.lalrpop_run_theory.proofs.InlinedTestLemmas.{inlined_decided}
 use Rattle.lalrpop_run.proofs.AlikeLemmas.{AlikeSides, Correspond, converse, lr1_alike}
@@ -115,14 +118,6 @@ Choices = Origin × RightSide
 abbrev IsKept : RightSide → I → RightSide → Type 0
 IsKept before inlinings side = InlinesAll (Produces g) (IsInlined g) before inlinings side
 
-kept_name : (inlinings : I) (side : RightSide) → IsKept (n (rule "S") ∷ []) inlinings side →
-    (inlinings ≡ kept end) × (side ≡ n (rule "S") ∷ [])
-kept_name Inlinings.none side h = absurd h
-kept_name (Inlinings.inlined l inlinings) side h = absurd (kept_where_unmarked g (rule "S") refl h.0)
-kept_name (Inlinings.kept Inlinings.none) side h = (refl, h.2 ∙ ap (λ z. n (rule "S") ∷ z) h.3)
-kept_name (Inlinings.kept (Inlinings.kept inlinings)) side h = absurd h.3
-kept_name (Inlinings.kept (Inlinings.inlined l inlinings)) side h = absurd h.3
-
 kept_letter : (inlinings : I) (side : RightSide) → IsKept (t "a" ∷ []) inlinings side → (inlinings ≡ kept end) × (side ≡ t "a" ∷ [])
 kept_letter Inlinings.none side h = absurd h
 kept_letter (Inlinings.inlined l inlinings) side h = absurd h
@@ -132,19 +127,8 @@ kept_letter (Inlinings.kept (Inlinings.inlined l inlinings)) side h = absurd h.3
 
 -- the start has one label, and so has `S`
 label_of_start : (l : L) (side : RightSide) → Has start l side → (l ≡ by_start) × (side ≡ n (rule "S") ∷ [])
-label_of_start (Label.choose z o inlinings) side h = go (listed g start o h.1 h.2)
-  where
-    go : Among {A = Choices} ((Origin.start, n (rule "S") ∷ []) ∷ []) (o, h.1) →
-        (Label.choose z o inlinings ≡ by_start) × (side ≡ n (rule "S") ∷ [])
-    go (inr i) = absurd i
-    go (inl e) =
-        let choice : Origin.start ≡ o = ap (λ (c : Choices). c.0) e in
-        let before : n (rule "S") ∷ [] ≡ h.1 = ap (λ (c : Choices). c.1) e in
-        let r = kept_name inlinings side (subst (λ b. IsKept b inlinings side) (sym before) h.3) in (
-          ap (λ x. Label.choose x o inlinings) h.0 ∙ ap (λ c. Label.choose start c inlinings) (sym choice)
-              ∙ ap (Label.choose start Origin.start) r.0,
-          r.1,
-        )
+label_of_start =
+    one_start g (rule "S") (kept_where_unmarked g (rule "S") refl) (λ o side m. listed g start o side m)
 
 label_of_S : (l : L) (side : RightSide) → Has (rule "S") l side → (l ≡ by_S) × (side ≡ t "a" ∷ [])
 label_of_S (Label.choose z o inlinings) side h = go (listed g (rule "S") o h.1 h.2)
@@ -173,7 +157,7 @@ two = of_start ∷ of_S ∷ []
 abbrev labels : ℕ → L
 labels = label_at by_start (by_start ∷ by_S ∷ [])
 
-abbrev names : Nonterminal → Text
+abbrev pub names : Nonterminal → Text
 names = name_by (leveled_key_text g) (codes "__") []
 
 abbrev IsEither : Production → Type 0
@@ -205,12 +189,23 @@ stands : (p : Production) (x : Nonterminal) (l : L) (side : RightSide) → Among
 stands p x l side i h left right label =
     record { in_expansion = there x i; produced = h; left_is = left; right_is = right; label_is = label }
 
+-- its names are given in order of first use
+pub word_naming : IsNamingByUse (leveled_key_text g) (codes "__") g names
+unfolding digits
+word_naming = record {
+  naming = naming-is g (leveled_key_text g) (codes "__") [] 2 nonterminals refl refl refl;
+  levels = tt;
+  others = [];
+  in_order = keys-by-use g [] refl;
+  numbered = tt;
+}
+
 -- they are the productions of the expansion
 pub two_are : AreExpansionOf finds [] one_word two
 unfolding digits
 two_are = record {
   name_of = names;
-  naming = naming-is g (leveled_key_text g) (codes "__") [] 2 nonterminals refl refl refl;
+  naming = word_naming.naming;
   label_of = labels;
   every = λ x l side i h. at x l side (all-of g nonterminals refl x i) h;
   no_other = λ p c. its_label p (one_of_two p c);

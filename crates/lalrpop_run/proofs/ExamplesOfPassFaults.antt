@@ -20,8 +20,9 @@ use Rattle.lalrpop_norm_chain.specs.MadeConditions.{HasWrongCondition}
 use Rattle.lalrpop_norm_chain.specs.StandingFaults.{IsStandingFault}
 use Rattle.lalrpop_norm_chain.specs.TokenFaults.{TokenFaultInWritten, enabled_places}
 use Rattle.lalrpop_norm_chain.specs.UsedLiterals.{AreFullExpansionEntries, AreUsedLiterals, IsUsedLiteral}
-use Rattle.lalrpop_norm_chain.specs.WrittenTypeFaults.{IsDisagreeing, IsUntyped}
+use Rattle.lalrpop_norm_chain.specs.WrittenTypeFaults.{HasNoTypeAt, IsDisagreeing}
 use Rattle.lalrpop_norm_chain.proofs.TokenFaultLemmas.{one_list}
+use Rattle.lalrpop_norm_chain.proofs.TwoAlternativeLemmas.{disagreeing_types}
 use Rattle.lalrpop_norm_keys.specs.MacroFaults.{ConditionError}
 use Rattle.lalrpop_norm_keys.specs.Tables.{HasEachOnce}
 use Rattle.lalrpop_norm_prevalidate.specs.Faults.{CheckStands}
@@ -326,12 +327,13 @@ types_agree public p h =
     let at = h.at in
     let called : InExpansion (of_word public) (Nonterminal.closed h.symbol) = at.in_expansion in
     let same = is_rule_S public h.symbol called in
-    let first = type_is public h.first (subst (λ z. IsGrounded (of_word public) z h.first) (sym same) h.first_is) in
-    let second = type_is public h.second (subst (λ z. IsGrounded (of_word public) z h.second) (sym same) h.second_is) in
+    let both = disagreeing_types (of_word public) (left public) p h in
+    let first = type_is public h.first (subst (λ z. IsGrounded (of_word public) z h.first) (sym same) both.0) in
+    let second = type_is public h.second (subst (λ z. IsGrounded (of_word public) z h.second) (sym same) both.1) in
     h.differ (first ∙ sym second)
 
-typed : (public : Bool) (m : Text) (p : TextSpan) → IsUntyped (of_word public) (codes "__") (left public) m p → ⊥
-typed public m p h =
+typed : (public : Bool) (p : TextSpan) → HasNoTypeAt (of_word public) (left public) p → ⊥
+typed public p h =
     let same = is_rule_S public h.symbol h.at.in_expansion in
     h.no_type unit_type (subst (λ z. IsGrounded (of_word public) z unit_type) same (
       1,
@@ -348,8 +350,9 @@ typed public m p h =
     ))
 
 -- so no fault stands
-pub no_pass_fault : (limit : ℕ) (public : Bool) → HasNoPassFault (asked_within limit) (word_of public)
-no_pass_fault limit public kind p (IsWrittenFault.standing k s h) = go k s h
+none_written : (public : Bool) (kind : NormErrorKind) (p : TextSpan)
+    → IsWrittenFault finds (λ x. false) [] 200 (word_of public) kind p → ⊥
+none_written public kind p (IsWrittenFault.standing k s h) = go k s h
   where
     go : (kind : NormErrorKind) (p : TextSpan) → IsStandingFault finds (λ x. false) [] 200 (word_of public) kind p → ⊥
     go kind p (IsStandingFault.check k s h) = not_checked public k s h
@@ -362,8 +365,11 @@ no_pass_fault limit public kind p (IsWrittenFault.standing k s h) = go k s h
     go kind p (IsStandingFault.condition k s c h) = no_condition public _ h
     go kind p (IsStandingFault.token k s c h) = no_wrong_literal public k s h
     go kind p (IsStandingFault.types_disagree s c h) = types_agree public s h
-    go kind p (IsStandingFault.no_type m s c h) = typed public m.0 s h
-no_pass_fault limit public kind p (IsWrittenFault.actions s c h e) = few_labels public h
+    go kind p (IsStandingFault.no_type m s c h) = typed public s h.call
+none_written public kind p (IsWrittenFault.actions s c h e) = few_labels public h
+
+pub no_pass_fault : (limit : ℕ) (public : Bool) → HasNoPassFault (asked_within limit) (word_of public)
+no_pass_fault limit public = record { none = none_written public; typed = typed public }
 
 pub word_carried : (public : Bool) → IsCarried finds [] (word_of public)
 word_carried public = record {
@@ -437,4 +443,4 @@ public_inline_told text =
 pub answer_beside_a_pass_fault : (text : List ℕ) (answer : TextAnswer) →
     IsRightAnswerTo asked public_inline text (WrittenAnswer.to_text answer) → ⊥
 answer_beside_a_pass_fault text answer h =
-    (parsed_where_answered asked public_inline text answer h).faultless.lowerable.faultless kinds.PublicInline here inline_stands
+    (parsed_where_answered asked public_inline text answer h).faultless.lowerable.faultless.none kinds.PublicInline here inline_stands

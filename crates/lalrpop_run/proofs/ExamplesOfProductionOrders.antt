@@ -6,7 +6,7 @@ use Rattle.std.specs.Prelude.{codes}
 use Rattle.lalrpop_grammar.specs.WrittenGrammar.{Grammar, Origin}
 use Rattle.lalrpop_grammar_language.specs.Among.{Among}
 use Rattle.lalrpop_grammar_language.specs.Expansion.{Nonterminal}
-use Rattle.lalrpop_grammar_language.specs.Labels.{Inlinings, Label}
+use Rattle.lalrpop_grammar_language.specs.Labels.{Label}
 use Rattle.lalrpop_grammar_language.proofs.WrittenTreeLemmas.{alt, grammar, id, lit, rule_of}
 use Rattle.lalrpop_lr1_theory.specs.Productions.{Production}
 use Rattle.lalrpop_lr1_theory.proofs.StepLemmas.{some_same}

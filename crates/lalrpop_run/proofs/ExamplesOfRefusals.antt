@@ -18,8 +18,10 @@ use Rattle.lalrpop_norm_theory.specs.Inlined.{IsInlined}
 use Rattle.lalrpop_norm_theory.specs.Premises.{IsNoRecovery}
 use Rattle.lalrpop_norm_theory.proofs.AmongLemmas.{all-among}
 use Rattle.lalrpop_norm_theory.specs.Keys.{leveled_key_text}
+use Rattle.lalrpop_norm_theory.specs.NamesByUse.{IsNamingByUse}
 use Rattle.lalrpop_norm_theory.proofs.ExpansionListLemmas.{all-of}
 use Rattle.lalrpop_norm_theory.proofs.NamingListLemmas.{name_by, naming-is}
+use Rattle.lalrpop_norm_theory.proofs.UsedListLemmas.{keys-by-use}
 use Rattle.lalrpop_norm_theory.proofs.ProductionListLemmas.{is_production, listed}
 use Rattle.lalrpop_run_theory.specs.Barren.{HasNoBarren, IsBarrenFrom, IsLeastBarrenName, IsReachedFrom, IsWrittenStart}
 use Rattle.lalrpop_run_theory.proofs.BarrenLemmas.{written_start_once}
@@ -112,15 +114,27 @@ only_these from x h (IsReachedFrom.onward y o side z r m a) = go (only_these fro
 abbrev names : Nonterminal → Text
 names = name_by (leveled_key_text g) (codes "__") []
 
+named : IsNamingByUse (leveled_key_text g) (codes "__") g names
+unfolding digits
+named = record {
+  naming = naming-is g (leveled_key_text g) (codes "__") [] 2 (start ∷ rule "S" ∷ rule "A" ∷ []) refl refl refl;
+  levels = tt;
+  others = [];
+  in_order = keys-by-use g [] refl;
+  numbered = tt;
+}
+
 A_told : IsLeastBarrenName g (codes "__") (codes "S") (codes "A")
 unfolding digits
 A_told = record {
   name_of = names;
-  naming = naming-is g (leveled_key_text g) (codes "__") [] 2 (Nonterminal.start (codes "S") ∷ rule "S" ∷ rule "A" ∷ []) refl refl refl;
-  nonterminal = rule "A";
-  is_barren = A_barren;
-  name_is = refl;
-  least = λ x b. at x (only_these b.from x b.is_start b.reached);
+  naming = named;
+  told = record {
+    nonterminal = rule "A";
+    is_barren = A_barren;
+    name_is = refl;
+    least = λ x b. at x (only_these b.from x b.is_start b.reached);
+  };
 }
   where
     at : (x : Nonterminal) → (rule "S" ≡ x) ⊎ (rule "A" ≡ x) →
@@ -162,10 +176,8 @@ carried = record {
 
 -- nothing is inlined
 endless_numbers : HasNumbersEnough g (codes "__")
-unfolding digits
 endless_numbers =
-    plain_enough g (codes "__") (start ∷ rule "S" ∷ rule "A" ∷ []) refl refl names
-    (naming-is g (leveled_key_text g) (codes "__") [] 2 (start ∷ rule "S" ∷ rule "A" ∷ []) refl refl refl)
+    plain_enough g (codes "__") (start ∷ rule "S" ∷ rule "A" ∷ []) refl refl names named
     (let few : 4 ≤ 2 ^ 32 = omega arith in few)
 
 -- where the passes find nothing, the barren rule is right

@@ -1,5 +1,5 @@
 -- A computed example: of a conflict of two reductions the later one isn't told first.
-use Rattle.std.proofs.Common.{◌≡◌, ℕ, zero, suc, List, [], ◌∷◌, refl, ap, sym, ◌∙◌, subst, inl, inr, Some, None, false, true, ◌⊎◌, ◌<◌, ◌≤◌}
+use Rattle.std.proofs.Common.{◌≡◌, ℕ, zero, suc, List, [], ◌∷◌, refl, ap, sym, ◌∙◌, subst, inl, inr, Some, None, ◌⊎◌, ◌<◌, ◌≤◌}
 use Rattle.std.proofs.Common.{arith, length, Contains}
 use Rattle.std.proofs.lemmas.Bool.{cases_lt}
 use Rattle.std.specs.Cmp.{nat_cmp_is}
@@ -31,8 +31,7 @@ use Rattle.lalrpop_lr1_theory.proofs.ValidItemLemmas.{carried_from_valid}
 use Rattle.lalrpop_judge.specs.Certificates.{MakesMove, NumberedMove, number_move, reduce_by, shift_of}
 use Rattle.lalrpop_run_theory.specs.Expansions.{theory_side}
 use Rattle.lalrpop_run_theory.specs.ExpansionTrees.{written_of_forest}
-use Rattle.lalrpop_run_theory.proofs.InlinedTestLemmas.{inlined_decided}
-use Rattle.lalrpop_run_theory.proofs.ExamplesOfExpansions.{L, I, end, kept, n, place, rule, start, t}
+use Rattle.lalrpop_run_theory.proofs.ExamplesOfExpansions.{I, L, end, kept, one_start, place, rule, start, t}
 use Rattle.lalrpop_run.specs.AllConflicts.{ConflictStands, MayBeReduced, PlacedConflict, ReductionConflict, opposing_move, reducing_move}
 use Rattle.lalrpop_run.specs.AllConflicts.{with_reduction, with_shift}
 use Rattle.lalrpop_run.specs.Asked.{MoveKind, ToldConflict, WrittenAnswer}
@@ -40,6 +39,7 @@ use Rattle.lalrpop_run.specs.ConflictOrders.{IsProductionBefore, compare_sides, 
 use Rattle.lalrpop_run.specs.ProductionOrders.{AreItsProductions, IsLabelBefore, IsNumberedBefore, inlined_at}
 use Rattle.lalrpop_run.specs.RightAnswer.{IsRightAnswerTo}
 use Rattle.lalrpop_run.specs.ToldConflicts.{IsToldOf}
+use Rattle.lalrpop_run.proofs.ExamplesOfOneWord.{kept_where_unmarked}
 use Rattle.lalrpop_run.proofs.ExamplesOfRightAnswers.{asked}
 use Rattle.lalrpop_run.proofs.LabelOrderLemmas.{numbered_apart, origins_apart}
 
@@ -59,9 +59,6 @@ g = enabled_grammar finds [] twice
 there : (x : Nonterminal) → Among (start ∷ rule "S" ∷ []) x → InExpansion g x
 there = reached-each g 2 (start ∷ rule "S" ∷ []) refl
 
-S_stays : IsInlined g (rule "S") → ⊥
-S_stays h = let wrong : false ≡ true = (inlined_decided g (rule "S")).0 h in cc
-
 abbrev a : Terminal
 a = Terminal.quoted (codes "a")
 
@@ -80,35 +77,12 @@ Has x l side = Inlines (Produces g) (IsInlined g) x l side
 abbrev Choice : Type 0
 Choice = Origin × RightSide
 
-of_S : (inlinings : I) (side : RightSide) → All (n (rule "S") ∷ []) inlinings side →
-    (inlinings ≡ kept end) × (side ≡ n (rule "S") ∷ [])
-of_S Inlinings.none side h = absurd h
-of_S (Inlinings.inlined l inlinings) side h = absurd (S_stays h.0)
-of_S (Inlinings.kept Inlinings.none) side h = (refl, h.2 ∙ ap (λ z. n (rule "S") ∷ z) h.3)
-of_S (Inlinings.kept (Inlinings.kept inlinings)) side h = absurd h.3
-of_S (Inlinings.kept (Inlinings.inlined l inlinings)) side h = absurd h.3
-
 of_a : (inlinings : I) (side : RightSide) → All (t "a" ∷ []) inlinings side → (inlinings ≡ kept end) × (side ≡ t "a" ∷ [])
 of_a Inlinings.none side h = absurd h
 of_a (Inlinings.inlined l inlinings) side h = absurd h
 of_a (Inlinings.kept Inlinings.none) side h = (refl, h.2 ∙ ap (λ z. t "a" ∷ z) h.3)
 of_a (Inlinings.kept (Inlinings.kept inlinings)) side h = absurd h.3
 of_a (Inlinings.kept (Inlinings.inlined l inlinings)) side h = absurd h.3
-
-label_of_start : (l : L) (side : RightSide) → Has start l side → (l ≡ by_start) × (side ≡ n (rule "S") ∷ [])
-label_of_start (Label.choose z o inlinings) side h = go (listed g start o h.1 h.2)
-  where
-    go : Among {A = Choice} ((Origin.start, n (rule "S") ∷ []) ∷ []) (o, h.1) →
-        (Label.choose z o inlinings ≡ by_start) × (side ≡ n (rule "S") ∷ [])
-    go (inl e) =
-        let choice : Origin.start ≡ o = ap (λ (c : Choice). c.0) e in
-        let before : n (rule "S") ∷ [] ≡ h.1 = ap (λ (c : Choice). c.1) e in
-        let r = of_S inlinings side (subst (λ b. All b inlinings side) (sym before) h.3) in (
-          ap (λ x. Label.choose x o inlinings) h.0 ∙ ap (λ c. Label.choose start c inlinings) (sym choice)
-              ∙ ap (Label.choose start Origin.start) r.0,
-          r.1,
-        )
-    go (inr i) = absurd i
 
 abbrev IsS : L → RightSide → ℕ → Type 0
 IsS l side k = (l ≡ by_S k) × (side ≡ t "a" ∷ [])
@@ -231,7 +205,9 @@ module _ (G : List Production) (e : AreItsProductions asked twice G) where
       let s = q.3 in
       let same : q.0 ≡ start = e.expansion.naming.apart q.0 start s.in_expansion (there start (inl refl))
       (sym s.left_is ∙ left ∙ sym start_named) in
-      let r = label_of_start q.1 q.2 (subst (λ x. Has x q.1 q.2) same s.produced) in
+      let r =
+      one_start g (rule "S") (kept_where_unmarked g (rule "S") refl) (λ o side m. listed g start o side m) q.1 q.2
+      (subst (λ x. Has x q.1 q.2) same s.produced) in
       record {
         label = s.label_is ∙ r.0;
         side = s.right_is ∙ ap (theory_side e.expansion.name_of) r.1 ∙ ap (λ z. nonterminal z ∷ []) S_named;

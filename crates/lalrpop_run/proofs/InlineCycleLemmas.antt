@@ -177,7 +177,7 @@ module _ (finds : Text → Text → Option Bool) (features : List Text) (w : Gra
   abbrev pub under_own_names : IsNamedExpansion g w.prefix es
   under_own_names = record {
     name_of = h.name_of;
-    naming = h.naming;
+    naming = h.naming.naming;
     origins = map origin_view made.origins;
     productions = h.productions;
     inlined = subst (λ (f : Nonterminal → Text). (x : Nonterminal) → InExpansion g x → IsInlined g x ↔ IsInlinedByName es (f x))
@@ -196,7 +196,7 @@ module _ (finds : Text → Text → Option Bool) (features : List Text) (w : Gra
       (under_own_names.inlined x.0 x.1).1 (subst (IsInlinedByName es) (sym x.2) c.returns.is_inlined) in
       let r = chain_above g w.prefix es named.ascending named.under under_own_names x.0 c.returns.between c.name x.1 goes
       (subst (λ (t : Text). IsInlineChain es t c.returns.between c.name) (sym x.2) c.returns.chain) in
-      let same : x.0 ≡ r.0 = h.naming.apart x.0 r.0 x.1 r.1 (x.2 ∙ sym r.3) in
+      let same : x.0 ≡ r.0 = h.naming.naming.apart x.0 r.0 x.1 r.1 (x.2 ∙ sym r.3) in
       let listed : Among (found_places es) (c.name, span_view c.data_found.span) =
       map_among (λ (e : NonterminalString × NonterminalData). (e.0.0, span_view e.1.span)) (found_entries es)
       (name_of_text c.name, c.data_found) (found_entry es (name_of_text c.name) c.data_found c.has_data) in

@@ -1,96 +1,49 @@
 -- After all steps of inlining the productions of each nonterminal are numbered in the order of their labels: for the productions of an
 -- expansion.
-use Rattle.std.proofs.Common.{◌≡◌, ◌∙◌, ◌≤◌, ◌<◌, ◌↔◌, ◌⊎◌, inl, inr, ℕ, zero, suc, List, [], ◌∷◌, ◌++◌, ap, append_assoc, arith, length}
+use Rattle.std.proofs.Common.{◌≡◌, ◌∙◌, ◌≤◌, ◌<◌, inl, inr, ℕ, zero, suc, List, [], ◌∷◌, ◌++◌, ap, append_assoc, arith, length}
 use Rattle.std.proofs.Common.{length-append}
 use Rattle.std.proofs.Common.{refl, subst, sym, take, true}
-use Rattle.std.specs.Prelude.{All, Some, flat_map, slice_get}
+use Rattle.std.specs.Prelude.{All, Some, slice_get}
 use Rattle.std.specs.List.Sorted.{IsStrictlySortedBy}
 use Rattle.std.specs.Map.{keys_of}
 use Rattle.std.proofs.Math.Seq.{take-append_seam}
 use Rattle.lalrpop_grammar_symbols.specs.Symbols.{Text}
-use Rattle.lalrpop_grammar_symbols.specs.Views.{terminal_view}
 use Rattle.lalrpop_grammar_symbols.specs.contracts.names.NonterminalStringOrd.TheImpl as names
 use Rattle.lalrpop_grammar_language.specs.Among.{Among}
-use Rattle.lalrpop_grammar_language.specs.Expansion.{GrammarSymbol}
 use Rattle.lalrpop_grammar_language.specs.Labels.{BaseProductions, GrammarSymbols, Label}
 use Rattle.lalrpop_grammar_language.specs.Inlining.{HaveOneSide}
 use Rattle.lalrpop_grammar_language.specs.Steps.{NamesInlinedFirst, OneMore, label_with}
-use Rattle.lalrpop_grammar_language.proofs.AmongLemmas.{contains_among, flat_map_among}
-use Rattle.lalrpop_grammar_language.proofs.OrderLemmas.{among_parts, never_names}
-use Rattle.lalrpop_grammar_language.proofs.PlaceLemmas.{among_map}
-use Rattle.lalrpop_grammar_language.proofs.SideLemmas.{inlines_same}
-use Rattle.lalrpop_grammar_language.proofs.StepLemmas.{Lacks, among_left, among_right}
+use Rattle.lalrpop_grammar_language.proofs.AmongLemmas.{contains_among}
+use Rattle.lalrpop_grammar_language.proofs.OrderLemmas.{never_names}
+use Rattle.lalrpop_grammar_language.proofs.StepLemmas.{among_left, among_right}
 use Rattle.lalrpop_grammar_repr.specs.declared.action.ActionFnDefn.{ActionFnDefn}
 use Rattle.lalrpop_grammar_repr.specs.declared.action.ActionFnDefnKind.TheVariants as kinds
 use Rattle.lalrpop_grammar_repr.specs.declared.action.InlineActionFnDefn.{InlineActionFnDefn}
 use Rattle.lalrpop_grammar_repr.specs.declared.grammar.Grammar.{Grammar}
 use Rattle.lalrpop_grammar_repr.specs.declared.production.Production.{Production}
-use Rattle.lalrpop_grammar_repr.specs.declared.production.Symbol.{Symbol}
 use Rattle.lalrpop_grammar_repr.specs.declared.production.Symbol.TheVariants as symbols
 use Rattle.lalrpop_lr1_theory.proofs.ListLemmas.{get_contains}
 use Rattle.lalrpop_lr1_inline.specs.InlinedGrammars.{IsInlinedGrammar}
 use Rattle.lalrpop_lr1_inline.specs.InlinedLabels.{AreActionLabels, StandOnce, production_actions}
-use Rattle.lalrpop_lr1_inline.specs.InlinedNames.{NonterminalEntries, inlined_in_symbols, inlined_named_by, is_inlined_name}
-use Rattle.lalrpop_lr1_inline.specs.InlinedNames.{names_in_symbol}
+use Rattle.lalrpop_lr1_inline.specs.InlinedNames.{NonterminalEntries, inlined_named_by, is_inlined_name}
 use Rattle.lalrpop_lr1_inline.specs.InliningOrders.{HasAllInlined, HasNamedFirst, HasNameOnce}
 use Rattle.lalrpop_lr1_inline.specs.InliningSteps.{AreInlineSteps, all_records_after, entries_after, productions_named}
 use Rattle.lalrpop_lr1_inline.specs.NamedProductions.{ProducesByAction, keeps_all, label_given, record_by_labels, side_by_names}
-use Rattle.lalrpop_lr1_inline.specs.NamedProductions.{symbol_by_name}
 use Rattle.lalrpop_lr1_inline.proofs.AfterStepLemmas.{AreBelow}
 use Rattle.lalrpop_lr1_inline.proofs.GivenLabelLemmas.{given_labels, named_stands}
 use Rattle.lalrpop_lr1_inline.proofs.MadeLabelLemmas.{LabelsFrom, labels_made}
 use Rattle.lalrpop_lr1_inline.proofs.NamedLemmas.{all_listed}
-use Rattle.lalrpop_lr1_inline.proofs.OrderLabelLemmas.{steps_extend}
+use Rattle.lalrpop_lr1_inline.proofs.OrderLabelLemmas.{named_there, one_more_is, same_productions, steps_extend}
 use Rattle.lalrpop_lr1_inline.proofs.OrderLemmas.{order_all, order_named_first, order_once}
 use Rattle.lalrpop_lr1_inline.proofs.SmallerLemmas.{entries_of_all}
-use Rattle.lalrpop_lr1_inline.proofs.SourceLemmas.{around, filter_among}
+use Rattle.lalrpop_lr1_inline.proofs.SourceLemmas.{around}
 use Rattle.lalrpop_lr1_inline.proofs.StepLabelLemmas.{AreProductionsBy, step_labels}
 use Rattle.lalrpop_lr1_inline.proofs.StepsLemmas.{known_on}
 use Rattle.lalrpop_run.specs.ProductionOrders.{IsLabelBefore, IsMadeSooner, IsMadeWithin, inlined_at}
 use Rattle.lalrpop_run.proofs.LabelStepLemmas.{lacks_label}
-use Rattle.lalrpop_run.proofs.NumberedStepLemmas.{AreOrdered, HasSmallerNumber, StandsBefore, step_in_order}
+use Rattle.lalrpop_run.proofs.NumberedStepLemmas.{AreOrdered, StandsBefore, step_in_order}
 use Rattle.lalrpop_run.proofs.OrderedListLemmas.{AreInOrder}
 use Rattle.lalrpop_run.proofs.SoonerLemmas.{among_take_more}
-
--- two ways to say which nonterminals are inlined tell the same productions
-same_productions : (M : BaseProductions Text ℕ) (In Same : Text → Type 0) (lab : ℕ → Label Text ℕ) (es : NonterminalEntries) →
-    ((x : Text) → In x ↔ Same x) → AreProductionsBy M In lab es → AreProductionsBy M Same lab es
-same_productions M In Same lab es e are = record {
-  sound = λ x p i. inlines_same M In Same e (lab p.action.0) x (side_by_names p.symbols) (are.sound x p i);
-  all = λ x label side h. are.all x label side (inlines_same M Same In (λ y. ((e y).1, (e y).0)) label x side h);
-  once = are.once;
-}
-
-one_more_is : (front : List Text) (n x : Text) → OneMore (λ y. Among front y) n x ↔ Among (front ++ n ∷ []) x
-one_more_is front n x = (to, λ i. from (among_parts front (n ∷ []) x i))
-  where
-    to : OneMore (λ y. Among front y) n x → Among (front ++ n ∷ []) x
-    to (inl i) = among_left front (n ∷ []) x i
-    to (inr e) = among_right front (n ∷ []) x (inl (sym e))
-
-    from : Among front x ⊎ Among (n ∷ []) x → OneMore (λ y. Among front y) n x
-    from (inl i) = inl i
-    from (inr (inl e)) = inr (sym e)
-    from (inr (inr i)) = absurd i
-
--- a name of a right side is one of its symbols' names
-name_told : (s : Symbol) (y : Text) → symbol_by_name s ≡ GrammarSymbol.nonterminal y → Among (names_in_symbol s) y
-name_told (symbols.Terminal t) y e = (let f : GrammarSymbol.terminal (terminal_view t) ≡ GrammarSymbol.nonterminal y = e in cc)
-name_told (symbols.Nonterminal m) y e =
-    let f : GrammarSymbol.nonterminal m.0 ≡ GrammarSymbol.nonterminal y = e in
-    let same : m.0 ≡ y = cc in
-    inl same
-
-named_there : (es : NonterminalEntries) (x : Text) (choice : ℕ) (side : GrammarSymbols Text) (y : Text) →
-    ProducesByAction es x choice side → Among side (GrammarSymbol.nonterminal y) → is_inlined_name es y ≡ true →
-    Among (inlined_named_by es x) y
-named_there es x choice side y w i marked =
-    let p = w.0 in
-    let s = among_map symbol_by_name p.symbols (GrammarSymbol.nonterminal y)
-    (subst (λ (l : GrammarSymbols Text). Among l (GrammarSymbol.nonterminal y)) (sym w.3) i) in
-    let inside = filter_among (is_inlined_name es) (flat_map names_in_symbol p.symbols) y
-    (flat_map_among names_in_symbol p.symbols s.0 y s.1 (name_told s.0 y s.2)) marked in
-    flat_map_among (λ (q : Production). inlined_in_symbols es q.symbols) (productions_named es x) p y w.1 inside
 
 -- the next name of an order is among one more
 taken_there : (front : List Text) (n : Text) (ns : List Text) → Among (take (suc (length front)) (front ++ n ∷ ns)) n

@@ -36,7 +36,7 @@ use Rattle.lalrpop_lr1_inline.proofs.SmallerLemmas.{entries_of_all}
 use Rattle.lalrpop_norm_chain.specs.LoweredViews.{lowered_view}
 use Rattle.lalrpop_norm_chain.specs.Normalized.{IsNormalized}
 use Rattle.lalrpop_norm_chain.proofs.EntryLemmas.{found_name}
-use Rattle.lalrpop_norm_lower.specs.LoweredSymbols.{named_production, named_productions, productions_at}
+use Rattle.lalrpop_norm_lower.specs.LoweredSymbols.{named_production, named_productions}
 use Rattle.lalrpop_norm_lower.specs.declared.lowering.Normalized.{Normalized}
 use Rattle.lalrpop_norm_theory.specs.Inlined.{IsInlined}
 use Rattle.lalrpop_norm_theory.specs.Productions.{NamedProduction}
@@ -45,6 +45,7 @@ use Rattle.lalrpop_run_prepare.specs.NamedGrammars.{IsNamedExpansion, StandUnder
 use Rattle.lalrpop_run_prepare.specs.NamedLabels.{AreNamedProductions, label_back}
 use Rattle.lalrpop_run_prepare.specs.PreparedGrammars.{HasNamedProductions}
 use Rattle.lalrpop_run_prepare.proofs.InlinedEntryLemmas.{AreSorted}
+use Rattle.lalrpop_run_prepare.proofs.InlinedExpansionLemmas.{actions_named, all_of_each}
 use Rattle.lalrpop_run_prepare.proofs.NamedLabelLemmas.{named_inlines, source_inlines}
 use Rattle.lalrpop_run_prepare.proofs.NamedProductionLemmas.{are_named, back, entry_production, kept_label, kept_label_is}
 use Rattle.lalrpop_run.specs.InliningNumbers.{HandsOutTooMany, HasNumbersEnough, HaveNumbers, IsLabelAtStep}
@@ -53,7 +54,7 @@ use Rattle.lalrpop_run.proofs.LabelBackLemmas.{of_productions, one_back}
 use Rattle.lalrpop_run.proofs.LabelNumberLemmas.{IsNumberAtStep, given_number, label_number, number_sound, numbers_from, one_number}
 use Rattle.lalrpop_run.proofs.NonterminalOrderLemmas.{IsOrderUnderNames, order_under_names}
 use Rattle.lalrpop_run.proofs.NumberedLabelLemmas.{AreLabelsOfSteps, all_labels}
-use Rattle.lalrpop_run.proofs.NumberedListLemmas.{all_of_each, count_many, count_once, count_up, count_within, few_numbered, map_parts}
+use Rattle.lalrpop_run.proofs.NumberedListLemmas.{count_many, count_once, count_up, count_within, few_numbered, map_parts}
 use Rattle.lalrpop_run.proofs.NumberedListLemmas.{once_at_place, once_map}
 
 -- so many labels have numbers
@@ -225,21 +226,6 @@ module _ (g : EnabledGrammar) (prefix : Text) (es : NonterminalEntries) (sorted 
             let w = count_within least m i h in
             numbers_from es order least steps.labels one_named_side steps.reached order [] refl i w.0
             (omega (arith, w.1, e))
-
--- actions by their productions
-
-entry_actions : (ps : List Production) →
-    map (λ (p : Production). p.action.0) ps ≡ map (λ (p : NamedProduction). p.action) (map named_production ps)
-entry_actions [] = refl
-entry_actions (p ∷ ps) = ap (λ (l : List ℕ). p.action.0 ∷ l) (entry_actions ps)
-
-actions_named : (es : NonterminalEntries) →
-    production_actions es ≡ map (λ (p : NamedProduction). p.action) (named_productions es)
-actions_named [] = refl
-actions_named (e ∷ es) =
-    ap (λ (l : List ℕ). l ++ production_actions es) (entry_actions e.1.productions)
-    ∙ ap (λ (l : List ℕ). map (λ (p : NamedProduction). p.action) (productions_at e) ++ l) (actions_named es)
-    ∙ sym (map-append (λ (p : NamedProduction). p.action) (productions_at e) (named_productions es))
 
 module _ (finds : Text → Text → Option Bool) (features : List Text) (w : Grammar) (made : Normalized)
     (h : IsNormalized finds features w (lowered_view made)) (named : HasNamedProductions made.grammar) where

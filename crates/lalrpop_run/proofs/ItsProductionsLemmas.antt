@@ -1,7 +1,7 @@
 -- What was prepared has the productions of its grammar's expansion, their actions numbered in the order of their labels: for what conflicts
 -- reply.
-use Rattle.std.proofs.Common.{◌≡◌, ◌∙◌, ◌<◌, ℕ, List, Contains, ap, arith, length, map, refl, subst, sym, true, false}
-use Rattle.std.specs.Prelude.{Bool, Option, Some, None, slice_get}
+use Rattle.std.proofs.Common.{◌≡◌, ◌∙◌, ◌<◌, List, Contains, arith, length, map, refl, subst, sym, true, false}
+use Rattle.std.specs.Prelude.{Bool, Option, Some, None}
 use Rattle.std.proofs.lemmas.List.{length-map}
 use Rattle.std.proofs.lemmas.Option.{slice_get_within}
 use Rattle.lalrpop_grammar_symbols.specs.Symbols.{Text}
@@ -29,6 +29,8 @@ use Rattle.lalrpop_norm_chain.specs.Normalized.{IsNormalized}
 use Rattle.lalrpop_norm_chain.proofs.EntryLemmas.{found_name}
 use Rattle.lalrpop_norm_lower.specs.LoweredSymbols.{named_production}
 use Rattle.lalrpop_norm_lower.specs.declared.lowering.Normalized.{Normalized}
+use Rattle.lalrpop_norm_theory.specs.Keys.{leveled_key_text}
+use Rattle.lalrpop_norm_theory.specs.NamesByUse.{IsNamingByUse}
 use Rattle.lalrpop_norm_theory.specs.Productions.{IsOriginBefore}
 use Rattle.lalrpop_run_prepare.specs.NamedGrammars.{IsNamedExpansion}
 use Rattle.lalrpop_run_prepare.specs.NamedLabels.{label_back}
@@ -42,10 +44,12 @@ use Rattle.lalrpop_run.proofs.InlineCycleLemmas.{under_own_names}
 use Rattle.lalrpop_run.proofs.NonterminalOrderLemmas.{order_under_names}
 use Rattle.lalrpop_run.proofs.NumberedExpansionLemmas.{actions_in_order}
 
--- The actions tell the labels of an expansion's productions, and those of one nonterminal are numbered in the order of their labels.
+-- The actions tell the labels of an expansion's productions, and those of one nonterminal are numbered in the order of their labels. Names
+-- are given in order of first use.
 pub record AreToldInOrder (g : EnabledGrammar) (prefix : Text) (actions : List ActionFnDefn) (origins : List choices.Origin)
     (grammar : List Production) : Type 0 where
   pub told : AreToldExpansion g prefix actions origins grammar
+  pub naming : IsNamingByUse (leveled_key_text g) prefix g told.expansion.name_of
   pub order : List Nonterminal
   pub is_order : IsNonterminalOrder g told.expansion.name_of order
   pub in_order : (p r : Production) → Contains grammar p → Contains grammar r → p.left ≡ r.left → p.action < r.action
@@ -96,6 +100,7 @@ module _ (finds : Text → Text → Option Bool) (features : List Text) (w : Gra
       o.nonterminals o.names_are o.are_known in
       record {
         told = told;
+        naming = subst (λ (f : Nonterminal → Text). IsNamingByUse (leveled_key_text g) w.prefix g f) (sym r.3) h.naming;
         order = o.nonterminals;
         is_order = subst (λ (f : Nonterminal → Text). IsNonterminalOrder g f o.nonterminals) (sym r.3) o.is_order;
         in_order = λ p q c d same less.

@@ -29,11 +29,11 @@ use Rattle.lalrpop_lr1_inline.specs.InliningSteps.{productions_of_records, recor
 use Rattle.lalrpop_lr1_inline.specs.NamedProductions.{ProducesByAction, side_by_names}
 use Rattle.lalrpop_lr1_inline.proofs.GivenLabelLemmas.{named_stands}
 use Rattle.lalrpop_lr1_inline.proofs.MadeLemmas.{count_on}
-use Rattle.lalrpop_lr1_inline.proofs.SmallerLemmas.{entries_of_all}
+use Rattle.lalrpop_lr1_inline.proofs.SmallerLemmas.{entries_of_all, first_or_later}
 use Rattle.lalrpop_lr1_inline.proofs.StepRuleLemmas.{all_count_on}
-use Rattle.lalrpop_lr1_inline.proofs.StepsLemmas.{same_bytes}
+use Rattle.lalrpop_lr1_inline.proofs.StepsLemmas.{numbers_grow, same_bytes}
 use Rattle.lalrpop_run_prepare.proofs.InlinedEntryLemmas.{AreSorted, named_entry, stands_named}
-use Rattle.lalrpop_run.proofs.NumberedListLemmas.{once_same}
+use Rattle.lalrpop_run_prepare.proofs.InlinedExpansionLemmas.{once_same}
 use Rattle.lalrpop_run.proofs.NumberedLabelLemmas.{AreEntriesAt, entries_by, entries_by-append, numbers_after-append, sorted_on}
 
 neither : {A B : Type 0} → (A → ⊥) → (B → ⊥) → A ⊎ B → ⊥
@@ -100,9 +100,6 @@ record HaveNumber (qs : List Production) (i : ℕ) : Type 0 where
   production : Production
   stands : Among qs production
   number_is : production.action.0 ≡ i
-
-first_or_later : (a b : ℕ) → a ≤ b → (b ≡ a) ⊎ (a + 1 ≤ b)
-first_or_later a b l = grind arith
 
 module _ (n : Text) (ps : List Production) where
   records_number : (q : Production) (rs : List (List InlinedSymbol)) (k i : ℕ) → k ≤ i → i < k + length rs →
@@ -266,14 +263,6 @@ two_fronts {A} (x ∷ f) b (y ∷ g) c e =
         ((d : List A) × (y ∷ g ≡ x ∷ (f ++ d)) × (b ≡ d ++ c)) ⊎ ((d : List A) × (x ∷ f ≡ y ∷ (g ++ d)) × (c ≡ d ++ b))
     go head (inl w) = inl (w.0, ap (λ z. z ∷ g) (sym head) ∙ ap (λ l. x ∷ l) w.1, w.2)
     go head (inr w) = inr (w.0, ap (λ z. z ∷ f) head ∙ ap (λ l. y ∷ l) w.1, w.2)
-
--- numbers never get fewer
-numbers_grow : (ns : List Text) (es : NonterminalEntries) (k : ℕ) → k ≤ numbers_after ns es k
-numbers_grow [] es k = omega arith
-numbers_grow (n ∷ ns) es k =
-    let more = numbers_grow ns (entries_after n (productions_named es n) es k)
-    (k + length (all_records_after n (productions_named es n) es)) in
-    omega (arith, more)
 
 module _ (ds : NonterminalEntries) (order : List Text) (least : ℕ) (lab : ℕ → Label Text ℕ) (one : HaveOneSide (ProducesByAction ds))
     (reached : (f b : List Text) → order ≡ f ++ b → AreEntriesAt ds lab f (entries_by f ds least) (numbers_after f ds least)) where

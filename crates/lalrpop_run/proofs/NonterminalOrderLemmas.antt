@@ -27,6 +27,7 @@ use Rattle.lalrpop_grammar_repr.specs.declared.production.NonterminalData.{Nonte
 use Rattle.lalrpop_grammar_repr.specs.declared.production.Production.{Production}
 use Rattle.lalrpop_grammar_repr.specs.declared.production.Symbol.{Symbol}
 use Rattle.lalrpop_grammar_repr.specs.declared.production.Symbol.TheVariants as symbols
+use Rattle.lalrpop_lr1_core.proofs.MemberLemmas.{some_is}
 use Rattle.lalrpop_lr1_inline.specs.InlinedNames.{NonterminalEntries, inlined_in_productions, inlined_in_symbols, inlined_named_by}
 use Rattle.lalrpop_lr1_inline.specs.InlinedNames.{inlined_names, is_inlined_name, is_marked_inline, name_of_text}
 use Rattle.lalrpop_lr1_inline.specs.InliningOrders.{IsInliningOrder, IsOrderWalk, OrderWalk, order_of_walk}
@@ -124,9 +125,6 @@ same_tests true true f g = refl
 same_tests true false f g = sym (f refl)
 same_tests false true f g = g refl
 same_tests false false f g = refl
-
-some_is : {A : Type 0} (x y : A) → Some x ≡ Some y → x ≡ y
-some_is x y e = cc
 
 same_text : (a b : Text) → ◌≡◌ {A = GrammarSymbol Text} (GrammarSymbol.nonterminal a) (GrammarSymbol.nonterminal b) → a ≡ b
 same_text a b e = cc

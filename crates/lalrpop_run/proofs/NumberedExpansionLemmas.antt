@@ -1,6 +1,6 @@
 -- The productions of an inlined grammar are numbered in the order of their labels in the expansion: for what is told of its conflicts.
 use Rattle.std.proofs.Common.{◌≡◌, ◌∙◌, ◌+◌, ◌<◌, ◌≤◌, ◌⊎◌, inl, inr, ℕ, List, [], ◌∷◌, ◌++◌, Some, ap, arith, length, map, refl, subst, sym}
-use Rattle.std.proofs.Common.{Bool, Contains, true, false}
+use Rattle.std.proofs.Common.{Contains}
 use Rattle.std.specs.Prelude.{Option, None, slice_get}
 use Rattle.std.proofs.lemmas.Bool.{cases_lt}
 use Rattle.lalrpop_grammar_symbols.specs.Symbols.{Text}
@@ -8,9 +8,9 @@ use Rattle.lalrpop_grammar_symbols.specs.declared.names.NonterminalString.{Nonte
 use Rattle.lalrpop_grammar.specs.WrittenGrammar.{Origin}
 use Rattle.lalrpop_grammar_language.specs.Among.{Among}
 use Rattle.lalrpop_grammar_language.specs.Enabled.{EnabledGrammar}
-use Rattle.lalrpop_grammar_language.specs.Expansion.{GrammarSymbol, InExpansion, Nonterminal, Produces}
-use Rattle.lalrpop_grammar_language.specs.Inlining.{HaveOneSide, Inlines}
-use Rattle.lalrpop_grammar_language.specs.Labels.{GrammarSymbols, Label}
+use Rattle.lalrpop_grammar_language.specs.Expansion.{InExpansion, Nonterminal, Produces}
+use Rattle.lalrpop_grammar_language.specs.Inlining.{HaveOneSide}
+use Rattle.lalrpop_grammar_language.specs.Labels.{Label}
 use Rattle.lalrpop_grammar_repr.specs.Productions.{productions_in}
 use Rattle.lalrpop_grammar_repr.specs.declared.grammar.Grammar.{Grammar}
 use Rattle.lalrpop_grammar_repr.specs.declared.production.NonterminalData.{NonterminalData}
@@ -25,7 +25,7 @@ use Rattle.lalrpop_lr1_inline.specs.NamedProductions.{IsInlinedByName, ProducesB
 use Rattle.lalrpop_lr1_inline.proofs.NamedLemmas.{entry_found}
 use Rattle.lalrpop_lr1_inline.proofs.OrderLabelLemmas.{inlined_labels}
 use Rattle.lalrpop_lr1_theory.specs.Productions as theory
-use Rattle.lalrpop_lr1_theory.proofs.ListLemmas.{get_contains, get_front}
+use Rattle.lalrpop_lr1_theory.proofs.ListLemmas.{get_front}
 use Rattle.lalrpop_lr1_theory.proofs.PlaceLemmas.{slice_get-append}
 use Rattle.lalrpop_lr1_theory.proofs.StepLemmas.{some_same}
 use Rattle.lalrpop_norm_lower.specs.LoweredSymbols.{named_production, named_productions, productions_at}
@@ -33,7 +33,7 @@ use Rattle.lalrpop_norm_theory.specs.Inlined.{IsInlined}
 use Rattle.lalrpop_norm_theory.specs.Productions.{IsInOrder, IsOriginBefore, NamedProduction}
 use Rattle.lalrpop_run_prepare.specs.NamedGrammars.{IsNamedExpansion, StandUnderNames}
 use Rattle.lalrpop_run_prepare.specs.NamedLabels.{label_back}
-use Rattle.lalrpop_run_prepare.proofs.InlinedEntryLemmas.{AreSorted, named_entry, named_name, stands_named, steps_own, steps_sorted}
+use Rattle.lalrpop_run_prepare.proofs.InlinedEntryLemmas.{AreSorted, named_entry, stands_named, steps_own, steps_sorted}
 use Rattle.lalrpop_run_prepare.proofs.InlinedExpansionLemmas.{IsSeen, actions_once, all_known, is_seen}
 use Rattle.lalrpop_run_prepare.proofs.NamedProductionLemmas.{among_place, are_named, back, back_is, entry_production, named_sides}
 use Rattle.lalrpop_run_prepare.proofs.NamedProductionLemmas.{own_action, place_among}

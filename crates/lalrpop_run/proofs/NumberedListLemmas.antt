@@ -1,14 +1,14 @@
 -- Lists in which none stands twice, and how many there are that have numbers below one: for the numbers that inlining hands out.
 use Rattle.std.proofs.Common.{◌≡◌, ◌∙◌, ◌+◌, ◌<◌, ◌≤◌, ℕ, zero, suc, List, [], ◌∷◌, ◌++◌, Some, ap, arith, inl, inr, length, map, refl, subst}
 use Rattle.std.proofs.Common.{sym}
-use Rattle.std.specs.Prelude.{All, Option, slice_get}
+use Rattle.std.specs.Prelude.{Option, slice_get}
 use Rattle.std.proofs.lemmas.List.{length-map}
-use Rattle.std.proofs.lemmas.List.Elements.{All-cons, All-nil}
 use Rattle.std.proofs.lemmas.Option.{slice_get_within}
 use Rattle.lalrpop_grammar_language.specs.Among.{Among}
 use Rattle.lalrpop_grammar_language.proofs.AmongLemmas.{map_among}
 use Rattle.lalrpop_grammar_language.proofs.PlaceLemmas.{among_map}
 use Rattle.lalrpop_lr1_inline.specs.InlinedLabels.{StandOnce}
+use Rattle.lalrpop_lr1_core.proofs.MemberLemmas.{some_is}
 use Rattle.lalrpop_run_prepare.proofs.NamedProductionLemmas.{among_place}
 use Rattle.lalrpop_run.proofs.CountLemmas.{Below, Different, NotAmong, at_most}
 
@@ -26,17 +26,6 @@ pub once_back : {A B : Type 0} (f : A → B) (xs : List A) → StandOnce (map f 
 once_back f [] h = tt
 once_back f (x ∷ xs) h = (λ i. h.0 (map_among f xs x i), once_back f xs h.1)
 
--- what stands once is one
-pub once_same : {A B : Type 0} (f : A → B) (xs : List A) (x y : A) → StandOnce (map f xs) → Among xs x → Among xs y → f x ≡ f y →
-    x ≡ y
-once_same f [] x y o i j e = absurd i
-once_same f (z ∷ xs) x y o (inl a) (inl b) e = sym a ∙ b
-once_same f (z ∷ xs) x y o (inl a) (inr j) e =
-    absurd (o.0 (subst (λ k. Among (map f xs) k) (sym (ap f a ∙ e)) (map_among f xs y j)))
-once_same f (z ∷ xs) x y o (inr i) (inl b) e =
-    absurd (o.0 (subst (λ k. Among (map f xs) k) (e ∙ sym (ap f b)) (map_among f xs x i)))
-once_same f (z ∷ xs) x y o (inr i) (inr j) e = once_same f xs x y o.1 i j e
-
 -- a list in which each value stands at one place has it once
 pub once_at_place : {A B : Type 0} (f : A → B) (xs : List A) →
     ((i j : ℕ) (x y : A) → slice_get xs i ≡ Some x → slice_get xs j ≡ Some y → f x ≡ f y → i ≡ j) → StandOnce (map f xs)
@@ -51,11 +40,6 @@ once_at_place f (x ∷ xs) only = (
       let same : suc i ≡ suc j = only (suc i) (suc j) y z a b e in
       omega (arith, same)),
 )
-
--- what holds of each of a list holds of all
-pub all_of_each : {A : Type 0} (P : A → Type 0) (xs : List A) → ((x : A) → Among xs x → P x) → All P xs
-all_of_each P [] h = All-nil P
-all_of_each P (x ∷ xs) h = All-cons P x xs (h x (inl refl)) (all_of_each P xs (λ y i. h y (inr i)))
 
 -- numbers one after another
 abbrev pub count_up : ℕ → ℕ → List ℕ
@@ -123,9 +107,6 @@ few_numbered {A} f m xs once each =
     let most : length r.numbers ≤ m = at_most m r.numbers (different r.numbers own) (all_below m r.numbers r.below) in
     let same : length xs ≡ length r.numbers = ap length (sym r.are) ∙ length-map r.numbers f in
     omega (arith, most, same)
-
-some_is : {A : Type 0} (x y : A) → Some x ≡ Some y → x ≡ y
-some_is x y e = cc
 
 -- where each is one of others, there are no more than those
 pub few_among : {A : Type 0} (xs big : List A) → StandOnce xs → ((x : A) → Among xs x → Among big x) → length xs ≤ length big

@@ -1,15 +1,13 @@
 -- After a step of inlining the productions of each nonterminal stand in the order of their labels, and are numbered in theirs, where they did
 -- before it; for the numbers of an inlined grammar.
 use Rattle.std.proofs.Common.{◌≡◌, ◌∙◌, ◌≤◌, ◌<◌, ◌+◌, ◌⊎◌, inl, inr, ℕ, suc, List, [], ◌∷◌, ◌++◌, ap, arith, length, map, refl, subst, sym}
-use Rattle.std.proofs.Common.{true, false, Contains, take}
+use Rattle.std.proofs.Common.{true, false, take}
 use Rattle.std.specs.Prelude.{Bool, if◌then◌else◌}
 use Rattle.std.specs.List.{list_any}
 use Rattle.std.specs.Ordering.{is_eq}
-use Rattle.std.proofs.lemmas.List.{length-map}
 use Rattle.lalrpop_grammar_symbols.specs.Symbols.{Text}
 use Rattle.lalrpop_grammar_symbols.specs.contracts.names.NonterminalStringOrd.TheImpl as names
 use Rattle.lalrpop_grammar_language.specs.Among.{Among}
-use Rattle.lalrpop_grammar_language.specs.Expansion.{GrammarSymbol}
 use Rattle.lalrpop_grammar_language.specs.Labels.{BaseProductions, GrammarSymbols, Label}
 use Rattle.lalrpop_grammar_language.specs.Inlining.{HaveOneSide, Inlines}
 use Rattle.lalrpop_grammar_language.specs.Steps.{IsRecord, NeverNamesItself, OneMore, label_with, symbols_after, symbols_before}
@@ -24,12 +22,12 @@ use Rattle.lalrpop_lr1_inline.specs.InliningSteps.{all_records_after, data_after
 use Rattle.lalrpop_lr1_inline.specs.InliningSteps.{productions_after, productions_in_place, productions_named, productions_of_records}
 use Rattle.lalrpop_lr1_inline.specs.InliningSteps.{records_after, records_in_place, records_of, side_of_record}
 use Rattle.lalrpop_lr1_inline.specs.NamedProductions.{record_by_labels, side_by_names}
-use Rattle.lalrpop_lr1_inline.proofs.MadeLabelLemmas.{IsMade, IsMadeOf, LabelsFrom, after_from, labels_back, labels_front, place_made}
+use Rattle.lalrpop_lr1_inline.proofs.MadeLabelLemmas.{IsMade, LabelsFrom, after_from, labels_back, labels_front, place_made}
 use Rattle.lalrpop_lr1_inline.proofs.MadeLabelLemmas.{rest_labels}
 use Rattle.lalrpop_lr1_inline.proofs.RecordLabelLemmas.{record_is}
 use Rattle.lalrpop_lr1_inline.proofs.StepLabelLemmas.{AreProductionsBy}
 use Rattle.lalrpop_lr1_inline.proofs.StepsLemmas.{looked_by}
-use Rattle.lalrpop_run.specs.ProductionOrders.{IsInlinedSooner, IsLabelBefore, IsMadeSooner, IsMadeWithin, IsNumberedBefore}
+use Rattle.lalrpop_run.specs.ProductionOrders.{IsInlinedSooner, IsLabelBefore, IsMadeWithin, IsNumberedBefore}
 use Rattle.lalrpop_run.proofs.LabelStepLemmas.{made_within, not_within, records_apart, sources_apart, within_steps}
 use Rattle.lalrpop_run.proofs.OrderedListLemmas.{AreInOrder, first_in_order, in_order_behind, joined_in_order, none_in_order, one_in_order}
 use Rattle.lalrpop_run.proofs.RecordOrderLemmas.{IsBeforeIn, IsMadeAt, StandsInPlace, made_at, place_there, records_in_order}

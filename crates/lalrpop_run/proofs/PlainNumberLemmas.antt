@@ -12,7 +12,8 @@ use Rattle.lalrpop_grammar_language.specs.Inlining.{Inlines, InlinesAll}
 use Rattle.lalrpop_grammar_language.specs.Labels.{BaseProductions, GrammarSymbols, Inlinings, Label}
 use Rattle.lalrpop_grammar_language.proofs.AmongLemmas.{flat_map_among, map_among}
 use Rattle.lalrpop_norm_theory.specs.Inlined.{IsInlined}
-use Rattle.lalrpop_norm_theory.specs.Keys.{IsNaming, leveled_key_text}
+use Rattle.lalrpop_norm_theory.specs.Keys.{leveled_key_text}
+use Rattle.lalrpop_norm_theory.specs.NamesByUse.{IsNamingByUse}
 use Rattle.lalrpop_norm_theory.proofs.ExpansionListLemmas.{all-of, is_all}
 use Rattle.lalrpop_norm_theory.proofs.ProductionListLemmas.{listed, productions_of}
 use Rattle.lalrpop_run_theory.specs.ExpansionTrees.{is_inlined_nonterminal}
@@ -107,7 +108,7 @@ module _ (g : EnabledGrammar) (prefix : Text) (xs : List Nonterminal) (all : is_
   few_plain labels h = few_among labels (plain_labels g xs) h.once (λ l i. plain_label l (h.each l i))
 
   -- so there are numbers enough where there are few productions
-  pub plain_enough : (name_of : Nonterminal → Text) → IsNaming (leveled_key_text g) prefix g name_of →
+  pub plain_enough : (name_of : Nonterminal → Text) → IsNamingByUse (leveled_key_text g) prefix g name_of →
       length (plain_labels g xs) ≤ 2 ^ 32 → HasNumbersEnough g prefix
   plain_enough name_of naming few = record {
     name_of = name_of;

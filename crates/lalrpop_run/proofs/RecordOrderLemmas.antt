@@ -1,5 +1,5 @@
 -- The records of a right side are in order where the productions are that they put in: for the order of what a step makes.
-use Rattle.std.proofs.Common.{◌≡◌, ◌∙◌, ◌≤◌, ◌<◌, ◌+◌, ◌⊎◌, inl, inr, ℕ, suc, List, [], ◌∷◌, ap, arith, length, map, refl, subst, sym, true, false}
+use Rattle.std.proofs.Common.{◌≡◌, ◌∙◌, ◌≤◌, ◌<◌, ◌+◌, ◌⊎◌, inl, inr, ℕ, List, [], ◌∷◌, ap, arith, length, map, refl, subst, sym, true, false}
 use Rattle.std.proofs.Common.{Contains}
 use Rattle.std.specs.Prelude.{Bool, ◌||◌, if◌then◌else◌}
 use Rattle.std.specs.List.{list_any}
@@ -15,7 +15,7 @@ use Rattle.lalrpop_grammar_repr.specs.declared.production.Production.{Production
 use Rattle.lalrpop_grammar_repr.specs.declared.production.Symbol.{Symbol}
 use Rattle.lalrpop_grammar_repr.specs.declared.production.Symbol.TheVariants as symbols
 use Rattle.lalrpop_lr1_core.proofs.MemberLemmas.{in_map}
-use Rattle.lalrpop_lr1_inline.specs.InliningSteps.{is_place, production_of_record, productions_in_place, productions_of_records}
+use Rattle.lalrpop_lr1_inline.specs.InliningSteps.{is_place, productions_in_place, productions_of_records}
 use Rattle.lalrpop_lr1_inline.specs.InliningSteps.{record_entries, records_in_place, records_of}
 use Rattle.lalrpop_lr1_inline.specs.NamedProductions.{record_by_labels, side_by_names}
 use Rattle.lalrpop_lr1_inline.proofs.MadeLabelLemmas.{LabelsFrom}

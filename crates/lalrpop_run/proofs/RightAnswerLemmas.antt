@@ -168,6 +168,7 @@ module _ (v : PreparedGrammar) (limit : ℕ) (p : IsPrepared finds is_too_deep v
         is_order = ordered.is_order;
         in_order = ordered.in_order;
       };
+      naming = ordered.naming;
       no_lr1 = λ h. has.no_lr1 (subst (IsLr1 (Contains (theory_grammar v.expansion))) (sym name) h);
       told_are = subst (λ s. AreToldOf (Contains (theory_grammar v.expansion)) s ordered.told.expansion.label_of (map conflict_view shown)) name
           (all_told v ordered.told conflict_told certificates shown has are read terminals ascending parsed has.shifts);

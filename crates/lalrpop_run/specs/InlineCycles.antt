@@ -9,7 +9,8 @@ use Rattle.lalrpop_grammar_repr.specs.declared.norm_error.NormErrorKind.{NormErr
 use Rattle.lalrpop_grammar_repr.specs.declared.norm_error.NormErrorKind.TheVariants as kinds
 use Rattle.lalrpop_norm_chain.specs.Spans.{HasOwnSpan}
 use Rattle.lalrpop_norm_theory.specs.Inlined.{IsInlined}
-use Rattle.lalrpop_norm_theory.specs.Keys.{IsNaming, leveled_key_text}
+use Rattle.lalrpop_norm_theory.specs.Keys.{leveled_key_text}
+use Rattle.lalrpop_norm_theory.specs.NamesByUse.{IsNamingByUse}
 
 -- an inlined nonterminal has a production that names an inlined one
 pub record NamesInlined (g : EnabledGrammar) (x y : Nonterminal) : Type 0 where
@@ -29,11 +30,11 @@ pub data InlineChain (g : EnabledGrammar) (x : Nonterminal) : Nonterminal → Ty
 abbrev pub IsCyclic : EnabledGrammar → Nonterminal → Type 0
 IsCyclic g x = InExpansion g x × InlineChain g x x
 
--- Such a nonterminal is told by its name, where it stands.
+-- Such a nonterminal is told by its name, given in order of first use, where it stands.
 pub record IsCycleFault (finds : Text → Text → Option Bool) (features : List Text) (w : Grammar) (kind : NormErrorKind) (p : TextSpan) :
     Type 0 where
   pub name_of : Nonterminal → Text
-  pub naming : IsNaming (leveled_key_text (enabled_grammar finds features w)) w.prefix (enabled_grammar finds features w) name_of
+  pub naming : IsNamingByUse (leveled_key_text (enabled_grammar finds features w)) w.prefix (enabled_grammar finds features w) name_of
   pub nonterminal : Nonterminal
   pub cyclic : IsCyclic (enabled_grammar finds features w) nonterminal
   pub kind_is : kind ≡ kinds.CyclicInline (record { 0 = name_of nonterminal })

@@ -9,9 +9,11 @@ use Rattle.lalrpop_lr1_theory.specs.Answers.{IsLr1}
 use Rattle.lalrpop_lr1_theory.specs.Productions.{Production}
 use Rattle.lalrpop_lr1_theory.specs.Spans.{without_spans}
 use Rattle.lalrpop_lr1_theory.specs.Trees.{roots}
+use Rattle.lalrpop_norm_theory.specs.Keys.{leveled_key_text}
+use Rattle.lalrpop_norm_theory.specs.NamesByUse.{IsNamingByUse}
 use Rattle.lalrpop_run_theory.specs.ExpansionTrees.{written_of_forest}
 use Rattle.lalrpop_run.specs.AllConflicts.{AreConflictsInOrder, CertifiesPlaced, PlacedConflict}
-use Rattle.lalrpop_run.specs.Asked.{Asked, MoveKind, ToldConflict, name_of_start}
+use Rattle.lalrpop_run.specs.Asked.{Asked, MoveKind, ToldConflict, enabled, name_of_start}
 use Rattle.lalrpop_run.specs.ListedFaults.{IsFaultless}
 use Rattle.lalrpop_run.specs.ProductionOrders.{AreItsProductions}
 
@@ -47,10 +49,12 @@ pub record AreToldOf (G : Production → Type 0) (s : Text) (label_of : ℕ → 
   pub each : (i : ℕ) (c : PlacedConflict) (t : ToldConflict) → slice_get conflicts i ≡ Some c → slice_get told i ≡ Some t
       → IsToldOf G s label_of c t
 
--- No fault stands, and the expansion isn't LR(1) from the start; all its conflicts are told, in their order, each with a certificate.
+-- No fault stands, and the expansion isn't LR(1) from the start, under names that are given in order of first use; all its conflicts are
+-- told, in their order, each with a certificate.
 pub record IsConflicting (q : Asked) (w : Grammar) (told : List ToldConflict) : Type 0 where
   pub faultless : IsFaultless q w
   pub grammar : List Production
   pub productions : AreItsProductions q w grammar
+  pub naming : IsNamingByUse (leveled_key_text (enabled q w)) w.prefix (enabled q w) productions.expansion.name_of
   pub no_lr1 : IsLr1 (Contains grammar) (name_of_start q w) → ⊥
   pub told_are : AreToldOf (Contains grammar) (name_of_start q w) productions.expansion.label_of told

@@ -54,7 +54,7 @@ theory_sides (symbols.Nonterminal n ∷ side) = ap (λ z. theory.nonterminal n.0
 theory_sides (symbols.Terminal t ∷ side) = ap (λ z. theory.terminal (terminal_view t) ∷ z) (theory_sides side)
 
 -- what stands once is one
-once_same : {A B : Type 0} (f : A → B) (xs : List A) (x y : A) → StandOnce (map f xs) → Among xs x → Among xs y →
+pub once_same : {A B : Type 0} (f : A → B) (xs : List A) (x y : A) → StandOnce (map f xs) → Among xs x → Among xs y →
     f x ≡ f y → x ≡ y
 once_same f [] x y o i j e = absurd i
 once_same f (z ∷ xs) x y o (inl a) (inl b) e = sym a ∙ b
@@ -210,7 +210,7 @@ once_by_place f (x ∷ xs) one = (
 )
 
 -- the actions of a grammar's productions, as those of its named productions
-actions_named : (es : NonterminalEntries) →
+pub actions_named : (es : NonterminalEntries) →
     production_actions es ≡ map (λ (p : NamedProduction). p.action) (named_productions es)
 actions_named [] = refl
 actions_named (e ∷ es) =
@@ -224,7 +224,7 @@ actions_named (e ∷ es) =
     entry_actions (p ∷ ps) = ap (λ z. p.action.0 ∷ z) (entry_actions ps)
 
 -- what holds of each of a list holds of all
-all_of_each : {A : Type 0} (P : A → Type 0) (xs : List A) → ((x : A) → Among xs x → P x) → All P xs
+pub all_of_each : {A : Type 0} (P : A → Type 0) (xs : List A) → ((x : A) → Among xs x → P x) → All P xs
 all_of_each P [] h = All-nil P
 all_of_each P (x ∷ xs) h = All-cons P x xs (h x (inl refl)) (all_of_each P xs (λ y i. h y (inr i)))
 
@@ -246,6 +246,11 @@ module _ (g : EnabledGrammar) (prefix : Text) (before : Grammar) (before_sorted 
       let are = given_labels es lab (λ m. ⊥) (λ m h. h) given actions_once in
       labelled_expansion g prefix es before_sorted before_own n (λ x. ⊥) (λ m. ⊥)
       (are_named_base g prefix es before_sorted before_own n) es before_sorted before_own lab are.sound are.all are.once
+
+  -- its names are those of the grammar
+  pub base_names : base_expansion.name_of ≡ n.name_of
+  unfolding base_expansion labelled_expansion
+  base_names = refl
 
   -- each production's action is one of the grammar's
   abbrev AreKnown : Type 0

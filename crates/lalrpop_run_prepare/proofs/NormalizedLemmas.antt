@@ -88,7 +88,7 @@ pub named_expansion : (finds : Text → Text → Option Bool) (features : List T
     IsNamedExpansion (enabled_grammar finds features w) w.prefix made.grammar.nonterminals
 named_expansion finds features w made h = record {
   name_of = h.name_of;
-  naming = h.naming;
+  naming = h.naming.naming;
   origins = map origin_view made.origins;
   productions = h.productions;
   inlined = λ x i. (

@@ -28,12 +28,14 @@ use Rattle.lalrpop_lr1_theory.specs.Productions as theory
 use Rattle.lalrpop_lr1_theory.specs.ValidItems.{NoneBarren}
 use Rattle.lalrpop_norm_token_check.specs.Patterns.{entry_patterns, entry_precedences}
 use Rattle.lalrpop_norm_theory.specs.Inlined.{IsInlined}
+use Rattle.lalrpop_norm_theory.specs.Keys.{leveled_key_text}
+use Rattle.lalrpop_norm_theory.specs.NamesByUse.{IsNamingByUse}
 use Rattle.lalrpop_norm_theory.specs.Premises.{IsReadGrammar}
 use Rattle.lalrpop_norm_lower.specs.TableReadiness.{IsReadyForTables}
 use Rattle.lalrpop_norm_lower.specs.declared.lowering.Normalized.{Normalized}
 use Rattle.lalrpop_norm_chain.specs.LoweredViews.{lowered_view}
-use Rattle.lalrpop_run_prepare.proofs.InlinedExpansionLemmas.{base_expansion}
-use Rattle.lalrpop_run_prepare.proofs.NormalizedLemmas.{named_expansion, named_origins}
+use Rattle.lalrpop_run_prepare.proofs.InlinedExpansionLemmas.{base_expansion, base_names}
+use Rattle.lalrpop_run_prepare.proofs.NormalizedLemmas.{named_expansion, named_names, named_origins}
 use Rattle.lalrpop_run_theory.specs.Barren.{HasNoBarren, IsLeastBarrenName}
 use Rattle.lalrpop_run_theory.specs.Expansions.{AreBaseExpansion}
 use Rattle.lalrpop_run_theory.proofs.BarrenLemmas.{barren_named, named_barren, none_barren_named, start_is_alone}
@@ -80,18 +82,27 @@ module _ (finds : Text → Text → Option Bool) (deep : Text → Bool) (feature
   pub no_barren : NoneBarren (Contains (theory_grammar made.grammar)) start → HasNoBarren g start
   no_barren none = none_barren_named g w.prefix (Contains (theory_grammar made.grammar)) base start in_expansion none
 
+  -- its names are those of the normalized grammar
+  normalized_names : base.name_of ≡ n.normalized.name_of
+  unfolding base
+  normalized_names =
+      base_names g w.prefix made.grammar sorted (λ e p i j. ready.named e.0 e.1 p i j) (named_expansion finds features w made n.normalized)
+      ∙ named_names finds features w made n.normalized
+
   least_told : (name : Text) → IsLeastAmongBarren (Contains (theory_grammar made.grammar)) start name
       → IsLeastBarrenName g w.prefix start name
   least_told name h =
       let x = named_barren g w.prefix (Contains (theory_grammar made.grammar)) base start in_expansion name h.barren in
       record {
         name_of = base.name_of;
-        naming = base.naming;
-        nonterminal = x.0;
-        is_barren = x.1;
-        name_is = x.2;
-        least = λ y k. h.least (base.name_of y)
-            (barren_named g w.prefix (Contains (theory_grammar made.grammar)) base start in_expansion y k);
+        naming = subst (IsNamingByUse (leveled_key_text g) w.prefix g) (sym normalized_names) n.normalized.naming;
+        told = record {
+          nonterminal = x.0;
+          is_barren = x.1;
+          name_is = x.2;
+          least = λ y k. h.least (base.name_of y)
+              (barren_named g w.prefix (Contains (theory_grammar made.grammar)) base start in_expansion y k);
+        };
       }
 
   -- the start stands on no right side, and leads to the rule alone

@@ -1,5 +1,5 @@
 -- A record put in a label, seen over written choices, is its entries put in: for labels that are told by actions.
-use Rattle.std.proofs.Common.{◌≡◌, ◌∙◌, ℕ, List, [], ◌∷◌, ap, length, refl, suc}
+use Rattle.std.proofs.Common.{◌≡◌, ◌∙◌, ℕ, List, [], ◌∷◌, ap, length, refl}
 use Rattle.lalrpop_grammar_symbols.specs.Symbols.{Text}
 use Rattle.lalrpop_grammar_language.specs.Labels.{GrammarSymbols, Inlinings, Label}
 use Rattle.lalrpop_grammar_language.specs.Steps.{RecordedSymbol, fill_inlinings, fill_label, label_with, record_inlinings}

@@ -86,21 +86,21 @@ start_left features n (WrittenItem.nonterminal r ∷ items) e = go (is_active fe
 module _ (finds : Text → Text → Option Bool) (deep : Text → Bool) (features : List Text) (limit : ℕ) (w : Grammar)
     (read : IsReadGrammar w) (none : HasNoWrittenFault finds deep features limit w) where
   no_check : HasNoCheckFault w
-  no_check kind p h = none kind p (IsWrittenFault.standing kind p (IsStandingFault.check kind p h))
+  no_check kind p h = none.none kind p (IsWrittenFault.standing kind p (IsStandingFault.check kind p h))
 
   no_fault : (l : List NameFault) → name_faults (without_disabled features w) ≡ l → l ≡ []
   no_fault [] e = refl
   no_fault (NameFault.unknown n p ∷ l) e =
-      absurd (none (kinds.NoDefinition n) p (IsWrittenFault.standing (kinds.NoDefinition n) p
+      absurd (none.none (kinds.NoDefinition n) p (IsWrittenFault.standing (kinds.NoDefinition n) p
       (IsStandingFault.no_definition n p no_check (subst (λ k. Among k (NameFault.unknown n p)) (sym e) (inl refl)))))
   no_fault (NameFault.misused p ∷ l) e =
-      absurd (none kinds.MacroAsRule p (IsWrittenFault.standing kinds.MacroAsRule p
+      absurd (none.none kinds.MacroAsRule p (IsWrittenFault.standing kinds.MacroAsRule p
       (IsStandingFault.macro_as_rule p no_check (subst (λ k. Among k (NameFault.misused p)) (sym e) (inl refl)))))
 
   right_names : HasRightNames (without_disabled features w)
   right_names = record {
     no_duplicates = λ n p d.
-        none (kinds.DuplicateDefinition n) p (IsWrittenFault.standing (kinds.DuplicateDefinition n) p
+        none.none (kinds.DuplicateDefinition n) p (IsWrittenFault.standing (kinds.DuplicateDefinition n) p
         (IsStandingFault.duplicate n p no_check d));
     no_faults = no_fault (name_faults (without_disabled features w)) refl;
   }

@@ -1,6 +1,6 @@
 -- Tables can be made of a lowered grammar, and of what inlining makes of it; for what is prepared.
 use Rattle.std.specs.Prelude.{All, Some, slice_get}
-use Rattle.std.proofs.Common.{◌≡◌, ◌∙◌, ◌<◌, ◌+◌, List, [], ◌∷◌, ap, sym, subst, inl}
+use Rattle.std.proofs.Common.{◌≡◌, ◌∙◌, ◌<◌, ◌+◌, List, [], ◌∷◌, ap, sym, subst}
 use Rattle.std.proofs.Common.{arith, length, Contains}
 use Rattle.std.proofs.lemmas.List.Elements.{All-contains_itself}
 use Rattle.lalrpop_grammar_symbols.specs.declared.names.NonterminalString.{NonterminalString}

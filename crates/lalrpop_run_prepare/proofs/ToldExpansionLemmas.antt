@@ -1,6 +1,6 @@
 -- The productions of an inlined grammar are those of the expansion, and their actions tell their labels: for the law on labels.
-use Rattle.std.proofs.Common.{◌≡◌, ◌∙◌, ◌<◌, ◌≤◌, ℕ, List, ap, arith, length, refl, subst, sym, Contains}
-use Rattle.std.specs.Prelude.{All, Some, map, slice_get}
+use Rattle.std.proofs.Common.{◌≡◌, ◌∙◌, ◌<◌, ◌≤◌, ℕ, List, ap, arith, length, subst, sym}
+use Rattle.std.specs.Prelude.{Some, map, slice_get}
 use Rattle.std.proofs.lemmas.List.{length-map}
 use Rattle.lalrpop_grammar_symbols.specs.Symbols.{Text}
 use Rattle.lalrpop_grammar_symbols.specs.declared.names.NonterminalString.{NonterminalString}
@@ -21,7 +21,6 @@ use Rattle.lalrpop_lr1_core.specs.Views.{production_symbol_view, production_view
 use Rattle.lalrpop_lr1_core.proofs.NoConflictLemmas.{at_mapped}
 use Rattle.lalrpop_lr1_core.specs.TheoryGrammars.{theory_grammar}
 use Rattle.lalrpop_lr1_inline.specs.InlinedGrammars.{IsInlinedGrammar}
-use Rattle.lalrpop_lr1_inline.specs.InlinedNames.{NonterminalEntries}
 use Rattle.lalrpop_lr1_inline.specs.InliningSteps.{productions_named}
 use Rattle.lalrpop_lr1_inline.specs.NamedProductions.{keeps_all, label_given, side_by_names, symbol_by_name}
 use Rattle.lalrpop_lr1_inline.specs.InlinedLabels.{AreActionLabels}
@@ -33,7 +32,7 @@ use Rattle.lalrpop_run_prepare.proofs.InlinedEntryLemmas.{AreSorted, stands_name
 use Rattle.lalrpop_run_prepare.proofs.InlinedExpansionLemmas.{all_known, inlined_expansion, is_seen, labels_by_actions}
 use Rattle.lalrpop_run_prepare.proofs.InlinedExpansionLemmas.{names_by_actions}
 use Rattle.lalrpop_run_prepare.proofs.NamedProductionLemmas.{back, back_is, entry_production}
-use Rattle.lalrpop_run_trees.specs.ActionLabels.{ChoiceInlinings, ChoiceLabel, TellsLabel, all_kept}
+use Rattle.lalrpop_run_trees.specs.ActionLabels.{ChoiceLabel, TellsLabel, all_kept}
 use Rattle.lalrpop_run_prepare.specs.ToldExpansions.{AreToldExpansion}
 use Rattle.lalrpop_run_prepare.proofs.PutLemmas.{all_kept_back}
 use Rattle.lalrpop_run_prepare.proofs.ToldRecordLemmas.{IsTold}

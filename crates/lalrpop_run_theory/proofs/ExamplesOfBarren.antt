@@ -15,6 +15,7 @@ use Rattle.lalrpop_grammar_language.specs.Derivations.{Derivation, Derivations, 
 use Rattle.lalrpop_grammar_language.proofs.WrittenTreeLemmas.{lit, id, alt, rule_of, grammar, finds}
 use Rattle.lalrpop_norm_theory.specs.Keys.{leveled_key_text}
 use Rattle.lalrpop_norm_theory.proofs.NamingListLemmas.{name_by, naming-is}
+use Rattle.lalrpop_norm_theory.proofs.UsedListLemmas.{keys-by-use}
 use Rattle.lalrpop_norm_theory.proofs.ProductionListLemmas.{is_production, listed}
 use Rattle.lalrpop_run_theory.specs.Barren.{IsReachedFrom, IsWrittenStart, IsBarrenFrom, IsLeastBarrenName, HasNoBarren}
 use Rattle.lalrpop_run_theory.proofs.BarrenLemmas.{written_start_once}
@@ -91,12 +92,20 @@ A_told : IsLeastBarrenName endless (codes "__") (codes "S") (codes "A")
 unfolding digits
 A_told = record {
   name_of = endless_names;
-  naming = naming-is endless (leveled_key_text endless) (codes "__") []
-      2 (Nonterminal.start (codes "S") ∷ rule "S" ∷ rule "A" ∷ []) refl refl refl;
-  nonterminal = rule "A";
-  is_barren = A_barren;
-  name_is = refl;
-  least = λ x b. at x (only_these b.from x b.is_start b.reached);
+  naming = record {
+    naming = naming-is endless (leveled_key_text endless) (codes "__") []
+        2 (Nonterminal.start (codes "S") ∷ rule "S" ∷ rule "A" ∷ []) refl refl refl;
+    levels = tt;
+    others = [];
+    in_order = keys-by-use endless [] refl;
+    numbered = tt;
+  };
+  told = record {
+    nonterminal = rule "A";
+    is_barren = A_barren;
+    name_is = refl;
+    least = λ x b. at x (only_these b.from x b.is_start b.reached);
+  };
 }
   where
     at : (x : Nonterminal) → (rule "S" ≡ x) ⊎ (rule "A" ≡ x) →
@@ -106,10 +115,10 @@ A_told = record {
 
 -- `S`, which is barren too, isn't
 S_not_told : IsLeastBarrenName endless (codes "__") (codes "S") (codes "S") → ⊥
-S_not_told h = go (h.least (rule "A") A_barren)
+S_not_told h = go (h.told.least (rule "A") A_barren)
   where
     named : h.name_of (rule "A") ≡ codes "A"
-    named = h.naming.rules _ refl refl
+    named = h.naming.naming.rules _ refl refl
 
     go : (h.name_of (rule "A") ≡ codes "S") ⊎ (slice_cmp nat_cmp (codes "S") (h.name_of (rule "A")) ≡ Less) → ⊥
     go (inl e) =
@@ -142,10 +151,10 @@ only_a from x h (IsReachedFrom.onward y o side z r m a) =
 
 start_not_told : IsLeastBarrenName itself (codes "__") (codes "a") (codes "__a") → ⊥
 start_not_told h =
-    let b = h.is_barren in
-    let is : rule "a" ≡ h.nonterminal = only_a b.from h.nonterminal b.is_start b.reached in
-    let named : h.name_of (rule "a") ≡ codes "a" = h.naming.rules _ refl refl in
-    let texts : codes "a" ≡ codes "__a" = sym named ∙ ap h.name_of is ∙ h.name_is in
+    let b = h.told.is_barren in
+    let is : rule "a" ≡ h.told.nonterminal = only_a b.from h.told.nonterminal b.is_start b.reached in
+    let named : h.name_of (rule "a") ≡ codes "a" = h.naming.naming.rules _ refl refl in
+    let texts : codes "a" ≡ codes "__a" = sym named ∙ ap h.name_of is ∙ h.told.name_is in
     let lengths : length (codes "a") ≡ length (codes "__a") = ap length texts in
     omega (arith, lengths)
 

@@ -130,6 +130,38 @@ five = production "__S" (name "S" ∷ []) 0 ∷ production "S" (word "a" ∷ wor
 abbrev pub five_labels : ℕ → L
 five_labels = label_at by_start (by_start ∷ by_op 0 ∷ by_op 1 ∷ op 0 ∷ op 1 ∷ [])
 
+abbrev Choice : Type 0
+Choice = Origin × RightSide
+
+-- a nonterminal that isn't inlined is kept
+pub one_kept : (g : EnabledGrammar) (x : Nonterminal) → (IsInlined g x → ⊥) → (inlinings : I) (side : RightSide) →
+    InlinesAll (Produces g) (IsInlined g) (n x ∷ []) inlinings side → (inlinings ≡ kept end) × (side ≡ n x ∷ [])
+one_kept g x stays Inlinings.none side h = absurd h
+one_kept g x stays (Inlinings.inlined l inlinings) side h = absurd (stays h.0)
+one_kept g x stays (Inlinings.kept Inlinings.none) side h = (refl, h.2 ∙ ap (λ z. n x ∷ z) h.3)
+one_kept g x stays (Inlinings.kept (Inlinings.kept inlinings)) side h = absurd h.3
+one_kept g x stays (Inlinings.kept (Inlinings.inlined l inlinings)) side h = absurd h.3
+
+-- a start with one right side, a nonterminal that isn't inlined, has one label
+pub one_start : (g : EnabledGrammar) (x : Nonterminal) → (IsInlined g x → ⊥) →
+    ((o : Origin) (side : RightSide) → Produces g start o side →
+    Among {A = Origin × RightSide} ((Origin.start, n x ∷ []) ∷ []) (o, side)) →
+    (l : L) (side : RightSide) → Inlines (Produces g) (IsInlined g) start l side → (l ≡ by_start) × (side ≡ n x ∷ [])
+one_start g x stays only (Label.choose z o inlinings) side h = go (only o h.1 h.2)
+  where
+    go : Among {A = Choice} ((Origin.start, n x ∷ []) ∷ []) (o, h.1) →
+        (Label.choose z o inlinings ≡ by_start) × (side ≡ n x ∷ [])
+    go (inl e) =
+        let choice : Origin.start ≡ o = ap (λ (c : Choice). c.0) e in
+        let before : n x ∷ [] ≡ h.1 = ap (λ (c : Choice). c.1) e in
+        let r =
+        one_kept g x stays inlinings side (subst (λ b. InlinesAll (Produces g) (IsInlined g) b inlinings side) (sym before) h.3) in (
+          ap (λ y. Label.choose y o inlinings) h.0 ∙ ap (λ c. Label.choose start c inlinings) (sym choice)
+              ∙ ap (Label.choose start Origin.start) r.0,
+          r.1,
+        )
+    go (inr i) = absurd i
+
 abbrev IsAlike : Nonterminal → L → RightSide → Type 0
 IsAlike x l side = Inlines (Produces alike) (IsInlined alike) x l side
 
@@ -144,14 +176,6 @@ Op_goes = (inlined_decided alike (rule "Op")).1 refl
 abbrev All : RightSide → I → RightSide → Type 0
 All before inlinings side = InlinesAll (Produces alike) (IsInlined alike) before inlinings side
 
-of_S : (inlinings : I) (side : RightSide) → All (n (rule "S") ∷ []) inlinings side →
-    (inlinings ≡ kept end) × (side ≡ n (rule "S") ∷ [])
-of_S Inlinings.none side h = absurd h
-of_S (Inlinings.inlined l inlinings) side h = absurd (S_stays h.0)
-of_S (Inlinings.kept Inlinings.none) side h = (refl, h.2 ∙ ap (λ z. n (rule "S") ∷ z) h.3)
-of_S (Inlinings.kept (Inlinings.kept inlinings)) side h = absurd h.3
-of_S (Inlinings.kept (Inlinings.inlined l inlinings)) side h = absurd h.3
-
 of_word : (s : String) (inlinings : I) (side : RightSide) → All (t s ∷ []) inlinings side →
     (inlinings ≡ kept end) × (side ≡ t s ∷ [])
 of_word s Inlinings.none side h = absurd h
@@ -160,24 +184,9 @@ of_word s (Inlinings.kept Inlinings.none) side h = (refl, h.2 ∙ ap (λ z. t s 
 of_word s (Inlinings.kept (Inlinings.kept inlinings)) side h = absurd h.3
 of_word s (Inlinings.kept (Inlinings.inlined l inlinings)) side h = absurd h.3
 
-abbrev Choice : Type 0
-Choice = Origin × RightSide
-
 -- a label of the start
 of_start : (l : L) (side : RightSide) → IsAlike start l side → (l ≡ by_start) × (side ≡ n (rule "S") ∷ [])
-of_start (Label.choose z o inlinings) side h = go (listed alike start o h.1 h.2)
-  where
-    go : Among {A = Choice} ((Origin.start, n (rule "S") ∷ []) ∷ []) (o, h.1) →
-        (Label.choose z o inlinings ≡ by_start) × (side ≡ n (rule "S") ∷ [])
-    go (inl e) =
-        let choice : Origin.start ≡ o = ap (λ (c : Choice). c.0) e in
-        let before : n (rule "S") ∷ [] ≡ h.1 = ap (λ (c : Choice). c.1) e in
-        let r = of_S inlinings side (subst (λ b. All b inlinings side) (sym before) h.3) in (
-          ap (λ x. Label.choose x o inlinings) h.0 ∙ ap (λ c. Label.choose start c inlinings) (sym choice)
-              ∙ ap (Label.choose start Origin.start) r.0,
-          r.1,
-        )
-    go (inr i) = absurd i
+of_start = one_start alike (rule "S") S_stays (λ o side m. listed alike start o side m)
 
 -- a label of `Op`
 abbrev IsOp : L → RightSide → ℕ → Type 0

@@ -1,5 +1,5 @@
 -- Trees over the productions of an expansion are trees over its labels, and the other way round: for the laws on written trees.
-use Rattle.std.proofs.Common.{◌≡◌, List, [], ◌∷◌, refl, ap, sym, ◌∙◌, subst, inl, inr}
+use Rattle.std.proofs.Common.{◌≡◌, [], ◌∷◌, refl, ap, sym, ◌∙◌, subst, inl, inr}
 use Rattle.std.specs.Prelude.{ℕ}
 use Rattle.lalrpop_grammar_symbols.specs.Symbols.{Text}
 use Rattle.lalrpop_grammar.specs.WrittenGrammar.{Origin}
@@ -28,12 +28,6 @@ pub record HasForest (name_of : Nonterminal → Text) (label_of : ℕ → Label 
   pub roots_are : roots (without_spans forest) ≡ theory_side name_of side
   pub are_over : AreOver G (without_spans forest)
   pub labels_are : trees_by_labels label_of forest ≡ ds
-
-head_of : {A : Type 0} (x y : A) (xs ys : List A) → x ∷ xs ≡ y ∷ ys → x ≡ y
-head_of x y xs ys e = cc
-
-tail_of : {A : Type 0} (x y : A) (xs ys : List A) → x ∷ xs ≡ y ∷ ys → xs ≡ ys
-tail_of x y xs ys e = cc
 
 module _ (g : EnabledGrammar) (In : Nonterminal → Type 0) (prefix : Text) (G : theory.Production → Type 0)
     (e : AreInlinedExpansion g In prefix G) where

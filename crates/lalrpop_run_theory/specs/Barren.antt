@@ -10,7 +10,8 @@ use Rattle.lalrpop_grammar_language.specs.Enabled.{EnabledGrammar, EnabledRule, 
 use Rattle.lalrpop_grammar_language.specs.Levels.{loosest}
 use Rattle.lalrpop_grammar_language.specs.Expansion.{GrammarSymbol, Nonterminal, RightSide, Produces}
 use Rattle.lalrpop_grammar_language.specs.Derivations.{Derivation, IsDerivationOf}
-use Rattle.lalrpop_norm_theory.specs.Keys.{IsNaming, leveled_key_text}
+use Rattle.lalrpop_norm_theory.specs.Keys.{leveled_key_text}
+use Rattle.lalrpop_norm_theory.specs.NamesByUse.{IsNamingByUse}
 
 -- the nonterminals that one reaches along productions
 pub data IsReachedFrom (g : EnabledGrammar) (from : Nonterminal) : Nonterminal → Type 0 where
@@ -38,11 +39,15 @@ HasNoBarren g start =
     (from x : Nonterminal) → IsWrittenStart g start from → IsReachedFrom g from x →
     (d : Derivation) × IsDerivationOf g (GrammarSymbol.nonterminal x) d
 
--- The name is that of a barren nonterminal, and each other barren one has a greater name.
-pub record IsLeastBarrenName (g : EnabledGrammar) (prefix : Text) (start : Text) (name : Text) : Type 0 where
-  pub name_of : Nonterminal → Text
-  pub naming : IsNaming (leveled_key_text g) prefix g name_of
+-- Under these names, the name is that of a barren nonterminal, and each other barren one has a greater name.
+pub record IsLeastBarrenUnder (g : EnabledGrammar) (name_of : Nonterminal → Text) (start : Text) (name : Text) : Type 0 where
   pub nonterminal : Nonterminal
   pub is_barren : IsBarrenFrom g start nonterminal
   pub name_is : name_of nonterminal ≡ name
   pub least : (x : Nonterminal) → IsBarrenFrom g start x → (name_of x ≡ name) ⊎ (slice_cmp nat_cmp name (name_of x) ≡ Less)
+
+-- it is so under names that are given in order of first use
+pub record IsLeastBarrenName (g : EnabledGrammar) (prefix : Text) (start : Text) (name : Text) : Type 0 where
+  pub name_of : Nonterminal → Text
+  pub naming : IsNamingByUse (leveled_key_text g) prefix g name_of
+  pub told : IsLeastBarrenUnder g name_of start name

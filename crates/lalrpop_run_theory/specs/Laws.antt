@@ -19,7 +19,7 @@ use Rattle.lalrpop_lr1_theory.specs.Trees.{IsTreeOf, nodes, yield}
 use Rattle.lalrpop_lr1_theory.specs.ValidItems.{IsBarren, NoneBarren}
 use Rattle.lalrpop_run_theory.specs.Expansions.{AreExpansion, AreBaseExpansion}
 use Rattle.lalrpop_run_theory.specs.ExpansionTrees.{IsForestOfTree, expanded_size, tree_by_labels}
-use Rattle.lalrpop_run_theory.specs.Barren.{IsBarrenFrom, IsLeastBarrenName, HasNoBarren}
+use Rattle.lalrpop_run_theory.specs.Barren.{IsBarrenFrom, IsLeastBarrenUnder, HasNoBarren}
 
 -- a start of the expansion stands on no right side
 abbrev pub StartsStandAlone : Type 0
@@ -43,10 +43,10 @@ BarrenNamesAreBarren =
 -- and the least of them is the one that is told
 abbrev pub LeastBarrenNamesAreTold : Type 0
 LeastBarrenNamesAreTold =
-    (g : EnabledGrammar) (prefix start : Text) (grammar : List Production) → AreBaseExpansion g prefix (Contains grammar) →
+    (g : EnabledGrammar) (prefix start : Text) (grammar : List Production) (e : AreBaseExpansion g prefix (Contains grammar)) →
     InExpansion g (Nonterminal.start start) → (n : Text) → IsBarren (Contains grammar) start n →
     ((m : Text) → IsBarren (Contains grammar) start m → (m ≡ n) ⊎ (slice_cmp nat_cmp n m ≡ Less)) →
-    IsLeastBarrenName g prefix start n
+    IsLeastBarrenUnder g e.name_of start n
 
 -- and where none is barren, no nonterminal is
 abbrev pub NoBarrenNameIsNone : Type 0

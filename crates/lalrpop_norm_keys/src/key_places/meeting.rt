@@ -74,6 +74,21 @@ fn repeats_of(
     Ok(keys)
 }
 
+/// Puts the repeat of the symbol, and what it is made of, behind the others, all at that place.
+fn note_repeats(
+    alloc: Global,
+    op: RepeatOp,
+    inside: &ClosedSymbol,
+    span: Span,
+    met: &mut List<MetKey>,
+) -> Result<(), AllocError>
+    ensures { OnOk result (map met_view met.new ≡ map met_view met.old
+        ++ all_met_at (span_view span) (keys_of_repeat (repeat_op_view op) (closed_view inside.now))) }
+{
+    let keys = repeats_of(alloc, op, inside)?;
+    push_all(keys, span, met)
+}
+
 /// Puts the key behind the others.
 fn note_one(key: &ClosedSymbol, span: Span, met: &mut List<MetKey>) -> Result<(), AllocError>
     ensures { OnOk result (map met_view met.new ≡ map met_view met.old ++ (closed_view key.now, span_view span) ∷ []) }
@@ -103,7 +118,7 @@ fn note_keys_of(
         },
         SymbolKind::Repeat(repeat) => match closed {
             ClosedSymbol::Repeat(op, inside) => {
-                push_all(repeats_of(alloc, *op, inside.get())?, symbol.span, met)?;
+                note_repeats(alloc, *op, inside.get(), symbol.span, met)?;
                 note_keys_of(alloc, &repeat.get().symbol, inside.get(), met)
             }
             _ => Ok(()),
@@ -116,13 +131,13 @@ fn note_keys_of(
             ClosedSymbol::Name(_, inside) => note_keys_of(alloc, named.get(), inside.get(), met),
             _ => Ok(()),
         },
-        SymbolKind::AmbiguousId(_) => note_all(alloc, closed, symbol.span, met),
-        SymbolKind::Terminal(_) => note_all(alloc, closed, symbol.span, met),
-        SymbolKind::Nonterminal(_) => note_all(alloc, closed, symbol.span, met),
-        SymbolKind::Macro(_) => note_all(alloc, closed, symbol.span, met),
-        SymbolKind::Lookahead => note_all(alloc, closed, symbol.span, met),
-        SymbolKind::Lookbehind => note_all(alloc, closed, symbol.span, met),
-        SymbolKind::Error => note_all(alloc, closed, symbol.span, met),
+        SymbolKind::AmbiguousId(_)
+        | SymbolKind::Terminal(_)
+        | SymbolKind::Nonterminal(_)
+        | SymbolKind::Macro(_)
+        | SymbolKind::Lookahead
+        | SymbolKind::Lookbehind
+        | SymbolKind::Error => note_all(alloc, closed, symbol.span, met),
     }
 }
 

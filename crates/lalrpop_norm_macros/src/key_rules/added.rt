@@ -16,7 +16,7 @@ ghost use Rattle.lalrpop_grammar.specs.WrittenGrammar.{Action, Origin as Written
 ghost use Rattle.lalrpop_grammar_rules.specs.Views.{closed_view, closeds};
 ghost use Rattle.lalrpop_norm_keys.specs.Tables.{IsKeyIndex};
 ghost use Rattle.lalrpop_norm_macros.specs.AddedRules.{IsAddedAlternative, added_choices, inline_attributes};
-ghost use Rattle.lalrpop_norm_macros.specs.RulesUnder.{AreAddedUnder, IsAddedRuleUnder};
+ghost use Rattle.lalrpop_norm_macros.specs.RulesUnder.{AreAddedUnder, IsAddedRuleUnder, IsPartRuleUnder};
 ghost use Rattle.lalrpop_norm_macros.specs.KeyNaming.{AreSymbolsFor};
 
 use crate::key_rules::types::{place_type, repeat_type};
@@ -293,7 +293,7 @@ fn private_rule(
 }
 
 /// The rule of a repeat.
-pub(crate) fn repeat_rule(
+fn repeat_rule(
     alloc: Global,
     added: &Added<'_>,
     name: &Atom,
@@ -314,7 +314,7 @@ pub(crate) fn repeat_rule(
 }
 
 /// The rule of a group.
-pub(crate) fn group_rule(
+fn group_rule(
     alloc: Global,
     added: &Added<'_>,
     name: &Atom,
@@ -329,7 +329,7 @@ pub(crate) fn group_rule(
 }
 
 /// The rule of `@L`.
-pub(crate) fn lookahead_rule(
+fn lookahead_rule(
     alloc: Global,
     added: &Added<'_>,
     name: &Atom,
@@ -345,7 +345,7 @@ pub(crate) fn lookahead_rule(
 }
 
 /// The rule of `@R`.
-pub(crate) fn lookbehind_rule(
+fn lookbehind_rule(
     alloc: Global,
     added: &Added<'_>,
     name: &Atom,
@@ -369,4 +369,28 @@ pub(crate) fn empty_rule(
     ensures { IfOk result (λ made. (nonterminal_view made).name ≡ name.now) }
 {
     private_rule(alloc, added, name, false, None, List::new(alloc))
+}
+
+/// The rule of the key, where that is a repeat, a group or a lookaround; else one without alternatives.
+pub(crate) fn part_rule(
+    alloc: Global,
+    added: &Added<'_>,
+    name: &Atom,
+    key: &ClosedSymbol,
+) -> Result<NonterminalData, AllocError>
+    requires { IsKeyIndex added.now.names.now.keys.now }
+    ensures { IfOk result (λ made. IsPartRuleUnder added.now.names.now (closed_view key.now) name.now (span_view added.now.span)
+        (nonterminal_view made)) }
+{
+    match key {
+        ClosedSymbol::Repeat(op, inside) => repeat_rule(alloc, added, name, *op, inside.get()),
+        ClosedSymbol::Group(symbols) => group_rule(alloc, added, name, symbols.as_slice()),
+        ClosedSymbol::Lookahead => lookahead_rule(alloc, added, name),
+        ClosedSymbol::Lookbehind => lookbehind_rule(alloc, added, name),
+        ClosedSymbol::Terminal(_)
+        | ClosedSymbol::Call(_, _, _)
+        | ClosedSymbol::Choose(_)
+        | ClosedSymbol::Name(_, _)
+        | ClosedSymbol::Faulty => empty_rule(alloc, added, name),
+    }
 }

@@ -13,9 +13,7 @@ ghost use Rattle.lalrpop_norm_macros.specs.KeyInstances.{IsReady, TellsOfOneIn, 
 ghost use Rattle.lalrpop_norm_macros.specs.WrittenKeys.{AreReady, IsCallRule, IsRuleOfKey, TellsOfCalledRule, TellsOfKey};
 ghost use Rattle.lalrpop_norm_macros.specs.WrittenRules.{arguments_view, spelled_in};
 
-use crate::key_rules::added::{
-    Added, RuleHead, empty_rule, group_rule, lookahead_rule, lookbehind_rule, repeat_rule,
-};
+use crate::key_rules::added::{Added, RuleHead, empty_rule, part_rule};
 use crate::key_rules::alternatives::{Instance, instance_alternatives};
 use crate::key_rules::types::put_declaration;
 use crate::key_symbols::{KeyNames, WrittenRules, arguments, find_written};
@@ -191,19 +189,6 @@ pub(crate) fn key_rule<F: Finder>(
         ClosedSymbol::Call(called, args, _) => {
             call_rule(alloc, finder, keys, called, args.as_slice(), name, &added)
         }
-        ClosedSymbol::Repeat(op, inside) => Ok(repeat_rule(
-            alloc,
-            &added,
-            name,
-            *op,
-            inside.get(),
-        )?),
-        ClosedSymbol::Group(symbols) => Ok(group_rule(alloc, &added, name, symbols.as_slice())?),
-        ClosedSymbol::Lookahead => Ok(lookahead_rule(alloc, &added, name)?),
-        ClosedSymbol::Lookbehind => Ok(lookbehind_rule(alloc, &added, name)?),
-        ClosedSymbol::Terminal(_)
-        | ClosedSymbol::Choose(_)
-        | ClosedSymbol::Name(_, _)
-        | ClosedSymbol::Faulty => Ok(empty_rule(alloc, &added, name)?),
+        _ => Ok(part_rule(alloc, &added, name, key)?),
     }
 }

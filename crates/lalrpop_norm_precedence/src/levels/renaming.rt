@@ -47,13 +47,6 @@ struct Renamings {
     next: u64,
 }
 
-/// A renamed name, and how many occurrences of the owner stand up to its end.
-#[derive(Drop)]
-struct RenamedName {
-    name: NonterminalString,
-    next: u64,
-}
-
 /// What the occurrence with so many before it is called.
 fn name_at<'n>(occurrences: &Occurrences<'n>, before: u64) -> &'n Atom
     ensures { result.now ≡ called_at occurrences.now before }
@@ -84,21 +77,6 @@ fn renamed_name(
     } else {
         name.try_clone()
     }
-}
-
-/// The same of a name that is itself so many occurrences.
-fn counted_name(
-    occurrences: &Occurrences<'_>,
-    before: u64,
-    own: u64,
-    name: &NonterminalString,
-) -> Result<RenamedName, AllocError>
-    ensures name { IfOk result (λ r. r.name.0 ≡ name_under occurrences.now before name.now.0) }
-    ensures count { IfOk result (λ r. r.next ≡ before + own) }
-{
-    let next = sum(before, own)?;
-    let name = renamed_name(occurrences, before, name)?;
-    Ok(RenamedName { name, next })
 }
 
 /// A copy of the symbol, with so many occurrences up to its end.
@@ -149,16 +127,25 @@ fn rule_of(
         + (if bytes_eq name.now.0 occurrences.now.owner.now then 1 else 0)) }
 {
     let own = rule_count(occurrences.owner, &name.0);
-    let RenamedName { name, next } = counted_name(occurrences, before, own, name)?;
+    let next = sum(before, own)?;
+    let name = renamed_name(occurrences, before, name)?;
     let symbol = Symbol::new(span, SymbolKind::Nonterminal(name));
     Ok(Renaming { symbol, next })
 }
 
-/// A call of a macro with the symbols as its arguments, written there.
-fn call_of(span: Span, name: NonterminalString, inside: Renamings) -> Renaming
-    ensures symbol { symbol_view result.symbol ≡ Sym.macro (span_view span) name.0 (syms (map symbol_view inside.symbols)) }
-    ensures count { result.next ≡ inside.next }
+/// A call of the macro of that name or of its level, with the symbols as its arguments, written there.
+fn call_of(
+    occurrences: &Occurrences<'_>,
+    before: u64,
+    span: Span,
+    name: &NonterminalString,
+    inside: Renamings,
+) -> Result<Renaming, AllocError>
+    ensures symbol { IfOk result (λ r. symbol_view r.symbol ≡ Sym.macro (span_view span)
+        (name_under occurrences.now before name.now.0) (syms (map symbol_view inside.symbols))) }
+    ensures count { IfOk result (λ r. r.next ≡ inside.next) }
 {
+    let name = renamed_name(occurrences, before, name)?;
     let Renamings {
         symbols: args,
         next,
@@ -167,7 +154,7 @@ fn call_of(span: Span, name: NonterminalString, inside: Renamings) -> Renaming
         span,
         kind: SymbolKind::Macro(MacroSymbol { name, args }),
     };
-    Renaming { symbol, next }
+    Ok(Renaming { symbol, next })
 }
 
 /// A repeat of the symbol, written there.
@@ -247,9 +234,8 @@ fn rename(
         SymbolKind::Nonterminal(name) => rule_of(occurrences, before, span, name),
         SymbolKind::Macro(call) => {
             let own = owner_count(occurrences.binding, occurrences.owner, &call.name.0);
-            let renamed = counted_name(occurrences, before, own, &call.name)?;
-            let inside = rename_all(alloc, occurrences, renamed.next, call.args.as_slice())?;
-            Ok(call_of(span, renamed.name, inside))
+            let inside = rename_all(alloc, occurrences, sum(before, own)?, call.args.as_slice())?;
+            call_of(occurrences, before, span, &call.name, inside)
         }
         SymbolKind::Repeat(repeat) => {
             let inside = rename(alloc, occurrences, before, &repeat.get().symbol)?;

@@ -6,6 +6,7 @@ use Rattle.lalrpop_norm_keys.specs.Tables.{table_keys}
 use Rattle.lalrpop_norm_keys.proofs.FoundLemmas.{told_of_call}
 use Rattle.lalrpop_norm_keys.proofs.KeyLemmas.{found_ok, keys_of_leveled}
 use Rattle.lalrpop_norm_keys.proofs.AskedLemmas.{ask_no_call, ask_one_ok}
+use Rattle.lalrpop_norm_keys.proofs.UseSideLemmas.{itself_added, leveled_uses, with_itself_added}
 use Rattle.lalrpop_norm_keys.proofs.keys.add_keys_of.Goals as goal
 
 pub returns-in_default-clause-found : goal.returns-in_default-clause-found
@@ -36,3 +37,16 @@ returns-clause-asked g c =
     ask_one_ok (rules_with (g.F.Finder.finds c.args.finder.now) c.args.rules.now) (g.F.Finder.too_deep c.args.finder.now)
     (closed_view c.args.call.now) c.in-Some.called.name.now (closeds (map closed_view c.in-Some.called.args.now))
     c.in-Some.ensures.some c.add_standing.result c.add_standing.ensures.asked
+
+pub returns-in_default-clause-order : goal.returns-in_default-clause-order
+returns-in_default-clause-order g c = λ flat.
+    let t = rules_with (g.F.Finder.finds c.args.finder.now) c.args.rules.now in
+    itself_added t (closed_view c.args.call.now) (table_keys c.args.keys.now) (table_keys c.add.new.self) c.in_ok-add.ensures.added
+    (leveled_uses t flat (closed_view c.args.call.now) c.in_default.ensures.none)
+
+pub returns-clause-order : goal.returns-clause-order
+returns-clause-order g c =
+    with_itself_added (rules_with (g.F.Finder.finds c.args.finder.now) c.args.rules.now) (closed_view c.args.call.now)
+    (Closed.call c.in-Some.called.name.now (closeds (map closed_view c.in-Some.called.args.now)) None) (table_keys c.args.keys.now)
+    (table_keys c.add.new.self) (table_keys c.add_standing.new.keys) c.add_standing.result c.in_ok-add.ensures.added
+    c.in-Some.ensures.some c.add_standing.ensures.order

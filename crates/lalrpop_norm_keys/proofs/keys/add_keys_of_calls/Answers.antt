@@ -9,12 +9,16 @@ use Rattle.lalrpop_norm_keys.specs.FoundKeys.{FindsKeys}
 use Rattle.lalrpop_norm_keys.proofs.AskedLemmas.{ask_none, ask_together}
 use Rattle.lalrpop_norm_keys.proofs.FoundLemmas.{item_among, told_wider}
 use Rattle.lalrpop_norm_keys.proofs.KeyLemmas.{keys_of_none, keys_together}
+use Rattle.lalrpop_norm_keys.specs.UseSearch.{AddsUsesOf, UsesWithItself}
+use Rattle.lalrpop_norm_keys.proofs.UseSideLemmas.{added_together, nothing_added}
 use Rattle.lalrpop_norm_keys.proofs.keys.add_keys_of_calls.Goals as goal
 
 pub loop-call-init : goal.loop-call-init
 loop-call-init g c = record {
   index = c.requires.index;
   found = λ flat are. keys_of_none (rules_with (g.F.Finder.finds c.args.finder.now) c.args.rules.now) (table_keys c.args.keys.now);
+  order = λ flat. nothing_added (UsesWithItself (rules_with (g.F.Finder.finds c.args.finder.now) c.args.rules.now))
+      (table_keys c.args.keys.now);
   asked = ask_none (rules_with (g.F.Finder.finds c.args.finder.now) c.args.rules.now) (g.F.Finder.too_deep c.args.finder.now);
 }
 
@@ -45,6 +49,10 @@ loop-call-preserved g c =
           (keys_together t (map closed_view (take i calls)) (closed_view x ∷ []) old mid new (c.loop-call.invariant.found flat are)
           (c.in_ok-add_keys_of.ensures.found flat (λ y k.
           are y (item_among closed_view calls i x y c.loop-call-test.true c.call-item.is k))));
+      order = λ flat. subst (λ ys. AddsUsesOf (UsesWithItself t) ys old new)
+          (sym (take_next closed_view calls i x c.loop-call-test.true c.call-item.is))
+          (added_together (UsesWithItself t) (map closed_view (take i calls)) (closed_view x ∷ []) old mid new
+          (c.loop-call.invariant.order flat) (c.in_ok-add_keys_of.ensures.order flat));
       asked = subst (AskRightly t (g.F.Finder.too_deep c.args.finder.now))
           (sym (take_next closed_view calls i x c.loop-call-test.true c.call-item.is))
           (ask_together t (g.F.Finder.too_deep c.args.finder.now) (map closed_view (take i calls)) (closed_view x ∷ [])

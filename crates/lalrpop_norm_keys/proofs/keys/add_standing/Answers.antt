@@ -5,6 +5,7 @@ use Rattle.lalrpop_grammar_rules.specs.Views.{closed_view, closeds}
 use Rattle.lalrpop_norm_theory.specs.KeyTables.{keys_in_all}
 use Rattle.lalrpop_norm_keys.specs.Tables.{table_keys}
 use Rattle.lalrpop_norm_keys.proofs.KeyLemmas.{standing_of_symbols}
+use Rattle.lalrpop_norm_keys.proofs.UseSideLemmas.{keys_added}
 use Rattle.lalrpop_norm_keys.proofs.keys.add_standing.Goals as goal
 
 pub returns-clause-found : goal.returns-clause-found
@@ -14,4 +15,13 @@ returns-clause-found g c = λ flat.
     (table_keys c.add_all.new.self) (map closed_view c.in_ok-found.found) (map closed_view c.in_ok-symbols.symbols)
     (c.in_ok-found.ensures ∙ ap (λ l. keys_in_all (closeds (map closed_view l))) c.as_slice.ensures)
     (c.in_ok-symbols.ensures.keys flat)
+    (rw c.as_slice-2.ensures at c.in_ok-add_all.ensures.added)
+
+pub returns-clause-order : goal.returns-clause-order
+returns-clause-order g c = λ flat.
+    keys_added (rules_with (g.F.Finder.finds c.args.finder.now) c.args.rules.now)
+    (Closed.call c.args.name.now (closeds (map closed_view c.args.args.now)) None) (table_keys c.args.keys.now)
+    (table_keys c.add_all.new.self) (map closed_view c.in_ok-found.found) (map closed_view c.in_ok-symbols.symbols)
+    (c.in_ok-found.ensures ∙ ap (λ l. keys_in_all (closeds (map closed_view l))) c.as_slice.ensures)
+    (c.in_ok-symbols.ensures.order flat)
     (rw c.as_slice-2.ensures at c.in_ok-add_all.ensures.added)

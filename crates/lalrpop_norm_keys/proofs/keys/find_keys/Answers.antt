@@ -13,7 +13,10 @@ use Rattle.lalrpop_norm_keys.specs.FoundKeys.{FindsKeys}
 use Rattle.lalrpop_norm_keys.proofs.AskedLemmas.{all_asked}
 use Rattle.lalrpop_norm_keys.proofs.FoundLemmas.{plain_are_calls, plain_are_made, told_of_any, told_of_made, told_of_walked}
 use Rattle.lalrpop_norm_keys.proofs.FoundLemmas.{walked_are_calls}
-use Rattle.lalrpop_norm_keys.proofs.KeyLemmas.{keys_found, keys_together}
+use Rattle.lalrpop_norm_keys.specs.Tables.{AddsKeys}
+use Rattle.lalrpop_norm_keys.specs.UseSearch.{AddsUsesOf, UsesWithItself}
+use Rattle.lalrpop_norm_keys.proofs.KeyLemmas.{keys_begun, keys_found, keys_together}
+use Rattle.lalrpop_norm_keys.proofs.OrderedKeyLemmas.{keys_in_order}
 use Rattle.lalrpop_norm_keys.proofs.keys.find_keys.Goals as goal
 
 pub returns-in_err-add_keys_of_calls-clause-fault : goal.returns-in_err-add_keys_of_calls-clause-fault
@@ -28,7 +31,7 @@ returns-in_err-add_keys_of_calls-clause-fault g c =
     (plain_are_made t features rs
     (ap (λ w. map (enabled_rule features) (filter (λ r. is_active features r.attributes) (rules_of w.items))) c.requires.of_grammar)
     can.enabled can.single can.flat plain c.in_ok-plain.ensures) (g.F.Finder.too_deep c.args.finder.now) _
-    (rw c.as_slice.ensures at c.in_err-add_keys_of_calls.ensures.fault))
+    (rw c.as_slice-2.ensures at c.in_err-add_keys_of_calls.ensures.fault))
 
 pub returns-in_err-add_keys_of_calls-2-clause-fault : goal.returns-in_err-add_keys_of_calls-2-clause-fault
 returns-in_err-add_keys_of_calls-2-clause-fault g c =
@@ -58,10 +61,15 @@ returns-clause-keys g c = λ can all_calls.
     let mid = table_keys c.add_keys_of_calls.new.keys in
     let all = table_keys c.add_keys_of_calls-2.new.keys in
     let are : AreCalls plain = subst AreCalls (sym c.in_ok-plain.ensures) (plain_are_calls rs) in
+    let begun = table_keys c.add_all.new.self in
+    let added : AddsKeys [] (plain_calls rs) begun =
+    subst (λ l. AddsKeys l (plain_calls rs) begun) c.new-keys.ensures.empty
+    (subst (λ ys. AddsKeys (table_keys c.new-keys.result) ys begun) c.in_ok-plain.ensures
+    (rw c.as_slice.ensures at c.in_ok-add_all.ensures.added)) in
     let first : FindsKeys t (plain_calls rs) [] mid =
-    subst (λ l. FindsKeys t (plain_calls rs) l mid) c.new-keys.ensures.empty
-    (subst (λ ys. FindsKeys t ys (table_keys c.new-keys.result) mid) c.in_ok-plain.ensures
-    ((rw c.as_slice.ensures at c.in_ok-add_keys_of_calls.ensures.found) can.flat are)) in
+    keys_begun t (plain_calls rs) begun mid added
+    (subst (λ ys. FindsKeys t ys begun mid) c.in_ok-plain.ensures
+    ((rw c.as_slice-2.ensures at c.in_ok-add_keys_of_calls.ensures.found) can.flat are)) in
     let second : FindsKeys t calls mid all =
     (rw c.keys.ensures at c.in_ok-add_keys_of_calls-2.ensures.found) can.flat (walked_are_calls t all_calls.0 calls [] all_calls.1) in
     keys_found t features rs
@@ -77,8 +85,30 @@ returns-clause-asked g c = λ can all_calls.
     let rs = rules_of (grammar_view c.args.grammar.now).items in
     let calls = table_keys c.args.calls.now in
     let plain : AskRightly t deep (plain_calls rs) = subst (AskRightly t deep) c.in_ok-plain.ensures
-    (rw c.as_slice.ensures at c.in_ok-add_keys_of_calls.ensures.asked) in
+    (rw c.as_slice-2.ensures at c.in_ok-add_keys_of_calls.ensures.asked) in
     let asked : AskRightly t deep calls = rw c.keys.ensures at c.in_ok-add_keys_of_calls-2.ensures.asked in
     all_asked t features rs
     (ap (λ w. map (enabled_rule features) (filter (λ r. is_active features r.attributes) (rules_of w.items)))
     c.requires.of_grammar) can.enabled can.single can.flat all_calls.0 calls all_calls.1 deep plain asked
+
+pub returns-clause-order : goal.returns-clause-order
+returns-clause-order g c = λ can all_calls by_use.
+    let t = rules_with (g.F.Finder.finds c.args.finder.now) c.args.rules.now in
+    let features = c.args.rules.now.features.now in
+    let rs = rules_of (grammar_view c.args.grammar.now).items in
+    let calls = table_keys c.args.calls.now in
+    let begun = table_keys c.add_all.new.self in
+    let mid = table_keys c.add_keys_of_calls.new.keys in
+    let all = table_keys c.add_keys_of_calls-2.new.keys in
+    let added : AddsKeys [] (plain_calls rs) begun =
+    subst (λ l. AddsKeys l (plain_calls rs) begun) c.new-keys.ensures.empty
+    (subst (λ ys. AddsKeys (table_keys c.new-keys.result) ys begun) c.in_ok-plain.ensures
+    (rw c.as_slice.ensures at c.in_ok-add_all.ensures.added)) in
+    let first : AddsUsesOf (UsesWithItself t) (plain_calls rs) begun mid =
+    subst (λ ys. AddsUsesOf (UsesWithItself t) ys begun mid) c.in_ok-plain.ensures
+    ((rw c.as_slice-2.ensures at c.in_ok-add_keys_of_calls.ensures.order) can.flat) in
+    let second : AddsUsesOf (UsesWithItself t) calls mid all =
+    (rw c.keys.ensures at c.in_ok-add_keys_of_calls-2.ensures.order) can.flat in
+    keys_in_order t features rs
+    (ap (λ w. map (enabled_rule features) (filter (λ r. is_active features r.attributes) (rules_of w.items)))
+    c.requires.of_grammar) can.enabled can.single can.flat all_calls.0 calls all_calls.1 by_use begun mid all added first second

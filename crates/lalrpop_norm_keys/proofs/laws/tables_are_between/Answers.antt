@@ -3,6 +3,7 @@ use Rattle.lalrpop_norm_theory.specs.Between.{grammar_between}
 use Rattle.lalrpop_grammar.specs.WrittenGrammar.{rules_of}
 use Rattle.lalrpop_norm_keys.proofs.FaultLemmas.{arity_alike, made_alike}
 use Rattle.lalrpop_norm_keys.proofs.PlainGrammarLemmas.{calls_alike, keys_alike, table_alike, too_deep_alike}
+use Rattle.lalrpop_norm_keys.proofs.PlainUseLemmas.{call_order_alike, list_alike}
 use Rattle.lalrpop_norm_keys.proofs.PremiseLemmas.{flat_back, single_back}
 use Rattle.lalrpop_norm_keys.proofs.laws.tables_are_between.Goals as goal
 
@@ -17,6 +18,14 @@ returns-clause-depth c = λ finds features w active limit x t.
 pub returns-clause-keys : goal.returns-clause-keys
 returns-clause-keys c = λ finds features w active calls keys t.
     keys_alike (enabled_grammar finds features w) (grammar_between finds w) (table_alike finds features w active) calls keys t
+
+pub returns-clause-order : goal.returns-clause-order
+returns-clause-order c = λ finds features w active keys t.
+    list_alike (enabled_grammar finds features w) (grammar_between finds w) (table_alike finds features w active) keys t
+
+pub returns-clause-call_order : goal.returns-clause-call_order
+returns-clause-call_order c = λ finds features w active calls t.
+    call_order_alike (enabled_grammar finds features w) (grammar_between finds w) (table_alike finds features w active) calls t
 
 pub returns-clause-faults : goal.returns-clause-faults
 returns-clause-faults c = λ finds features w active deep f t.

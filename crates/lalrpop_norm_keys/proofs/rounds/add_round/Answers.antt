@@ -6,6 +6,8 @@ use Rattle.lalrpop_norm_keys.specs.Tables.{table_keys}
 use Rattle.lalrpop_norm_keys.proofs.TableLemmas.{take_next}
 use Rattle.lalrpop_norm_keys.specs.FoundCalls.{FindsCalls}
 use Rattle.lalrpop_norm_keys.proofs.FoundLemmas.{found_of_none, found_together, item_among, told_wider}
+use Rattle.lalrpop_norm_keys.specs.UseSearch.{AddsUsesOf, UsesCalls}
+use Rattle.lalrpop_norm_keys.proofs.UseSideLemmas.{added_together, nothing_added}
 use Rattle.lalrpop_norm_keys.proofs.rounds.add_round.Goals as goal
 
 pub loop-call-init : goal.loop-call-init
@@ -13,6 +15,7 @@ loop-call-init g c = record {
   index = c.requires.index;
   found = found_of_none (rules_with (g.F.Finder.finds c.args.finder.now) c.args.rules.now) [] (table_keys c.args.calls.now)
       (λ y x i o. i);
+  order = λ flat. nothing_added (UsesCalls (rules_with (g.F.Finder.finds c.args.finder.now) c.args.rules.now)) (table_keys c.args.calls.now);
 }
 
 pub returns-in_err-add_calls_of_call-clause-fault : goal.returns-in_err-add_calls_of_call-clause-fault
@@ -40,4 +43,8 @@ loop-call-preserved g c =
       found = subst (λ ys. FindsCalls t ys old new) (sym (take_next closed_view callers i x c.loop-call-test.true c.call-item.is))
           (found_together t (map closed_view (take i callers)) (closed_view x ∷ []) old mid new c.loop-call.invariant.found
           c.in_ok-add_calls_of_call.ensures.found);
+      order = λ flat. subst (λ ys. AddsUsesOf (UsesCalls t) ys old new)
+          (sym (take_next closed_view callers i x c.loop-call-test.true c.call-item.is))
+          (added_together (UsesCalls t) (map closed_view (take i callers)) (closed_view x ∷ []) old mid new
+          (c.loop-call.invariant.order flat) (c.in_ok-add_calls_of_call.ensures.order flat));
     }

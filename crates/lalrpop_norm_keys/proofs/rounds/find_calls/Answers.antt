@@ -1,4 +1,4 @@
-use Rattle.std.proofs.Common.{◌≡◌, ◌∙◌, ◌+◌, [], ap, arith, drop, length, map, subst, suc, sym}
+use Rattle.std.proofs.Common.{◌≡◌, ◌∙◌, ◌+◌, ◌++◌, [], ap, arith, drop, length, map, subst, suc, sym}
 use Rattle.std.specs.Prelude.{filter}
 use Rattle.std.proofs.lemmas.Result.{err_from_is_err_and}
 use Rattle.lalrpop_grammar.specs.Views.{grammar_view}
@@ -9,8 +9,11 @@ use Rattle.lalrpop_grammar_rules.specs.Views.{closed_view}
 use Rattle.lalrpop_norm_keys.specs.Tables.{table_keys}
 use Rattle.lalrpop_norm_theory.specs.CallPlaces.{IsMadeAt}
 use Rattle.lalrpop_norm_keys.specs.FoundCalls.{FindsCalls}
-use Rattle.lalrpop_norm_keys.proofs.FoundLemmas.{all_found_by, deep_found, deep_told, first_too_deep, found_first}
+use Rattle.lalrpop_norm_keys.proofs.FoundLemmas.{all_found_by, deep_any, deep_found, deep_told, first_too_deep, found_first}
 use Rattle.lalrpop_norm_keys.proofs.FoundLemmas.{later_stands, next_stands, plain_are_made, round_kept, told_of_any, told_of_made}
+use Rattle.lalrpop_norm_keys.specs.UseSearch.{AddsUsesOf, UsesCalls}
+use Rattle.lalrpop_norm_keys.proofs.FoundLemmas.{later_found, no_calls}
+use Rattle.lalrpop_norm_keys.proofs.OrderedCallLemmas.{IsCallWalk, calls_in_order, deep_order, first_walk, next_walk}
 use Rattle.lalrpop_norm_keys.proofs.rounds.find_calls.Goals as goal
 
 pub returns-in_err-next-clause-fault : goal.returns-in_err-next-clause-fault
@@ -51,48 +54,68 @@ loop-round-init g c =
         found_first t features rs rules_are can.enabled can.single can.flat next
             (subst (λ ys. FindsCalls t ys [] next) c.in_ok-callers.ensures (subst (λ l. FindsCalls t callers [] l) (sym same) found)),
       );
+      order = λ can.
+          let added : AddsUsesOf (UsesCalls t) callers [] all = subst (λ l. AddsUsesOf (UsesCalls t) callers l all) c.new-calls.ensures.empty
+          ((rw c.as_slice.ensures at c.in_ok-next.ensures.order) can.flat) in (
+            [],
+            sym same,
+            subst (IsCallWalk t rs []) (sym same)
+                (first_walk t rs all (subst (λ ys. AddsUsesOf (UsesCalls t) ys [] all) c.in_ok-callers.ensures added)),
+          );
     }
 
-pub returns-in_err-later-clause-fault : goal.returns-in_err-later-clause-fault
-returns-in_err-later-clause-fault g c =
+pub returns-in_err-go_on-clause-fault : goal.returns-in_err-go_on-clause-fault
+returns-in_err-go_on-clause-fault g c =
     let t = rules_with (g.F.Finder.finds c.args.finder.now) c.args.rules.now in
-    let next = map closed_view c.loop-round.next in
-    let p = err_from_is_err_and c.from_residual-in_err-later.result c.from_residual-in_err-later.ensures.1 in
+    let next = map closed_view c.loop-round.last.next in
+    let p = err_from_is_err_and c.from_residual-in_err-go_on.result c.from_residual-in_err-go_on.ensures.1 in
     rw (p.1, p.2)
     (λ can. told_of_made t (suc c.loop-round.round) next (c.loop-round.invariant.walked can).2.next_chains
-    (g.F.Finder.too_deep c.args.finder.now) _ (rw c.as_slice-in-loop-round.ensures at c.in_err-later.ensures.fault))
+    (g.F.Finder.too_deep c.args.finder.now) _ c.in_err-go_on.ensures.fault)
 
-pub returns-in_err-later-clause-condition : goal.returns-in_err-later-clause-condition
-returns-in_err-later-clause-condition g c =
-    let p = err_from_is_err_and c.from_residual-in_err-later.result c.from_residual-in_err-later.ensures.1 in
+pub returns-in_err-go_on-clause-condition : goal.returns-in_err-go_on-clause-condition
+returns-in_err-go_on-clause-condition g c =
+    let p = err_from_is_err_and c.from_residual-in_err-go_on.result c.from_residual-in_err-go_on.ensures.1 in
     rw (p.1, p.2)
     (told_of_any (rules_with (g.F.Finder.finds c.args.finder.now) c.args.rules.now) (g.F.Finder.too_deep c.args.finder.now)
-    (map closed_view c.as_slice-in-loop-round.result.now) _ c.in_err-later.ensures.fault)
+    (map closed_view c.loop-round.last.next) _ c.in_err-go_on.ensures.fault)
 
 pub loop-round-preserved : goal.loop-round-preserved
 loop-round-preserved g c =
     let t = rules_with (g.F.Finder.finds c.args.finder.now) c.args.rules.now in
-    let next = map closed_view c.loop-round.next in
+    let next = map closed_view c.loop-round.last.next in
     let known = table_keys c.loop-round.calls in
-    let all = table_keys c.next_round-in-loop-round.new.calls in
-    let later = map closed_view c.in_ok-later.later in
+    let all = table_keys c.go_on.new.calls in
+    let later = map closed_view c.go_on.new.self.next in
+    let rs = rules_of (grammar_view c.args.grammar.now).items in
     let deeper : suc c.loop-round.round ≡ c.loop-round.round + 1 = omega arith in
-    let found : FindsCalls t next known all = rw c.as_slice-in-loop-round.ensures at c.in_ok-later.ensures.found in
+    let found : FindsCalls t next known all = c.in_ok-go_on.ensures.found in
     record {
       low = omega arith;
-      index = c.in_ok-later.ensures.index;
-      stand = later_stands t next known all later found c.in_ok-later.ensures.next;
-      made = λ can y i. subst (λ k. IsMadeAt t k y) deeper ((c.loop-round.invariant.walked can).2.next_chains y i);
+      index = c.in_ok-go_on.ensures.index;
+      stand = rw c.in_ok-go_on.ensures.callers (later_stands t next known all later found c.in_ok-go_on.ensures.next);
+      made = rw c.in_ok-go_on.ensures.callers
+          (λ can y i. subst (λ k. IsMadeAt t k y) deeper ((c.loop-round.invariant.walked can).2.next_chains y i));
       walked = λ can.
           let w = c.loop-round.invariant.walked can in
           round_kept t can.flat c.loop-round.round w.0 next all later w.2 (subst (λ l. FindsCalls t next l all) w.1 found)
-          (c.in_ok-later.ensures.next ∙ ap (λ l. drop (length l) all) w.1);
+          (c.in_ok-go_on.ensures.next ∙ ap (λ l. drop (length l) all) w.1);
+      order = λ can.
+          let w = c.loop-round.invariant.order can in
+          let added : AddsUsesOf (UsesCalls t) next known all = c.in_ok-go_on.ensures.order can.flat in
+          let whole : all ≡ (w.0 ++ next) ++ later =
+          found.all_is ∙ ap (λ l. known ++ l) (sym (later_found t next known all later found c.in_ok-go_on.ensures.next))
+          ∙ ap (λ l. l ++ later) w.1 in (
+            w.0 ++ next,
+            whole,
+            next_walk t rs w.0 next all later w.2 (subst (λ l. AddsUsesOf (UsesCalls t) next l all) w.1 added) whole,
+          );
     }
 
 pub tell_deep_call-requires-clause-stands : goal.tell_deep_call-requires-clause-stands
 tell_deep_call-requires-clause-stands g c =
     let t = rules_with (g.F.Finder.finds c.args.finder.now) c.args.rules.now in
-    next_stands t c.loop-round.next c.in-Some.call.now c.in-Some.field-0-1.now (map closed_view c.as_slice-in-Some.result.now)
+    next_stands t c.loop-round.last.next c.in-Some.call.now c.in-Some.field-0-1.now (map closed_view c.as_slice-in-Some.result.now)
     (sym c.as_slice-2.ensures ∙ c.in-Some.ensures.cases.0) (rw c.as_slice-in-Some.ensures c.loop-round.invariant.stand)
 
 pub returns-in-None-clause-found : goal.returns-in-None-clause-found
@@ -101,7 +124,7 @@ returns-in-None-clause-found g c = λ can.
     let w = c.loop-round.invariant.walked can in
     let last : c.loop-round.round ≡ c.args.limit = omega arith in (
       c.loop-round.invariant.index,
-      all_found_by t c.loop-round.round c.args.limit (table_keys c.loop-round.calls) w.0 c.loop-round.next last w.1
+      all_found_by t c.loop-round.round c.args.limit (table_keys c.loop-round.calls) w.0 c.loop-round.last.next last w.1
           (sym (ap length c.as_slice-2.ensures) ∙ c.in-None.ensures.cases) w.2,
     )
 
@@ -110,11 +133,11 @@ returns-in-Some-clause-found g c =
     let t = rules_with (g.F.Finder.finds c.args.finder.now) c.args.rules.now in
     let last : c.loop-round.round ≡ c.args.limit = omega arith in
     let x = closed_view c.in-Some.call.now in
-    let callers = map closed_view c.loop-round.callers in
+    let callers = map closed_view c.loop-round.last.callers in
     deep_found t c.args.rules.now.features.now (grammar_view c.args.grammar.now) c.args.limit callers x c.tell_deep_call.result
     (rw c.as_slice-in-Some.ensures at c.tell_deep_call.ensures.found)
     (λ can. let w = c.loop-round.invariant.walked can in
-    first_too_deep t c.loop-round.round c.args.limit w.0 (map closed_view c.loop-round.next)
+    first_too_deep t c.loop-round.round c.args.limit w.0 (map closed_view c.loop-round.last.next)
     (map closed_view c.in-Some.field-0-1.now) x last
     (ap (map closed_view) (sym c.as_slice-2.ensures ∙ c.in-Some.ensures.cases.0)) w.2)
     (λ can y i. subst (λ k. IsMadeAt t k y) last (c.loop-round.invariant.made can y i))
@@ -123,6 +146,29 @@ pub returns-in-Some-clause-fault : goal.returns-in-Some-clause-fault
 returns-in-Some-clause-fault g c =
     let t = rules_with (g.F.Finder.finds c.args.finder.now) c.args.rules.now in
     let last : c.loop-round.round ≡ c.args.limit = omega arith in
-    deep_told t c.args.rules.now.features.now (grammar_view c.args.grammar.now) c.args.limit (map closed_view c.loop-round.callers)
+    deep_told t c.args.rules.now.features.now (grammar_view c.args.grammar.now) c.args.limit (map closed_view c.loop-round.last.callers)
     (g.F.Finder.too_deep c.args.finder.now) c.tell_deep_call.result (rw c.as_slice-in-Some.ensures at c.tell_deep_call.ensures.fault)
     (λ can y i. subst (λ k. IsMadeAt t k y) last (c.loop-round.invariant.made can y i))
+
+pub returns-in-Some-clause-condition : goal.returns-in-Some-clause-condition
+returns-in-Some-clause-condition g c =
+    deep_any (rules_with (g.F.Finder.finds c.args.finder.now) c.args.rules.now) (map closed_view c.as_slice-in-Some.result.now)
+    (g.F.Finder.too_deep c.args.finder.now) c.tell_deep_call.result c.tell_deep_call.ensures.fault
+
+pub returns-in-None-clause-order : goal.returns-in-None-clause-order
+returns-in-None-clause-order g c = λ can.
+    let t = rules_with (g.F.Finder.finds c.args.finder.now) c.args.rules.now in
+    let features = c.args.rules.now.features.now in
+    let rs = rules_of (grammar_view c.args.grammar.now).items in
+    let rules_are = ap (λ w. map (enabled_rule features) (filter (λ r. is_active features r.attributes) (rules_of w.items)))
+    c.requires.of_grammar in
+    let w = c.loop-round.invariant.order can in
+    calls_in_order t features rs rules_are can.enabled can.single can.flat (table_keys c.loop-round.calls) w.0
+    (map closed_view c.loop-round.last.next) w.1
+    (no_calls c.loop-round.last.next (sym (ap length c.as_slice-2.ensures) ∙ c.in-None.ensures.cases)) w.2
+
+pub returns-in-Some-clause-order : goal.returns-in-Some-clause-order
+returns-in-Some-clause-order g c =
+    deep_order (rules_with (g.F.Finder.finds c.args.finder.now) c.args.rules.now) c.args.rules.now.features.now
+    (grammar_view c.args.grammar.now) (map closed_view c.loop-round.last.callers) (closed_view c.in-Some.call.now) c.tell_deep_call.result
+    (rw c.as_slice-in-Some.ensures at c.tell_deep_call.ensures.found)

@@ -1,7 +1,7 @@
 use Rattle.std.proofs.lemmas.Result.{err_from_is_err_and}
 use Rattle.lalrpop_grammar.specs.Views.{grammar_view}
 use Rattle.lalrpop_norm_macros.proofs.FaultLemmas.{told_condition}
-use Rattle.lalrpop_norm_macros.proofs.FindingLemmas.{calls_ready, deep_call_told}
+use Rattle.lalrpop_norm_macros.proofs.FindingLemmas.{call_order_ready, calls_ready, deep_call_told}
 use Rattle.lalrpop_norm_macros.proofs.TableLemmas.{can_search, told_between}
 use Rattle.lalrpop_norm_macros.proofs.finding.calls_within.Goals as goal
 
@@ -22,6 +22,12 @@ returns-in-All-clause-found g c = λ ready.
     calls_ready (g.F.Finder.finds c.args.finder.now) (g.F.Finder.too_deep c.args.finder.now) c.args.limit c.args.rules.now
     (grammar_view c.args.grammar.now) c.requires.of_grammar c.in_ok-calls.field-0 c.in-All.calls c.in-All.is
     c.in_ok-calls.ensures.found ready
+
+pub returns-in-All-clause-order : goal.returns-in-All-clause-order
+returns-in-All-clause-order g c = λ ready.
+    call_order_ready (g.F.Finder.finds c.args.finder.now) (g.F.Finder.too_deep c.args.finder.now) c.args.limit c.args.rules.now
+    (grammar_view c.args.grammar.now) c.requires.of_grammar c.in_ok-calls.field-0 c.in-All.calls c.in-All.is
+    c.in_ok-calls.ensures.order ready
 
 pub returns-clause-fault : goal.returns-clause-fault
 returns-clause-fault g c =

@@ -23,7 +23,8 @@ pub returns-clause-found : goal.returns-clause-found
 returns-clause-found g c =
     keys_ready (g.F.Finder.finds c.args.finder.now) (g.F.Finder.too_deep c.args.finder.now) c.args.limit c.args.rules.now
     (grammar_view c.args.grammar.now) c.requires.of_grammar (table_keys c.in_ok-calls.calls) c.find_keys.result table_keys
-    c.in_ok-check_arity.ensures c.in_ok-calls.ensures.found c.find_keys.ensures.keys c.find_keys.ensures.asked
+    c.in_ok-check_arity.ensures c.in_ok-calls.ensures.found c.in_ok-calls.ensures.order c.find_keys.ensures.keys
+    c.find_keys.ensures.order c.find_keys.ensures.asked
 
 pub returns-clause-fault : goal.returns-clause-fault
 returns-clause-fault g c =

@@ -29,7 +29,8 @@ returns-clause-made g c =
     let other = span_view c.args.grammar.now.span in
     let spans = c.as_slice-2.result.now in
     written_ok finds w (map nonterminal_view) c.key_rules.result t.features.now c.requires.of_grammar.0 keys c.requires.index.once
-    c.in_ok-names.names c.as_slice.result.now c.as_slice.ensures (c.in_ok-names.ensures.names finds) (span_of_key spans other)
+    c.in_ok-names.names c.as_slice.result.now c.as_slice.ensures (c.in_ok-names.ensures.names finds) c.in_ok-names.ensures.order
+    (span_of_key spans other)
     (λ right. found_placed finds t w c.requires.of_grammar keys right spans other
     (subst (λ l. HasKeySpans (rules_with finds t) (rules_of w.items) other keys (map span_view l)) (sym c.as_slice-2.ensures)
     c.in_ok-spans.ensures.spans))

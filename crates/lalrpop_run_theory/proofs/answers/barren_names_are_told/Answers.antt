@@ -18,8 +18,6 @@ returns-clause-least c =
     λ g prefix start grammar e i n b least.
     let x = named_barren g prefix (Contains grammar) e start i n b in
     record {
-      name_of = e.name_of;
-      naming = e.naming;
       nonterminal = x.0;
       is_barren = x.1;
       name_is = x.2;

@@ -1,4 +1,4 @@
-use Rattle.std.proofs.Common.{◌+◌, map, subst, sym, take}
+use Rattle.std.proofs.Common.{map, subst, sym, take}
 use Rattle.lalrpop_grammar_symbols.specs.Views.{span_view}
 use Rattle.lalrpop_norm_keys.proofs.TableLemmas.{take_next}
 use Rattle.lalrpop_norm_keys.specs.Tables.{table_keys}

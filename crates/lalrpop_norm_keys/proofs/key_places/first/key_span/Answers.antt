@@ -1,4 +1,4 @@
-use Rattle.std.proofs.Common.{◌∙◌, ap, refl, subst, sym}
+use Rattle.std.proofs.Common.{refl, subst}
 use Rattle.lalrpop_grammar_symbols.specs.Views.{span_view}
 use Rattle.std.specs.Prelude.{option_map}
 use Rattle.lalrpop_grammar_rules.specs.Views.{closed_view}
