@@ -1,6 +1,6 @@
 -- Where each entry has a terminal, none is skipped. For the making of a scanner.
 use Rattle.std.proofs.Common.{◌≡◌, ◌∙◌, Bool, true, false, not, ◌&&◌, ◌||◌, cond, List, [], ◌∷◌, map}
-use Rattle.std.proofs.Common.{refl, ap, ap₂, sym}
+use Rattle.std.proofs.Common.{refl, ap, ap₂}
 use Rattle.std.specs.Prelude.{Option, Some, None, is_some, option_map}
 use Rattle.std.specs.List.{list_all}
 use Rattle.lalrpop_grammar_symbols.specs.Symbols.{Terminal}

@@ -1,13 +1,12 @@
 -- Names of a table that follow by its rules' clauses are those with trees, and those that are reached: for marks of names.
-use Rattle.std.proofs.Common.{◌≡◌, ◌∙◌, ◌⊎◌, ℕ, zero, suc, ◌<◌, Bool, List, []}
-use Rattle.std.proofs.Common.{◌∷◌, ◌++◌, length, map}
+use Rattle.std.proofs.Common.{◌≡◌, ◌∙◌, ◌⊎◌, ℕ, ◌<◌, Bool, List, []}
+use Rattle.std.proofs.Common.{◌∷◌, ◌++◌, map}
 use Rattle.std.proofs.Common.{◌-◌}
-use Rattle.std.proofs.Common.{refl, sym, ap, subst, inl, inr, ⊎_elim, arith, Contains, Option, Some, slice_get, nat_lt}
+use Rattle.std.proofs.Common.{refl, sym, ap, subst, inl, inr, ⊎_elim, arith, Contains, Option, Some, nat_lt}
 use Rattle.std.specs.Prelude.{flat_map}
 use Rattle.std.proofs.lemmas.Bool.{lt-ltb, ltb-true}
 use Rattle.lalrpop_grammar_symbols.specs.Symbols.{Text}
 use Rattle.lalrpop_grammar_symbols.specs.declared.names.NonterminalString.{NonterminalString}
-use Rattle.lalrpop_grammar_symbols.specs.declared.terminal.TerminalString.{TerminalString}
 use Rattle.lalrpop_lr1_theory.specs.Productions as theory
 use Rattle.lalrpop_lr1_theory.proofs.ListLemmas.{contains_get, contains_here, contains_later, contains_split, get_contains}
 use Rattle.lalrpop_lr1_theory.proofs.StepLemmas.{some_same}
@@ -17,10 +16,10 @@ use Rattle.lalrpop_lr1_core.proofs.NoConflictLemmas.{at_mapped}
 use Rattle.lalrpop_lr1_first.specs.FirstNumbers.{name_count, rule_of}
 use Rattle.lalrpop_lr1_first.specs.NumberedGrammars.{IsNumberTable, IsSeenIn, table_names, table_productions}
 use Rattle.lalrpop_lr1_first.specs.Numbers.{IsRuleOf, RuleByNumbers, SpellsSymbols}
-use Rattle.lalrpop_lr1_first.specs.Tables.{rest_of, symbol_of_number, symbol_or}
+use Rattle.lalrpop_lr1_first.specs.Tables.{rest_of, symbol_of_number}
 use Rattle.lalrpop_lr1_first.specs.declared.numbered.Numbered.{Numbered}
 use Rattle.lalrpop_lr1_first.specs.declared.place.NumberedRule.{NumberedRule}
-use Rattle.lalrpop_lr1_first.proofs.TableLemmas.{get_mapped, long_map, name_at, rules_are, table_numbering}
+use Rattle.lalrpop_lr1_first.proofs.TableLemmas.{get_mapped, name_at, rules_are, table_numbering}
 use Rattle.lalrpop_lr1_barren.specs.Clauses.{Follows, IsMarked, by_clause, marked}
 use Rattle.lalrpop_lr1_barren.specs.NameMarks.{IsNumberOf}
 use Rattle.lalrpop_lr1_barren.specs.RuleClauses.{names_of_rule, reach_of_rule, tree_of_rule}

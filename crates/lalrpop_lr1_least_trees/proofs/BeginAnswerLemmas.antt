@@ -8,7 +8,6 @@ use Rattle.lalrpop_grammar_symbols.specs.declared.names.NonterminalString.{Nonte
 use Rattle.lalrpop_grammar_repr.specs.Maps.{at_name}
 use Rattle.lalrpop_grammar_repr.specs.declared.grammar.Grammar.{Grammar}
 use Rattle.lalrpop_lr1_theory.specs.Productions as theory
-use Rattle.lalrpop_lr1_theory.specs.Productions.{first}
 use Rattle.lalrpop_lr1_theory.specs.Trees.{Forest, IsTreeOf, Move, moves, node, none, roots, ◌and◌}
 use Rattle.lalrpop_lr1_theory.proofs.ListLemmas.{get_contains}
 use Rattle.lalrpop_lr1_theory.proofs.StepLemmas.{some_same}

@@ -4,8 +4,6 @@ use Rattle.std.specs.Option.{option_or}
 use Rattle.std.specs.Prelude.{Option, Some, None}
 use Rattle.lalrpop_grammar_symbols.specs.Symbols.{TextSpan, Terminal}
 use Rattle.lalrpop_grammar.specs.WrittenGrammar.{WrittenEntry}
-use Rattle.lalrpop_grammar.specs.declared.match_token.MatchItem.TheVariants as items
-use Rattle.lalrpop_grammar.specs.declared.match_token.MatchMapping.TheVariants as mappings
 use Rattle.lalrpop_norm_prevalidate.specs.Entries.{literal_in_entry, entry_span}
 use Rattle.lalrpop_norm_token_check.specs.Blocks.{is_option_of}
 use Rattle.lalrpop_norm_token_check.specs.Places.{listed_at}
