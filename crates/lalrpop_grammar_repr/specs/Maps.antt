@@ -1,5 +1,5 @@
--- What stands in a map at a name or at a terminal, and the map with a value put there.
-use Rattle.std.specs.Prelude.{List, Option}
+-- What stands in a map at a name or at a terminal, the map with a value put there, and values that are redirected.
+use Rattle.std.specs.Prelude.{Bool, List, Option, cond}
 use Rattle.std.specs.BTreeMap.{insert_entry, is_at}
 use Rattle.std.specs.Map.{lookup}
 use Rattle.lalrpop_grammar_symbols.specs.contracts.names.NonterminalStringOrd.TheImpl as names
@@ -18,3 +18,7 @@ at_terminal t es = lookup (is_at ((terminals.ghosts).cmp t)) es
 
 abbrev pub with_terminal : {X : Type 0} → List (TerminalString × X) → TerminalString → X → List (TerminalString × X)
 with_terminal es t x = insert_entry (terminals.ghosts).cmp es t x
+
+-- the value, or the other in place of one that equals the first
+abbrev pub swapped : {X : Type 0} → (X → X → Bool) → X → X → X → X
+swapped eq from to x = cond (eq x from) to x

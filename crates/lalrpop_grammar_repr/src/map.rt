@@ -1,11 +1,12 @@
 //! Maps in order of their keys, which contracts see as the list of their entries.
 
-ghost use Rattle.std.specs.Prelude.{◌≡◌, ◌↔◌, [], length, IsTrue, IfOk, OnOk, OnErr};
+ghost use Rattle.std.specs.Prelude.{◌≡◌, ◌↔◌, [], length, map, IsTrue, IfOk, OnOk, OnErr};
 ghost use Rattle.std.specs.BTreeMap.{insert_entry, is_at};
 ghost use Rattle.std.specs.List.Sorted.{IsStrictlySortedBy};
 ghost use Rattle.std.specs.Map.{keys_of, lookup};
 ghost use Rattle.std.specs.Map.Iter.{ShowsInOrder, deref_pair};
 ghost use Rattle.std.specs.Option.{option_copied};
+ghost use Rattle.lalrpop_grammar_repr.specs.Maps.{swapped};
 
 use crate::try_clone::TryClone;
 use std::alloc::{AllocError, Global};
@@ -87,6 +88,25 @@ impl<K: Ord + Drop, V: Drop> Map<K, V> {
     {
         self.map.insert(key, value)?;
         Ok(())
+    }
+}
+
+/// The value, or the other where it equals the first.
+fn redirected<V: Copy + PartialEq>(value: V, from: V, to: V) -> V
+    ensures { result ≡ swapped V.eq from to value }
+{
+    if value == from { to } else { value }
+}
+
+impl<K: Ord + Drop, V: Copy + PartialEq + Drop> Map<K, V> {
+    /// Puts `to` in place of each value that equals `from`.
+    pub fn redirect(&mut self, from: V, to: V)
+        ensures { self.new ≡ map (λ e. (e.0, swapped V.eq from to e.1)) self.old }
+    {
+        self.map.retain(|_, value| {
+            *value = redirected(*value, from, to);
+            true
+        });
     }
 }
 

@@ -74,8 +74,14 @@ fn states_by_closures<'g, L: KernelLookahead>(
     states_at(alloc, table, numbered)
 }
 
-/// The states of the grammar for a start that the lookahead follows, with conflicts or without.
-fn all_states<'g, L: KernelLookahead>(
+/// The states of the grammar for a start that the lookahead follows, whatever their conflicts. The terminals of the grammar are
+/// numbered by their places, and each terminal on a right side is one of them; the lookahead is in order and holds only tokens of
+/// the grammar and the end.
+///
+/// # Errors
+///
+/// Memory is refused.
+pub fn all_states<'g, L: KernelLookahead>(
     alloc: Global,
     grammar: &'g Grammar,
     start: &NonterminalString,

@@ -10,4 +10,4 @@ mod rule_numbers;
 mod start;
 pub mod states;
 
-pub use construction::{build_lr0_states, build_lr1_states_canonical, build_states};
+pub use construction::{all_states, build_lr0_states, build_lr1_states_canonical, build_states};

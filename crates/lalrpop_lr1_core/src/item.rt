@@ -128,7 +128,7 @@ impl<'g, L> Item<'g, L> {
     }
 
     /// The symbols behind the dot; none where the dot is past the end.
-    pub(crate) fn rest(&self) -> &'g [Symbol]
+    pub fn rest(&self) -> &'g [Symbol]
         ensures { result.now ≡ behind_dot self.now }
     {
         symbols_behind(self.production.symbols.as_slice(), self.index)

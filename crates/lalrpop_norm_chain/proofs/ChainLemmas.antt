@@ -1,6 +1,6 @@
 -- The passes one after the other make a normalized grammar; for the law of chains.
 use Rattle.std.proofs.Common.{◌≡◌, ℕ, zero, suc, List, [], ◌∷◌, ◌++◌, refl, ap, ap₂, sym, ◌∙◌, subst}
-use Rattle.std.proofs.Common.{Bool, false, inl, inr}
+use Rattle.std.proofs.Common.{Bool, inl, inr}
 use Rattle.std.specs.Prelude.{◌⊎◌, Option, Some, None, IsSomeAnd, map, flat_map, slice_get, ◌↔◌}
 use Rattle.std.proofs.lemmas.List.{append-nil, append_assoc}
 use Rattle.lalrpop_grammar_symbols.specs.Symbols.{Text, Op, Closed, Closeds, closed_list}
@@ -14,7 +14,7 @@ use Rattle.lalrpop_grammar_language.proofs.PlaceLemmas.{among_map}
 use Rattle.lalrpop_grammar_language.proofs.SoundnessLemmas.{part-whole}
 use Rattle.lalrpop_norm_theory.proofs.LevelOrderLemmas.{one_rule}
 use Rattle.lalrpop_norm_chain.specs.UsedLiterals.{AreFullExpansionEntries}
-use Rattle.lalrpop_norm_chain.proofs.PlainNameLemmas.{names_plain, read_tells_resolved}
+use Rattle.lalrpop_norm_chain.proofs.PlainNameLemmas.{read_tells_resolved}
 use Rattle.lalrpop_norm_chain.proofs.ItemLemmas.{no_tokenizer}
 use Rattle.lalrpop_norm_chain.proofs.UsedLiteralLemmas.{full_entries}
 use Rattle.lalrpop_grammar_language.specs.Levels.{loosest}
@@ -25,7 +25,7 @@ use Rattle.lalrpop_grammar.specs.declared.types.type_repr.TypeRepr.{TypeRepr}
 use Rattle.lalrpop_norm_theory.specs.Between.{rule_between, written_name, grammar_between, without_disabled}
 use Rattle.lalrpop_norm_theory.specs.Premises.{IsExpanded}
 use Rattle.lalrpop_norm_theory.specs.Same.{rename_symbol, SameExpansion}
-use Rattle.lalrpop_norm_theory.specs.Keys.{leveled_key_text, flat_key_text, IsNaming}
+use Rattle.lalrpop_norm_theory.specs.Keys.{leveled_key_text, IsNaming}
 use Rattle.lalrpop_norm_theory.specs.NamesByUse.{IsNamingByUse}
 use Rattle.lalrpop_norm_theory.specs.Inlined.{IsInlined, SameInlined}
 use Rattle.lalrpop_norm_theory.specs.Productions.{NamedProduction, StandsForLabel}

@@ -1,5 +1,5 @@
 -- Conditions of the calls that are made stay through resolving and levels; for the faults of macros.
-use Rattle.std.proofs.Common.{◌≡◌, ℕ, List, ◌∷◌, refl, ap, sym, ◌∙◌, subst, Bool, inl, inr}
+use Rattle.std.proofs.Common.{◌≡◌, ℕ, List, refl, ap, sym, ◌∙◌, subst, Bool, inl, inr}
 use Rattle.std.specs.Prelude.{Option, Some, None, map, option_map, ◌↔◌}
 use Rattle.lalrpop_grammar_symbols.specs.Symbols.{Text, Closed, Closeds}
 use Rattle.lalrpop_grammar.specs.WrittenGrammar.{Condition, Rule, Grammar, rules_of}

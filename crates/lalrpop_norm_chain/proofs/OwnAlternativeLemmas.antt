@@ -34,9 +34,9 @@ use Rattle.lalrpop_norm_theory.proofs.LevelFitLemmas.{IsCallOf, StandsFor, choic
 use Rattle.lalrpop_norm_theory.proofs.LevelLemmas.{no_rank}
 use Rattle.lalrpop_norm_theory.proofs.LevelNameLemmas.{after, before, own_rule}
 use Rattle.lalrpop_norm_theory.proofs.LevelOrderLemmas.{one_rule}
-use Rattle.lalrpop_norm_theory.proofs.LevelTypeLemmas.{levels_keep}
+use Rattle.lalrpop_norm_theory.proofs.LevelTypeLemmas.{chosen-leveled, levels_keep}
 use Rattle.lalrpop_norm_theory.proofs.LeveledRuleLemmas.{key_rule}
-use Rattle.lalrpop_norm_theory.proofs.MacroTypeLemmas.{StandsForChoice, call_parts}
+use Rattle.lalrpop_norm_theory.proofs.MacroTypeLemmas.{StandsForChoice, call_parts, chosen-named}
 use Rattle.lalrpop_norm_theory.proofs.ReachLemmas.{IsWellIfSound, closed_reached_from}
 use Rattle.lalrpop_norm_theory.proofs.ReplacedNameLemmas.{keeps_sides}
 use Rattle.lalrpop_norm_theory.proofs.ResolvedPlaceLemmas.{changed as resolving_changes, replaces as resolving_replaces}
@@ -158,17 +158,6 @@ none_mapped f None e = refl
 none_mapped f (Some y) e = cc
 
 -- rules of levels
-
-chosen-leveled : (f : Text → ℕ → Text) (x : Closed) → is_chosen (by_level_names f x) ≡ is_chosen x
-chosen-leveled f (Closed.terminal t) = refl
-chosen-leveled f (Closed.call n args level) = refl
-chosen-leveled f (Closed.repeat op x) = refl
-chosen-leveled f (Closed.group xs) = refl
-chosen-leveled f (Closed.choose x) = refl
-chosen-leveled f (Closed.name m n x) = refl
-chosen-leveled f Closed.lookahead = refl
-chosen-leveled f Closed.lookbehind = refl
-chosen-leveled f Closed.faulty = refl
 
 module _ (finds : Text → Text → Option Bool) (g : Grammar) (f : Text → ℕ → Text) (w : IsLevelable finds g f) where
   reached_level : (x : Closed) → IsWellIfSound (before finds g) x → (t : GroundType) →
@@ -295,17 +284,6 @@ instance_source g f r args (q ∷ ps) cs (inl i) c j =
     go (inr k) later = let u = later k in (u.0, inr u.1, u.2, u.3)
 instance_source g f r args (q ∷ ps) cs (inr i) c j =
     let u = instance_source g f r args ps cs i.1 c j in (u.0, inr u.1, u.2, u.3)
-
-chosen-named : (f : Closed → Text) (x : Closed) → is_chosen (by_name f x) ≡ is_chosen x
-chosen-named f (Closed.terminal t) = refl
-chosen-named f (Closed.call n args level) = refl
-chosen-named f (Closed.repeat op x) = refl
-chosen-named f (Closed.group xs) = refl
-chosen-named f (Closed.choose x) = refl
-chosen-named f (Closed.name m n x) = refl
-chosen-named f Closed.lookahead = refl
-chosen-named f Closed.lookbehind = refl
-chosen-named f Closed.faulty = refl
 
 module _ (g h : EnabledGrammar) (f : Closed → Text) (keys : List Closed) (w : IsMacroExpansion g h f keys)
     (d : DeclareKeyTypes g h f keys) where

@@ -45,7 +45,7 @@ use Rattle.lalrpop_norm_chain.proofs.PlainNameLemmas.{read_tells_resolved}
 use Rattle.lalrpop_norm_chain.proofs.ActiveLemmas.{zip_front}
 use Rattle.lalrpop_norm_chain.proofs.OrderLemmas.{instance_from}
 use Rattle.lalrpop_norm_chain.proofs.FrontLemmas.{closed_to}
-use Rattle.lalrpop_norm_chain.proofs.FrontLemmas.{has_rule, key_named, levelable, same_leveled, types_expanded, written_by_use}
+use Rattle.lalrpop_norm_chain.proofs.FrontLemmas.{has_rule, key_named, same_leveled, types_expanded, written_by_use}
 use Rattle.lalrpop_norm_chain.specs.WrittenTypeFaults.{HasNoTypeAt, IsCallAt, IsDisagreeing, IsUntyped}
 use Rattle.lalrpop_norm_chain.proofs.PartTypeLemmas.{key_typed}
 use Rattle.lalrpop_norm_chain.proofs.OwnAlternativeLemmas.{call_rule}

@@ -35,7 +35,7 @@ use Rattle.lalrpop_norm_lower.proofs.EarlierLemmas.{Earlier}
 use Rattle.lalrpop_norm_lower.proofs.ExpansionRowLemmas.{HaveOwnNames, names_apart}
 use Rattle.lalrpop_norm_lower.proofs.InlineLemmas.{inlined_as_marked}
 use Rattle.lalrpop_norm_lower.proofs.ListedLemmas.{starts_listed, terminals_lowered, types_lowered}
-use Rattle.lalrpop_norm_lower.proofs.MapLemmas.{lowered_productions}
+use Rattle.lalrpop_norm_lower.proofs.MapLemmas.{lowered_numbers, lowered_productions}
 use Rattle.lalrpop_norm_lower.proofs.OrderLemmas.{equal_terminals}
 use Rattle.lalrpop_norm_lower.proofs.PutLemmas.{key_found}
 use Rattle.lalrpop_norm_lower.proofs.NonterminalLemmas.{IsKnownSymbol, known_production, nonterminals_lowered}
@@ -149,6 +149,7 @@ module _ (finds : Text → Text → Option Bool) (w : Grammar) (types : Types) (
   pub made_lowered : IsLowered (grammar_between finds w) w types made
   made_lowered = record {
     productions = productions;
+    numbered = lowered_numbers finds w types l made.grammar.nonterminals m.nonterminals;
     nonterminals = nonterminals_lowered finds w types l made m;
     inlined = inlined_as_marked finds w types l made types.nonterminal_types (nonterminals_lowered finds w types l made m);
     starts = subst (AreListedStarts w) (sym m.starts) (starts_listed w rows_apart);

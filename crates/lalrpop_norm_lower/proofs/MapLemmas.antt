@@ -2,6 +2,7 @@
 use Rattle.std.specs.Prelude.{Bool, Option, Some, flat_map, map}
 use Rattle.std.proofs.Common.{◌≡◌, ◌≢◌, ◌⊎◌, ◌∙◌, ℕ, ◌+◌, ◌<◌, List, [], ◌∷◌, ◌++◌, refl}
 use Rattle.std.proofs.Common.{ap, ap₂, sym, subst, inl, inr, length, arith}
+use Rattle.std.proofs.lemmas.List.{map-append}
 use Rattle.lalrpop_grammar_symbols.specs.Symbols.{Text}
 use Rattle.lalrpop_grammar_symbols.specs.contracts.names.NonterminalStringOrd.TheImpl as names
 use Rattle.lalrpop_grammar_symbols.specs.declared.names.NonterminalString.{NonterminalString}
@@ -27,6 +28,7 @@ use Rattle.lalrpop_norm_lower.specs.LoweredLists.{rule_entries, entry_of_rule, r
 use Rattle.lalrpop_norm_lower.specs.LoweredLists.{entry_of_start, start_origins}
 use Rattle.lalrpop_norm_lower.specs.LoweredSymbols.{lowered_name, named_productions, productions_at}
 use Rattle.lalrpop_norm_lower.specs.MadeLists.{AreMadeNonterminals, put_names}
+use Rattle.lalrpop_norm_lower.specs.NumberOrders.{AreNumberedAlong, names_in_order}
 use Rattle.lalrpop_norm_lower.proofs.EarlierLemmas.{Across, Earlier, earlier_apart, earlier_both, earlier_each, earlier_joined}
 use Rattle.lalrpop_norm_lower.proofs.EarlierLemmas.{earlier_weaker, flat_earlier}
 use Rattle.lalrpop_norm_lower.proofs.EntryLemmas.{made_of_rule, made_of_start}
@@ -36,7 +38,7 @@ use Rattle.lalrpop_norm_lower.proofs.NumberedLemmas.{HasLowerAction, IsRegrouped
 use Rattle.lalrpop_norm_lower.proofs.NumberedLemmas.{regrouped_productions, rows_numbered}
 use Rattle.lalrpop_norm_lower.proofs.OrderLemmas.{equal_names}
 use Rattle.lalrpop_norm_lower.proofs.PutLemmas.{CanPut, HaveOwnKeys, all_put_among, all_put_length, among_of_all_put, earlier_all_put}
-use Rattle.lalrpop_norm_lower.proofs.PutLemmas.{found_among, lookup_put}
+use Rattle.lalrpop_norm_lower.proofs.PutLemmas.{found_among, lookup_put, one_of_key}
 
 -- what stands in a list of images stands where it came from
 pub unmapped : {A B : Type 0} (R : B → B → Type 0) (f : A → B) (xs : List A) → Earlier R (map f xs)
@@ -102,6 +104,25 @@ rule_keys k (r ∷ rs) h = (
       let m = made_of_rule (k + length r.alternatives) rs v i in h.0 m.0 m.2 (e ∙ ap (λ (x : LoweredNonterminal). x.key) m.3),
   rule_keys (k + length r.alternatives) rs h.1,
 )
+
+-- the keys are the names of starts and of rules, in order
+
+start_keys_are : (prefix : Text) (k : ℕ) (ss : List Rule)
+    → map (λ (v : LoweredNonterminal). v.key) (start_entries prefix k ss) ≡ map (λ (r : Rule). prefix ++ r.name) ss
+start_keys_are prefix k [] = refl
+start_keys_are prefix k (r ∷ ss) = ap (λ (l : List Text). (prefix ++ r.name) ∷ l) (start_keys_are prefix (k + 1) ss)
+
+rule_keys_are : (k : ℕ) (rs : List Rule)
+    → map (λ (v : LoweredNonterminal). v.key) (rule_entries k rs) ≡ map (λ (r : Rule). r.name) rs
+rule_keys_are k [] = refl
+rule_keys_are k (r ∷ rs) = ap (λ (l : List Text). r.name ∷ l) (rule_keys_are (k + length r.alternatives) rs)
+
+entry_keys_are : (prefix : Text) (rs : List Rule)
+    → map (λ (v : LoweredNonterminal). v.key) (lowered_entries prefix rs) ≡ names_in_order prefix rs
+entry_keys_are prefix rs =
+    map-append (λ (v : LoweredNonterminal). v.key) (start_entries prefix 0 (rules_with_starts rs))
+    (rule_entries (length (rules_with_starts rs)) rs)
+    ∙ ap₂ ◌++◌ (start_keys_are prefix 0 (rules_with_starts rs)) (rule_keys_are (length (rules_with_starts rs)) rs)
 
 -- the productions of an entry have its key as their nonterminal
 
@@ -272,6 +293,57 @@ module _ (w : Grammar) where
         as_many = let many = all_put_length (names.ghosts).cmp equal_names productions_at [] es can_put in omega (arith, many);
         apart = ordered_map;
       })
+
+      -- a production of the map is one of the entry of its name
+      own_production : (e : NonterminalString × NonterminalData) → Among es e → (p : NamedProduction)
+          → Among (named_productions (put_names [] es)) p → p.nonterminal ≡ e.0.0 → Among (productions_at e) p
+      own_production e i p j same =
+          let m = among_flat_map productions_at (put_names [] es) p j in
+          let there = entries_of_map m.0 m.1 in
+          let key : m.0.0 ≡ e.0 = ap nonterminal_of (sym (production_named m.0 there p m.2) ∙ same) in
+          subst (λ (x : NonterminalString × NonterminalData). Among (productions_at x) p)
+          (one_of_key (names.ghosts).cmp equal_names es can_put.own m.0 e there i key) m.2
+
+      numbered_part : (ds : List (NonterminalString × NonterminalData))
+          → ((d : NonterminalString × NonterminalData) → Among ds d → Among es d)
+          → Earlier (λ e d. Across HasLowerAction (productions_at e) (productions_at d)) ds
+          → AreNumberedAlong (map (λ (d : NonterminalString × NonterminalData). d.0.0) ds) (named_productions (put_names [] es))
+      numbered_part [] part h = tt
+      numbered_part (d ∷ ds) part h = (
+        λ p q i j own later.
+            let at = among_map (λ (x : NonterminalString × NonterminalData). x.0.0) ds q.nonterminal later in
+            h.0 at.0 at.1 p q (own_production d (part d (inl refl)) p i own)
+            (own_production at.0 (part at.0 (inr at.1)) q j (sym at.2)),
+        numbered_part ds (λ x k. part x (inr k)) h.1,
+      )
+
+      -- the productions of the map are numbered along what was put in
+      pub numbered_entries : AreNumberedAlong (map (λ (d : NonterminalString × NonterminalData). d.0.0) es) (named_productions made)
+      numbered_entries =
+          subst (λ l. AreNumberedAlong (map (λ (d : NonterminalString × NonterminalData). d.0.0) es) (named_productions l))
+          (sym a.put_in) (numbered_part es (λ d i. i) (earlier_apart HasLowerAction productions_at es rising))
+
+-- the actions of what was put in rise
+rising_actions : (w : Grammar) (made : List (NonterminalString × NonterminalData)) (a : AreMadeNonterminals w made)
+    → Earlier HasLowerAction (flat_map productions_at a.entries)
+rising_actions w made a =
+    let rs = rules_of w.items in
+    let f = lowered_name w.prefix in
+    let same : productions_from f 0 (lowered_rows rs) ≡ flat_map productions_at a.entries =
+    rows_numbered w.prefix rs ∙ ap (flat_map entry_productions) (sym a.entries_are) ∙ all_seen a.entries in
+    subst (Earlier HasLowerAction) same (numbers_rise f 0 (lowered_rows rs))
+
+-- the productions of the map are numbered along the starts and the rules
+pub lowered_numbers : (finds : Text → Text → Option Bool) (w : Grammar) (types : Types) → IsLowerable finds w types
+    → (made : List (NonterminalString × NonterminalData)) (a : AreMadeNonterminals w made)
+    → AreNumberedAlong (names_in_order w.prefix (rules_of w.items)) (named_productions made)
+lowered_numbers finds w types l made a =
+    let rs = rules_of w.items in
+    let names_are : map (λ (d : NonterminalString × NonterminalData). d.0.0) a.entries ≡ names_in_order w.prefix rs =
+    sym (maps_joined lowered_entry_view (λ (v : LoweredNonterminal). v.key) a.entries)
+    ∙ ap (map (λ (v : LoweredNonterminal). v.key)) a.entries_are ∙ entry_keys_are w.prefix rs in
+    subst (λ (ns : List Text). AreNumberedAlong ns (named_productions made)) names_are
+    (numbered_entries w (names_apart finds w l.expanded l.ordered l.free_prefix) l.free_prefix made a (rising_actions w made a))
 
 -- the productions of the map are those of the expansion
 pub lowered_productions : (finds : Text → Text → Option Bool) (w : Grammar) (types : Types) → IsLowerable finds w types

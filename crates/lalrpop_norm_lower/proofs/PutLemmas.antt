@@ -22,6 +22,14 @@ module _ {K X : Type 0} (R : K → K → Ordering) (decides : (a b : K) → Deci
   abbrev pub HaveOwnKeys : K × X → K × X → Type 0
   HaveOwnKeys e d = e.0 ≢ d.0
 
+  -- no two entries have one key
+  pub one_of_key : (es : List (K × X)) → Earlier HaveOwnKeys es → (e d : K × X) → Among es e → Among es d → e.0 ≡ d.0 → e ≡ d
+  one_of_key [] own e d i j same = absurd i
+  one_of_key (x ∷ es) own e d (inl a) (inl b) same = sym a ∙ b
+  one_of_key (x ∷ es) own e d (inl a) (inr j) same = absurd (own.0 d j (ap (λ (z : K × X). z.0) a ∙ same))
+  one_of_key (x ∷ es) own e d (inr i) (inl b) same = absurd (own.0 e i (ap (λ (z : K × X). z.0) b ∙ sym same))
+  one_of_key (x ∷ es) own e d (inr i) (inr j) same = one_of_key es own.1 e d i j same
+
   -- no entry has the key
   abbrev pub IsFree : K → List (K × X) → Type 0
   IsFree k es = (e : K × X) → Among es e → e.0 ≢ k

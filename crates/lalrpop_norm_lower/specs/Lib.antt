@@ -2,6 +2,7 @@ pub mod LoweredSymbols
 pub mod Definitions
 pub mod LoweredLists
 pub mod Lowered
+pub mod NumberOrders
 pub mod RuleLists
 pub mod MadeLists
 pub mod LowerFaults

@@ -33,6 +33,7 @@ use Rattle.lalrpop_norm_tyinfer.specs.TypeFaults.{nonterminal_of}
 use Rattle.lalrpop_norm_lower.specs.Definitions.{definition_of, type_in_table}
 use Rattle.lalrpop_norm_lower.specs.LoweredLists.{gets_start, with_places}
 use Rattle.lalrpop_norm_lower.specs.LoweredSymbols.{lowered_name, lowered_side, named_productions, named_symbol}
+use Rattle.lalrpop_norm_lower.specs.NumberOrders.{AreNumberedAlong, names_in_order}
 use Rattle.lalrpop_norm_lower.specs.declared.lowering.Normalized.{Normalized}
 
 -- what lowering rests on
@@ -175,6 +176,8 @@ pub record HasTypesOfAll (made : Normalized) : Type 0 where
 pub record IsLowered (g : EnabledGrammar) (w : Grammar) (types : Types) (made : Normalized) : Type 0 where
   pub productions : AreProductions g (lowered_name w.prefix) (named_productions made.grammar.nonterminals)
       (map origin_view made.origins)
+  -- actions are numbered along the starts and then the rules
+  pub numbered : AreNumberedAlong (names_in_order w.prefix (rules_of w.items)) (named_productions made.grammar.nonterminals)
   pub nonterminals : AreLoweredNonterminals w types.nonterminal_types made
   pub inlined : AreInlinedAsMarked g w.prefix made.grammar.nonterminals
   pub starts : AreListedStarts w made.grammar.start_nonterminals

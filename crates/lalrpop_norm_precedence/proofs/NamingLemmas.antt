@@ -11,7 +11,7 @@ use Rattle.lalrpop_grammar_language.proofs.ComparisonLemmas.{same_text-refl}
 use Rattle.lalrpop_grammar_rules.proofs.BareNameLemmas.{same_text-sym}
 use Rattle.lalrpop_norm_theory.specs.Between.{grammar_between, rule_between}
 use Rattle.lalrpop_norm_theory.specs.Premises.{AreDifferent, IsResolved}
-use Rattle.lalrpop_norm_theory.specs.LevelNames.{AreLevelNames, HasNoTildes, plain_levels, texts_behind, times_taken}
+use Rattle.lalrpop_norm_theory.specs.LevelNames.{AreLevelNames, HasNoTildes, plain_levels, taken_behind_levels, times_taken}
 use Rattle.lalrpop_norm_precedence.specs.declared.level_names.levels.RuleLevels.{RuleLevels}
 use Rattle.lalrpop_norm_precedence.specs.LevelTables.{HasPlainParameters, HoldLevelNames, rule_levels_view}
 use Rattle.lalrpop_norm_precedence.specs.TakenTimes.{AreSmallTimes}
@@ -155,7 +155,7 @@ module _ (finds : Text → Text → Option Bool) (g : Grammar) (plain macros : T
         rules-numbered name_in_tables last_plain last_macros all_rules plain macros all-given (map (λ r. r.name) all_rules) counted;
     of_macros =
         macros-numbered name_in_tables last_plain last_macros all_rules plain macros all-given
-        (texts_behind (map (λ r. r.name) all_rules) (plain_levels g))
+        (taken_behind_levels (map (λ r. r.name) all_rules) (plain_levels g))
         (λ t. ap (λ h. h t) waits ∙ texts-taken all_rules plain (map (λ r. r.name) all_rules) counted t);
     apart =
         names-apart name_in_tables last_plain last_macros room space all_rules plain macros all-given clear

@@ -16,7 +16,7 @@ use Rattle.lalrpop_norm_theory.specs.Between.{rule_between}
 use Rattle.lalrpop_norm_theory.specs.Keys.{with_number, before_tilde}
 use Rattle.lalrpop_norm_theory.specs.LevelRules.{level_name}
 use Rattle.lalrpop_norm_theory.specs.LevelNames.{after_first, numbered_text, plain_levels_of, tighter_levels, times_taken}
-use Rattle.lalrpop_norm_theory.specs.LevelNames.{AreNumberedBeside, AreNumberedInOrder, beside_own, macro_levels_of, texts_behind}
+use Rattle.lalrpop_norm_theory.specs.LevelNames.{AreNumberedBeside, AreNumberedInOrder, beside_own, macro_levels_of, taken_behind_levels}
 use Rattle.lalrpop_norm_theory.proofs.LevelOrderLemmas.{falling-has, falling-only, loosest_or_tighter, loosest-among}
 use Rattle.lalrpop_grammar_language.proofs.AmongLemmas.{found_text}
 use Rattle.lalrpop_norm_theory.proofs.PackedNameLemmas.{number_cut, numbered_stays}
@@ -82,25 +82,25 @@ module _ (r : Rule) (none : r.parameters ≡ []) where
       (sym (beside_none (numbered_text r.name j) times)) (more-of (numbered_text r.name j) times taken same)
 
   texts-on : (js : List ℕ) (times : Times) (taken : List Text) → AreTimesOf times taken → (ks : List (Text × ℕ)) (last : Times) →
-      ((more : List Text) → AreTimesOf (taken_behind_all r times js) more → AreTimesOf last (texts_behind more ks)) →
-      AreTimesOf last (texts_behind taken (map (λ j. (r.name, j)) js ++ ks))
+      ((more : List Text) → AreTimesOf (taken_behind_all r times js) more → AreTimesOf last (taken_behind_levels more ks)) →
+      AreTimesOf last (taken_behind_levels taken (map (λ j. (r.name, j)) js ++ ks))
   texts-on [] times taken same ks last later = later taken same
   texts-on (j ∷ js) times taken same ks last later =
       texts-on js (taken_behind r times j) (numbered_text r.name j ∷ taken) (level-more j times taken same) ks last later
 
 -- what plain rules take is counted
 pub texts-taken : (rs : List Rule) (plain : Times) (taken : List Text) → AreTimesOf plain taken →
-    AreTimesOf (taken_behind_plain rs plain) (texts_behind taken (flat_map plain_levels_of rs))
+    AreTimesOf (taken_behind_plain rs plain) (taken_behind_levels taken (flat_map plain_levels_of rs))
 texts-taken [] plain taken same = same
 texts-taken (r ∷ rs) plain taken same =
     go (has_none r.parameters) refl (texts-taken rs plain taken same) (λ more h. texts-taken rs (taken_behind_rule r plain) more h)
   where
     go : (b : Bool) → has_none r.parameters ≡ b →
-        AreTimesOf (taken_behind_plain rs plain) (texts_behind taken (flat_map plain_levels_of rs)) →
+        AreTimesOf (taken_behind_plain rs plain) (taken_behind_levels taken (flat_map plain_levels_of rs)) →
         ((more : List Text) → AreTimesOf (taken_behind_rule r plain) more →
-        AreTimesOf (taken_behind_plain rs (taken_behind_rule r plain)) (texts_behind more (flat_map plain_levels_of rs))) →
+        AreTimesOf (taken_behind_plain rs (taken_behind_rule r plain)) (taken_behind_levels more (flat_map plain_levels_of rs))) →
         AreTimesOf (if b then taken_behind_plain rs (taken_behind_rule r plain) else taken_behind_plain rs plain)
-        (texts_behind taken ((if b then map (λ j. (r.name, j)) (tighter_levels r) else []) ++ flat_map plain_levels_of rs))
+        (taken_behind_levels taken ((if b then map (λ j. (r.name, j)) (tighter_levels r) else []) ++ flat_map plain_levels_of rs))
     go true none other later =
         texts-on r (no_parameters r.parameters none) (tighter_levels r) plain taken same (flat_map plain_levels_of rs)
         (taken_behind_plain rs (taken_behind_rule r plain)) later

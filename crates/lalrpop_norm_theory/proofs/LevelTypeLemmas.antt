@@ -39,7 +39,7 @@ IsForth f P Q = (x : Closed) (t : GroundType) → P x t → Q (by_level_names f 
 abbrev IsBack : (Text → Text → Option Bool) → Grammar → (Text → ℕ → Text) → Typing → Typing → Type 0
 IsBack finds g f P Q = (x : Closed) → IsWellIfSound (before finds g) x → (t : GroundType) → Q (by_level_names f x) t → P x t
 
-chosen-leveled : (f : Text → ℕ → Text) (x : Closed) → is_chosen (by_level_names f x) ≡ is_chosen x
+pub chosen-leveled : (f : Text → ℕ → Text) (x : Closed) → is_chosen (by_level_names f x) ≡ is_chosen x
 chosen-leveled f (Closed.terminal t) = refl
 chosen-leveled f (Closed.call n args level) = refl
 chosen-leveled f (Closed.repeat op x) = refl

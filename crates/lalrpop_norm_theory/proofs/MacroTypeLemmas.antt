@@ -26,7 +26,7 @@ use Rattle.lalrpop_norm_theory.proofs.KeyTypeLemmas.{PutsForth, PutsBack}
 abbrev nt : Closed → GrammarSymbol Nonterminal
 nt x = GrammarSymbol.nonterminal (Nonterminal.closed x)
 
-chosen-named : (f : Closed → Text) (x : Closed) → is_chosen (by_name f x) ≡ is_chosen x
+pub chosen-named : (f : Closed → Text) (x : Closed) → is_chosen (by_name f x) ≡ is_chosen x
 chosen-named f (Closed.terminal t) = refl
 chosen-named f (Closed.call n args level) = refl
 chosen-named f (Closed.repeat op x) = refl

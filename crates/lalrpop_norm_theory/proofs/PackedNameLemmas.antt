@@ -27,7 +27,7 @@ use Rattle.lalrpop_norm_theory.proofs.ExpansionListLemmas.{rule_there}
 use Rattle.lalrpop_norm_theory.specs.LevelRules.{level_name}
 use Rattle.lalrpop_norm_theory.specs.LevelNames.{tighter_levels, numbered_text, plain_levels_of, plain_levels, times_taken}
 use Rattle.lalrpop_norm_theory.specs.LevelNames.{AreLevelNames, AreNumberedBeside, AreNumberedInOrder, beside_own, macro_levels}
-use Rattle.lalrpop_norm_theory.specs.LevelNames.{macro_levels_of, texts_behind}
+use Rattle.lalrpop_norm_theory.specs.LevelNames.{macro_levels_of, taken_behind_levels}
 use Rattle.lalrpop_norm_theory.specs.LevelNames.{HasNoTildes, IsNextAmongRules, HasPackedNames}
 use Rattle.lalrpop_norm_theory.specs.LevelLaws.{IsLevelable}
 use Rattle.lalrpop_norm_theory.proofs.LevelOrderLemmas.{loosest_or_tighter, tighter-among}
@@ -157,7 +157,7 @@ numbered_beside f taken (l ∷ ks) w k (inr i) =
 pub macro_numbered : (g : Grammar) (f : Text → ℕ → Text) → AreLevelNames g f → (r : Rule) (j : ℕ) → Among (rules_of g.items) r →
     r.parameters ≢ [] → Among (tighter_levels r) j → (m : ℕ) × (f r.name j ≡ with_number (numbered_text r.name j) m)
 macro_numbered g f a r j i some t =
-    numbered_beside f (texts_behind (map (λ q. q.name) (rules_of g.items)) (plain_levels g)) (macro_levels g) a.of_macros (r, j)
+    numbered_beside f (taken_behind_levels (map (λ q. q.name) (rules_of g.items)) (plain_levels g)) (macro_levels g) a.of_macros (r, j)
     (flat_map_among macro_levels_of (rules_of g.items) r (r, j) i (listed r.parameters some))
   where
     listed : (ps : List Text) → ps ≢ [] →

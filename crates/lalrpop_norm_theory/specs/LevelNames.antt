@@ -68,9 +68,9 @@ abbrev pub macro_levels : Grammar → List (Rule × ℕ)
 macro_levels g = flat_map macro_levels_of (rules_of g.items)
 
 -- the texts that are taken once these levels have names
-abbrev pub texts_behind : List Text → List (Text × ℕ) → List Text
-texts_behind taken [] = taken
-texts_behind taken (k ∷ ks) = texts_behind (numbered_text k.0 k.1 ∷ taken) ks
+abbrev pub taken_behind_levels : List Text → List (Text × ℕ) → List Text
+taken_behind_levels taken [] = taken
+taken_behind_levels taken (k ∷ ks) = taken_behind_levels (numbered_text k.0 k.1 ∷ taken) ks
 
 -- a text that is a parameter of the rule is taken once more
 abbrev pub beside_own : List Text → Text → List Text → List Text
@@ -88,7 +88,7 @@ AreNumberedBeside f taken (k ∷ ks) =
 pub record AreLevelNames (g : Grammar) (f : Text → ℕ → Text) : Type 0 where
   pub loosest_kept : (r : Rule) → Among (rules_of g.items) r → level_name f r.name (loosest (rule_between r)) ≡ r.name
   pub plain : AreNumberedInOrder f (map (λ r. r.name) (rules_of g.items)) (plain_levels g)
-  pub of_macros : AreNumberedBeside f (texts_behind (map (λ r. r.name) (rules_of g.items)) (plain_levels g)) (macro_levels g)
+  pub of_macros : AreNumberedBeside f (taken_behind_levels (map (λ r. r.name) (rules_of g.items)) (plain_levels g)) (macro_levels g)
   -- no two rules of the leveled grammar share a name
   pub apart : AreDifferent (map (name_of_leveled_key f) (leveled_keys g))
   -- no parameter hides a tighter level of its own rule

@@ -1,4 +1,4 @@
-use Rattle.std.proofs.Common.{◌≡◌, ℕ, List, subst}
+use Rattle.std.proofs.Common.{ℕ, List, subst}
 use Rattle.std.specs.Fmt.{HasWritten}
 use Rattle.lalrpop_grammar_repr.proofs.PlainKindLemmas.{plain_else}
 use Rattle.lalrpop_grammar_repr.proofs.norm_error.NormErrorKindDisplay.fmt.Goals as goal

@@ -1,4 +1,4 @@
-use Rattle.std.proofs.Common.{◌≡◌, ◌∷◌, [], Global, Some, Vec, ap, slice_get, subst, sym}
+use Rattle.std.proofs.Common.{◌≡◌, [], Global, Some, Vec, ap, slice_get, subst, sym}
 use Rattle.std.proofs.lemmas.Result.{IfOk-weaker}
 use Rattle.lalrpop_sets.specs.Queues.{Queue}
 use Rattle.lalrpop_lr1_build.specs.Turns.{AreNumberedStates, AreStatesOf}

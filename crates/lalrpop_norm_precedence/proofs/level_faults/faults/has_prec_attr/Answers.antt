@@ -1,4 +1,4 @@
-use Rattle.std.proofs.Common.{◌≡◌, ap, sym, ◌∙◌, map}
+use Rattle.std.proofs.Common.{ap, sym, ◌∙◌, map}
 use Rattle.std.specs.List.{list_any}
 use Rattle.lalrpop_grammar.specs.Views.{alternative_view, nonterminal_view}
 use Rattle.lalrpop_norm_precedence.specs.LevelSearch.{says_level}
