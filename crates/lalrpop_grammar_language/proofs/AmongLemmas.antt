@@ -1,5 +1,5 @@
 -- What stands among mapped and joined lists, and texts that are found among others.
-use Rattle.std.proofs.Common.{◌≡◌, ℕ, zero, suc, ◌<◌, List, [], ◌∷◌, ◌++◌, refl, ap, sym, subst, inl, inr, ◌⊎◌, Bool, true, false}
+use Rattle.std.proofs.Common.{◌≡◌, ℕ, zero, suc, ◌<◌, List, [], ◌∷◌, refl, ap, sym, subst, inl, inr, ◌⊎◌, Bool, true, false}
 use Rattle.std.proofs.Common.{arith, length, get_or, Contains}
 use Rattle.std.specs.Prelude.{map, flat_map, ◌||◌}
 use Rattle.std.specs.Str.{bytes_eq}

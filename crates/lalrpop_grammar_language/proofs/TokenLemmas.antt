@@ -1,5 +1,5 @@
 -- Inlining a tree keeps its tokens: for the laws on written trees.
-use Rattle.std.proofs.Common.{◌≡◌, ◌∷◌, ◌++◌, refl, ap, sym, ◌∙◌, Bool, true, false}
+use Rattle.std.proofs.Common.{◌≡◌, ◌++◌, refl, ap, sym, ◌∙◌, Bool, true, false}
 use Rattle.std.proofs.Common.{if◌then◌else◌, append_assoc}
 use Rattle.lalrpop_grammar_language.specs.Labels.{Label}
 use Rattle.lalrpop_grammar_language.specs.BaseTrees.{BaseTree, BaseTrees, base_tokens, all_base_tokens}

@@ -1,6 +1,5 @@
 -- Which form of tree a symbol has, and what the text of a tree begins with; for prints_tell_trees_apart.
 use Rattle.std.proofs.Common.{◌≡◌, ℕ, List, [], ◌∷◌, true, false, refl, ap, sym, ◌∙◌, inl, inr, ◌⊎◌}
-use Rattle.std.specs.Prelude.{◌&&◌}
 use Rattle.lalrpop_grammar_symbols.specs.Symbols.{Text, Op, Closed}
 use Rattle.lalrpop_grammar.specs.Trees.{Token, Tree, Trees}
 use Rattle.lalrpop_json_values.specs.Scalars.{is_name, begins_name}

@@ -1,7 +1,7 @@
 -- What stands for a byte and for a character inside a JSON string: for the functions that write them.
 use Rattle.std.proofs.Common.{◌≡◌, ◌≢◌, ℕ, ◌<◌, ◌≤◌, ◌+◌, ◌/◌, ◌%◌, List, [], ◌∷◌, ◌++◌}
 use Rattle.std.proofs.Common.{refl, ap, ◌∙◌}
-use Rattle.std.proofs.Common.{arith, ltb, cond, append-nil, Bool, true, false, not, nat_lt, ◌==◌, ◌||◌, ◌&&◌, sym}
+use Rattle.std.proofs.Common.{arith, ltb, cond, append-nil, Bool, true, false, not, nat_lt, ◌==◌, ◌||◌, sym}
 use Rattle.std.proofs.lemmas.Bool.{eqb-true}
 use Rattle.std.proofs.lemmas.Bool.Decides.{nat_tests}
 use Rattle.std.proofs.lemmas.Str.{encode_ascii, encodes-append}

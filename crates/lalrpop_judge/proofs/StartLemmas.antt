@@ -1,5 +1,5 @@
 -- Admission from a start: for the judge.
-use Rattle.std.proofs.Common.{◌≡◌, ◌↔◌, ℕ, Bool, List, [], ◌∷◌, Option, IsTrue, ap, ap₂, sym, subst, ◌∙◌}
+use Rattle.std.proofs.Common.{◌≡◌, ◌↔◌, ℕ, Bool, List, [], Option, IsTrue, ap, ap₂, sym, subst, ◌∙◌}
 use Rattle.std.proofs.Common.{map}
 use Rattle.lalrpop_grammar_symbols.specs.Symbols.{Text, Closed, Closeds}
 use Rattle.lalrpop_grammar.specs.Trees.{Token, Tree, leaves}

@@ -1,6 +1,6 @@
 -- Names of a table that follow by its rules' clauses are those with trees, and those that are reached: for marks of names.
 use Rattle.std.proofs.Common.{◌≡◌, ◌∙◌, ◌⊎◌, ℕ, ◌<◌, Bool, List, []}
-use Rattle.std.proofs.Common.{◌∷◌, ◌++◌, map}
+use Rattle.std.proofs.Common.{◌∷◌, map}
 use Rattle.std.proofs.Common.{◌-◌}
 use Rattle.std.proofs.Common.{refl, sym, ap, subst, inl, inr, ⊎_elim, arith, Contains, Option, Some, nat_lt}
 use Rattle.std.specs.Prelude.{flat_map}

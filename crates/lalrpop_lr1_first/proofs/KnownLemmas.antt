@@ -1,5 +1,5 @@
 -- Names of productions are among those that are listed, terminals of a grammar in its set: for laying the right sides.
-use Rattle.std.proofs.Common.{List, [], ◌∷◌}
+use Rattle.std.proofs.Common.{List, []}
 use Rattle.std.proofs.Common.{Contains}
 use Rattle.std.specs.Prelude.{flat_map}
 use Rattle.lalrpop_grammar_symbols.specs.declared.names.NonterminalString.{NonterminalString}

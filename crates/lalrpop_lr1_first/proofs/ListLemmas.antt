@@ -1,5 +1,5 @@
 -- Lists of sets with one set exchanged, tests of two parts, and reading at a place: for all proofs of this crate.
-use Rattle.std.proofs.Common.{◌≡◌, ◌∙◌, ℕ, zero, suc, ◌<◌, ◌≤◌, Bool, true, false, ◌||◌}
+use Rattle.std.proofs.Common.{◌≡◌, ◌∙◌, ℕ, zero, suc, ◌<◌, Bool, true, false, ◌||◌}
 use Rattle.std.proofs.Common.{◌&&◌, eqb, List, [], ◌∷◌}
 use Rattle.std.proofs.Common.{length, get_or, set, refl, sym, ap, arith, ◌⊎◌, inl, inr, slice_get, Some}
 use Rattle.lalrpop_lr1_first.specs.Numbers.{set_of_number}

@@ -1,5 +1,5 @@
 -- A grammar's table as rules that stand for productions, and what its least trees are: for the calls on them.
-use Rattle.std.proofs.Common.{◌≡◌, ◌∙◌, ℕ, ◌∷◌, ◌++◌, drop}
+use Rattle.std.proofs.Common.{◌≡◌, ◌∙◌, ℕ, drop}
 use Rattle.std.proofs.Common.{sym, ap, subst, arith, Option, Some}
 use Rattle.lalrpop_lr1_theory.specs.Productions as theory
 use Rattle.lalrpop_lr1_theory.proofs.StepLemmas.{some_same}

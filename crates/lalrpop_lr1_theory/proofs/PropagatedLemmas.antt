@@ -1,5 +1,5 @@
 -- What is carried is what is propagated to names, along the symbols of a production: for that law.
-use Rattle.std.proofs.Common.{◌≡◌, ◌↔◌, ℕ, zero, suc, ◌+◌, List, [], ◌∷◌, ◌++◌, length, drop, take}
+use Rattle.std.proofs.Common.{◌≡◌, ℕ, zero, suc, ◌+◌, List, [], ◌∷◌, ◌++◌, length, drop, take}
 use Rattle.std.proofs.Common.{refl, sym, ap, ◌∙◌, subst}
 use Rattle.std.proofs.Common.{None, arith, append-nil}
 use Rattle.lalrpop_grammar_symbols.specs.Symbols.{Text}

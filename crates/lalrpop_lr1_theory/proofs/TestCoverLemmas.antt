@@ -1,13 +1,12 @@
 -- States cover the items exactly where they pass the tests along items and edges: for that law.
-use Rattle.std.proofs.Common.{◌≡◌, ◌↔◌, ◌⊎◌, ℕ, zero, suc, List, [], ◌∷◌, drop, refl, sym, ap}
+use Rattle.std.proofs.Common.{◌≡◌, ◌↔◌, ◌⊎◌, ℕ, zero, suc, ◌∷◌, drop, refl, sym, ap}
 use Rattle.std.proofs.Common.{◌∙◌, subst, inl, inr, arith}
-use Rattle.std.proofs.Common.{⊎_elim}
 use Rattle.lalrpop_grammar_symbols.specs.Symbols.{Text}
 use Rattle.lalrpop_lr1_theory.specs.Productions.{Production, Symbol, nonterminal}
 use Rattle.lalrpop_lr1_theory.specs.Automata.{Closure, IsBegun, IsCover, IsShifted, closed, in_kernel}
 use Rattle.lalrpop_lr1_theory.specs.NameClosures.{BeginsWithName, IsMovedItem, IsNameBegun, IsNameBehindDot, IsNameBrought}
-use Rattle.lalrpop_lr1_theory.specs.NameClosures.{IsNameFrom, seeded, stepped}
-use Rattle.lalrpop_lr1_theory.specs.CoverTests.{HasItemsOfNames, IsBeforeSymbol, LeadsToMoved, PassesCoverTests}
+use Rattle.lalrpop_lr1_theory.specs.NameClosures.{seeded, stepped}
+use Rattle.lalrpop_lr1_theory.specs.CoverTests.{HasItemsOfNames, IsBeforeSymbol, PassesCoverTests}
 use Rattle.lalrpop_lr1_theory.proofs.NameLemmas.{brought_item, item_brought, names_hold}
 
 module _ (G : Production → Type 0) (s : Text) where

@@ -1,5 +1,5 @@
 -- What the laws on checked states say, over lists of productions and of states.
-use Rattle.std.specs.Prelude.{ℕ, List, ◌↔◌, Contains}
+use Rattle.std.specs.Prelude.{List, ◌↔◌, Contains}
 use Rattle.lalrpop_grammar_symbols.specs.Symbols.{Text}
 use Rattle.lalrpop_lr1_theory.specs.Productions.{Production}
 use Rattle.lalrpop_lr1_theory.specs.ValidItems.{NoneBarren}

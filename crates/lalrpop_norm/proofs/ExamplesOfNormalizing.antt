@@ -1,5 +1,5 @@
 -- Computed examples of what may be told of a written grammar, and of what may not.
-use Rattle.std.proofs.Common.{◌≡◌, ℕ, [], ◌∷◌, refl, ◌∙◌, subst, inl, inr, ◌⊎◌}
+use Rattle.std.proofs.Common.{◌≡◌, ℕ, [], ◌∷◌, refl, ◌∙◌, subst, inl, inr}
 use Rattle.std.proofs.Common.{Bool, false, ap, arith}
 use Rattle.lalrpop_grammar_symbols.specs.Symbols.{Text, TextSpan}
 use Rattle.lalrpop_grammar.specs.WrittenGrammar.{Grammar, WrittenItem}

@@ -1,7 +1,7 @@
 -- Items that are no rules stay as they are through dropping, resolving, levels and macros, so no tokenizer comes in; for the
 -- normalizer.
 use Rattle.std.proofs.Common.{◌≡◌, ℕ, List, [], ◌∷◌, ◌++◌, refl, ap, ◌∙◌, subst, cond, Bool, true}
-use Rattle.std.proofs.Common.{false, inl, inr, ◌⊎◌}
+use Rattle.std.proofs.Common.{false, inl, inr}
 use Rattle.std.specs.Prelude.{Some, None, map, flat_map, filter_map}
 use Rattle.std.specs.List.{cons_option}
 use Rattle.lalrpop_grammar_symbols.specs.Symbols.{Text}

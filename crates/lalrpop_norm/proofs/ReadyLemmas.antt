@@ -1,5 +1,5 @@
 -- What the passes up to levels leave is what the pass over macros rests on; for the normalizer.
-use Rattle.std.proofs.Common.{◌≡◌, List, [], ap, sym, subst, Bool}
+use Rattle.std.proofs.Common.{List, [], ap, sym, subst, Bool}
 use Rattle.std.specs.Prelude.{Option}
 use Rattle.lalrpop_grammar_symbols.specs.Symbols.{Text}
 use Rattle.lalrpop_grammar.specs.WrittenGrammar.{Grammar, rules_of}

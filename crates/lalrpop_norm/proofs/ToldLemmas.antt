@@ -1,6 +1,5 @@
 -- What a pass tells stands in the written grammar, and where none tells a fault none stands; for the normalizer.
-use Rattle.std.proofs.Common.{◌≡◌, ℕ, List, [], ◌∷◌, ◌++◌, ap, sym, ◌∙◌, subst, Bool}
-use Rattle.std.proofs.Common.{◌⊎◌}
+use Rattle.std.proofs.Common.{◌≡◌, ℕ, List, [], ap, sym, ◌∙◌, subst, Bool}
 use Rattle.std.specs.Prelude.{Option, map}
 use Rattle.lalrpop_grammar_symbols.specs.Symbols.{Text, TextSpan, Terminal}
 use Rattle.lalrpop_grammar_symbols.specs.Views.{span_view}

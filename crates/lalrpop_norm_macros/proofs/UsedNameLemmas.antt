@@ -3,19 +3,18 @@ use Rattle.std.specs.Str.{bytes_eq}
 use Rattle.std.proofs.Common.{◌≡◌, ℕ, suc, List, [], ◌∷◌, ◌++◌, refl, ap, sym, ◌∙◌, subst, cond, Bool, true, false, inl, inr, map}
 use Rattle.std.proofs.Common.{length}
 use Rattle.std.specs.Option.{unwrap_or}
-use Rattle.std.specs.Prelude.{Option, Some, None, filter, flat_map}
+use Rattle.std.specs.Prelude.{Some, None, filter, flat_map}
 use Rattle.lalrpop_grammar_symbols.specs.Symbols.{Text, Closed, Closeds}
 use Rattle.lalrpop_grammar_language.specs.Among.{Among}
-use Rattle.lalrpop_grammar_language.specs.Enabled.{EnabledGrammar, EnabledRule, IsRule}
-use Rattle.lalrpop_grammar_language.specs.Levels.{has_levels, loosest}
-use Rattle.lalrpop_grammar_language.specs.Expansion.{Nonterminal}
+use Rattle.lalrpop_grammar_language.specs.Enabled.{EnabledGrammar, EnabledRule}
+use Rattle.lalrpop_grammar_language.specs.Levels.{has_levels}
 use Rattle.lalrpop_grammar_language.proofs.AmongLemmas.{among_flat_map}
 use Rattle.lalrpop_grammar_language.proofs.StepLemmas.{among_right}
 use Rattle.lalrpop_norm_theory.specs.Keys.{IsNaming, flat_key_text, with_number}
 use Rattle.lalrpop_norm_theory.specs.KeyTables.{IsPlainKey}
 use Rattle.lalrpop_norm_theory.specs.LeveledGrammar.{falling_levels, levels_in_order}
 use Rattle.lalrpop_norm_theory.specs.LevelNames.{after_first, times_taken}
-use Rattle.lalrpop_norm_theory.specs.NamesByUse.{AreNumberedByUse, IsNamingByUse, own_texts, texts_of_rules, tighter_keys}
+use Rattle.lalrpop_norm_theory.specs.NamesByUse.{AreNumberedByUse, IsNamingByUse, own_texts, texts_of_rules}
 use Rattle.lalrpop_norm_theory.specs.Premises.{HasNoLevels}
 use Rattle.lalrpop_norm_theory.specs.UsedKeys.{IsListByUse, KeyUses, rule_at_levels, tighter_at, unless_macro, written_keys}
 use Rattle.lalrpop_norm_theory.proofs.ExpansionListLemmas.{rule_there}

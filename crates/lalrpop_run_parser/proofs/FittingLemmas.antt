@@ -1,6 +1,6 @@
 -- Trees over the productions of an expansion have written trees that fit: at each node the children of each choice are those that
 -- the choice takes apart. So what folding looks for, it can find.
-use Rattle.std.proofs.Common.{◌≡◌, ◌+◌, ◌⊎◌, List, [], ◌∷◌, ◌++◌, refl, ap, sym, ◌∙◌, subst, inl, inr}
+use Rattle.std.proofs.Common.{◌≡◌, ◌+◌, List, [], ◌∷◌, ◌++◌, refl, ap, sym, ◌∙◌, subst, inl, inr}
 use Rattle.lalrpop_grammar.specs.Trees.{Tree, trees}
 use Rattle.lalrpop_grammar.specs.WrittenGrammar.{Origin}
 use Rattle.lalrpop_grammar_symbols.specs.Symbols.{Closed, Op, Text}

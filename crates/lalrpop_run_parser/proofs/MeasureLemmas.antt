@@ -1,6 +1,6 @@
 -- Measures of a search in a written tree: a part has less to search than the whole; so that the search ends.
 use Rattle.std.proofs.Common.{◌≡◌, ◌+◌, ◌*◌, ◌<◌, ◌≤◌, ◌⊎◌, ℕ, zero, suc, List, [], ◌∷◌}
-use Rattle.std.proofs.Common.{true, false, cond, ap, ◌∙◌, arith}
+use Rattle.std.proofs.Common.{true, false, cond, ap, arith}
 use Rattle.std.proofs.Common.{inl, inr}
 use Rattle.std.specs.Prelude.{drop, max}
 use Rattle.lalrpop_run_trees.specs.PartViews.{AllWithin, IsInside, shown_part}

@@ -1,5 +1,5 @@
 -- Where a production of an expansion passes a tree down as it is, ranks fall, and none is greater than a start's: so that folding ends.
-use Rattle.std.proofs.Common.{◌≡◌, ◌+◌, ◌-◌, ◌*◌, ◌⊎◌, ◌<◌, ◌≤◌, ℕ, suc, List, []}
+use Rattle.std.proofs.Common.{◌≡◌, ◌+◌, ◌-◌, ◌⊎◌, ◌<◌, ◌≤◌, ℕ, suc, List, []}
 use Rattle.std.proofs.Common.{◌∷◌, ◌++◌, refl, ap, sym, ◌∙◌, arith, subst, inl, inr}
 use Rattle.std.proofs.Common.{Some, None, true, false, Bool, length, length-append}
 use Rattle.std.specs.Prelude.{Option, codes, filter, map, max, min, nat_le, nat_lt, option_and_then, option_map, if◌then◌else◌}

@@ -1,5 +1,5 @@
 -- What one production, all of a nonterminal, and one part after the other say of the trees to which a part is folded; for the search.
-use Rattle.std.proofs.Common.{◌≡◌, ◌∙◌, ◌+◌, ◌-◌, ◌<◌, ◌≤◌, ◌⊎◌, ℕ, zero, suc, List, []}
+use Rattle.std.proofs.Common.{◌≡◌, ◌∙◌, ◌+◌, ◌-◌, ◌≤◌, ◌⊎◌, ℕ, zero, suc, List, []}
 use Rattle.std.proofs.Common.{◌∷◌, ◌++◌, false, length, ap, sym, arith}
 use Rattle.std.proofs.Common.{subst, inl, inr, map, take, drop, Contains}
 use Rattle.std.specs.Prelude.{None, Option, Some}
@@ -18,7 +18,6 @@ use Rattle.lalrpop_lr1_core.specs.TheoryGrammars.{theory_grammar}
 use Rattle.lalrpop_lr1_core.specs.Views.{production_symbol_view, production_view}
 use Rattle.lalrpop_lr1_core.proofs.MemberLemmas.{in_map, map_has}
 use Rattle.lalrpop_lr1_interpret.specs.ExpandedViews.{expanded_view, expanded_views}
-use Rattle.lalrpop_lr1_interpret.specs.Stacks.{◌beside◌}
 use Rattle.lalrpop_lr1_interpret.specs.declared.parse.expanded_tree.ExpandedTree.{ExpandedTree}
 use Rattle.lalrpop_lr1_interpret.proofs.ExpandedLemmas.{views_more}
 use Rattle.lalrpop_lr1_theory.specs.Productions as theory

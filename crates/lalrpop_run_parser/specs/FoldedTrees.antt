@@ -1,5 +1,5 @@
 -- What productions have to be, so that a search for the trees to which written trees are folded finds them, and what the search tells.
-use Rattle.std.specs.Prelude.{◌≡◌, ◌↔◌, ◌<◌, ◌≤◌, ℕ, List, [], ◌∷◌, Option, Some, None, Contains}
+use Rattle.std.specs.Prelude.{◌≡◌, ◌↔◌, ◌≤◌, ℕ, List, [], ◌∷◌, Option, Some, None, Contains}
 use Rattle.std.specs.Prelude.{Vec, length, map}
 use Rattle.std.specs.declared.alloc.Global.{Global}
 use Rattle.lalrpop_grammar.specs.Trees.{Tree}

@@ -1,5 +1,5 @@
 -- The productions of an inlined grammar are those of the expansion, and their actions tell their labels: for the law on labels.
-use Rattle.std.proofs.Common.{◌≡◌, ◌∙◌, ◌<◌, ◌≤◌, ℕ, List, ap, arith, length, subst, sym}
+use Rattle.std.proofs.Common.{◌≡◌, ◌∙◌, ◌<◌, ℕ, List, ap, arith, length, subst, sym}
 use Rattle.std.specs.Prelude.{Some, map, slice_get}
 use Rattle.std.proofs.lemmas.List.{length-map}
 use Rattle.lalrpop_grammar_symbols.specs.Symbols.{Text}

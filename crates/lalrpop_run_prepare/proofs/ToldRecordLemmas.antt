@@ -1,5 +1,5 @@
 -- What a record makes of a production whose action tells its label has an action that tells its label: for a step of inlining.
-use Rattle.std.proofs.Common.{◌≡◌, ◌∙◌, ◌+◌, ◌≤◌, ℕ, List, [], ◌∷◌, ap, inl, inr, length}
+use Rattle.std.proofs.Common.{◌≡◌, ◌∙◌, ◌≤◌, ℕ, List, [], ◌∷◌, ap, inl, inr, length}
 use Rattle.std.proofs.Common.{length-append, map, refl, subst, suc, sym}
 use Rattle.std.proofs.Common.{true, false}
 use Rattle.std.specs.Prelude.{Bool, Some, if◌then◌else◌, slice_get}

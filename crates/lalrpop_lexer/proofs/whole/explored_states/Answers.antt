@@ -1,14 +1,12 @@
-use Rattle.std.proofs.Common.{◌≡◌, ◌<◌, ◌∙◌, ℕ, arith, ap, refl, List, length, subst}
+use Rattle.std.proofs.Common.{◌≡◌, ◌<◌, ◌∙◌, ℕ, arith, ap, refl, length, subst}
 use Rattle.std.proofs.lemmas.List.{length_push}
 use Rattle.lalrpop_lexer_nfa.specs.declared.automaton.TheConstants.{START}
 use Rattle.lalrpop_lexer_nfa.specs.Paths.{nfa_view}
-use Rattle.lalrpop_lexer.specs.declared.edge.DfaEdge.{DfaEdge}
 use Rattle.lalrpop_lexer.specs.Explore.{edges_view, Explores}
-use Rattle.lalrpop_lexer.specs.Rows.{IsRow}
 use Rattle.lalrpop_lexer.specs.StateViews.{edges_in}
 use Rattle.lalrpop_lexer.specs.Tables.{AreTables}
 use Rattle.lalrpop_lexer.proofs.WholeLemmas.{explored_start, explored_end}
-use Rattle.lalrpop_lexer.proofs.StateViewLemmas.{explored_push, tables_none, tables_push}
+use Rattle.lalrpop_lexer.proofs.StateViewLemmas.{explored_push, tables_none}
 use Rattle.lalrpop_lexer.proofs.KernelLemmas.{states_at_most}
 use Rattle.lalrpop_lexer.proofs.whole.explored_states.Goals as goal
 

@@ -1,4 +1,4 @@
-use Rattle.std.proofs.Common.{◌≡◌, ◌++◌, ◌∙◌, List, Option, ap, subst, sym, append-nil}
+use Rattle.std.proofs.Common.{◌++◌, ◌∙◌, List, Option, ap, subst, sym, append-nil}
 use Rattle.lalrpop_grammar.specs.Trees.{Token}
 use Rattle.lalrpop_grammar_symbols.specs.Views.{span_view}
 use Rattle.lalrpop_lexer_scan.specs.declared.entry_terminal.EntryTerminal.{EntryTerminal}

@@ -1,4 +1,4 @@
-use Rattle.std.proofs.Common.{◌*◌, ◌<◌, ◌≤◌, ◌∙◌, sym, ap, length, false, arith}
+use Rattle.std.proofs.Common.{◌*◌, ◌≤◌, ◌∙◌, sym, ap, length, false, arith}
 use Rattle.lalrpop_sets.specs.Bits.{is_nonempty}
 use Rattle.lalrpop_sets.proofs.OrderLemmas.{found_step, found_next, found_none}
 use Rattle.lalrpop_sets.proofs.order.goes_on.Goals as goal

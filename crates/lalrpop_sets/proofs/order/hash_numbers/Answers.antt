@@ -1,4 +1,4 @@
-use Rattle.std.proofs.Common.{◌*◌, ◌<◌, ◌≤◌, ◌∙◌, sym, ap, length, refl, arith}
+use Rattle.std.proofs.Common.{◌*◌, ◌≤◌, ◌∙◌, sym, ap, length, refl, arith}
 use Rattle.std.specs.Hash as fed
 use Rattle.std.specs.List.{flat_map}
 use Rattle.std.specs.Prelude.{fold}

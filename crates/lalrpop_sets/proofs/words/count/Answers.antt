@@ -1,4 +1,4 @@
-use Rattle.std.proofs.Common.{◌≡◌, ◌+◌, ◌-◌, ◌*◌, ◌<◌, ◌≤◌, ◌∙◌, ap, sym, cond, length, true, false, arith}
+use Rattle.std.proofs.Common.{◌≡◌, ◌+◌, ◌-◌, ◌*◌, ◌∙◌, ap, sym, cond, length, true, false, arith}
 use Rattle.lalrpop_sets.specs.Bits.{has_bit}
 use Rattle.lalrpop_sets.proofs.WordLemmas.{bits_below, below_more, below_next, below_all}
 use Rattle.lalrpop_sets.proofs.words.count.Goals.{then-test_bit, else-test_bit}

@@ -2,7 +2,6 @@ use Rattle.std.proofs.Common.{◌≡◌, ◌<◌, ◌∙◌, ℕ, sym, List, Con
 use Rattle.lalrpop_lexer.specs.Kernels.{IsSingle, HasOneKernelMore}
 use Rattle.lalrpop_lexer.proofs.KernelTableLemmas.{kernels_of, AreApart, single_more, other_more, still_apart, apart_set}
 use Rattle.lalrpop_lexer.proofs.kernels.Kernels.insert.Goals as goal
-use Rattle.lalrpop_lexer.proofs.kernels.Kernels.insert.Goals.{After-len, In_default}
 
 abbrev IsNew : List ℕ → List (List ℕ × ℕ) → Type 0
 IsNew key all = (n : ℕ) → Contains all (key, n) → ⊥

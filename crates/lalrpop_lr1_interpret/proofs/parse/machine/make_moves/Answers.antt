@@ -1,4 +1,4 @@
-use Rattle.std.proofs.Common.{◌≡◌, ◌∙◌, ◌-◌, ◌+◌, [], ◌∷◌, ◌++◌, length, Some}
+use Rattle.std.proofs.Common.{◌∙◌, ◌-◌, ◌+◌, [], ◌∷◌, ◌++◌, length, Some}
 use Rattle.std.proofs.Common.{ap, subst, arith, refl, take}
 use Rattle.std.proofs.lemmas.List.{length-map}
 use Rattle.lalrpop_grammar_symbols.specs.Views.{terminal_view}

@@ -1,4 +1,4 @@
-use Rattle.std.proofs.Common.{◌∙◌, refl, subst}
+use Rattle.std.proofs.Common.{refl, subst}
 use Rattle.lalrpop_grammar.specs.Views.{tree_view}
 use Rattle.lalrpop_lr1_core.specs.TheoryGrammars.{theory_grammar}
 use Rattle.lalrpop_lr1_theory.specs.Productions as theory

@@ -1,4 +1,4 @@
-use Rattle.std.proofs.Common.{◌∙◌, subst}
+use Rattle.std.proofs.Common.{subst}
 use Rattle.lalrpop_grammar.specs.Views.{grammar_view}
 use Rattle.lalrpop_norm_theory.specs.Premises.{IsReadGrammar}
 use Rattle.lalrpop_run_parser.specs.Limits.{KeepsAnswers}

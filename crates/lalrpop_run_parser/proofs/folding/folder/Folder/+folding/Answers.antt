@@ -1,4 +1,4 @@
-use Rattle.std.proofs.Common.{◌≡◌, ◌∙◌, ◌+◌, ◌⊎◌, ◌∷◌, [], ◌++◌, ap, arith, drop}
+use Rattle.std.proofs.Common.{◌∙◌, ◌+◌, ◌∷◌, [], ◌++◌, ap, arith, drop}
 use Rattle.std.proofs.Common.{map, refl, subst, sym, take, Contains}
 use Rattle.std.specs.Prelude.{IfOk, None, false}
 use Rattle.std.proofs.lemmas.Result.{IfOk-weaker}
