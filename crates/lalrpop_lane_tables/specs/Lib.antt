@@ -1,2 +1,10 @@
 pub mod AppliedSets
 pub mod ColumnAnswers
+pub mod LaneTraces
+pub mod NodeKeys
+pub mod ReachedStates
+pub mod RowColumns
+pub mod TableGains
+pub mod TableViews
+pub mod TraceNodes
+pub mod TracerViews
