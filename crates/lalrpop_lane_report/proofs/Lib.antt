@@ -1,0 +1,4 @@
+pub mod CharacterLemmas
+mod ExamplesOfReports
+pub mod PieceLemmas
+pub mod ShownLemmas

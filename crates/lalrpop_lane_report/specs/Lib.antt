@@ -1,0 +1,4 @@
+pub mod Reports
+pub mod Sending
+pub mod ShownStates
+pub mod TableReports

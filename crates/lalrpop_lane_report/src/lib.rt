@@ -1,0 +1,15 @@
+//! The report of tables: a summary of what was constructed, then each state with its items, reductions, shifts, gotos and conflicts.
+//!
+//! It is LALRPOP's report file. In `specs/`, `ShownStates` says which texts are shown of a state, `Reports` what the report over them is.
+#![tactic(auto)]
+
+mod display_len;
+mod generating;
+mod lines;
+mod lookahead_printer;
+mod state_lines;
+mod summary;
+
+pub use display_len::HasDisplayLen;
+pub use generating::{ReportError, generate_report, report_text};
+pub use lookahead_printer::LookaheadPrinter;
