@@ -6,47 +6,31 @@ mod grammars;
 mod pattern;
 
 use crate::calls::answer::answer_of;
-use crate::files::fields::Fields;
+use crate::files::fields::{Fields, Form, Key};
 use crate::files::{TableCase, Tally, compare, run_cases};
-use anyhow::{Context, Result};
+use anyhow::Result;
 use serde_json::Value;
 use std::alloc::Global;
 use std::rt::Files;
 
-/// What a case has: what it shows, in words and as a grammar in short for who reads it, the call, and what it has to answer.
-const KEYS: [&str; 4] = ["name", "shows", "call", "wanted"];
+/// What a case has: what it shows in words, the call, and what it has to answer.
+const NEEDED: [Key; 3] = [
+    ("name", Form::Text),
+    ("call", Form::Any),
+    ("wanted", Form::Any),
+];
 
-/// A call and the answer.
-#[derive(Clone, Copy)]
-struct Case<'v> {
-    /// What the case shows.
-    name: &'v str,
-    /// The call.
-    call: &'v Value,
-    /// The answer.
-    wanted: &'v Value,
-}
-
-impl<'v> Case<'v> {
-    /// The case that the value spells.
-    fn of(value: &'v Value) -> Result<Case<'v>> {
-        let fields = Fields::of(value, &KEYS)?;
-        Ok(Case {
-            name: fields.name()?,
-            call: fields.value("call")?,
-            wanted: fields.value("wanted")?,
-        })
-    }
-}
+/// What a case may have: a grammar in short, for who reads it.
+const OTHERS: [Key; 1] = [("shows", Form::Text)];
 
 /// Single calls.
 struct Calls;
 
 impl TableCase for Calls {
     fn is_right<R: Alloc<A = Global> + Print>(rt: &R, case: &Value) -> Result<bool> {
-        let case = Case::of(case)?;
-        let answer = answer_of(rt.alloc(), case.call).context(format_args!("{}", case.name))?;
-        compare(rt, case.name, case.wanted, &answer)
+        let fields = Fields::of(case, &NEEDED, &OTHERS)?;
+        let answer = answer_of(rt.alloc(), fields.value("call")?)?;
+        compare(rt, fields.text("name"), fields.value("wanted")?, &answer)
     }
 }
 

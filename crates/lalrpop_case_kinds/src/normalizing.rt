@@ -8,7 +8,7 @@ use crate::files::{TableCase, Tally, compare, run_cases};
 use crate::normalizing::case::Case;
 use crate::normalizing::normalized::{fault, nonterminals, productions};
 use crate::normalizing::passes::{first_fault, leveled_rules, token_fault};
-use anyhow::{Context, Result, bail};
+use anyhow::{Result, bail};
 use serde_json::Value;
 use std::alloc::Global;
 use std::rt::Files;
@@ -19,8 +19,8 @@ struct Normalizing;
 impl TableCase for Normalizing {
     fn is_right<R: Alloc<A = Global> + Print>(rt: &R, case: &Value) -> Result<bool> {
         let case = Case::of(case)?;
-        let answer = answer_of(rt.alloc(), &case).context(format_args!("{}", case.name))?;
-        compare(rt, case.name, case.wanted, &answer)
+        let answer = answer_of(rt.alloc(), &case)?;
+        compare(rt, case.name, case.fields.value("wanted")?, &answer)
     }
 }
 

@@ -1,24 +1,25 @@
 //! A case of the table.
 
 use anyhow::{Result, bail};
-use lalrpop_case_kinds::files::fields::{Fields, number_of, text_of};
+use lalrpop_case_kinds::files::fields::{Fields, Form, Key, text_of};
 use serde_json::Value;
 use std::alloc::{AllocError, Global};
 
 /// What a case has.
-const KEYS: [&str; 12] = [
-    "name",
-    "shows",
-    "words",
-    "grammar",
-    "grammar_hex",
-    "tree",
-    "text",
-    "text_hex",
-    "fault",
-    "output",
-    "lines",
-    "status",
+const NEEDED: [Key; 2] = [("name", Form::Text), ("status", Form::Number)];
+
+/// What a case may have; what it shows is for a person, a grammar and a tree in LALRPOP's own notation.
+const OTHERS: [Key; 10] = [
+    ("shows", Form::Text),
+    ("words", Form::List),
+    ("grammar", Form::Any),
+    ("grammar_hex", Form::Text),
+    ("tree", Form::Any),
+    ("text", Form::Text),
+    ("text_hex", Form::Text),
+    ("fault", Form::Text),
+    ("output", Form::Text),
+    ("lines", Form::List),
 ];
 
 /// A case of the table: words, what is given beside them, and what the program has to answer.
@@ -26,8 +27,6 @@ const KEYS: [&str; 12] = [
 pub(crate) struct Case<'v> {
     /// What the case is called.
     pub(crate) name: &'v str,
-    /// What is given, for a person: a grammar and a tree in LALRPOP's own notation.
-    pub(crate) shows: &'v str,
     /// The words behind the program's name.
     pub(crate) words: &'v [Value],
     /// What is given to it.
@@ -67,13 +66,12 @@ pub(crate) struct Wanted<'v> {
 impl<'v> Case<'v> {
     /// The case that the value spells.
     pub(crate) fn of(value: &'v Value) -> Result<Case<'v>> {
-        let fields = Fields::of(value, &KEYS)?;
+        let fields = Fields::of(value, &NEEDED, &OTHERS)?;
         Ok(Case {
-            name: fields.text("name")?,
-            shows: fields.text_if("shows")?.unwrap_or(""),
-            words: fields.list("words")?,
-            given: Given::of(&fields)?,
-            wanted: Wanted::of(&fields)?,
+            name: fields.text("name"),
+            words: fields.list("words"),
+            given: Given::of(&fields),
+            wanted: Wanted::of(&fields),
         })
     }
 
@@ -108,32 +106,27 @@ impl<'v> Case<'v> {
 
 impl<'v> Given<'v> {
     /// What the members give.
-    fn of(fields: &Fields<'v>) -> Result<Given<'v>> {
-        Ok(Given {
+    fn of(fields: &Fields<'v>) -> Given<'v> {
+        Given {
             grammar: fields.get("grammar"),
-            grammar_hex: fields.text_if("grammar_hex")?,
+            grammar_hex: fields.text_if("grammar_hex"),
             tree: fields.get("tree"),
-            text: fields.text_if("text")?,
-            text_hex: fields.text_if("text_hex")?,
-        })
+            text: fields.text_if("text"),
+            text_hex: fields.text_if("text_hex"),
+        }
     }
 }
 
 impl<'v> Wanted<'v> {
     /// What the members want.
-    fn of(fields: &Fields<'v>) -> Result<Wanted<'v>> {
-        Ok(Wanted {
-            fault: fields.text_if("fault")?.unwrap_or(""),
-            output: fields.text_if("output")?.unwrap_or(""),
-            lines: fields.list("lines")?,
-            status: status_of(fields.value("status")?)?,
-        })
+    fn of(fields: &Fields<'v>) -> Wanted<'v> {
+        Wanted {
+            fault: fields.text("fault"),
+            output: fields.text("output"),
+            lines: fields.list("lines"),
+            status: u8::try_from(fields.number("status", 0)).unwrap_or(u8::MAX),
+        }
     }
-}
-
-/// The status that the value is.
-fn status_of(value: &Value) -> Result<u8> {
-    Ok(u8::try_from(number_of(value)?)?)
 }
 
 /// All words: the program's name, those of a case, and the tree's.

@@ -32,7 +32,7 @@ impl TableCase for Conflicts {
 
 /// Whether there are as many conflicts as are wanted; if not, both numbers are told.
 fn has_count(rt: &impl Print, case: &Case<'_>, count: usize) -> Result<bool> {
-    let right = count == case.wanted;
+    let right = count as u64 == case.wanted;
     if !right {
         tell_count(rt, case, count)?;
     }

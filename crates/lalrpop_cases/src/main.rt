@@ -1,8 +1,9 @@
-//! Table tests, and the tokens and the tree of standard input, to be timed.
+//! Table tests; the tokens and the tree of standard input, to be timed; and the tables of plain productions on standard input.
 //!
 //! The words name kinds of cases and files: a file's cases are of the kind that is named last before it. Behind the word `tokens`
 //! stand a start and a file, behind `parse` a limit of moves, too: the program answers as `lalrpop_run` does, whose text is a word
-//! and so no longer than a word may be.
+//! and so no longer than a word may be. Behind `productions` stand a start, what is asked (`counts`, `check`, `tokens` or `sentence`), and
+//! of what: tokens, the file of a sentence, or nothing.
 #![tactic(auto)]
 
 mod case;
@@ -10,17 +11,19 @@ mod conflicts;
 mod kind;
 mod line;
 mod outcome;
+mod productions;
 mod runs;
 mod timing;
 
 use crate::kind::Kind;
+use crate::productions::answer_productions;
 use crate::timing::{answer_parse, answer_tokens};
 use anyhow::{Result, bail};
 use lalrpop_case_kinds::files::Tally;
 use std::alloc::Global;
 use std::env;
 use std::process::ExitCode;
-use std::rt::{Env, Files};
+use std::rt::{Clock, Env, Files};
 
 /// The status where a case differs.
 const DIFFERS: u8 = 1;
@@ -30,13 +33,15 @@ fn main(rt: HostRuntime) -> Result<ExitCode> {
 }
 
 /// Reads the words, and answers them.
-fn respond<R: Alloc<A = Global> + Env + Files + Input + Print>(rt: &R) -> Result<u8> {
+fn respond<R: Alloc<A = Global> + Clock + Env + Eprint + Files + Input + Print>(
+    rt: &R,
+) -> Result<u8> {
     let words: Vec<String> = env::args(rt)?.collect(rt.alloc())?;
     respond_to(rt, words.as_slice())
 }
 
 /// Answers the words, the first of which names the program.
-fn respond_to<R: Alloc<A = Global> + Files + Input + Print>(
+fn respond_to<R: Alloc<A = Global> + Clock + Eprint + Files + Input + Print>(
     rt: &R,
     words: &[String],
 ) -> Result<u8> {
@@ -46,6 +51,9 @@ fn respond_to<R: Alloc<A = Global> + Files + Input + Print>(
         }
         [_, first, start, file, limit] if first.as_str() == "parse" => {
             answer_parse(rt, start.as_str(), file.as_str(), limit.as_str())
+        }
+        [_, first, start, word, of] if first.as_str() == "productions" => {
+            answer_productions(rt, start.as_str(), word.as_str(), of.as_str())
         }
         words => run_tables(rt, words),
     }

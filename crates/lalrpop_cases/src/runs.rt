@@ -2,7 +2,7 @@
 
 use crate::case::Case;
 use crate::outcome::{Outcome, outcome_of};
-use anyhow::{Context, Result};
+use anyhow::Result;
 use lalrpop_case_kinds::files::{TableCase, Tally, run_cases};
 use serde_json::Value;
 use std::alloc::Global;
@@ -14,15 +14,12 @@ struct Runs;
 impl TableCase for Runs {
     fn is_right<R: Alloc<A = Global> + Print>(rt: &R, case: &Value) -> Result<bool> {
         let case = Case::of(case)?;
-        let outcome = outcome_of(rt.alloc(), &case).context(format_args!(
-            "the case {}",
-            case.name
-        ))?;
+        let outcome = outcome_of(rt.alloc(), &case)?;
         compare(rt, &case, &outcome)
     }
 }
 
-/// Whether the outcome is the one that is wanted; if not, both are told.
+/// Whether the outcome is the one that is wanted; if not, it is told.
 fn compare(rt: &impl Print, case: &Case<'_>, outcome: &Outcome) -> Result<bool> {
     let right = outcome.is_wanted(case)? && outcome.is_confirmed();
     if !right {
@@ -36,24 +33,11 @@ pub(crate) fn run_tally<R: Alloc<A = Global> + Files + Print>(rt: &R, file: &str
     run_cases::<Runs, R>(rt, file)
 }
 
-/// Tells what was wanted and what came.
+/// Tells which case differs, and what came; the case says what is wanted.
 fn tell(rt: &impl Print, case: &Case<'_>, outcome: &Outcome) -> Result<()> {
-    println!(rt; "{} {}", case.name, case.shows)?;
     println!(rt;
-        "  wanted {:?} {} {}",
-        case.wanted.output, case.wanted.status, case.wanted.fault
-    )?;
-    for line in case.wanted.lines {
-        println!(rt; "  line   {line}")?;
-    }
-    tell_outcome(rt, outcome)
-}
-
-/// Tells what came.
-fn tell_outcome(rt: &impl Print, outcome: &Outcome) -> Result<()> {
-    println!(rt;
-        "  got    {:?} {} {}",
-        outcome.text, outcome.status, outcome.fault
+        "{}: got {:?} {} {}",
+        case.name, outcome.text, outcome.status, outcome.fault
     )?;
     if let Some(answer) = &outcome.called {
         println!(rt; "  called {:?} {}", answer.text, answer.status)?;

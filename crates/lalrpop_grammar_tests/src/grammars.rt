@@ -1,13 +1,10 @@
 //! Grammars with each kind of part: copies and small questions.
 
-use crate::check::{check, equals};
+use crate::check::{boxed, check, equals};
 use lalrpop_grammar::{
     ActionKind, Atom, Attribute, Grammar, GrammarItem, InternToken, List, MatchContents,
     MatchEntry, MatchItem, MatchMapping, MatchToken, NonterminalString, Origin, Span,
     TerminalLiteral, TerminalString, Visibility,
-};
-use lalrpop_grammar_language::{
-    labels_have_one_side, leaves_fix_trees, tokens_are_leaves, trees_correspond,
 };
 use lalrpop_json_grammar::read_grammar;
 use serde_json::Value;
@@ -31,13 +28,20 @@ fn entries(rt: &impl Abort, alloc: Global) -> InternToken {
     }
 }
 
+/// The grammar that the JSON spells. It is boxed, as all that is large here: a box is dropped by one call.
+pub(crate) fn grammar_of(rt: &impl Abort, alloc: Global, json: &str) -> Box<Grammar> {
+    let value = Value::from_str(alloc, json).expect(rt, "JSON");
+    let value = boxed(rt, alloc, value);
+    let grammar = read_grammar(alloc, &value).expect(rt, "a grammar");
+    boxed(rt, alloc, grammar)
+}
+
 /// The grammar, with a tokenizer's entries behind its items.
 fn full(rt: &impl Abort, alloc: Global) -> Box<Grammar> {
-    let value = Value::from_str(alloc, FULL).expect(rt, "JSON");
-    let mut grammar = read_grammar(alloc, &value).expect(rt, "a grammar");
+    let mut grammar = grammar_of(rt, alloc, FULL);
     let entries = GrammarItem::InternToken(entries(rt, alloc));
     grammar.items.push(entries).expect(rt, "memory");
-    Box::new(alloc, grammar).expect(rt, "memory")
+    grammar
 }
 
 /// Whether a copy of the grammar equals it.
@@ -118,9 +122,10 @@ fn has_tokens_of_the_user(grammar: &Grammar) -> bool {
 }
 
 /// Whether the first extern block gives a type of this name, with this text.
-fn has_type(grammar: &Grammar, name: &Atom, text: &str) -> bool {
+fn has_type(rt: &impl Abort, alloc: Global, grammar: &Grammar, name: &str, text: &str) -> bool {
+    let name = Atom::new(alloc, name).expect(rt, "memory");
     match grammar.extern_token() {
-        Some(block) => match block.associated_type(name) {
+        Some(block) => match block.associated_type(&name) {
             Some(found) => found.type_text.as_str() == text,
             None => false,
         },
@@ -138,17 +143,15 @@ fn questions_of_a_grammar(rt: HostRuntime) {
 
 #[test]
 fn types_of_an_extern_block(rt: HostRuntime) {
-    let error = Atom::new(rt.alloc(), "Error").expect(&rt, "memory");
-    let token = Atom::new(rt.alloc(), "Token").expect(&rt, "memory");
     let grammar = full(&rt, rt.alloc());
-    check(&rt, has_type(&grammar, &error, "E"));
-    check(&rt, !has_type(&grammar, &token, "E"));
+    check(&rt, has_type(&rt, rt.alloc(), &grammar, "Error", "E"));
+    check(&rt, !has_type(&rt, rt.alloc(), &grammar, "Token", "E"));
 }
 
 fn begins_with_a_public_macro(grammar: &Grammar) -> bool {
     match grammar.items.as_slice() {
         [item, ..] => match item.as_nonterminal() {
-            Some(rule) => item.is_macro_def() && rule.visibility.is_pub(),
+            Some(rule) => item.is_macro_def() & rule.visibility.is_pub(),
             None => false,
         },
         [] => false,
@@ -159,7 +162,7 @@ fn begins_with_a_public_macro(grammar: &Grammar) -> bool {
 fn begins_with_text(attributes: &[Attribute], name: &str, text: &str) -> bool {
     match attributes {
         [first, ..] => match first.get_arg_equal() {
-            Some((found, value)) => found.as_str() == name && value.as_str() == text,
+            Some((found, value)) => (found.as_str() == name) & (value.as_str() == text),
             None => false,
         },
         [] => false,
@@ -175,16 +178,21 @@ fn begins_with_a_documented_rule(grammar: &Grammar) -> bool {
     }
 }
 
+/// Whether the grammar has one rule, of that name; asked once more, there is none again.
+fn has_rule_alone(grammar: &Grammar, name: &str) -> bool {
+    let mut rules = grammar.rules();
+    let first = rules.next();
+    let others = rules.next().is_some() | rules.next().is_some();
+    match first {
+        Some(rule) => !others & (rule.name.0.as_str() == name),
+        None => false,
+    }
+}
+
 #[test]
 fn rules_of_a_grammar(rt: HostRuntime) {
     let grammar = full(&rt, rt.alloc());
-    let mut rules = grammar.rules();
-    check(
-        &rt,
-        matches!(rules.next(), Some(rule) if rule.name.0.as_str() == "N"),
-    );
-    check(&rt, rules.next().is_none());
-    check(&rt, rules.next().is_none());
+    check(&rt, has_rule_alone(&grammar, "N"));
 }
 
 #[test]
@@ -196,7 +204,8 @@ fn questions_of_a_rule(rt: HostRuntime) {
         &rt,
         !begins_with_text(grammar.attributes.as_slice(), "LALR", ""),
     );
-    check(&rt, Visibility::Pub.is_pub() && !Visibility::Priv.is_pub());
+    check(&rt, Visibility::Pub.is_pub());
+    check(&rt, !Visibility::Priv.is_pub());
 }
 
 /// Copies the groups of the grammar's match block behind those of another.
@@ -239,12 +248,4 @@ fn places_of_entries(rt: HostRuntime) {
         &rt,
         begins_at(&[MatchItem::CatchAll(Span(1, 2))], Span(1, 2)),
     );
-}
-
-#[test]
-fn laws_are_called() {
-    trees_correspond();
-    tokens_are_leaves();
-    labels_have_one_side();
-    leaves_fix_trees();
 }

@@ -27,18 +27,18 @@ fn is_bare(terminal: &TerminalString, name: &str) -> bool {
 /// Whether there is a leaf of this bare name, with this text, there.
 fn is_leaf(leaf: Option<Leaf<'_>>, name: &str, text: &str, span: Span) -> bool {
     match leaf {
-        Some(leaf) => is_bare(leaf.terminal, name) && leaf.text == text && leaf.span == span,
+        Some(leaf) => is_bare(leaf.terminal, name) & (leaf.text == text) & (leaf.span == span),
         None => false,
     }
 }
 
 fn come_in_order(rt: &impl Abort, alloc: Global, tree: &WrittenTree) {
     let mut leaves = tree.leaves(alloc).expect(rt, "memory");
-    check(rt, is_leaf(leaves.next(), "A", "1", Span(0, 1)));
-    check(rt, is_leaf(leaves.next(), "B", "2", Span(2, 3)));
-    check(rt, is_leaf(leaves.next(), "A", "3", Span(5, 6)));
-    check(rt, leaves.next().is_none());
-    check(rt, leaves.next().is_none());
+    let first = is_leaf(leaves.next(), "A", "1", Span(0, 1));
+    let second = is_leaf(leaves.next(), "B", "2", Span(2, 3));
+    let third = is_leaf(leaves.next(), "A", "3", Span(5, 6));
+    check(rt, first & second & third);
+    check(rt, leaves.next().is_none() & leaves.next().is_none());
 }
 
 #[test]
@@ -61,17 +61,23 @@ fn second_token(rt: &impl Abort, alloc: Global) -> ScanToken<'static> {
     }
 }
 
-fn has_tokens(rt: &impl Abort, alloc: Global, tree: &WrittenTree) {
+/// Whether these are the three tokens, of which the second is that of the second leaf, and the last has the text of the last.
+fn are_tokens(rt: &impl Abort, alloc: Global, tokens: &[ScanToken<'_>]) -> bool {
+    match tokens {
+        [_, second, third] => equals(second, second_token(rt, alloc)) & (third.text == "3"),
+        _ => false,
+    }
+}
+
+fn has_tokens(rt: &impl Abort, alloc: Global, tree: &WrittenTree) -> bool {
     let tokens = tree.tokens(alloc).expect(rt, "memory");
-    check(rt, tokens.len() == 3);
-    check(rt, equals(&tokens[1], second_token(rt, alloc)));
-    check(rt, tokens[2].text == "3");
+    are_tokens(rt, alloc, tokens.as_slice())
 }
 
 #[test]
 fn tokens_of_the_leaves(rt: HostRuntime) {
     let tree = nested_tree(&rt, rt.alloc());
-    has_tokens(&rt, rt.alloc(), &tree);
+    check(&rt, has_tokens(&rt, rt.alloc(), &tree));
 }
 
 /// Whether a copy of the tree equals it.

@@ -1,4 +1,5 @@
-//! Tests of the grammar's layer that no table can hold: leaves and tokens, copies, and small questions.
+//! Tests of the grammar's layer, of the format and of the judge that no table can hold: leaves and tokens, copies, small questions, grammars
+//! that no value spells, and laws.
 #![tactic(auto)]
 
 #[cfg(test)]
@@ -6,6 +7,12 @@ mod check;
 #[cfg(test)]
 mod grammars;
 #[cfg(test)]
+mod judging;
+#[cfg(test)]
+mod laws;
+#[cfg(test)]
 mod leaves;
 pub mod lowered;
 pub mod symbols;
+#[cfg(test)]
+mod unwritten;

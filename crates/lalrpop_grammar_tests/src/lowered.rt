@@ -1,10 +1,9 @@
-//! Tests of the lowered grammar that no table can hold: its questions, its maps and types at concrete keys, copies, orders and
-//! messages.
+//! Tests of the lowered grammar that no table can hold: its maps and types at concrete keys, copies, orders and messages.
 
 #[cfg(test)]
 mod actions;
 #[cfg(test)]
-mod grammars;
+mod algorithms;
 #[cfg(test)]
 mod maps;
 #[cfg(test)]

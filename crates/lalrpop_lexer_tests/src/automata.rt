@@ -27,11 +27,11 @@ fn has_kinds(rt: &impl Abort, nfa: &Nfa) {
     check(rt, nfa.kind(START) == StateKind::Neither);
     check(
         rt,
-        nfa.is_accepting_state(ACCEPT) && !nfa.is_accepting_state(START),
+        nfa.is_accepting_state(ACCEPT) & !nfa.is_accepting_state(START),
     );
     check(
         rt,
-        nfa.is_rejecting_state(REJECT) && !nfa.is_rejecting_state(START),
+        nfa.is_rejecting_state(REJECT) & !nfa.is_rejecting_state(START),
     );
 }
 
@@ -85,7 +85,7 @@ fn enters_the_next_copy(rt: &impl Abort, alloc: Global, counted: &Nfa) {
     let mut next = StateSet::new(alloc, set.limit()).expect(rt, "memory");
     let fresh = set.insert(START.0).expect(rt, "memory");
     let again = set.insert(START.0).expect(rt, "memory");
-    check(rt, fresh && !again);
+    check(rt, fresh & !again);
     counted.close(&mut set).expect(rt, "memory");
     check(rt, set.members().len() == 4);
     counted.step(&set, 97, &mut next).expect(rt, "memory");
@@ -111,7 +111,7 @@ fn reads_the_second(rt: &impl Abort, alloc: Global, nfa: &Nfa) {
     nfa.step(&set, 98, &mut next).expect(rt, "memory");
     check(
         rt,
-        next.contains(FIRST_ACCEPT + 1) && !next.contains(FIRST_ACCEPT),
+        next.contains(FIRST_ACCEPT + 1) & !next.contains(FIRST_ACCEPT),
     );
     next.clear();
     check(rt, next.members().len() == 0);

@@ -6,6 +6,8 @@ mod automata;
 #[cfg(test)]
 mod check;
 #[cfg(test)]
+mod laws;
+#[cfg(test)]
 mod patterns;
 #[cfg(test)]
 mod ranges;

@@ -2,7 +2,7 @@
 
 ghost use Rattle.lalrpop_lr1_first.specs.NumberedGrammars.{HasItsTerminals};
 
-use crate::check::{check, is_shown};
+use crate::check::shows;
 use crate::grammars::{grammar_of, production_at, token_of};
 use lalrpop_grammar_repr::{Grammar, Symbol, TerminalSet};
 use lalrpop_lr1_core::Item;
@@ -23,19 +23,15 @@ fn come_first(
     row: &[Symbol],
     ahead: &TokenSet,
 ) {
-    let set = firsts.first0(alloc, terminals, row).expect(rt, "memory");
-    check(rt, is_shown(rt, alloc, &set, terminals, r#"["D", "E"]"#));
-    let set = firsts.first0(alloc, terminals, &[]).expect(rt, "memory");
-    check(rt, is_shown(rt, alloc, &set, terminals, "[Eof]"));
+    let set = firsts.first0(alloc, terminals, row);
+    shows(rt, alloc, set, terminals, r#"["D", "E"]"#);
+    let set = firsts.first0(alloc, terminals, &[]);
+    shows(rt, alloc, set, terminals, "[Eof]");
     let (_, front) = row.split_last().expect(rt, "a symbol");
-    let set = firsts
-        .first1(alloc, terminals, front, ahead)
-        .expect(rt, "memory");
-    check(rt, is_shown(rt, alloc, &set, terminals, r#"["D", "x"]"#));
-    let set = firsts
-        .first1(alloc, terminals, &[], ahead)
-        .expect(rt, "memory");
-    check(rt, is_shown(rt, alloc, &set, terminals, r#"["x"]"#));
+    let set = firsts.first1(alloc, terminals, front, ahead);
+    shows(rt, alloc, set, terminals, r#"["D", "x"]"#);
+    let set = firsts.first1(alloc, terminals, &[], ahead);
+    shows(rt, alloc, set, terminals, r#"["x"]"#);
 }
 
 fn answer(rt: &impl Abort, alloc: Global, grammar: &Grammar, ahead: &TokenSet)

@@ -10,6 +10,13 @@ use lalrpop_lr1_core::{Lr0State, StateGraph, StateIndex};
 use std::alloc::Global;
 use std::process::Abort;
 
+/// Whether a copy of that state has its items, and leads by C to 5.
+fn copy_answers(rt: &impl Abort, alloc: Global, state: &Lr0State<'_>, more: &Production) -> bool {
+    let copy = state.try_clone(alloc).expect(rt, "memory");
+    let to = copy.gotos.get(&more.nonterminal) == Some(&StateIndex(5));
+    to & (copy.items == state.items)
+}
+
 /// What the state behind the first C says: one symbol stands before a dot that isn't in front, one behind it, on a right side of S.
 fn state_behind_one_answers(
     rt: &impl Abort,
@@ -24,12 +31,7 @@ fn state_behind_one_answers(
     );
     check(rt, state.will_push().len() == 1);
     check(rt, state.will_produce() == Some(&pair.nonterminal));
-    let copy = state.try_clone(alloc).expect(rt, "memory");
-    check(rt, copy.items == state.items);
-    check(
-        rt,
-        copy.gotos.get(&more.nonterminal) == Some(&StateIndex(5)),
-    );
+    check(rt, copy_answers(rt, alloc, state, more));
 }
 
 /// That the symbols lead to the state from these, and from no other.
@@ -45,17 +47,22 @@ fn lead_from(
     check(rt, found.expect(rt, "memory").as_slice() == wanted);
 }
 
+/// That it is the state of this number.
+fn is_state(rt: &impl Abort, found: Option<StateIndex>, wanted: usize) {
+    check(rt, found == Some(StateIndex(wanted)));
+}
+
 /// Where edges lead, the newest first: gotos are newer than shifts, and those of a later state than those of an earlier one.
 fn edges_are_given(rt: &impl Abort, graph: &StateGraph, c: &Symbol) {
     let mut after = graph.successors(StateIndex(3));
-    check(rt, after.next() == Some(StateIndex(6)));
-    check(rt, after.next() == Some(StateIndex(4)));
-    check(rt, after.next() == Some(StateIndex(3)));
+    is_state(rt, after.next(), 6);
+    is_state(rt, after.next(), 4);
+    is_state(rt, after.next(), 3);
     check(rt, after.next().is_none());
     let mut before = graph.predecessors(StateIndex(3), c);
-    check(rt, before.next() == Some(StateIndex(3)));
-    check(rt, before.next() == Some(StateIndex(1)));
-    check(rt, before.next() == Some(StateIndex(0)));
+    is_state(rt, before.next(), 3);
+    is_state(rt, before.next(), 1);
+    is_state(rt, before.next(), 0);
     check(rt, before.next().is_none());
 }
 

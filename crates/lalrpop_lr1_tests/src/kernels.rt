@@ -45,19 +45,28 @@ fn gives(rt: &impl Abort, kernels: &mut KernelSet<Kernel<'_, Nil>>, dot: usize) 
 }
 
 // A kernel is its items, however it was made, and also once it was given.
+fn equal_kernels_are_one<'g>(
+    rt: &impl Abort,
+    alloc: Global,
+    kernels: &mut KernelSet<Kernel<'g, Nil>>,
+    production: &'g Production,
+) {
+    has_number(rt, alloc, kernels, production, 1, 1);
+    has_number(rt, alloc, kernels, production, 0, 0);
+    gives(rt, kernels, 0);
+    has_number(rt, alloc, kernels, production, 0, 0);
+    has_number(rt, alloc, kernels, production, 2, 2);
+    gives(rt, kernels, 1);
+    gives(rt, kernels, 2);
+    check(rt, kernels.next().is_none());
+}
+
 fn equal_kernels_have_one_number(rt: &impl Abort, alloc: Global, production: &Production) {
     let mut kernels = KernelSet::new(alloc);
     let start = Kernel::start(item_list(rt, alloc, production, 0));
     let found = kernels.add_state(start).expect(rt, "memory");
     check(rt, found == StateIndex(0));
-    has_number(rt, alloc, &mut kernels, production, 1, 1);
-    has_number(rt, alloc, &mut kernels, production, 0, 0);
-    gives(rt, &mut kernels, 0);
-    has_number(rt, alloc, &mut kernels, production, 0, 0);
-    has_number(rt, alloc, &mut kernels, production, 2, 2);
-    gives(rt, &mut kernels, 1);
-    gives(rt, &mut kernels, 2);
-    check(rt, kernels.next().is_none());
+    equal_kernels_are_one(rt, alloc, &mut kernels, production);
 }
 
 /// That a copy equals its kernel, and no longer where that has an item more.

@@ -21,9 +21,13 @@ mod items;
 #[cfg(test)]
 mod kernels;
 #[cfg(test)]
+mod lowered;
+#[cfg(test)]
 mod moves;
 #[cfg(test)]
 mod multimaps;
+#[cfg(test)]
+mod reports;
 #[cfg(test)]
 mod states;
 #[cfg(test)]

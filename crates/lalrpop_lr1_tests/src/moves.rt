@@ -3,7 +3,7 @@
 ghost use Rattle.lalrpop_lr1_first.specs.FirstSetsOf.{AreFirstSetsOf};
 ghost use Rattle.lalrpop_lr1_first.specs.NumberedGrammars.{HasItsTerminals};
 
-use crate::check::{check, text_is};
+use crate::check::{check, is_debug};
 use crate::grammars::{PAIRS, grammar_of, name_of, production_at};
 use lalrpop_grammar_repr::{Grammar, Symbol};
 use lalrpop_grammar_symbols::NonterminalString;
@@ -26,8 +26,7 @@ fn brings(
     requires { AreFirstSetsOf lr.now.grammar.now lr.now.first_sets }
 {
     let items = TokenSet::epsilon_moves(alloc, lr, name, rest, end).expect(rt, "memory");
-    let text = format!(in alloc; "{items:?}").expect(rt, "memory");
-    check(rt, text_is(text, wanted));
+    check(rt, is_debug(rt, alloc, &items, wanted));
 }
 
 /// What C brings before C and before the end, "c" and "d" being the tokens 0 and 1 and the end 2; and what no nonterminal brings.
@@ -66,8 +65,8 @@ fn without_lookaheads(rt: &impl Abort, alloc: Global, grammar: &Grammar)
     let lr = Lr::new(alloc, grammar, name_of(rt, alloc, "__S"), Nil).expect(rt, "memory");
     let c = &production_at(rt, alloc, grammar, "C", 0).nonterminal;
     let items = Nil::epsilon_moves(alloc, &lr, c, &[], &Nil).expect(rt, "memory");
-    let text = format!(in alloc; "{items:?}").expect(rt, "memory");
-    check(rt, text_is(text, r#"[C = (*) "c" C, C = (*) "d"]"#));
+    let wanted = r#"[C = (*) "c" C, C = (*) "d"]"#;
+    check(rt, is_debug(rt, alloc, &items, wanted));
 }
 
 #[test]

@@ -1,6 +1,6 @@
 //! Maps to collections.
 
-use crate::check::check;
+use crate::check::{check, says};
 use lalrpop_sets::{Collection, Multimap, Nil};
 use std::alloc::Global;
 use std::collections::BTreeSet;
@@ -9,22 +9,20 @@ use std::process::Abort;
 fn a_push_says_whether_a_set_grew(rt: &impl Abort, alloc: Global) {
     let mut map: Multimap<u32, BTreeSet<char>> = Multimap::new(alloc);
     check(rt, map.is_empty());
-    let first = map.push(0, 'a').expect(rt, "memory");
-    let second = map.push(0, 'b').expect(rt, "memory");
-    let again = map.push(0, 'b').expect(rt, "memory");
-    let other = map.push(1, 'a').expect(rt, "memory");
-    check(rt, first & second & !again & other);
+    says(rt, map.push(0, 'a'), true);
+    says(rt, map.push(0, 'b'), true);
+    says(rt, map.push(0, 'b'), false);
+    says(rt, map.push(1, 'a'), true);
     check(rt, !map.is_empty() & map.get(&2).is_none());
     check(rt, map.get(&0).expect(rt, "a set").len() == 2);
 }
 
 fn a_push_says_whether_a_key_came(rt: &impl Abort, alloc: Global) {
     let mut map: Multimap<u32, ()> = Multimap::new(alloc);
-    let first = map.push(0, ()).expect(rt, "memory");
-    let again = map.push(0, ()).expect(rt, "memory");
-    let other = map.push(1, ()).expect(rt, "memory");
-    let last = map.push(0, ()).expect(rt, "memory");
-    check(rt, first & !again & other & !last);
+    says(rt, map.push(0, ()), true);
+    says(rt, map.push(0, ()), false);
+    says(rt, map.push(1, ()), true);
+    says(rt, map.push(0, ()), false);
 }
 
 /// A map of one character at 1 and of two at 3.
@@ -59,13 +57,12 @@ fn entries_stand_in_order_of_their_keys(rt: &impl Abort, alloc: Global) {
 
 fn a_collection_says_whether_a_push_changed_it(rt: &impl Abort, alloc: Global) {
     let mut list: Vec<u32> = Collection::empty(alloc);
-    let first = Collection::push(&mut list, 1).expect(rt, "memory");
-    let again = Collection::push(&mut list, 1).expect(rt, "memory");
+    says(rt, Collection::push(&mut list, 1), true);
+    says(rt, Collection::push(&mut list, 1), true);
     let mut nothing: Nil = Collection::empty(alloc);
-    let same = Collection::push(&mut nothing, Nil).expect(rt, "memory");
+    says(rt, Collection::push(&mut nothing, Nil), false);
     let mut maps: Multimap<u32, Vec<u32>> = Collection::empty(alloc);
-    let put = Collection::push(&mut maps, (1, 2)).expect(rt, "memory");
-    check(rt, first & again & !same & put);
+    says(rt, Collection::push(&mut maps, (1, 2)), true);
 }
 
 #[test]

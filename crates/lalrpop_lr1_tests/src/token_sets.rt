@@ -1,6 +1,6 @@
 //! Tokens and sets of tokens.
 
-use crate::check::{check, is_shown, text_is};
+use crate::check::{check, is_debug, is_shown, says, shows, text_is};
 use crate::grammars::{grammar_of, terminal_of, token_of};
 use lalrpop_grammar_repr::TerminalSet;
 use lalrpop_sets::{Collection, Token, TokenRef, TokenSet};
@@ -33,13 +33,12 @@ fn put_three(
 ) {
     check(rt, set.len() == 0);
     let x = token_of(rt, alloc, "x");
-    let first = set.insert_with(b, terminals).expect(rt, "memory");
-    let again = set.insert_with(b, terminals).expect(rt, "memory");
-    let other = set.insert_with(&x, terminals).expect(rt, "memory");
-    check(rt, first & !again & !other);
-    let error = set.insert(&Token::Error, terminals).expect(rt, "memory");
-    let end = set.insert_eof(terminals).expect(rt, "memory");
-    check(rt, error & end & (set.len() == 3));
+    says(rt, set.insert_with(b, terminals), true);
+    says(rt, set.insert_with(b, terminals), false);
+    says(rt, set.insert_with(&x, terminals), false);
+    says(rt, set.insert(&Token::Error, terminals), true);
+    says(rt, set.insert_eof(terminals), true);
+    check(rt, set.len() == 3);
 }
 
 /// Takes the end out of the set of these three.
@@ -72,24 +71,22 @@ fn what_is_put_in_is_there(
 
 fn all_tokens_of_a_grammar(rt: &impl Abort, alloc: Global, terminals: &TerminalSet) {
     let all = TokenSet::all(alloc, terminals).expect(rt, "memory");
-    check(
-        rt,
-        is_shown(rt, alloc, &all, terminals, r#"["a", "b", "c", Eof]"#),
-    );
-    let text = format!(in alloc; "{all:?}").expect(rt, "memory");
-    check(rt, text_is(text, "{0, 1, 2, 3}"));
+    check(rt, is_debug(rt, alloc, &all, "{0, 1, 2, 3}"));
+    shows(rt, alloc, Ok(all), terminals, r#"["a", "b", "c", Eof]"#);
 }
 
 fn one_token_alone(rt: &impl Abort, alloc: Global, terminals: &TerminalSet) {
     let mut error = TokenSet::from_token(alloc, &Token::Error, terminals).expect(rt, "memory");
     error.reserve(200).expect(rt, "memory");
-    check(rt, is_shown(rt, alloc, &error, terminals, "[Error]"));
+    shows(rt, alloc, Ok(error), terminals, "[Error]");
+}
+
+/// That the set of the end alone is made in two ways.
+fn the_end_alone(rt: &impl Abort, alloc: Global, terminals: &TerminalSet) {
     let end = TokenSet::from_token(alloc, &Token::Eof, terminals).expect(rt, "memory");
-    check(rt, is_shown(rt, alloc, &end, terminals, "[Eof]"));
-    check(
-        rt,
-        TokenSet::eof(alloc, terminals).expect(rt, "memory") == end,
-    );
+    let same = TokenSet::eof(alloc, terminals).expect(rt, "memory");
+    check(rt, same == end);
+    shows(rt, alloc, Ok(end), terminals, "[Eof]");
 }
 
 /// What the sets of a and b, and of b and c, share, and what they have together.
@@ -104,11 +101,10 @@ fn what_two_sets_share(
     let mut left = set_of(rt, alloc, a, b, terminals);
     let right = set_of(rt, alloc, b, c, terminals);
     check(rt, left.is_intersecting(&right) & !left.is_disjoint(&right));
-    let shared = left.intersection(alloc, &right).expect(rt, "memory");
-    check(rt, is_shown(rt, alloc, &shared, terminals, r#"["b"]"#));
-    let first = left.union_with(&right).expect(rt, "memory");
-    let again = left.union_with(&right).expect(rt, "memory");
-    check(rt, first & !again);
+    let shared = left.intersection(alloc, &right);
+    shows(rt, alloc, shared, terminals, r#"["b"]"#);
+    says(rt, left.union_with(&right), true);
+    says(rt, left.union_with(&right), false);
     check(
         rt,
         is_shown(rt, alloc, &left, terminals, r#"["a", "b", "c"]"#),
@@ -138,17 +134,14 @@ fn sets_are_compared_as_lists_of_numbers(
     let middle = TokenSet::from_token(alloc, b, terminals).expect(rt, "memory");
     let mut both: TokenSet = Collection::empty(alloc);
     check(rt, (ends < middle) & (both < ends));
-    check(rt, Collection::push(&mut both, middle).expect(rt, "memory"));
+    says(rt, Collection::push(&mut both, middle), true);
 }
 
 /// The set of the terminal, the error and the end, in order.
 fn tokens_come_in_order(rt: &impl Abort, alloc: Global, c: &Token, terminals: &TerminalSet) {
     let mut set = set_of(rt, alloc, &Token::Error, c, terminals);
-    set.insert_eof(terminals).expect(rt, "memory");
-    check(
-        rt,
-        is_shown(rt, alloc, &set, terminals, r#"["c", Eof, Error]"#),
-    );
+    says(rt, set.insert_eof(terminals), true);
+    shows(rt, alloc, Ok(set), terminals, r#"["c", Eof, Error]"#);
 }
 
 fn a_token_and_its_copy(rt: &impl Abort, alloc: Global) {
@@ -176,5 +169,6 @@ fn sets_of_tokens(rt: HostRuntime) {
     answer(&rt, alloc, &grammar.terminals);
     all_tokens_of_a_grammar(&rt, alloc, &grammar.terminals);
     one_token_alone(&rt, alloc, &grammar.terminals);
+    the_end_alone(&rt, alloc, &grammar.terminals);
     a_token_and_its_copy(&rt, alloc);
 }

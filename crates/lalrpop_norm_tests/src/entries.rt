@@ -18,22 +18,20 @@ fn place_in(rt: &impl Abort, alloc: Global, places: &LiteralPlaces, text: &str) 
 #[test]
 fn literals_stand_where_they_are_written(rt: HostRuntime) {
     let places = places_of(&rt, rt.alloc(), COMMAS);
-    for (text, place) in [
-        ("n", Some(Span(14, 17))),
-        (",", Some(Span(39, 42))),
-        ("T", None),
-    ] {
-        assert!(rt; place_in(&rt, rt.alloc(), &places, text) == place, "{text}");
-    }
+    let n = place_in(&rt, rt.alloc(), &places, "n");
+    check(&rt, n == Some(Span(14, 17)));
+    let comma = place_in(&rt, rt.alloc(), &places, ",");
+    check(&rt, comma == Some(Span(39, 42)));
+    check(&rt, place_in(&rt, rt.alloc(), &places, "T").is_none());
 }
 
 /// Whether it is an entry of the quoted literal, which gives itself, in the only group.
 fn is_entry(entry: &MatchEntry, text: &str) -> bool {
     match &entry.user_name {
         MatchMapping::Terminal(terminal) => {
-            entry.precedence == 3
-                && is_quoted(&entry.match_literal, text)
-                && is_terminal(terminal, text)
+            (entry.precedence == 3)
+                & is_quoted(&entry.match_literal, text)
+                & is_terminal(terminal, text)
         }
         MatchMapping::Skip => false,
     }
@@ -42,7 +40,7 @@ fn is_entry(entry: &MatchEntry, text: &str) -> bool {
 /// Whether they are the entries of the comma grammar, in order of their bytes.
 pub(crate) fn are_entries(entries: &[MatchEntry]) -> bool {
     match entries {
-        [first, second] => is_entry(first, ",") && is_entry(second, "n"),
+        [first, second] => is_entry(first, ",") & is_entry(second, "n"),
         _ => false,
     }
 }
@@ -50,7 +48,7 @@ pub(crate) fn are_entries(entries: &[MatchEntry]) -> bool {
 /// Whether the six rules and the entries are the items.
 fn ends_with_entries(grammar: &Grammar) -> bool {
     match grammar.intern_token() {
-        Some(token) => grammar.items.len() == 7 && are_entries(token.match_entries.as_slice()),
+        Some(token) => { are_entries(token.match_entries.as_slice()) & (grammar.items.len() == 7) }
         None => false,
     }
 }

@@ -13,7 +13,7 @@ use std::alloc::Global;
 use std::process::Abort;
 
 /// The rules of the expanded comma grammar, and their alternatives.
-const EXPANDED: [(&str, &str); 6] = [
+static EXPANDED: [(&str, &str); 6] = [
     ("L", r#"| Comma<"n">"#),
     (r#"Comma<"n">"#, r#"| <(<"n"> ",")*> <"n"?>"#),
     (r#"(<"n"> ",")*"#, r#"|| (<"n"> ",")+"#),
@@ -34,13 +34,18 @@ fn rule_count(grammar: &Grammar) -> usize {
     count
 }
 
+/// That the grammar has these rules.
+fn is_expanded(rt: &impl Abort, alloc: Global, grammar: &Grammar) {
+    for (name, sides) in EXPANDED.iter() {
+        has_sides(rt, alloc, grammar, name, sides);
+    }
+}
+
 #[test]
 fn each_call_repeat_and_group_becomes_a_rule(rt: HostRuntime) {
     let grammar = expanded_grammar(&rt, rt.alloc(), COMMAS);
     check(&rt, rule_count(&grammar) == EXPANDED.len());
-    for (name, sides) in EXPANDED {
-        has_sides(&rt, rt.alloc(), &grammar, name, sides);
-    }
+    is_expanded(&rt, rt.alloc(), &grammar);
 }
 
 /// What the finder makes of the grammar of conditions: it is expanded, or a fault is told.

@@ -1,14 +1,12 @@
 //! Lowering: where productions stand, which nonterminals are inlined, and what actions do.
 
-use crate::check::{check, equals};
+use crate::check::{boxed, check, equals, is_debug};
 use crate::entries::are_entries;
 use crate::grammars::{ACTIONS, COMMAS, checked_grammar, grammar_of, plain_session};
-use crate::parts::{is_terminal, name_of};
-use crate::types::{comma_types, gives_list, is_named};
+use crate::parts::name_of;
+use crate::types::{LIST, comma_types, gives};
 use lalrpop_grammar::{Attribute, NonterminalString, Span};
-use lalrpop_grammar_repr::{
-    ActionFnDefn, ActionFnDefnKind, Grammar, LookaroundActionFnDefn, TerminalSet,
-};
+use lalrpop_grammar_repr::{ActionFnDefn, Grammar, TerminalSet};
 use lalrpop_norm::{INLINE, Normalized, lower, normalize};
 use std::alloc::Global;
 use std::process::Abort;
@@ -33,36 +31,23 @@ pub(crate) fn normalized_grammar(rt: &impl Abort, alloc: Global, text: &str) -> 
     Box::new(alloc, made.expect(rt, "a normal grammar")).expect(rt, "memory")
 }
 
-/// Whether they are the comma and n, each with its place.
-fn are_terminals(terminals: &TerminalSet) -> bool {
-    match terminals.all.as_slice() {
-        [first, second] => {
-            is_terminal(first, ",")
-                && is_terminal(second, "n")
-                && terminals.bits.get(first) == Some(&0)
-                && terminals.bits.get(second) == Some(&1)
-        }
-        _ => false,
-    }
-}
+/// The comma and n, each with its place, as `Debug` prints them.
+const TERMINALS: &str =
+    r#"TerminalSet { all: List { items: [Literal(Quoted(",")), Literal(Quoted("n"))] }, bits: Map { map: {Literal(Quoted(",")): 0, Literal(Quoted("n")): 1} } }"#;
+
+/// The start of L alone.
+const STARTS: &str = r#"Map { map: {NonterminalString("L"): NonterminalString("__L")} }"#;
 
 /// Whether a copy of the terminals has these two.
 fn terminals_are_copied(rt: &impl Abort, alloc: Global, terminals: &TerminalSet) -> bool {
-    let copy = terminals.try_clone(alloc).expect(rt, "memory");
-    are_terminals(&copy)
+    let copy = boxed(rt, alloc, terminals.try_clone(alloc).expect(rt, "memory"));
+    is_debug(rt, alloc, &*copy, TERMINALS)
 }
 
 /// Whether L has a start, which stands alone, and nothing else has one.
 fn starts_with_list(rt: &impl Abort, alloc: Global, grammar: &Grammar) -> bool {
-    let rule = name_of(rt, alloc, "L");
-    match grammar.start_nonterminals.get(&rule) {
-        Some(start) => {
-            start.0.as_str() == "__L"
-                && grammar.start_is_alone(start)
-                && grammar.start_nonterminals.len() == 1
-        }
-        None => false,
-    }
+    let start = name_of(rt, alloc, "__L");
+    is_debug(rt, alloc, &grammar.start_nonterminals, STARTS) & grammar.start_is_alone(&start)
 }
 
 /// Whether they are the mark of an inlined rule.
@@ -90,7 +75,7 @@ fn production_stands(grammar: &Grammar, name: &NonterminalString) -> Option<Span
 }
 
 /// The nonterminals of the comma grammar, where they stand, and whether they are inlined.
-const NONTERMINALS: [(&str, Span, bool); 7] = [
+static NONTERMINALS: [(&str, Span, bool); 7] = [
     ("__L", Span(0, 5), false),
     ("L", Span(0, 5), false),
     (r#"Comma<"n">"#, Span(20, 25), false),
@@ -115,17 +100,21 @@ fn nonterminal_stands(
 /// That nonterminals stand where they are written, and are marked as they are to be.
 fn nonterminals_stand(rt: &impl Abort, alloc: Global, grammar: &Grammar) {
     check(rt, grammar.nonterminals.len() == NONTERMINALS.len());
-    for (name, span, inlined) in NONTERMINALS {
-        nonterminal_stands(rt, alloc, grammar, name, (span, inlined));
+    for (name, span, inlined) in NONTERMINALS.iter() {
+        nonterminal_stands(rt, alloc, grammar, name, (*span, *inlined));
     }
+}
+
+/// That the only production of the nonterminal stands where its alternative does.
+fn alternative_stands(rt: &impl Abort, alloc: Global, grammar: &Grammar, name: &str, span: Span) {
+    let key = name_of(rt, alloc, name);
+    check(rt, production_stands(grammar, &key) == Some(span));
 }
 
 /// That the productions of alternatives stand where these do.
 fn alternatives_stand(rt: &impl Abort, alloc: Global, grammar: &Grammar) {
-    for (name, span) in [("L", Span(7, 18)), (r#"Comma<"n">"#, Span(31, 50))] {
-        let key = name_of(rt, alloc, name);
-        assert!(rt; production_stands(grammar, &key) == Some(span), "{name}");
-    }
+    alternative_stands(rt, alloc, grammar, "L", Span(7, 18));
+    alternative_stands(rt, alloc, grammar, r#"Comma<"n">"#, Span(31, 50));
 }
 
 /// Whether a copy of each nonterminal equals it.
@@ -141,7 +130,7 @@ fn are_copied(rt: &impl Abort, alloc: Global, grammar: &Grammar) -> bool {
 /// That the lowered comma grammar has a start, types, terminals and entries, and of ten productions the actions and origins.
 fn is_lowered(rt: &impl Abort, alloc: Global, made: &Normalized) {
     check(rt, starts_with_list(rt, alloc, &made.grammar));
-    check(rt, gives_list(rt, alloc, &made.grammar.types, "__L"));
+    check(rt, gives(rt, alloc, &made.grammar.types, "__L", LIST));
     check(rt, terminals_are_copied(rt, alloc, &made.grammar.terminals));
     check(rt, are_copied(rt, alloc, &made.grammar));
     check(rt, are_entries(made.entries.as_slice()));
@@ -175,50 +164,35 @@ fn definition_at<'g>(
         .expect(rt, "such an action")
 }
 
-/// Whether the action has this code.
-fn has_code(kind: &ActionFnDefnKind, code: Option<&str>) -> bool {
-    match kind {
-        ActionFnDefnKind::User(user) => match &user.code {
-            Some(found) => code == Some(found.as_str()),
-            None => code.is_none(),
-        },
-        _ => false,
-    }
-}
+/// What a start does.
+const START: &str =
+    r#"ActionFnDefn { fallible: false, ret_type: Nominal(NominalTypeRepr { path: "usize", types: List { items: [] } }), kind: User(UserActionFnDefn { code: None }) }"#;
 
-/// Whether the action has this code, which may fail or not, and gives a place.
-fn does(definition: &ActionFnDefn, code: Option<&str>, fallible: bool) -> bool {
-    has_code(&definition.kind, code)
-        && definition.fallible == fallible
-        && is_named(&definition.ret_type, "usize")
-}
+/// The code `l`, which gives a place.
+const CODE: &str =
+    r#"ActionFnDefn { fallible: false, ret_type: Nominal(NominalTypeRepr { path: "usize", types: List { items: [] } }), kind: User(UserActionFnDefn { code: Some("l") }) }"#;
 
-/// Whether the action is that of `@L`.
-fn looks_ahead(definition: &ActionFnDefn) -> bool {
-    match &definition.kind {
-        ActionFnDefnKind::Lookaround(LookaroundActionFnDefn::Lookahead) => {
-            !definition.fallible && is_named(&definition.ret_type, "usize")
-        }
-        _ => false,
-    }
+/// The code `f`, which gives a place or fails.
+const FALLIBLE_CODE: &str =
+    r#"ActionFnDefn { fallible: true, ret_type: Nominal(NominalTypeRepr { path: "usize", types: List { items: [] } }), kind: User(UserActionFnDefn { code: Some("f") }) }"#;
+
+/// What `@L` does.
+const PLACE: &str =
+    r#"ActionFnDefn { fallible: false, ret_type: Nominal(NominalTypeRepr { path: "usize", types: List { items: [] } }), kind: Lookaround(Lookahead) }"#;
+
+/// That the action of the production at that place of the nonterminal does this.
+fn does(rt: &impl Abort, alloc: Global, grammar: &Grammar, name: &str, place: usize, wanted: &str) {
+    let definition = definition_at(rt, alloc, grammar, name, place);
+    check(rt, is_debug(rt, alloc, definition, wanted));
 }
 
 /// That each action does what its alternative says, a start's and a place's too.
 fn do_as_written(rt: &impl Abort, alloc: Global, grammar: &Grammar) {
     check(rt, grammar.algorithm.lalr);
-    check(
-        rt,
-        does(definition_at(rt, alloc, grammar, "__S", 0), None, false),
-    );
-    check(
-        rt,
-        does(definition_at(rt, alloc, grammar, "S", 0), Some("l"), false),
-    );
-    check(
-        rt,
-        does(definition_at(rt, alloc, grammar, "S", 1), Some("f"), true),
-    );
-    check(rt, looks_ahead(definition_at(rt, alloc, grammar, "@L", 0)));
+    does(rt, alloc, grammar, "__S", 0, START);
+    does(rt, alloc, grammar, "S", 0, CODE);
+    does(rt, alloc, grammar, "S", 1, FALLIBLE_CODE);
+    does(rt, alloc, grammar, "@L", 0, PLACE);
 }
 
 #[test]

@@ -1,6 +1,6 @@
 //! Types: those that follow from alternatives, and written ones.
 
-use crate::check::{boxed, check, equals};
+use crate::check::{boxed, check, equals, is_debug};
 use crate::grammars::{COMMAS, TYPED, checked_grammar, grammar_of};
 use crate::parts::{name_of, rule_of};
 use lalrpop_grammar::{Grammar, TypeRepr};
@@ -9,47 +9,29 @@ use lalrpop_norm::infer_types;
 use std::alloc::Global;
 use std::process::Abort;
 
-/// Whether it is the type of this name, without arguments.
-pub(crate) fn is_named(ty: &TypeRepr, name: &str) -> bool {
-    match ty {
-        TypeRepr::Nominal(found) => found.path.as_str() == name && found.types.is_empty(),
-        _ => false,
-    }
-}
+/// `&'input str`, as `Debug` prints it.
+const TEXT: &str =
+    r#"Ref { lifetime: Some("'input"), mutable: false, referent: Boxed { inner: Nominal(NominalTypeRepr { path: "str", types: List { items: [] } }) } }"#;
 
-/// Whether it is `&'input str`.
-fn is_text(ty: &TypeRepr) -> bool {
-    match ty {
-        TypeRepr::Ref {
-            lifetime: Some(lifetime),
-            mutable,
-            referent,
-        } => !*mutable && lifetime.as_str() == "'input" && is_named(referent.get(), "str"),
-        _ => false,
-    }
-}
+/// `Vec<&'input str>`
+const TEXTS: &str =
+    r#"Nominal(NominalTypeRepr { path: "Vec", types: List { items: [Ref { lifetime: Some("'input"), mutable: false, referent: Boxed { inner: Nominal(NominalTypeRepr { path: "str", types: List { items: [] } }) } }] } })"#;
 
-/// Whether it is the type of this name, of `&'input str`.
-fn holds_text(ty: &TypeRepr, name: &str) -> bool {
-    match ty {
-        TypeRepr::Nominal(found) => match found.types.as_slice() {
-            [only] => found.path.as_str() == name && is_text(only),
-            _ => false,
-        },
-        _ => false,
-    }
-}
+/// `Option<&'input str>`
+const OPTION: &str =
+    r#"Nominal(NominalTypeRepr { path: "Option", types: List { items: [Ref { lifetime: Some("'input"), mutable: false, referent: Boxed { inner: Nominal(NominalTypeRepr { path: "str", types: List { items: [] } }) } }] } })"#;
 
-/// Whether it is `(Vec<&'input str>, Option<&'input str>)`.
-fn is_list(ty: &TypeRepr) -> bool {
-    match ty {
-        TypeRepr::Tuple(parts) => match parts.as_slice() {
-            [first, second] => holds_text(first, "Vec") && holds_text(second, "Option"),
-            _ => false,
-        },
-        _ => false,
-    }
-}
+/// `(Vec<&'input str>, Option<&'input str>)`
+pub(crate) const LIST: &str =
+    r#"Tuple(List { items: [Nominal(NominalTypeRepr { path: "Vec", types: List { items: [Ref { lifetime: Some("'input"), mutable: false, referent: Boxed { inner: Nominal(NominalTypeRepr { path: "str", types: List { items: [] } }) } }] } }), Nominal(NominalTypeRepr { path: "Option", types: List { items: [Ref { lifetime: Some("'input"), mutable: false, referent: Boxed { inner: Nominal(NominalTypeRepr { path: "str", types: List { items: [] } }) } }] } })] })"#;
+
+/// The types of the comma and n: those of texts.
+const TERMINAL_TYPES: &str =
+    r#"Map { map: {Literal(Quoted(",")): Ref { lifetime: Some("'input"), mutable: false, referent: Boxed { inner: Nominal(NominalTypeRepr { path: "str", types: List { items: [] } }) } }, Literal(Quoted("n")): Ref { lifetime: Some("'input"), mutable: false, referent: Boxed { inner: Nominal(NominalTypeRepr { path: "str", types: List { items: [] } }) } }} }"#;
+
+/// `a::B<&'a mut T, &dyn X, ()>`
+const WHOLE: &str =
+    r#"Nominal(NominalTypeRepr { path: "a::B", types: List { items: [Ref { lifetime: Some("'a"), mutable: true, referent: Boxed { inner: Nominal(NominalTypeRepr { path: "T", types: List { items: [] } }) } }, Ref { lifetime: None, mutable: false, referent: Boxed { inner: Opaque("dyn X") } }, Tuple(List { items: [] })] } })"#;
 
 /// The type that the table has for the nonterminal of that name.
 fn type_at<'t>(
@@ -62,38 +44,18 @@ fn type_at<'t>(
     types.lookup_nonterminal_type(&name)
 }
 
-/// Whether the nonterminal of that name has the type of the list of the comma grammar.
-pub(crate) fn gives_list(rt: &impl Abort, alloc: Global, types: &Types, name: &str) -> bool {
+/// Whether the nonterminal of that name has this type.
+pub(crate) fn gives(
+    rt: &impl Abort,
+    alloc: Global,
+    types: &Types,
+    name: &str,
+    wanted: &str,
+) -> bool {
     match type_at(rt, alloc, types, name) {
-        Some(ty) => is_list(ty),
+        Some(ty) => is_debug(rt, alloc, ty, wanted),
         None => false,
     }
-}
-
-/// Whether the nonterminal of that name has a type of this name, of texts.
-fn gives_texts(rt: &impl Abort, alloc: Global, types: &Types, name: &str, of: &str) -> bool {
-    match type_at(rt, alloc, types, name) {
-        Some(ty) => holds_text(ty, of),
-        None => false,
-    }
-}
-
-/// Whether the nonterminal of that name has the type of a text.
-fn gives_text(rt: &impl Abort, alloc: Global, types: &Types, name: &str) -> bool {
-    match type_at(rt, alloc, types, name) {
-        Some(ty) => is_text(ty),
-        None => false,
-    }
-}
-
-/// Whether two terminals have a type, that of a text.
-fn terminals_are_texts(types: &Types) -> bool {
-    for (_, ty) in types.terminal_types.iter() {
-        if !is_text(ty) {
-            return false;
-        }
-    }
-    types.terminal_types.len() == 2
 }
 
 /// The types of the comma grammar.
@@ -103,18 +65,19 @@ pub(crate) fn comma_types(rt: &impl Abort, alloc: Global) -> Box<Types> {
     Box::new(alloc, types).expect(rt, "memory")
 }
 
-/// That the types of the comma grammar are those of its repeats, its group and its option.
+/// That the types of the comma grammar are those of its terminals, its repeats, its group and its option.
 fn follow(rt: &impl Abort, alloc: Global, types: &Types) {
+    check(rt, types.nonterminal_types.len() == 6);
     check(
         rt,
-        types.nonterminal_types.len() == 6 && terminals_are_texts(types),
+        is_debug(rt, alloc, &types.terminal_types, TERMINAL_TYPES),
     );
-    check(rt, gives_list(rt, alloc, types, "L"));
-    check(rt, gives_list(rt, alloc, types, r#"Comma<"n">"#));
-    check(rt, gives_texts(rt, alloc, types, r#"(<"n"> ",")*"#, "Vec"));
-    check(rt, gives_texts(rt, alloc, types, r#"(<"n"> ",")+"#, "Vec"));
-    check(rt, gives_text(rt, alloc, types, r#"(<"n"> ",")"#));
-    check(rt, gives_texts(rt, alloc, types, r#""n"?"#, "Option"));
+    check(rt, gives(rt, alloc, types, "L", LIST));
+    check(rt, gives(rt, alloc, types, r#"Comma<"n">"#, LIST));
+    check(rt, gives(rt, alloc, types, r#"(<"n"> ",")*"#, TEXTS));
+    check(rt, gives(rt, alloc, types, r#"(<"n"> ",")+"#, TEXTS));
+    check(rt, gives(rt, alloc, types, r#"(<"n"> ",")"#, TEXT));
+    check(rt, gives(rt, alloc, types, r#""n"?"#, OPTION));
 }
 
 #[test]
@@ -139,54 +102,6 @@ fn declared_repr(
     }
 }
 
-/// Whether it is `&'a mut T`.
-fn is_mutable(ty: &TypeRepr) -> bool {
-    match ty {
-        TypeRepr::Ref {
-            lifetime: Some(lifetime),
-            mutable,
-            referent,
-        } => *mutable && lifetime.as_str() == "'a" && is_named(referent.get(), "T"),
-        _ => false,
-    }
-}
-
-/// Whether it is kept as this text.
-fn is_opaque(ty: &TypeRepr, text: &str) -> bool {
-    match ty {
-        TypeRepr::Opaque(found) => found.as_str() == text,
-        _ => false,
-    }
-}
-
-/// Whether it is `&dyn X`.
-fn is_dynamic(ty: &TypeRepr) -> bool {
-    match ty {
-        TypeRepr::Ref {
-            lifetime: None,
-            mutable,
-            referent,
-        } => !*mutable && is_opaque(referent.get(), "dyn X"),
-        _ => false,
-    }
-}
-
-/// Whether it is `a::B<&'a mut T, &dyn X, ()>`.
-fn is_whole(ty: &TypeRepr) -> bool {
-    match ty {
-        TypeRepr::Nominal(found) => match found.types.as_slice() {
-            [first, second, third] => {
-                found.path.as_str() == "a::B"
-                    && is_mutable(first)
-                    && is_dynamic(second)
-                    && third.is_unit()
-            }
-            _ => false,
-        },
-        _ => false,
-    }
-}
-
 /// Whether a copy of the type of a name equals it.
 fn name_is_copied(rt: &impl Abort, alloc: Global, ty: &TypeRepr) -> bool {
     match ty {
@@ -197,15 +112,27 @@ fn name_is_copied(rt: &impl Abort, alloc: Global, ty: &TypeRepr) -> bool {
 
 /// Whether a copy of the type is of that shape.
 fn copy_is_whole(rt: &impl Abort, alloc: Global, ty: &TypeRepr) -> bool {
-    let copy = ty.try_clone(alloc).expect(rt, "memory");
-    is_whole(&copy)
+    let copy = boxed(rt, alloc, ty.try_clone(alloc).expect(rt, "memory"));
+    is_debug(rt, alloc, &*copy, WHOLE)
+}
+
+/// Whether the last of its three arguments is `()`.
+fn ends_with_unit(ty: &TypeRepr) -> bool {
+    match ty {
+        TypeRepr::Nominal(found) => match found.types.as_slice() {
+            [_, _, third] => third.is_unit(),
+            _ => false,
+        },
+        _ => false,
+    }
 }
 
 /// That it is the type of that shape, and its copies are.
 fn keeps_shape(rt: &impl Abort, alloc: Global, ty: &TypeRepr) {
-    check(rt, is_whole(ty));
+    check(rt, is_debug(rt, alloc, ty, WHOLE));
     check(rt, copy_is_whole(rt, alloc, ty));
     check(rt, name_is_copied(rt, alloc, ty));
+    check(rt, ends_with_unit(ty));
 }
 
 /// Whether the type that the rule of that name declares has a shape.

@@ -1,6 +1,6 @@
 //! All passes at once.
 
-use crate::check::check;
+use crate::check::{check, debug_text, is_debug};
 use crate::entries::tells_entries;
 use crate::grammars::{COMMAS, grammar_of, plain_session};
 use crate::lowering::{lowered_commas, normalized_grammar};
@@ -17,23 +17,16 @@ fn normal_with_dfa(rt: &impl Abort, alloc: Global) -> Box<(Normalized, Dfa)> {
     Box::new(alloc, made.expect(rt, "a normal grammar")).expect(rt, "memory")
 }
 
-/// The grammar as it is shown.
-fn shown(rt: &impl Abort, alloc: Global, grammar: &Grammar) -> String {
-    format!(in alloc; "{grammar:?}").expect(rt, "memory")
-}
-
 /// Whether both grammars are shown alike.
 fn is_shown_alike(rt: &impl Abort, alloc: Global, one: &Grammar, other: &Grammar) -> bool {
-    let first = shown(rt, alloc, one);
-    let second = shown(rt, alloc, other);
-    first.as_str() == second.as_str()
+    let shown = debug_text(rt, alloc, one);
+    is_debug(rt, alloc, other, shown.as_str())
 }
 
 /// Whether both are the same, in all that there is to see of them.
 fn is_same(rt: &impl Abort, alloc: Global, one: &Normalized, other: &Normalized) -> bool {
-    is_shown_alike(rt, alloc, &one.grammar, &other.grammar)
-        && one.origins == other.origins
-        && one.entries == other.entries
+    let grammars = is_shown_alike(rt, alloc, &one.grammar, &other.grammar);
+    grammars & (one.origins == other.origins) & (one.entries == other.entries)
 }
 
 /// That an automaton comes with the same.

@@ -82,7 +82,7 @@ fn is_bare(symbol: &Symbol, name: &str) -> bool {
 /// Whether it is a call of the macro of that name with one argument.
 fn is_call(symbol: &Symbol, name: &str) -> bool {
     match &symbol.kind {
-        SymbolKind::Macro(call) => call.name.0.as_str() == name && call.args.len() == 1,
+        SymbolKind::Macro(call) => (call.name.0.as_str() == name) & (call.args.len() == 1),
         _ => false,
     }
 }
@@ -110,7 +110,7 @@ fn first_side<'g>(grammar: &'g Grammar, name: &str) -> &'g [Symbol] {
 fn names_all_kinds(grammar: &Grammar) -> bool {
     match first_side(grammar, "S") {
         [first, second, third] => {
-            is_rule(first, "A") && is_bare(second, "N") && is_call(third, "Id")
+            is_rule(first, "A") & is_bare(second, "N") & is_call(third, "Id")
         }
         _ => false,
     }
@@ -169,19 +169,26 @@ fn each_level_becomes_a_rule_without_levels(rt: HostRuntime) {
     has_level_rules(&rt, rt.alloc(), &leveled);
 }
 
+/// Whether the word is read as this.
+fn is_side(word: &str, wanted: Result<Assoc, ParseAssocError>) -> bool {
+    Assoc::from_str(word) == wanted
+}
+
 #[test]
 fn sides_and_attributes_by_their_words(rt: HostRuntime) {
-    check(&rt, Assoc::from_str("left") == Ok(Assoc::Left));
-    check(&rt, Assoc::from_str("right") == Ok(Assoc::Right));
-    check(&rt, Assoc::from_str("none") == Ok(Assoc::NonAssoc));
-    check(&rt, Assoc::from_str("all") == Ok(Assoc::FullyAssoc));
-    check(&rt, Assoc::from_str("Left") == Err(ParseAssocError));
-    check(&rt, Assoc::from_str("") == Err(ParseAssocError));
+    check(&rt, is_side("left", Ok(Assoc::Left)));
+    check(&rt, is_side("right", Ok(Assoc::Right)));
+    check(&rt, is_side("none", Ok(Assoc::NonAssoc)));
+    check(&rt, is_side("all", Ok(Assoc::FullyAssoc)));
+    check(&rt, is_side("Left", Err(ParseAssocError)));
+    check(&rt, is_side("", Err(ParseAssocError)));
 }
 
 #[test]
 fn words_of_attributes(rt: HostRuntime) {
-    check(&rt, (PREC_ATTR, LVL_ARG) == ("precedence", "level"));
-    check(&rt, (ASSOC_ATTR, SIDE_ARG) == ("assoc", "side"));
+    check(&rt, PREC_ATTR == "precedence");
+    check(&rt, LVL_ARG == "level");
+    check(&rt, ASSOC_ATTR == "assoc");
+    check(&rt, SIDE_ARG == "side");
     check(&rt, INLINE == "inline");
 }

@@ -1,6 +1,6 @@
 //! What the tables answer on plain productions that are read from lines: how many states they have, and the trees of tokens.
 //!
-//! For the program `lalrpop_tables` and for its cases. `Counts` in `specs/` says what is counted, `TokenAnswers`
+//! For the command `productions` of `lalrpop_cases`, and for its cases. `Counts` in `specs/` says what is counted, `TokenAnswers`
 //! what is told of tokens.
 
 mod canonical;

@@ -1,4 +1,4 @@
-//! Tests of runs that no table of cases can hold: parses, and witnesses of conflicts.
+//! Tests of runs that no table of cases can hold: parses, witnesses of conflicts, and the program's calls.
 #![tactic(auto)]
 
 #[cfg(test)]
@@ -6,4 +6,5 @@ mod check;
 #[cfg(test)]
 mod given;
 pub mod parses;
+pub mod program;
 pub mod witnesses;

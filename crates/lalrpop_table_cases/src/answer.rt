@@ -96,7 +96,7 @@ fn answer_call(
         Call::Onto => return onto_text(alloc, grammar, start, tokens, limit),
         Call::Begin => return begin_text(alloc, grammar, start, tokens),
         Call::Counts => counts_text(alloc, grammar, start),
-        Call::Check => check_text(alloc, grammar, start, question.checked.change),
+        Call::Check => check_text(alloc, grammar, start),
         Call::Conflicts => canonical_conflicts(alloc, grammar, start),
         Call::CollapsedConflicts => collapsed_conflicts(alloc, grammar, start),
         Call::First => first_text(alloc, grammar, question.names),
@@ -120,7 +120,7 @@ fn counts_text(
 }
 
 /// The tree of the tokens, or where they are stuck, as text.
-fn tree_text(
+pub fn tree_text(
     alloc: Global,
     grammar: &Grammar,
     start: &NonterminalString,

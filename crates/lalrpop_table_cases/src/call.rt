@@ -1,4 +1,4 @@
-//! What a case may ask, and what it may change in states.
+//! What a case may ask.
 
 use anyhow::{Result, bail};
 use lalrpop_case_kinds::files::fields::Fields;
@@ -14,7 +14,7 @@ pub(crate) enum Call {
     Parse,
     /// What is made of the tokens within the limit, leaf by leaf and node by node, or why that ends.
     Onto,
-    /// Whether states may be parsed with: those that are written, or the canonical ones, changed.
+    /// Whether states may be parsed with: those that are written, or the canonical ones.
     Check,
     /// The conflicts of the canonical states.
     Conflicts,
@@ -33,7 +33,7 @@ pub(crate) enum Call {
 impl Call {
     /// The call that the members name.
     pub(crate) fn among(fields: &Fields<'_>) -> Result<Call> {
-        Call::from_name(fields.text("call")?)
+        Call::from_name(fields.text("call"))
     }
 
     /// The call with the name.
@@ -51,49 +51,6 @@ impl Call {
             "empty" => Ok(Call::Empty),
             "begin" => Ok(Call::Begin),
             _ => bail!("no such call: {name}"),
-        }
-    }
-}
-
-/// What is changed in the first state that has it.
-#[derive(Clone, Copy)]
-pub(crate) enum Change {
-    /// It has no shifts.
-    NoShifts,
-    /// It has no gotos.
-    NoGotos,
-    /// It has no reductions.
-    NoReductions,
-    /// It has no items.
-    NoItems,
-    /// Its reductions are before all tokens.
-    BeforeAllTokens,
-    /// Its reductions are before the end too.
-    BeforeTheEndToo,
-    /// It has another number.
-    AnotherNumber,
-}
-
-impl Change {
-    /// The change that the members name, if they name one; an empty text is none.
-    pub(crate) fn among(fields: &Fields<'_>) -> Result<Option<Change>> {
-        match fields.text_if("change")? {
-            None | Some("") => Ok(None),
-            Some(name) => Ok(Some(Change::from_name(name)?)),
-        }
-    }
-
-    /// The change with the name.
-    fn from_name(name: &str) -> Result<Change> {
-        match name {
-            "no shifts" => Ok(Change::NoShifts),
-            "no gotos" => Ok(Change::NoGotos),
-            "no reductions" => Ok(Change::NoReductions),
-            "no items" => Ok(Change::NoItems),
-            "before all tokens" => Ok(Change::BeforeAllTokens),
-            "before the end too" => Ok(Change::BeforeTheEndToo),
-            "another number" => Ok(Change::AnotherNumber),
-            _ => bail!("no such change: {name}"),
         }
     }
 }

@@ -1,14 +1,35 @@
 //! What a case gives: plain productions, what is asked of them, and the answer.
 
-use crate::call::{Call, Change};
+use crate::call::Call;
 use anyhow::{Result, bail};
-use lalrpop_case_kinds::files::fields::Fields;
+use lalrpop_case_kinds::files::fields::{Fields, Form, Key};
 use serde_json::Value;
 
 /// What a case has.
-const KEYS: [&str; 11] = [
-    "name", "grammar", "call", "start", "tokens", "change", "states", "others", "limit", "names",
-    "wanted",
+const NEEDED: [Key; 4] = [
+    ("name", Form::Text),
+    ("grammar", Form::List),
+    ("call", Form::Text),
+    ("wanted", Form::Text),
+];
+
+/// What a case may have.
+const OTHERS: [Key; 6] = [
+    ("start", Form::Text),
+    ("tokens", Form::Text),
+    ("states", Form::List),
+    ("others", Form::List),
+    ("limit", Form::Number),
+    ("names", Form::Text),
+];
+
+/// What a state may have that a case writes.
+const STATE: [Key; 5] = [
+    ("number", Form::Number),
+    ("items", Form::List),
+    ("shifts", Form::List),
+    ("gotos", Form::List),
+    ("reductions", Form::List),
 ];
 
 /// Plain productions, what is asked of them, and the answer.
@@ -29,18 +50,18 @@ impl<'v> Case<'v> {
     ///
     /// # Errors
     ///
-    /// The value has no such members, or states or a change of them beside another call than that to check states.
+    /// The value has no such members, or states beside another call than that to check states.
     pub(crate) fn of(value: &'v Value) -> Result<Case<'v>> {
-        let fields = Fields::of(value, &KEYS)?;
+        let fields = Fields::of(value, &NEEDED, &OTHERS)?;
         let question = Question::of(&fields)?;
         if !matches!(question.call, Call::Check) && question.checked.is_given() {
             bail!("states are given beside another call than check");
         }
         Ok(Case {
-            name: fields.text("name")?,
-            grammar: fields.list("grammar")?,
+            name: fields.text("name"),
+            grammar: fields.list("grammar"),
             question,
-            wanted: fields.text("wanted")?,
+            wanted: fields.text("wanted"),
         })
     }
 }
@@ -67,11 +88,11 @@ impl<'v> Question<'v> {
     fn of(fields: &Fields<'v>) -> Result<Question<'v>> {
         Ok(Question {
             call: Call::among(fields)?,
-            start: fields.text_if("start")?.unwrap_or(""),
-            tokens: fields.text_if("tokens")?.unwrap_or(""),
-            limit: fields.number_if("limit")?.unwrap_or(0),
-            names: fields.text_if("names")?.unwrap_or(""),
-            checked: Checked::of(fields)?,
+            start: fields.text("start"),
+            tokens: fields.text("tokens"),
+            limit: fields.number("limit", 0),
+            names: fields.text("names"),
+            checked: Checked::of(fields),
         })
     }
 }
@@ -79,8 +100,6 @@ impl<'v> Question<'v> {
 /// Which states are to be checked, the canonical ones where a case says nothing.
 #[derive(Clone, Copy)]
 pub(crate) struct Checked<'v> {
-    /// What is changed in the first canonical state that has it, where something is.
-    pub(crate) change: Option<Change>,
     /// States that are to be checked in place of the canonical ones.
     pub(crate) states: Option<&'v [Value]>,
     /// Productions that aren't the grammar's, a line for each, by which items and reductions of these states may be.
@@ -89,24 +108,26 @@ pub(crate) struct Checked<'v> {
 
 impl<'v> Checked<'v> {
     /// The states that the members spell.
-    fn of(fields: &Fields<'v>) -> Result<Checked<'v>> {
-        Ok(Checked {
-            change: Change::among(fields)?,
-            states: fields.list_if("states")?,
-            others: fields.list("others")?,
-        })
+    fn of(fields: &Fields<'v>) -> Checked<'v> {
+        Checked {
+            states: fields.list_if("states"),
+            others: fields.list("others"),
+        }
     }
 
     /// Whether a case says something of them.
     fn is_given(&self) -> bool {
-        self.change.is_some() || self.states.is_some() || !self.others.is_empty()
+        self.states.is_some() | !self.others.is_empty()
     }
 }
 
 /// A state as a case writes it. A production is told by its nonterminal and its place among the productions of this.
 #[derive(Clone, Copy)]
 pub(crate) struct WrittenState<'v> {
-    /// Its items: the production of each, and where its dot stands. All have the end as their lookahead.
+    /// The number that it says to have, where that isn't its place.
+    pub(crate) number: Option<u64>,
+    /// Its items: the production of each, where its dot stands, and the tokens before which, where that isn't the end alone, as those of
+    /// reductions.
     pub(crate) items: &'v [Value],
     /// Where terminals lead.
     pub(crate) shifts: &'v [Value],
@@ -120,12 +141,13 @@ pub(crate) struct WrittenState<'v> {
 impl<'v> WrittenState<'v> {
     /// The state that the value spells.
     pub(crate) fn of(value: &'v Value) -> Result<WrittenState<'v>> {
-        let fields = Fields::of(value, &["items", "shifts", "gotos", "reductions"])?;
+        let fields = Fields::of(value, &[], &STATE)?;
         Ok(WrittenState {
-            items: fields.list("items")?,
-            shifts: fields.list("shifts")?,
-            gotos: fields.list("gotos")?,
-            reductions: fields.list("reductions")?,
+            number: fields.number_if("number"),
+            items: fields.list("items"),
+            shifts: fields.list("shifts"),
+            gotos: fields.list("gotos"),
+            reductions: fields.list("reductions"),
         })
     }
 }

@@ -11,24 +11,25 @@ use lalrpop_lr1_core::{Action, Lr1Conflict, Lr1State, TableFault};
 use lalrpop_plain_tables::answers::canonical_states;
 use std::alloc::{AllocError, Global};
 
-/// The text of an action: the terminal and the state to which it leads, or the nonterminal to which it reduces.
-fn action_text(alloc: Global, action: &Action<'_>) -> Result<String, AllocError> {
+/// Puts the action behind the text: the terminal and the state to which it leads, or the nonterminal to which it reduces.
+fn push_action(action: &Action<'_>, text: &mut String) -> Result<(), AllocError> {
     match action {
-        Action::Shift(terminal, to) => Ok(format!(in alloc; "{terminal} {to}")?),
-        Action::Reduce(production) => Ok(format!(in alloc; "{}", production.nonterminal)?),
+        Action::Shift(terminal, to) => write!(text, "{terminal} {to};"),
+        Action::Reduce(production) => write!(text, "{};", production.nonterminal),
     }
 }
 
-/// The text of a conflict: its state, the nonterminal to which is reduced, what may follow, the other action.
-fn conflict_text(
+/// Puts the conflict behind the text: its state, the nonterminal to which is reduced, what may follow, the other action.
+fn push_conflict(
     alloc: Global,
     conflict: &Lr1Conflict<'_>,
     terminals: &TerminalSet,
-) -> Result<String, AllocError> {
+    text: &mut String,
+) -> Result<(), AllocError> {
     let shared = conflict.lookahead.shown(alloc, terminals)?;
-    let action = action_text(alloc, &conflict.action)?;
     let name = &conflict.production.nonterminal;
-    Ok(format!(in alloc; "{} {name} {shared} {action};", conflict.state)?)
+    write!(text, "{} {name} {shared} ", conflict.state)?;
+    push_action(&conflict.action, text)
 }
 
 /// The texts of the conflicts.
@@ -39,7 +40,7 @@ fn conflict_texts(
 ) -> Result<String, AllocError> {
     let mut text = String::new(alloc);
     for conflict in conflicts {
-        text.push_str(conflict_text(alloc, conflict, terminals)?.as_str())?;
+        push_conflict(alloc, conflict, terminals, &mut text)?;
     }
     Ok(text)
 }

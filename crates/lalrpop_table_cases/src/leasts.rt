@@ -134,8 +134,9 @@ fn counted_text(
     tree: &ExpandedTree<'_>,
     moves: &[TreeMove<'_>],
 ) -> Result<String, AllocError> {
-    let text = moves_text(alloc, tree, moves)?;
-    Ok(format!(in alloc; "{count}; {text}")?)
+    let mut text = format!(in alloc; "{count}; ")?;
+    push_moves(tree, moves, &mut text)?;
+    Ok(text)
 }
 
 /// The place at which the tree begins, and its moves.
@@ -145,24 +146,40 @@ fn placed_text(
     tree: &ExpandedTree<'_>,
     moves: &[TreeMove<'_>],
 ) -> Result<String, AllocError> {
-    let text = moves_text(alloc, tree, moves)?;
-    Ok(format!(in alloc; "at {place}; {text}")?)
+    let mut text = format!(in alloc; "at {place}; ")?;
+    push_moves(tree, moves, &mut text)?;
+    Ok(text)
 }
 
-/// How many leaves and nodes the tree has, and the moves, a terminal for each shift and a name for each reduction.
+/// How many leaves and nodes the tree has, and the moves.
 fn moves_text(
     alloc: Global,
     tree: &ExpandedTree<'_>,
     moves: &[TreeMove<'_>],
 ) -> Result<String, AllocError> {
-    let count = tree.node_count();
-    let mut text = format!(in alloc; "{count}:")?;
-    for one in moves {
-        let shown = match one {
-            TreeMove::Shift(terminal) => format!(in alloc; " {terminal}")?,
-            TreeMove::Reduce(production) => format!(in alloc; " {}", production.nonterminal)?,
-        };
-        text.push_str(shown.as_str())?;
-    }
+    let mut text = String::new(alloc);
+    push_moves(tree, moves, &mut text)?;
     Ok(text)
+}
+
+/// Puts how many leaves and nodes the tree has, and the moves, behind the text.
+fn push_moves(
+    tree: &ExpandedTree<'_>,
+    moves: &[TreeMove<'_>],
+    text: &mut String,
+) -> Result<(), AllocError> {
+    let count = tree.node_count();
+    write!(text, "{count}:")?;
+    for one in moves {
+        push_move(one, text)?;
+    }
+    Ok(())
+}
+
+/// Puts the move behind the text: the terminal of a shift, the name of what is reduced to.
+fn push_move(one: &TreeMove<'_>, text: &mut String) -> Result<(), AllocError> {
+    match one {
+        TreeMove::Shift(terminal) => write!(text, " {terminal}"),
+        TreeMove::Reduce(production) => write!(text, " {}", production.nonterminal),
+    }
 }

@@ -14,8 +14,10 @@ mod states;
 
 use crate::answer::answer_of;
 use crate::case::Case;
-use anyhow::{Context, Result};
+pub use answer::tree_text;
+use anyhow::Result;
 use lalrpop_case_kinds::files::{TableCase, Tally, run_cases, tell};
+pub use parses::{stop_text, tokens_of};
 use serde_json::Value;
 use std::alloc::Global;
 use std::rt::Files;
@@ -26,7 +28,7 @@ struct Tables;
 impl TableCase for Tables {
     fn is_right<R: Alloc<A = Global> + Print>(rt: &R, case: &Value) -> Result<bool> {
         let case = Case::of(case)?;
-        let answer = answer_of(rt.alloc(), &case).context(format_args!("{}", case.name))?;
+        let answer = answer_of(rt.alloc(), &case)?;
         let right = answer.as_str() == case.wanted;
         if !right {
             tell(rt, case.name, &case.wanted, &answer)?;

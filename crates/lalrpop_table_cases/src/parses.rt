@@ -13,7 +13,7 @@ use lalrpop_plain_tables::lines::read_tokens;
 use std::alloc::{AllocError, Global};
 
 /// The tokens whose terminals stand in the text between blanks.
-pub(crate) fn tokens_of(alloc: Global, text: &str) -> Result<Vec<ScanToken<'static>>, AllocError> {
+pub fn tokens_of(alloc: Global, text: &str) -> Result<Vec<ScanToken<'static>>, AllocError> {
     let mut tokens = Vec::new(alloc);
     for terminal in read_tokens(alloc, text)? {
         tokens.push(ScanToken {
@@ -26,7 +26,7 @@ pub(crate) fn tokens_of(alloc: Global, text: &str) -> Result<Vec<ScanToken<'stat
 }
 
 /// Why there is no tree, as text.
-pub(crate) fn stop_text(alloc: Global, stop: Stop) -> Result<String, AllocError> {
+pub fn stop_text(alloc: Global, stop: Stop) -> Result<String, AllocError> {
     match stop {
         Stop::Token(place) => Ok(format!(in alloc; "token {place}")?),
         Stop::End => String::from_str(alloc, "end"),

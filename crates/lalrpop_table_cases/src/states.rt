@@ -73,107 +73,133 @@ fn gotos_of(alloc: Global, written: &[Value]) -> Result<Map<NonterminalString, S
     Ok(gotos)
 }
 
-/// A production as it is told, by its nonterminal and its place, and what is said of it.
-fn told_production(value: &Value) -> Result<(&str, usize, &Value)> {
-    match list_of(value)? {
-        [name, place, of] => Ok((text_of(name)?, count_of(place)?, of)),
-        _ => bail!("no production with what is said of it"),
-    }
-}
-
 impl<'g> Lookup<'g> {
-    /// The production of the nonterminal at the place, if there is one.
-    fn production(&self, name: &str, place: usize) -> Result<Option<&'g Production>, AllocError> {
+    /// The production of the nonterminal at the place.
+    fn production(&self, name: &str, place: usize) -> Result<&'g Production> {
         let name = start_of(self.alloc, name)?;
+        let others = self.others.productions_for(&name);
         match self.grammar.productions_for(&name).get(place) {
-            Some(production) => Ok(Some(production)),
-            None => Ok(self.others.productions_for(&name).get(place)),
+            Some(production) => Ok(production),
+            None => production_of(others.get(place)),
         }
     }
 
-    /// The item, before the end; none where its production isn't there.
-    fn item(&self, value: &Value) -> Result<Option<Lr1Item<'g>>> {
-        let (name, place, dot) = told_production(value)?;
-        let dot = count_of(dot)?;
-        let Some(production) = self.production(name, place)? else {
-            return Ok(None);
-        };
-        let end = TokenSet::eof(self.alloc, &self.grammar.terminals)?;
-        Ok(Some(Item::lr0(production, dot).with_lookahead(end)))
+    /// The production that is told by its nonterminal and its place.
+    fn told_production(&self, name: &Value, place: &Value) -> Result<&'g Production> {
+        self.production(text_of(name)?, count_of(place)?)
     }
 
-    /// The items, each before the end; none where a production isn't there.
-    fn items(&self, written: &[Value]) -> Result<Option<List<Lr1Item<'g>>>> {
+    /// The set of the tokens whose words stand in the text between blanks.
+    fn tokens(&self, words: &str) -> Result<TokenSet> {
+        Ok(set_of(self.alloc, &self.grammar.terminals, words)?)
+    }
+
+    /// The item, before the end where nothing else is told.
+    fn item(&self, value: &Value) -> Result<Lr1Item<'g>> {
+        match list_of(value)? {
+            [name, place, dot] => {
+                let production = self.told_production(name, place)?;
+                self.item_before(production, dot, "Eof")
+            }
+            [name, place, dot, words] => {
+                let production = self.told_production(name, place)?;
+                self.item_before(production, dot, text_of(words)?)
+            }
+            _ => bail!("no item"),
+        }
+    }
+
+    /// The item of the production with the dot there, before these tokens.
+    fn item_before(
+        &self,
+        production: &'g Production,
+        dot: &Value,
+        words: &str,
+    ) -> Result<Lr1Item<'g>> {
+        let dot = count_of(dot)?;
+        let tokens = self.tokens(words)?;
+        Ok(Item::lr0(production, dot).with_lookahead(tokens))
+    }
+
+    /// The items.
+    fn items(&self, written: &[Value]) -> Result<List<Lr1Item<'g>>> {
         let mut items = List::new(self.alloc);
         for value in written {
-            let Some(item) = self.item(value)? else {
-                return Ok(None);
-            };
-            items.push(item)?;
+            items.push(self.item(value)?)?;
         }
-        Ok(Some(items))
+        Ok(items)
     }
 
-    /// The reduction; none where its production isn't there.
-    fn reduction(&self, value: &Value) -> Result<Option<Reduction<'g>>> {
-        let (name, place, words) = told_production(value)?;
-        let words = text_of(words)?;
-        let Some(production) = self.production(name, place)? else {
-            return Ok(None);
-        };
-        let tokens = set_of(self.alloc, &self.grammar.terminals, words)?;
-        Ok(Some((tokens, production)))
+    /// The reduction.
+    fn reduction(&self, value: &Value) -> Result<Reduction<'g>> {
+        match list_of(value)? {
+            [name, place, words] => {
+                let production = self.told_production(name, place)?;
+                Ok((self.tokens(text_of(words)?)?, production))
+            }
+            _ => bail!("no reduction"),
+        }
     }
 
-    /// The reductions; none where a production isn't there.
-    fn reductions(&self, written: &[Value]) -> Result<Option<List<Reduction<'g>>>> {
+    /// The reductions.
+    fn reductions(&self, written: &[Value]) -> Result<List<Reduction<'g>>> {
         let mut reductions = List::new(self.alloc);
         for value in written {
-            let Some(reduction) = self.reduction(value)? else {
-                return Ok(None);
-            };
-            reductions.push(reduction)?;
+            reductions.push(self.reduction(value)?)?;
         }
-        Ok(Some(reductions))
+        Ok(reductions)
     }
 
-    /// The state of this number; none where a production isn't there.
-    fn state(&self, number: usize, written: &WrittenState<'_>) -> Result<Option<Lr1State<'g>>> {
-        let Some(vec) = self.items(written.items)? else {
-            return Ok(None);
-        };
-        let Some(reductions) = self.reductions(written.reductions)? else {
-            return Ok(None);
-        };
-        Ok(Some(State {
-            index: StateIndex(number),
-            items: Items { vec },
-            reductions,
+    /// The state at this place.
+    fn state(&self, place: usize, written: &WrittenState<'_>) -> Result<Lr1State<'g>> {
+        Ok(State {
+            index: StateIndex(number_of(place, written)?),
+            items: Items {
+                vec: self.items(written.items)?,
+            },
+            reductions: self.reductions(written.reductions)?,
             shifts: shifts_of(self.alloc, written.shifts)?,
             gotos: gotos_of(self.alloc, written.gotos)?,
-        }))
+        })
     }
 
-    /// The states in order; none where a production isn't there.
-    fn states(&self, written: &[Value]) -> Result<Option<Vec<Lr1State<'g>>>> {
+    /// The states in order.
+    fn states(&self, written: &[Value]) -> Result<Vec<Lr1State<'g>>> {
         let mut states = Vec::new(self.alloc);
-        for (number, value) in written.iter().enumerate() {
-            let Some(state) = self.state(number, &WrittenState::of(value)?)? else {
-                return Ok(None);
-            };
-            states.push(state)?;
+        for (place, value) in written.iter().enumerate() {
+            states.push(self.state(place, &WrittenState::of(value)?)?)?;
         }
-        Ok(Some(states))
+        Ok(states)
     }
 }
 
-/// The states that a case writes, over productions of the grammar and others; none where a production isn't there.
+/// The number that the state at this place says to have.
+fn number_of(place: usize, written: &WrittenState<'_>) -> Result<usize> {
+    match written.number {
+        Some(number) => Ok(usize::try_from(number)?),
+        None => Ok(place),
+    }
+}
+
+/// The production that was found.
+fn production_of<'g>(found: Option<&'g Production>) -> Result<&'g Production> {
+    match found {
+        Some(production) => Ok(production),
+        None => bail!("no such production"),
+    }
+}
+
+/// The states that a case writes, over productions of the grammar and others.
+///
+/// # Errors
+///
+/// A production isn't there, or a state isn't written as it has to be.
 pub(crate) fn states_of<'g>(
     alloc: Global,
     grammar: &'g Grammar,
     others: &'g Grammar,
     written: &[Value],
-) -> Result<Option<Vec<Lr1State<'g>>>> {
+) -> Result<Vec<Lr1State<'g>>> {
     let lookup = Lookup {
         alloc,
         grammar,

@@ -10,14 +10,14 @@ use std::alloc::Global;
 
 /// What the call answers, which is an object of one member: the call's word, and what it is asked of.
 ///
-/// - `parse_regex`: the tree of a pattern's text, or its fault.
-/// - `regex_fault`: the fault of a pattern's text, `null` where it is a pattern.
+/// - `parse_regex`: the tree of a pattern's text, as `Debug` prints it, or the text of its fault.
+/// - `regex_fault`: the text of the fault of a pattern's text, `null` where it is a pattern.
 /// - `matched_words`: the words that a pattern matches, of those that are listed.
 /// - `longest_front`: the longest front of a text that a pattern matches, `null` where there is none.
 /// - `build_dfa`: for each text the winner among patterns with precedences at its front, by its number, and the match, `null`
-///   where there is none; or the first pattern that is refused, or the two that tie.
+///   where there is none; or the first pattern that is refused, or the two that tie, as `Debug` prints it.
 /// - `remove_overlap`: the pieces of ranges that may overlap, each range by its first and its last number.
-/// - `symbol_text`: the text of a symbol.
+/// - `symbol_text`: the text of a copy of a symbol, which has to equal it.
 /// - `terminal_text`: the text of a terminal, and how many bytes it says to have.
 /// - `write_grammar`: what a grammar is written as, `"itself"` where it is the value that it was read from.
 /// - `print_tree`: the text of a tree.

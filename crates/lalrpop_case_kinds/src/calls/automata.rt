@@ -1,7 +1,7 @@
 //! What automata find.
 
-use crate::files::fields::{Fields, count_of, list_of, number_of, text_of};
-use crate::files::values::{number, object, object_of_two, pair, text};
+use crate::files::fields::{Fields, Form, Key, count_of, list_of, number_of, text_of};
+use crate::files::values::{number, pair, text};
 use anyhow::{Result, bail};
 use lalrpop_lexer::dfa::{Dfa, DfaConstructionError, Precedence, build_dfa, remove_overlap};
 use lalrpop_lexer::nfa::{Nfa, Test};
@@ -44,11 +44,19 @@ impl Automata {
     }
 }
 
+/// A pattern, and words.
+const WORDS: [Key; 2] = [("pattern", Form::Text), ("words", Form::List)];
+
+/// A pattern, and a text.
+const TEXT: [Key; 2] = [("pattern", Form::Text), ("text", Form::Text)];
+
+/// Patterns with their precedences, and texts.
+const TEXTS: [Key; 2] = [("patterns", Form::List), ("texts", Form::List)];
+
 /// The words that a pattern matches, of those that are listed with it.
 pub(crate) fn matched_words(alloc: Global, of: &Value) -> Result<Value> {
-    let fields = Fields::of(of, &["pattern", "words"])?;
-    let words = fields.list("words")?;
-    words_matched(alloc, fields.text("pattern")?, words)
+    let fields = Fields::of(of, &WORDS, &[])?;
+    words_matched(alloc, fields.text("pattern"), fields.list("words"))
 }
 
 /// The words that the pattern matches.
@@ -70,8 +78,8 @@ fn words_of(alloc: Global, automata: &Automata, words: &[Value]) -> Result<Value
 
 /// The longest front of a text that a pattern matches.
 pub(crate) fn longest_front(alloc: Global, of: &Value) -> Result<Value> {
-    let fields = Fields::of(of, &["pattern", "text"])?;
-    let front = front_of(alloc, fields.text("pattern")?, fields.text("text")?)?;
+    let fields = Fields::of(of, &TEXT, &[])?;
+    let front = front_of(alloc, fields.text("pattern"), fields.text("text"))?;
     Ok(front_value(alloc, front)?)
 }
 
@@ -99,9 +107,8 @@ fn pattern_of(value: &Value) -> Result<(&str, usize)> {
 
 /// What the automaton of patterns finds at the front of each text, or why there is none.
 pub(crate) fn dfa_answer(alloc: Global, of: &Value) -> Result<Value> {
-    let fields = Fields::of(of, &["patterns", "texts"])?;
-    let texts = fields.list("texts")?;
-    winners_or_refusal(alloc, fields.list("patterns")?, texts)
+    let fields = Fields::of(of, &TEXTS, &[])?;
+    winners_or_refusal(alloc, fields.list("patterns"), fields.list("texts"))
 }
 
 /// What the automaton of the patterns finds, or why there is none.
@@ -124,20 +131,9 @@ fn dfa_of(alloc: Global, patterns: &[Value]) -> Result<Result<Dfa, DfaConstructi
     Ok(build_dfa(alloc, &trees, &precedences))
 }
 
-/// Why there is no automaton.
+/// Why there is no automaton, as `Debug` prints it.
 fn refusal(alloc: Global, error: DfaConstructionError) -> Result<Value, AllocError> {
-    match error {
-        DfaConstructionError::NfaConstructionError { index, error } => {
-            let error = Value::from(format!(in alloc; "{error:?}")?);
-            let index = number(index.index());
-            object_of_two(alloc, ("refused", index), ("error", error))
-        }
-        DfaConstructionError::Ambiguity { match0, match1 } => {
-            let tie = pair(alloc, number(match0.index()), number(match1.index()))?;
-            object(alloc, "tie", tie)
-        }
-        DfaConstructionError::Memory => Err(AllocError),
-    }
+    Ok(Value::from(format!(in alloc; "{error:?}")?))
 }
 
 /// The winner at the front of each text, and the match.

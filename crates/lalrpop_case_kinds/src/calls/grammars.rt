@@ -10,15 +10,20 @@ use lalrpop_json_symbols::{symbol_of, terminal_of};
 use serde_json::Value;
 use std::alloc::{AllocError, Global};
 
-/// The text of the symbol.
+/// The text of a copy of the symbol, which has to equal it.
 pub(crate) fn symbol_text(alloc: Global, symbol: &Value) -> Result<Value> {
     let symbol = spelled_symbol(alloc, symbol)?;
     written_symbol(alloc, &symbol)
 }
 
-/// The text of the symbol as a value.
+/// The text of a copy of the symbol, which has to equal it, as a value.
 fn written_symbol(alloc: Global, symbol: &Symbol) -> Result<Value> {
-    Ok(Value::from(symbol.canonical_form(alloc)?))
+    let copy = Box::new(alloc, symbol.try_clone(alloc)?)?;
+    if *copy == *symbol {
+        Ok(Value::from(copy.canonical_form(alloc)?))
+    } else {
+        bail!("a copy that differs")
+    }
 }
 
 /// The symbol that the value spells.

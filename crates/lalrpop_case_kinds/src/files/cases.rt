@@ -33,15 +33,20 @@ pub fn run_cases<C: TableCase, R: Alloc<A = Global> + Files + Print>(
     file: &str,
 ) -> Result<Tally> {
     let cases = read_value(rt, file)?;
-    let tally = run_values::<C, R>(rt, &cases).context(format_args!("{file}"))?;
-    Ok(tally)
+    run_values::<C, R>(rt, file, &cases)
 }
 
 /// The same of the cases that the value lists.
-fn run_values<C: TableCase, R: Alloc<A = Global> + Print>(rt: &R, cases: &Value) -> Result<Tally> {
+fn run_values<C: TableCase, R: Alloc<A = Global> + Print>(
+    rt: &R,
+    file: &str,
+    cases: &Value,
+) -> Result<Tally> {
     let mut tally = Tally::new();
     for (place, case) in list_of(cases)?.iter().enumerate() {
-        let passed = C::is_right(rt, case).context(format_args!("case {place}, counted from 0"))?;
+        let passed = C::is_right(rt, case).context(format_args!(
+            "{file}: case {place}, counted from 0"
+        ))?;
         tally = tally.and(passed);
     }
     Ok(tally)
@@ -63,8 +68,6 @@ pub fn tell<W: Display, A: Display>(
     wanted: &W,
     answer: &A,
 ) -> Result<()> {
-    println!(rt; "{name}")?;
-    println!(rt; "  wanted {wanted}")?;
-    println!(rt; "  got    {answer}")?;
+    println!(rt; "{name}\n  wanted {wanted}\n  got    {answer}")?;
     Ok(())
 }

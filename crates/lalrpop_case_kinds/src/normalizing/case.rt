@@ -1,24 +1,27 @@
 //! What a case gives: a grammar, what is asked of it, and the answer.
 
-use crate::files::fields::Fields;
+use crate::files::fields::{Fields, Form, Key};
 use anyhow::Result;
 use serde_json::Value;
 
 /// How deep macros may stand in macros, where no case says it.
 const MACRO_LIMIT: u64 = 200;
 
-/// What a case has: what it shows, in words and as a grammar in short for who reads it, what is asked, the grammar, the features
-/// that are on, the prefix that no name may begin with, where it isn't the one that reading finds, how deep macros may stand in
-/// macros, and the answer.
-const KEYS: [&str; 8] = [
-    "name",
-    "shows",
-    "call",
-    "grammar",
-    "features",
-    "prefix",
-    "macro_limit",
-    "wanted",
+/// What a case has: what it shows in words, what is asked, the grammar, and the answer.
+const NEEDED: [Key; 4] = [
+    ("name", Form::Text),
+    ("call", Form::Text),
+    ("grammar", Form::Any),
+    ("wanted", Form::Any),
+];
+
+/// What a case may have: the grammar in short, for who reads it, the features that are on, the prefix that no name may begin with, where it
+/// isn't the one that reading finds, and how deep macros may stand in macros.
+const OTHERS: [Key; 4] = [
+    ("shows", Form::Text),
+    ("features", Form::List),
+    ("prefix", Form::Text),
+    ("macro_limit", Form::Number),
 ];
 
 /// A grammar, what is asked of it, and the answer.
@@ -28,47 +31,23 @@ pub(crate) struct Case<'v> {
     pub(crate) name: &'v str,
     /// The word of what is asked.
     pub(crate) call: &'v str,
-    /// The grammar.
-    pub(crate) grammar: &'v Value,
-    /// Under what it is looked at.
-    pub(crate) setting: Setting<'v>,
-    /// The answer.
-    pub(crate) wanted: &'v Value,
-}
-
-/// Under what a grammar is looked at.
-#[derive(Clone, Copy)]
-pub(crate) struct Setting<'v> {
-    /// The features that are on.
-    pub(crate) features: &'v [Value],
-    /// The prefix, where it isn't the one that reading finds.
-    pub(crate) prefix: Option<&'v str>,
-    /// How deep macros may stand in macros.
-    pub(crate) macro_limit: u16,
+    /// What else the case says.
+    pub(crate) fields: Fields<'v>,
 }
 
 impl<'v> Case<'v> {
     /// The case that the value spells.
     pub(crate) fn of(value: &'v Value) -> Result<Case<'v>> {
-        let fields = Fields::of(value, &KEYS)?;
+        let fields = Fields::of(value, &NEEDED, &OTHERS)?;
         Ok(Case {
-            name: fields.name()?,
-            call: fields.text("call")?,
-            grammar: fields.value("grammar")?,
-            setting: Setting::of(&fields)?,
-            wanted: fields.value("wanted")?,
+            name: fields.text("name"),
+            call: fields.text("call"),
+            fields,
         })
     }
-}
 
-impl<'v> Setting<'v> {
-    /// The setting that the members spell.
-    fn of(fields: &Fields<'v>) -> Result<Setting<'v>> {
-        let limit = fields.number_if("macro_limit")?.unwrap_or(MACRO_LIMIT);
-        Ok(Setting {
-            features: fields.list("features")?,
-            prefix: fields.text_if("prefix")?,
-            macro_limit: u16::try_from(limit)?,
-        })
+    /// How deep macros may stand in macros.
+    pub(crate) fn macro_limit(&self) -> Result<u16> {
+        Ok(u16::try_from(self.fields.number("macro_limit", MACRO_LIMIT))?)
     }
 }

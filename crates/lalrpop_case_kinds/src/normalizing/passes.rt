@@ -42,10 +42,11 @@ pub(crate) fn leveled_rules(alloc: Global, case: &Case<'_>) -> Result<Value> {
 
 /// The grammar, with the prefix of the case where it has one.
 pub(crate) fn grammar_of_case(alloc: Global, case: &Case<'_>) -> Result<Grammar> {
-    let Ok(mut grammar) = read_grammar(alloc, case.grammar) else {
+    let written = case.fields.value("grammar")?;
+    let Ok(mut grammar) = read_grammar(alloc, written) else {
         bail!("no grammar");
     };
-    if let Some(prefix) = case.setting.prefix {
+    if let Some(prefix) = case.fields.text_if("prefix") {
         grammar.prefix = Atom::new(alloc, prefix)?;
     }
     Ok(grammar)
@@ -68,9 +69,10 @@ fn error_value(alloc: Global, error: &NormError) -> Result<Value, AllocError> {
 
 /// The features that are on, and how deep macros may stand in macros.
 pub(crate) fn session_of(alloc: Global, case: &Case<'_>) -> Result<Session> {
+    let macro_recursion_limit = case.macro_limit()?;
     Ok(Session {
-        features: features_of(alloc, case.setting.features)?,
-        macro_recursion_limit: case.setting.macro_limit,
+        features: features_of(alloc, case.fields.list("features"))?,
+        macro_recursion_limit,
     })
 }
 

@@ -1,8 +1,17 @@
 //! What a case gives: a grammar, and how many conflicts it has.
 
 use anyhow::Result;
-use lalrpop_case_kinds::files::fields::{Fields, count_of};
+use lalrpop_case_kinds::files::fields::{Fields, Form, Key};
 use serde_json::Value;
+
+/// What a case has.
+const KEYS: [Key; 5] = [
+    ("name", Form::Text),
+    ("shows", Form::Text),
+    ("start", Form::Text),
+    ("grammar", Form::Any),
+    ("wanted", Form::Number),
+];
 
 /// A grammar, a start, and how many conflicts the canonical states have.
 #[derive(Clone, Copy)]
@@ -16,30 +25,19 @@ pub(crate) struct Case<'v> {
     /// The grammar.
     pub(crate) grammar: &'v Value,
     /// How many conflicts there are.
-    pub(crate) wanted: usize,
+    pub(crate) wanted: u64,
 }
 
 impl<'v> Case<'v> {
     /// The case that the value spells.
     pub(crate) fn of(value: &'v Value) -> Result<Case<'v>> {
-        let fields = Fields::of(value, &["name", "shows", "start", "grammar", "wanted"])?;
-        let (name, shows) = titles_of(&fields)?;
+        let fields = Fields::of(value, &KEYS, &[])?;
         Ok(Case {
-            name,
-            shows,
-            start: fields.text("start")?,
+            name: fields.text("name"),
+            shows: fields.text("shows"),
+            start: fields.text("start"),
             grammar: fields.value("grammar")?,
-            wanted: wanted_of(&fields)?,
+            wanted: fields.number("wanted", 0),
         })
     }
-}
-
-/// What the case shows, and its grammar in short.
-fn titles_of<'v>(fields: &Fields<'v>) -> Result<(&'v str, &'v str)> {
-    Ok((fields.text("name")?, fields.text("shows")?))
-}
-
-/// How many conflicts there are.
-fn wanted_of(fields: &Fields<'_>) -> Result<usize> {
-    count_of(fields.value("wanted")?)
 }

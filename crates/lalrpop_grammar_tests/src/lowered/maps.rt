@@ -1,7 +1,7 @@
 //! Maps in order of their keys, and copies of what they hold.
 
-use crate::check::check;
-use crate::lowered::parts::{name_of, terminal_of};
+use crate::check::{check, name_of};
+use crate::lowered::parts::terminal_of;
 use lalrpop_grammar_repr::{Map, NonterminalData, TryClone};
 use lalrpop_grammar_symbols::{List, Span, TerminalString};
 use std::alloc::Global;
@@ -44,7 +44,7 @@ fn has_texts(
 #[test]
 fn entries_in_order_each_once(rt: HostRuntime) {
     let map = places(&rt, rt.alloc());
-    check(&rt, map.len() == 3 && !map.is_empty());
+    check(&rt, (map.len() == 3) & !map.is_empty());
     let copy = map.try_clone(rt.alloc()).expect(&rt, "memory");
     let texts = "|\"a\" 0|\"b\" 1|\"c\" 2";
     check(&rt, has_texts(&rt, rt.alloc(), &copy, texts));

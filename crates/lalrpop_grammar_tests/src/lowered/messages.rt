@@ -1,25 +1,17 @@
 //! Messages of faults that no grammar of the cases has, and what a `?` makes of faults.
 
-use crate::check::check;
-use crate::lowered::parts::name_of;
+use crate::check::{check, is_shown, name_of};
 use lalrpop_grammar_repr::{NormError, NormErrorKind, NormFault, NormResult};
 use lalrpop_grammar_symbols::Span;
 use std::alloc::{AllocError, AllocFailed, Global};
-use std::fmt::Display;
 use std::process::Abort;
-
-/// Whether this is what it prints.
-fn is_shown_as<T: Display>(rt: &impl Abort, alloc: Global, fault: &T, text: &str) -> bool {
-    let shown = format!(in alloc; "{fault}").expect(rt, "memory");
-    shown.as_str() == text
-}
 
 /// That the fault of this kind prints this, and where it stands isn't printed.
 fn prints(rt: &impl Abort, alloc: Global, kind: NormErrorKind, text: &str) {
-    check(rt, is_shown_as(rt, alloc, &kind, text));
+    check(rt, is_shown(rt, alloc, &kind, text));
     let span = Span(40, 44);
     let fault = NormFault::Norm(NormError { kind, span });
-    check(rt, is_shown_as(rt, alloc, &fault, text));
+    check(rt, is_shown(rt, alloc, &fault, text));
 }
 
 #[test]
@@ -38,10 +30,10 @@ fn messages_of_actions_and_inlining(rt: HostRuntime) {
 
 #[test]
 fn messages_of_other_refusals(rt: HostRuntime) {
-    let alloc = rt.alloc();
-    let text = format!(in alloc; "{}, {}", NormFault::ConditionLimit, NormFault::Memory);
-    let text = text.expect(&rt, "memory");
-    check(&rt, text.as_str() == "condition limit, out of memory");
+    let limit = NormFault::ConditionLimit;
+    check(&rt, is_shown(&rt, rt.alloc(), &limit, "condition limit"));
+    let memory = NormFault::Memory;
+    check(&rt, is_shown(&rt, rt.alloc(), &memory, "out of memory"));
 }
 
 /// What a `?` makes of the fault.

@@ -21,7 +21,7 @@ fn ascending(rt: &impl Abort, alloc: Global) -> [Production; 4] {
 /// Whether each of the four is before the next.
 fn are_ascending(productions: &[Production]) -> bool {
     match productions {
-        [first, second, third, fourth] => first < second && second < third && third < fourth,
+        [first, second, third, fourth] => { (first < second) & (second < third) & (third < fourth) }
         _ => false,
     }
 }

@@ -1,14 +1,10 @@
-//! Names, terminals, symbols and productions.
+//! Terminals, symbols and productions.
 
+use crate::check::name_of;
 use lalrpop_grammar_repr::{ActionFn, Production, Symbol};
-use lalrpop_grammar_symbols::{Atom, List, NonterminalString, Span, TerminalString};
+use lalrpop_grammar_symbols::{Atom, List, Span, TerminalString};
 use std::alloc::Global;
 use std::process::Abort;
-
-/// The nonterminal of that name.
-pub(crate) fn name_of(rt: &impl Abort, alloc: Global, name: &str) -> NonterminalString {
-    NonterminalString(Atom::new(alloc, name).expect(rt, "memory"))
-}
 
 /// The quoted terminal.
 pub(crate) fn terminal_of(rt: &impl Abort, alloc: Global, text: &str) -> TerminalString {

@@ -1,7 +1,7 @@
 //! Types of symbols.
 
-use crate::check::check;
-use crate::lowered::parts::{name_of, terminal_of};
+use crate::check::{check, name_of};
+use crate::lowered::parts::terminal_of;
 use lalrpop_grammar_repr::{Symbol, TypeRepr, Types};
 use lalrpop_grammar_symbols::{NonterminalString, TerminalString};
 use std::alloc::Global;
@@ -39,29 +39,25 @@ fn terminal_type(types: &Types, terminal: TerminalString) -> Option<&TypeRepr> {
 /// Whether it is the type of this name without arguments.
 fn is_named(found: Option<&TypeRepr>, name: &str) -> bool {
     match found {
-        Some(TypeRepr::Nominal(found)) => { found.path.as_str() == name && found.types.is_empty() }
+        Some(TypeRepr::Nominal(found)) => { (found.path.as_str() == name) & found.types.is_empty() }
         _ => false,
     }
 }
 
+/// That the nonterminal S and the terminal a have types, and no others.
+fn has_types(rt: &impl Abort, alloc: Global, types: &Types) {
+    let found = nonterminal_type(types, name_of(rt, alloc, "S"));
+    check(rt, is_named(found, "usize"));
+    let found = nonterminal_type(types, name_of(rt, alloc, "T"));
+    check(rt, found.is_none());
+    let found = terminal_type(types, terminal_of(rt, alloc, "a"));
+    check(rt, is_named(found, "str"));
+    let found = terminal_type(types, terminal_of(rt, alloc, "b"));
+    check(rt, found.is_none());
+}
+
 #[test]
 fn types_of_symbols(rt: HostRuntime) {
-    let alloc = rt.alloc();
-    let types = table(&rt, alloc);
-    check(
-        &rt,
-        is_named(nonterminal_type(&types, name_of(&rt, alloc, "S")), "usize"),
-    );
-    check(
-        &rt,
-        nonterminal_type(&types, name_of(&rt, alloc, "T")).is_none(),
-    );
-    check(
-        &rt,
-        is_named(terminal_type(&types, terminal_of(&rt, alloc, "a")), "str"),
-    );
-    check(
-        &rt,
-        terminal_type(&types, terminal_of(&rt, alloc, "b")).is_none(),
-    );
+    let types = table(&rt, rt.alloc());
+    has_types(&rt, rt.alloc(), &types);
 }

@@ -1,14 +1,14 @@
-//! Symbols of every kind: copies, texts, those that stand in them, and their names replaced.
+//! Symbols that stand in others, and their names replaced. Texts and copies of each kind are cases.
 
 ghost use Rattle.std.specs.Prelude.{◌≡◌};
 ghost use Rattle.lalrpop_grammar_symbols.specs.Symbols.{Sym};
 ghost use Rattle.lalrpop_grammar_symbols.specs.Views.{span_view, symbol_view};
 
-use crate::check::{boxed, check};
-use crate::symbols::symbols::{is_copied, symbol_of_name};
+use crate::check::{boxed, check, is_shown};
+use crate::symbols::symbols::{is_copied, symbols_of_names};
 use lalrpop_grammar_symbols::{
-    Atom, ExprSymbol, List, MacroSymbol, NonterminalString, Span, Subsymbols, Symbol, SymbolKind,
-    SymbolMap, subsymbols_of,
+    Atom, List, MacroSymbol, NonterminalString, Span, Subsymbols, Symbol, SymbolKind, SymbolMap,
+    subsymbols_of,
 };
 use lalrpop_json_document::lend_value;
 use lalrpop_json_symbols::symbol_of;
@@ -19,35 +19,6 @@ use std::process::Abort;
 /// `M<(a b)*, <mut x:c>>`
 const NESTED: &str =
     r#"{"args":[{"kind":"repeat","op":"*","span":[2,8],"symbol":{"expr":[{"kind":"id","name":"a","span":[3,4]},{"kind":"id","name":"b","span":[5,6]}],"kind":"group","span":[2,7]}},{"kind":"named","mutable":true,"name":"x","span":[10,19],"symbol":{"kind":"id","name":"c","span":[17,18]}}],"kind":"macro","name":"M","span":[0,20]}"#;
-
-/// A symbol of each kind that the format spells, and its text.
-const KINDS: [(&str, &str); 10] = [
-    (r#"{"kind":"id","name":"A","span":[3,7]}"#, "A"),
-    (
-        r#"{"kind":"terminal","span":[3,7],"terminal":{"quoted":"\""}}"#,
-        "\"\\\"\"",
-    ),
-    (r#"{"kind":"lookahead","span":[3,7]}"#, "@L"),
-    (r#"{"kind":"lookbehind","span":[3,7]}"#, "@R"),
-    (r#"{"kind":"error","span":[3,7]}"#, "!"),
-    (
-        r#"{"expr":[{"kind":"id","name":"a","span":[3,4]},{"kind":"id","name":"b","span":[5,6]}],"kind":"group","span":[3,7]}"#,
-        "(a b)",
-    ),
-    (
-        r#"{"kind":"choose","span":[3,7],"symbol":{"kind":"id","name":"a","span":[4,5]}}"#,
-        "<a>",
-    ),
-    (
-        r#"{"kind":"repeat","op":"?","span":[3,7],"symbol":{"kind":"id","name":"a","span":[3,4]}}"#,
-        "a?",
-    ),
-    (
-        r#"{"kind":"named","mutable":false,"name":"n","span":[3,7],"symbol":{"kind":"id","name":"a","span":[4,5]}}"#,
-        "<n:a>",
-    ),
-    (NESTED, "M<(a b)*, <mut x:c>>"),
-];
 
 /// The symbol that the value spells.
 fn symbol_at(rt: &impl Abort, alloc: Global, value: &Value) -> Symbol {
@@ -60,53 +31,9 @@ fn symbol(rt: &impl Abort, alloc: Global, json: &str) -> Box<Symbol> {
     boxed(rt, alloc, symbol_at(rt, alloc, &value))
 }
 
-fn symbols_of_names(rt: &impl Abort, alloc: Global, names: &[&str]) -> List<Symbol> {
-    let mut symbols = List::new(alloc);
-    for name in names {
-        symbols
-            .push(symbol_of_name(rt, alloc, name))
-            .expect(rt, "memory");
-    }
-    symbols
-}
-
-/// Whether the symbol has this text.
-fn has_text(rt: &impl Abort, alloc: Global, symbol: &Symbol, text: &str) -> bool {
-    let written = format!(in alloc; "{symbol}").expect(rt, "memory");
-    written.as_str() == text
-}
-
 /// Whether a copy of the symbol equals it, and it has this text.
 fn is_copied_with_text(rt: &impl Abort, alloc: Global, symbol: &Symbol, text: &str) -> bool {
-    is_copied(rt, alloc, symbol) && has_text(rt, alloc, symbol, text)
-}
-
-/// Whether a copy of the symbol that the JSON spells equals it, and it has this text.
-fn is_spelled_with_text(rt: &impl Abort, alloc: Global, json: &str, text: &str) -> bool {
-    let symbol = symbol(rt, alloc, json);
-    is_copied_with_text(rt, alloc, &symbol, text)
-}
-
-#[test]
-fn a_copy_of_four_symbols_equals_them(rt: HostRuntime) {
-    let alloc = rt.alloc();
-    let symbols = symbols_of_names(&rt, alloc, &["a", "b", "c", "d"]);
-    let group = ExprSymbol { symbols };
-    let copy = group.try_clone(alloc).expect(&rt, "memory");
-    check(&rt, copy.symbols.len() == 4);
-    check(&rt, copy == group);
-}
-
-/// That it is, told by its text where it isn't.
-fn check_kind(rt: &impl Abort, alloc: Global, json: &str, text: &str) {
-    assert!(rt; is_spelled_with_text(rt, alloc, json, text), "{text}");
-}
-
-#[test]
-fn copies_and_texts_of_each_kind(rt: HostRuntime) {
-    for (json, text) in KINDS {
-        check_kind(&rt, rt.alloc(), json, text);
-    }
+    is_copied(rt, alloc, symbol) & is_shown(rt, alloc, symbol, text)
 }
 
 #[test]
@@ -139,21 +66,26 @@ fn has_subsymbols(rt: &impl Abort, alloc: Global, symbol: &Symbol, texts: &str) 
 
 #[test]
 fn subsymbols_in_reading_order(rt: HostRuntime) {
-    let alloc = rt.alloc();
-    let symbol = symbol(&rt, alloc, NESTED);
+    let symbol = symbol(&rt, rt.alloc(), NESTED);
     let texts = "|M<(a b)*, <mut x:c>>|(a b)*|(a b)|a|b|<mut x:c>|c";
-    check(&rt, has_subsymbols(&rt, alloc, &symbol, texts));
+    check(&rt, has_subsymbols(&rt, rt.alloc(), &symbol, texts));
+}
+
+/// Whether these are the texts of all symbols in these.
+fn have_subsymbols(rt: &impl Abort, alloc: Global, symbols: &[Symbol], texts: &str) -> bool {
+    let all = subsymbols_of(alloc, symbols).expect(rt, "memory");
+    let found = texts_of(rt, alloc, all);
+    found.as_str() == texts
 }
 
 #[test]
 fn subsymbols_of_several(rt: HostRuntime) {
-    let alloc = rt.alloc();
-    let symbols = symbols_of_names(&rt, alloc, &["a", "b"]);
-    let all = subsymbols_of(alloc, symbols.as_slice()).expect(&rt, "memory");
-    let texts = texts_of(&rt, alloc, all);
-    check(&rt, texts.as_str() == "|a|b");
-    let none = subsymbols_of(alloc, &[]).expect(&rt, "memory");
-    check(&rt, none.count() == 0);
+    let symbols = symbols_of_names(&rt, rt.alloc(), &["a", "b"]);
+    check(
+        &rt,
+        have_subsymbols(&rt, rt.alloc(), symbols.as_slice(), "|a|b"),
+    );
+    check(&rt, have_subsymbols(&rt, rt.alloc(), &[], ""));
 }
 
 /// Resolves each name to the nonterminal of that name, and counts the calls.
@@ -221,7 +153,7 @@ fn resolve_nested(rt: &impl Abort, alloc: Global, map: &mut Resolving) -> Box<Sy
 
 /// Whether the symbol is the nested one with its names resolved.
 fn is_resolved(rt: &impl Abort, alloc: Global, symbol: &Symbol) -> bool {
-    has_no_ambiguous_id(rt, alloc, symbol) && has_text(rt, alloc, symbol, "M<(a b)*, <mut x:c>>")
+    has_no_ambiguous_id(rt, alloc, symbol) & is_shown(rt, alloc, symbol, "M<(a b)*, <mut x:c>>")
 }
 
 /// Whether the nested symbol comes out with its names resolved.

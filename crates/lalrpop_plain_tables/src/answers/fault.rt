@@ -5,10 +5,10 @@ ghost use Rattle.lalrpop_plain_tables.specs.FaultTexts.{answer_fault_text};
 
 use crate::lines::LinesError;
 use std::alloc::{AllocError, AllocFailed};
-use std::fmt::{self, Display, Formatter, Write};
+use std::fmt::{self, Debug, Display, Formatter, Write};
 
 /// Why there is no answer.
-#[derive(Clone, Copy, Debug, PartialEq, Eq)]
+#[derive(Clone, Copy)]
 pub enum AnswerFault {
     /// Something is wrong with the lines; want of memory is told as such.
     Lines(LinesError),
@@ -59,6 +59,13 @@ impl Display for AnswerFault {
             AnswerFault::Limit => f.write_str("too many moves"),
             AnswerFault::Memory => f.write_str("out of memory"),
         }
+    }
+}
+
+// Printed as text: written out it would be dear to prove.
+impl Debug for AnswerFault {
+    fn fmt<W: Write>(&self, f: &mut Formatter<W>) -> fmt::Result {
+        Display::fmt(self, f)
     }
 }
 

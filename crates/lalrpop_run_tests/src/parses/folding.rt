@@ -6,6 +6,7 @@ use crate::parses::grammars::{CALCULATOR, COMMAS, LISTS, PLACES};
 use crate::parses::trees::{LEAF, PRODUCT_OF_SUM, SUM_OF_SUM, SWAPPED_LIST};
 use lalrpop_grammar::WrittenTree;
 use lalrpop_json_grammar::print_tree;
+use lalrpop_lr1::ExpandedTree;
 use lalrpop_run_parser::Prepared;
 use lalrpop_run_parser::folding::{FoldError, fold, foldings_are_inverse, unfold};
 use std::alloc::Global;
@@ -77,15 +78,31 @@ fn is_shown(rt: &impl Abort, alloc: Global, tree: &WrittenTree, shown: &str) -> 
     text.as_str() == shown
 }
 
+/// Whether the folded tree is unfolded to what it has to be.
+fn unfolds(
+    rt: &impl Abort,
+    alloc: Global,
+    prepared: &Prepared,
+    folded: &ExpandedTree<'_>,
+    tree: &WrittenTree,
+    row: &Folding,
+) -> bool {
+    let unfolded = unfold(alloc, prepared, folded).expect(rt, "memory");
+    let same = unfolded == *tree;
+    (same | !row.same) & is_shown(rt, alloc, &unfolded, row.shown)
+}
+
 /// That the text's tree is admitted, is folded, and is unfolded to what it has to be.
 fn folds(rt: &impl Abort, alloc: Global, prepared: &Prepared, row: &Folding) {
     let parser = parser_of(rt, alloc, prepared);
     let tree = parser.parse(alloc, row.text, u64::MAX).expect(rt, "a tree");
     let folded = folded_of(rt, alloc, prepared, &tree);
     check_row(rt, row.text, folded.node_count() == row.count);
-    let unfolded = unfold(alloc, prepared, &folded).expect(rt, "memory");
-    check_row(rt, row.text, is_shown(rt, alloc, &unfolded, row.shown));
-    check_row(rt, row.text, unfolded == tree || !row.same);
+    check_row(
+        rt,
+        row.text,
+        unfolds(rt, alloc, prepared, &folded, &tree, row),
+    );
 }
 
 /// Whether the tree that the JSON spells isn't folded since it isn't admitted.

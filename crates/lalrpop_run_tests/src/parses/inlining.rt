@@ -10,18 +10,19 @@ use lalrpop_run_trees::flat_labels::{LabelMark, LabelTable};
 use std::alloc::Global;
 use std::process::Abort;
 
-/// That the inner of two inlined rules comes first.
-fn has_order(rt: &impl Abort, alloc: Global) {
-    let prepared = prepared_grammar(rt, alloc, NESTED, "S");
-    let found = inline_order(alloc, prepared.lowered()).expect(rt, "an order");
-    let (inner, outer) = (name_of(rt, alloc, "B"), name_of(rt, alloc, "A"));
-    let wanted = vec![in alloc; inner, outer].expect(rt, "memory");
-    check(rt, found.as_slice() == wanted.as_slice());
+/// The names of the inlined rules in their order, as `Debug` prints them.
+fn order_text(rt: &impl Abort, alloc: Global, grammar: &Grammar) -> String {
+    let found = inline_order(alloc, grammar).expect(rt, "an order");
+    format!(in alloc; "{found:?}").expect(rt, "memory")
 }
 
+/// The inner of two inlined rules comes first.
 #[test]
 fn a_rule_that_another_names_is_inlined_before_it(rt: HostRuntime) {
-    has_order(&rt, rt.alloc());
+    let prepared = prepared_grammar(&rt, rt.alloc(), NESTED, "S");
+    let text = order_text(&rt, rt.alloc(), prepared.lowered());
+    let wanted = r#"[NonterminalString("B"), NonterminalString("A")]"#;
+    check(&rt, text.as_str() == wanted);
 }
 
 /// Puts the symbols behind the text, a blank before each.
@@ -88,33 +89,39 @@ fn finds(
     check(rt, labels.place(&label) == place);
 }
 
+/// That the table tells these places for the choices of `S`, and of `Op`.
+fn are_found(rt: &impl Abort, alloc: Global, labels: &LabelTable, marks: [LabelMark; 3]) {
+    let [whole, a, b] = marks;
+    let kept = LabelMark::Kept;
+    finds(rt, alloc, labels, &[whole, a, kept, a, kept], Some(0));
+    finds(rt, alloc, labels, &[whole, a, kept, b, kept], Some(1));
+    finds(rt, alloc, labels, &[whole, b, kept, a, kept], Some(2));
+    finds(rt, alloc, labels, &[whole, b, kept, b, kept], Some(3));
+    finds(rt, alloc, labels, &[a, kept], Some(0));
+    finds(rt, alloc, labels, &[b, kept], Some(1));
+    finds(rt, alloc, labels, &[kept], None);
+}
+
 // A production of `S` stands for the choice of `S`, and in each of its places for one of `Op`, whose terminal is kept. None stands for a
 // symbol that no choice keeps.
 fn finds_productions(rt: &impl Abort, alloc: Global, prepared: &Prepared) {
-    let labels = prepared.labels(alloc).expect(rt, "memory");
-    let kept = LabelMark::Kept;
     let whole = mark_of(rt, alloc, prepared, "S", 0);
     let a = mark_of(rt, alloc, prepared, "Op", 0);
     let b = mark_of(rt, alloc, prepared, "Op", 1);
-    finds(rt, alloc, &labels, &[whole, a, kept, a, kept], Some(0));
-    finds(rt, alloc, &labels, &[whole, a, kept, b, kept], Some(1));
-    finds(rt, alloc, &labels, &[whole, b, kept, a, kept], Some(2));
-    finds(rt, alloc, &labels, &[whole, b, kept, b, kept], Some(3));
-    finds(rt, alloc, &labels, &[a, kept], Some(0));
-    finds(rt, alloc, &labels, &[b, kept], Some(1));
-    finds(rt, alloc, &labels, &[kept], None);
+    let labels = prepared.labels(alloc).expect(rt, "memory");
+    are_found(rt, alloc, &labels, [whole, a, b]);
 }
 
 /// That choices are productions below the start, with labels by which they are found.
-fn has_productions(rt: &impl Abort, alloc: Global) {
-    let prepared = prepared_grammar(rt, alloc, TWICE, "S");
+fn has_productions(rt: &impl Abort, alloc: Global, prepared: &Prepared) {
     check(rt, prepared.start_name().0.as_str() == "__S");
     has_sides(rt, alloc, prepared.lowered(), &SIDES_BEFORE);
     has_sides(rt, alloc, prepared.expansion(), &SIDES_AFTER);
-    finds_productions(rt, alloc, &prepared);
+    finds_productions(rt, alloc, prepared);
 }
 
 #[test]
 fn each_choice_has_a_production_that_is_found_by_its_label(rt: HostRuntime) {
-    has_productions(&rt, rt.alloc());
+    let prepared = prepared_grammar(&rt, rt.alloc(), TWICE, "S");
+    has_productions(&rt, rt.alloc(), &prepared);
 }

@@ -40,17 +40,27 @@ fn note(rt: &impl Abort, tokens: &[ScanToken<'_>], notes: &mut Notes) {
     }
 }
 
+/// Notes the tokens that the parser gives to a receiver, up to the byte without one.
+fn note_given(rt: &impl Abort, parser: &Parser<'_>, notes: &mut Notes) {
+    let given = parser.scan_into("a c", notes).err();
+    check(rt, given == Some(ScanError::NoToken(2)));
+}
+
+/// Notes the tokens that the parser tells in a list.
+fn note_told(rt: &impl Abort, alloc: Global, parser: &Parser<'_>, notes: &mut Notes) {
+    let tokens = parser.scan(alloc, "aa b").expect(rt, "tokens");
+    note(rt, tokens.as_slice(), notes);
+}
+
 /// That the parser gives tokens to a receiver, up to the byte without one, or tells them in a list.
 fn scans(rt: &impl Abort, alloc: Global, parser: &Parser<'_>) {
+    let told = parser.scan(alloc, "a c").err();
+    check(rt, told == Some(ScanError::NoToken(2)));
     let mut notes = Notes {
         text: String::new(alloc),
     };
-    let given = parser.scan_into("a c", &mut notes).err();
-    check(rt, given == Some(ScanError::NoToken(2)));
-    let told = parser.scan(alloc, "a c").err();
-    check(rt, told == Some(ScanError::NoToken(2)));
-    let tokens = parser.scan(alloc, "aa b").expect(rt, "tokens");
-    note(rt, tokens.as_slice(), &mut notes);
+    note_given(rt, parser, &mut notes);
+    note_told(rt, alloc, parser, &mut notes);
     check(rt, notes.text.as_str() == NOTED);
 }
 

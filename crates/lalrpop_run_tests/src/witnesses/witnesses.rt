@@ -39,11 +39,9 @@ fn agree(
 ) {
     let start = prepared.start_name();
     check(rt, is_taken(rt, alloc, prepared, start, told));
-    check(
-        rt,
-        made.next == told.next && made.shared.len() == told.shared.len(),
-    );
-    check(rt, made.move1 == told.move1 && made.move2 == told.move2);
+    check(rt, made.next == told.next);
+    check(rt, made.shared.len() == told.shared.len());
+    check(rt, (made.move1 == told.move1) & (made.move2 == told.move2));
     are_of_one(rt, alloc, prepared, &made.tree1, &told.tree1);
     are_of_one(rt, alloc, prepared, &made.tree2, &told.tree2);
 }

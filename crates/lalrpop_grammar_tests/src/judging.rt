@@ -1,8 +1,9 @@
 //! The judge, with tokens and without.
 
-use crate::check::check;
-use lalrpop_grammar::{Atom, Grammar, ScanToken, WrittenTree};
-use lalrpop_json_grammar::{read_grammar, read_tree};
+use crate::check::{boxed, check};
+use crate::grammars::grammar_of;
+use lalrpop_grammar::{Atom, ScanToken, WrittenTree};
+use lalrpop_json_grammar::read_tree;
 use lalrpop_judge::{judge, judge_tree};
 use serde_json::Value;
 use std::alloc::Global;
@@ -20,63 +21,45 @@ const TREE: &str =
 const OTHER: &str =
     r#"{"args":[],"children":[{"span":[0,1],"terminal":{"quoted":"a"},"text":"a"},{"args":[],"children":[{"span":[1,2],"terminal":{"quoted":"b"},"text":"b"}],"place":0,"rule":"S"}],"place":1,"rule":"S"}"#;
 
-/// The JSON value. It is boxed, as all that is large here: a box is dropped by one call.
-fn json_value(rt: &impl Abort, alloc: Global, json: &str) -> Box<Value> {
-    let value = Value::from_str(alloc, json).expect(rt, "JSON");
-    Box::new(alloc, value).expect(rt, "memory")
-}
-
-fn grammar(rt: &impl Abort, alloc: Global) -> Box<Grammar> {
-    let value = json_value(rt, alloc, GRAMMAR);
-    let grammar = read_grammar(alloc, &value).expect(rt, "a grammar");
-    Box::new(alloc, grammar).expect(rt, "memory")
-}
-
 fn tree(rt: &impl Abort, alloc: Global, text: &str) -> Box<WrittenTree> {
-    let value = json_value(rt, alloc, text);
-    let tree = read_tree(alloc, &value).expect(rt, "a tree");
-    Box::new(alloc, tree).expect(rt, "memory")
+    let value = Value::from_str(alloc, text).expect(rt, "JSON");
+    let value = boxed(rt, alloc, value);
+    boxed(rt, alloc, read_tree(alloc, &value).expect(rt, "a tree"))
 }
 
 /// Whether `S` admits the tree with these tokens.
 fn admits(rt: &impl Abort, alloc: Global, tree: &WrittenTree, tokens: &[ScanToken<'_>]) -> bool {
     let start = Atom::new(alloc, "S").expect(rt, "memory");
-    let grammar = grammar(rt, alloc);
+    let grammar = grammar_of(rt, alloc, GRAMMAR);
     judge(alloc, &grammar, &[], &start, tree, tokens).expect(rt, "an answer")
 }
 
-#[test]
-fn a_tree_with_the_tokens_at_its_leaves(rt: HostRuntime) {
-    let alloc = rt.alloc();
-    let tree = tree(&rt, alloc, TREE);
-    let tokens = tree.tokens(alloc).expect(&rt, "memory");
-    check(&rt, admits(&rt, alloc, &tree, &tokens));
+/// Whether `S` admits the tree with the tokens of its leaves, so many of the last left out.
+fn admits_front(rt: &impl Abort, alloc: Global, tree: &WrittenTree, left_out: usize) -> bool {
+    let tokens = tree.tokens(alloc).expect(rt, "memory");
+    let front = tokens.len().saturating_sub(left_out);
+    let front = tokens.as_slice().get(..front).expect(rt, "a front");
+    admits(rt, alloc, tree, front)
 }
 
 #[test]
-fn a_tree_with_a_token_too_few(rt: HostRuntime) {
-    let alloc = rt.alloc();
-    let tree = tree(&rt, alloc, TREE);
-    let tokens = tree.tokens(alloc).expect(&rt, "memory");
-    match tokens.split_last() {
-        Some((_, front)) => check(&rt, !admits(&rt, alloc, &tree, front)),
-        None => check(&rt, false),
-    }
-    check(&rt, !admits(&rt, alloc, &tree, &[]));
+fn a_tree_with_the_tokens_at_its_leaves_and_with_fewer(rt: HostRuntime) {
+    let tree = tree(&rt, rt.alloc(), TREE);
+    check(&rt, admits_front(&rt, rt.alloc(), &tree, 0));
+    check(&rt, !admits_front(&rt, rt.alloc(), &tree, 1));
+    check(&rt, !admits(&rt, rt.alloc(), &tree, &[]));
 }
 
 #[test]
 fn a_tree_that_is_not_admitted_with_its_tokens(rt: HostRuntime) {
-    let alloc = rt.alloc();
-    let other = tree(&rt, alloc, OTHER);
-    let tokens = other.tokens(alloc).expect(&rt, "memory");
-    check(&rt, !admits(&rt, alloc, &other, &tokens));
+    let other = tree(&rt, rt.alloc(), OTHER);
+    check(&rt, !admits_front(&rt, rt.alloc(), &other, 0));
 }
 
 /// Whether `S` admits the tree with the tokens at its leaves.
 fn admits_alone(rt: &impl Abort, alloc: Global, tree: &WrittenTree) -> bool {
     let start = Atom::new(alloc, "S").expect(rt, "memory");
-    let grammar = grammar(rt, alloc);
+    let grammar = grammar_of(rt, alloc, GRAMMAR);
     judge_tree(alloc, &grammar, &[], &start, tree).expect(rt, "an answer")
 }
 

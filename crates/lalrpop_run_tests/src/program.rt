@@ -1,8 +1,5 @@
 //! Tests of the program's calls that no table of cases shows: readers and writers that fail, bounds, and the values of words.
-#![tactic(auto)]
 
-#[cfg(test)]
-mod check;
 #[cfg(test)]
 mod ends;
 #[cfg(test)]

@@ -1,14 +1,13 @@
 //! Grammars that no value spells.
 
-use crate::check::check;
+use crate::check::{check, name_of};
+use crate::grammars::grammar_of;
 use lalrpop_grammar::{
     ActionKind, Alternative, Atom, Grammar, GrammarItem, InternToken, List, MatchContents,
-    MatchItem, MatchMapping, MatchToken, NonterminalData, NonterminalString, Origin, Span, Symbol,
-    SymbolKind, TerminalLiteral, TerminalString, Visibility,
+    MatchItem, MatchMapping, MatchToken, NonterminalData, Origin, Span, Symbol, SymbolKind,
+    TerminalLiteral, TerminalString, Visibility,
 };
-use lalrpop_json_grammar::read_grammar;
 use lalrpop_json_grammar::writer::{WriteError, write_grammar};
-use serde_json::Value;
 use std::alloc::Global;
 use std::process::Abort;
 
@@ -16,10 +15,6 @@ fn one<T: Drop>(rt: &impl Abort, alloc: Global, item: T) -> List<T> {
     let mut items = List::new(alloc);
     items.push(item).expect(rt, "memory");
     items
-}
-
-fn name(rt: &impl Abort, alloc: Global, text: &str) -> NonterminalString {
-    NonterminalString(Atom::new(alloc, text).expect(rt, "memory"))
 }
 
 /// The first alternative of the rule `S`, of one symbol.
@@ -30,11 +25,7 @@ fn alternative(rt: &impl Abort, alloc: Global, kind: SymbolKind) -> Alternative 
         condition: None,
         action: None,
         attributes: List::new(alloc),
-        origin: Origin::Alternative {
-            rule: name(rt, alloc, "S"),
-            args: List::new(alloc),
-            place: 0,
-        },
+        origin: origin_at(rt, alloc, 0),
     }
 }
 
@@ -42,7 +33,7 @@ fn alternative(rt: &impl Abort, alloc: Global, kind: SymbolKind) -> Alternative 
 fn rule(rt: &impl Abort, alloc: Global, called: &str, only: Alternative) -> GrammarItem {
     GrammarItem::Nonterminal(NonterminalData {
         visibility: Visibility::Pub,
-        name: name(rt, alloc, called),
+        name: name_of(rt, alloc, called),
         attributes: List::new(alloc),
         span: Span(0, 0),
         args: List::new(alloc),
@@ -55,16 +46,9 @@ fn rule(rt: &impl Abort, alloc: Global, called: &str, only: Alternative) -> Gram
 const EMPTY: &str =
     r#"{"attributes":[],"items":[],"parameters":"","span":[0,0],"type_parameters":"","where_clauses":""}"#;
 
-fn empty(rt: &impl Abort, alloc: Global) -> Box<Grammar> {
-    let value = Value::from_str(alloc, EMPTY).expect(rt, "JSON");
-    let value = Box::new(alloc, value).expect(rt, "memory");
-    let grammar = read_grammar(alloc, &value).expect(rt, "a grammar");
-    Box::new(alloc, grammar).expect(rt, "memory")
-}
-
 /// A grammar of one item.
 fn grammar(rt: &impl Abort, alloc: Global, item: GrammarItem) -> Box<Grammar> {
-    let mut grammar = empty(rt, alloc);
+    let mut grammar = grammar_of(rt, alloc, EMPTY);
     grammar.items.push(item).expect(rt, "memory");
     grammar
 }
@@ -90,26 +74,28 @@ fn is_symbol_written(rt: &impl Abort, alloc: Global, kind: SymbolKind) -> bool {
     is_written(rt, alloc, item)
 }
 
+/// Whether a grammar with this terminal is written.
+fn is_terminal_written(rt: &impl Abort, alloc: Global, terminal: TerminalString) -> bool {
+    is_symbol_written(rt, alloc, SymbolKind::Terminal(terminal))
+}
+
 #[test]
 fn terminals_without_a_spelling(rt: HostRuntime) {
-    let alloc = rt.alloc();
-    check(&rt, is_symbol_written(&rt, alloc, SymbolKind::Error));
-    let bare = TerminalString::Bare(Atom::new(alloc, "NUM").expect(&rt, "memory"));
+    check(&rt, is_symbol_written(&rt, rt.alloc(), SymbolKind::Error));
+    let bare = TerminalString::Bare(Atom::new(rt.alloc(), "NUM").expect(&rt, "memory"));
+    check(&rt, !is_terminal_written(&rt, rt.alloc(), bare));
     check(
         &rt,
-        !is_symbol_written(&rt, alloc, SymbolKind::Terminal(bare)),
+        !is_terminal_written(&rt, rt.alloc(), TerminalString::Error),
     );
-    let recovery = SymbolKind::Terminal(TerminalString::Error);
-    check(&rt, !is_symbol_written(&rt, alloc, recovery));
 }
 
 #[test]
 fn names_without_a_spelling(rt: HostRuntime) {
-    let alloc = rt.alloc();
-    let resolved = SymbolKind::Nonterminal(name(&rt, alloc, "S"));
-    check(&rt, !is_symbol_written(&rt, alloc, resolved));
-    let dashed = SymbolKind::AmbiguousId(Atom::new(alloc, "a-b").expect(&rt, "memory"));
-    check(&rt, !is_symbol_written(&rt, alloc, dashed));
+    let resolved = SymbolKind::Nonterminal(name_of(&rt, rt.alloc(), "S"));
+    check(&rt, !is_symbol_written(&rt, rt.alloc(), resolved));
+    let dashed = SymbolKind::AmbiguousId(Atom::new(rt.alloc(), "a-b").expect(&rt, "memory"));
+    check(&rt, !is_symbol_written(&rt, rt.alloc(), dashed));
 }
 
 /// That a grammar whose rule `S` has this alternative isn't written.
@@ -139,16 +125,20 @@ fn an_origin_that_is_no_alternative(rt: HostRuntime) {
     refuses(&rt, rt.alloc(), only);
 }
 
+/// The origin in the rule S at this place.
+fn origin_at(rt: &impl Abort, alloc: Global, place: u32) -> Origin {
+    Origin::Alternative {
+        rule: name_of(rt, alloc, "S"),
+        args: List::new(alloc),
+        place,
+    }
+}
+
 #[test]
 fn an_origin_at_another_place(rt: HostRuntime) {
-    let alloc = rt.alloc();
-    let mut only = alternative(&rt, alloc, SymbolKind::Error);
-    only.origin = Origin::Alternative {
-        rule: name(&rt, alloc, "S"),
-        args: List::new(alloc),
-        place: 1,
-    };
-    refuses(&rt, alloc, only);
+    let mut only = alternative(&rt, rt.alloc(), SymbolKind::Error);
+    only.origin = origin_at(&rt, rt.alloc(), 1);
+    refuses(&rt, rt.alloc(), only);
 }
 
 #[test]
@@ -165,15 +155,17 @@ fn a_span_beyond_the_limit(rt: HostRuntime) {
     refuses(&rt, rt.alloc(), only);
 }
 
+/// Whether a grammar is written whose only rule has this name, with an origin in the rule S.
+fn is_rule_written(rt: &impl Abort, alloc: Global, called: &str) -> bool {
+    let only = alternative(rt, alloc, SymbolKind::Error);
+    is_written(rt, alloc, rule(rt, alloc, called, only))
+}
+
 /// A name that is none, and an origin in another rule.
 #[test]
 fn names_of_rules_without_a_spelling(rt: HostRuntime) {
-    let alloc = rt.alloc();
-    for called in ["1S", "Other"] {
-        let only = alternative(&rt, alloc, SymbolKind::Error);
-        let item = rule(&rt, alloc, called, only);
-        check(&rt, !is_written(&rt, alloc, item));
-    }
+    check(&rt, !is_rule_written(&rt, rt.alloc(), "1S"));
+    check(&rt, !is_rule_written(&rt, rt.alloc(), "Other"));
 }
 
 #[test]
@@ -184,15 +176,19 @@ fn entries_of_a_tokenizer(rt: HostRuntime) {
     check(&rt, !is_written(&rt, rt.alloc(), item));
 }
 
+/// A match block of this entry.
+fn block_of(rt: &impl Abort, alloc: Global, entry: MatchItem) -> MatchToken {
+    let items = one(rt, alloc, entry);
+    MatchToken::new(alloc, MatchContents { items }, Span(0, 0)).expect(rt, "memory")
+}
+
 #[test]
 fn an_entry_mapped_to_error_recovery(rt: HostRuntime) {
-    let alloc = rt.alloc();
-    let literal = TerminalLiteral::Quoted(Atom::new(alloc, "a").expect(&rt, "memory"));
+    let literal = TerminalLiteral::Quoted(Atom::new(rt.alloc(), "a").expect(&rt, "memory"));
     let mapping = MatchMapping::Terminal(TerminalString::Error);
-    let items = one(&rt, alloc, MatchItem::Mapped(literal, mapping, Span(0, 0)));
-    let contents = MatchContents { items };
-    let block = MatchToken::new(alloc, contents, Span(0, 0)).expect(&rt, "memory");
-    check(&rt, !is_written(&rt, alloc, GrammarItem::MatchToken(block)));
+    let entry = MatchItem::Mapped(literal, mapping, Span(0, 0));
+    let block = GrammarItem::MatchToken(block_of(&rt, rt.alloc(), entry));
+    check(&rt, !is_written(&rt, rt.alloc(), block));
 }
 
 /// Whether the grammar is written with this prefix.
