@@ -2,4 +2,9 @@ pub mod NumberLemmas
 pub mod OrderLemmas
 pub mod TargetLemmas
 pub mod AnswerLemmas
+pub mod Lr0Lemmas
+pub mod CarriedStateLemmas
+pub mod LaneStateLemmas
+pub mod CheckedLaneLemmas
 pub mod ExamplesOfOrders
+pub mod ExamplesOfLaneStates

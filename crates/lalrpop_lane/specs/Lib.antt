@@ -1,2 +1,3 @@
 pub mod GotoNumbers
+pub mod LaneStates
 pub mod BuilderAnswers

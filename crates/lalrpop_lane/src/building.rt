@@ -1,6 +1,7 @@
 //! The builders of LR(1) and LALR(1) states.
 
 ghost use Rattle.std.specs.Prelude.{◌⊎◌, IfErr, IfOk, MatchResult, Contains, length};
+ghost use Rattle.lalrpop_grammar_repr.specs.declared.methods.Method.TheVariants as methods;
 ghost use Rattle.lalrpop_lr1_theory.specs.Answers.{IsLr1};
 ghost use Rattle.lalrpop_lr1_theory.specs.CheckedStates.{AreCheckedStates, IsStartAlone};
 ghost use Rattle.lalrpop_lr1_theory.specs.ValidItems.{NoneBarren};
@@ -14,24 +15,74 @@ ghost use Rattle.lalrpop_lane.specs.BuilderAnswers.{
   AreAskedStates,
   AreLalrBy,
   AreLalrWithout,
+  AreFewestBy,
   AreLr1By,
+  CheckedLaneAnswer,
+  HaveFewest,
   IsAskedFault,
   IsLalrFault,
   IsLalrFaultBy,
 };
 
+use crate::construct::lane_states;
 use crate::ordering::goto_order;
 use lalrpop_grammar_repr::Grammar;
 use lalrpop_grammar_repr::methods::Method;
 use lalrpop_grammar_symbols::NonterminalString;
 use lalrpop_lr1_build::build_lr1_states_canonical;
 use lalrpop_lr1_build::collapse::collapse_to_lalr_states;
+use lalrpop_lr1_check::check_states;
 use lalrpop_lr1_core::{Lr1Result, Lr1State};
-use std::alloc::Global;
+use std::alloc::{AllocError, Global};
+
+/// The states by lanes, where there are some and they may be parsed with.
+fn checked_lane_states<'g>(
+    alloc: Global,
+    grammar: &'g Grammar,
+    start: &NonterminalString,
+    copies: usize,
+) -> Result<Option<Vec<Lr1State<'g>>>, AllocError>
+    requires { HasItsTerminals grammar.now }
+    ensures { IfOk result (CheckedLaneAnswer grammar.now start.now.0) }
+{
+    let found = lane_states(alloc, grammar, start, copies)?;
+    match found {
+        None => Ok(None),
+        Some(states) => {
+            let checked = check_states(alloc, &*grammar, start, states.as_slice())?;
+            if checked { Ok(Some(states)) } else { Ok(None) }
+        }
+    }
+}
+
+/// The states by lanes, where they may be parsed with; or else the canonical ones, or their conflicts.
+fn states_by_lanes<'g>(
+    alloc: Global,
+    grammar: &'g Grammar,
+    start: NonterminalString,
+    copies: usize,
+) -> Lr1Result<'g>
+    requires { HasItsTerminals grammar.now }
+    ensures states { IfOk result (λ states. AreLr1By (methods.Lane copies) grammar.now start states.items) }
+    ensures fault { IfErr result (λ fault. IsCanonicalFault grammar.now start fault) }
+    ensures targets { IfOk result (λ states. HaveTargetsWithin (length states.items) states.items) }
+    ensures lr1 { NoneBarren (Contains (theory_grammar grammar.now)) start.0 → MatchResult result
+        (λ _. IsLr1 (Contains (theory_grammar grammar.now)) start.0) (λ fault. TellsNoLr1 grammar.now start fault) }
+    ensures checked { NoneBarren (Contains (theory_grammar grammar.now)) start.0 → IsStartAlone (theory_grammar grammar.now) start.0
+        → IfOk result (λ states. AreCheckedStates (theory_grammar grammar.now) start.0 (states_over grammar.now.terminals states.items)) }
+    ensures fewest { HaveFewest grammar.now start result }
+{
+    let found = checked_lane_states(alloc, grammar, &start, copies)?;
+    match found {
+        Some(states) => Ok(states),
+        None => build_lr1_states_canonical(alloc, grammar, start),
+    }
+}
 
 /// LR(1) states of the grammar for a start, which the end follows, to parse with; or all conflicts of its canonical states. By the
-/// canonical way these are the states. The terminals of the grammar are numbered by their places, and each terminal on a right side
-/// is one of them.
+/// canonical way these are the states. By lanes they are the states without lookaheads, with each reduction before what is carried to it
+/// over them (DeRemer and Pennello, 1982), where these have no conflict; else they are the canonical ones, too. The terminals of the
+/// grammar are numbered by their places, and each terminal on a right side is one of them.
 ///
 /// # Errors
 ///
@@ -50,10 +101,10 @@ pub fn build_lr1_states<'g>(
         (λ _. IsLr1 (Contains (theory_grammar grammar.now)) start.0) (λ fault. TellsNoLr1 grammar.now start fault) }
     ensures checked { NoneBarren (Contains (theory_grammar grammar.now)) start.0 → IsStartAlone (theory_grammar grammar.now) start.0
         → IfOk result (λ states. AreCheckedStates (theory_grammar grammar.now) start.0 (states_over grammar.now.terminals states.items)) }
+    ensures fewest { AreFewestBy method grammar.now start result }
 {
     match method {
-        // no lane tables are built yet, so the canonical way answers for them
-        Method::Lane { copies: _ } => build_lr1_states_canonical(alloc, grammar, start),
+        Method::Lane { copies } => states_by_lanes(alloc, grammar, start, copies),
         Method::Canonical => build_lr1_states_canonical(alloc, grammar, start),
     }
 }

@@ -1,5 +1,5 @@
 -- Computed examples of reports: two states of `S = "a"`, conflicts and a summary, beside answers that are refused.
-use Rattle.std.proofs.Common.{◌≡◌, [], ◌∷◌, ap, refl}
+use Rattle.std.proofs.Common.{◌≡◌, [], ◌∷◌, refl}
 use Rattle.std.specs.Prelude.{codes}
 use Rattle.std.specs.Fmt.{char_count, digits}
 use Rattle.lalrpop_lane_report.specs.Reports.{filled_to, lines_of_conflict, lookahead_line, reductions_part, state_lines, states_of_conflicts}

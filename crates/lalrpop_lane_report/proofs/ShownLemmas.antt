@@ -1,6 +1,7 @@
 -- What is shown of a list, by what it is shown of.
-use Rattle.std.proofs.Common.{◌≡◌, ◌++◌, ◌∙◌, ◌∷◌, [], ◌+◌, ◌<◌, ◌≤◌, add-one, ap, append-nil, drop, drop-cons, get_or, refl, subst, sym, List, map, length, Bool, true, false, suc, ℕ}
+use Rattle.std.proofs.Common.{◌≡◌, ◌++◌, ◌∙◌, ◌∷◌, [], ◌+◌, ◌<◌, ◌≤◌, add-one, ap, append-nil, drop, drop-cons, get_or, refl, subst, sym, List, map, length, Bool, true, false, ℕ}
 use Rattle.std.proofs.Math.ListN.{drop_of_length-le}
+use Rattle.std.proofs.lemmas.List.{length-map}
 use Rattle.std.specs.Prelude.{codes, cond, filter, flat_map, max}
 use Rattle.std.specs.Borrow.{Bor}
 use Rattle.lalrpop_grammar_symbols.specs.Symbols.{Text}
@@ -23,10 +24,6 @@ map_twice g f (x ∷ xs) = ap (λ l. g (f x) ∷ l) (map_twice g f xs)
 pub flat_map_shown : {A B C : Type 0} (g : B → List C) (f : A → B) (xs : List A) → flat_map g (map f xs) ≡ flat_map (λ x. g (f x)) xs
 flat_map_shown g f [] = refl
 flat_map_shown g f (x ∷ xs) = ap (λ l. g (f x) ++ l) (flat_map_shown g f xs)
-
-pub length_shown : {A B : Type 0} (f : A → B) (xs : List A) → length (map f xs) ≡ length xs
-length_shown f [] = refl
-length_shown f (x ∷ xs) = ap suc (length_shown f xs)
 
 pub filter_shown : {A B : Type 0} (p : B → Bool) (f : A → B) (xs : List A) → filter p (map f xs) ≡ map f (filter (λ x. p (f x)) xs)
 filter_shown p f [] = refl
@@ -103,8 +100,8 @@ summary_shown tokens count cs =
     let shown = shown_conflict_of tokens in
     let shifts = length (filter (λ c. is_with_shift (shown_action c.action)) cs) in
     let states = states_of_conflicts (map (λ c. c.state.0) cs) in
-    ap (λ n. summary_of_conflicts count n shifts states) (sym (length_shown shown cs))
+    ap (λ n. summary_of_conflicts count n shifts states) (sym (length-map cs shown))
     ∙ ap (λ n. summary_of_conflicts count (length (map shown cs)) n states) (sym (ap length (filter_shown (λ c. is_with_shift c.action) shown cs)
-    ∙ length_shown shown (filter (λ c. is_with_shift (shown_action c.action)) cs)))
+    ∙ length-map (filter (λ c. is_with_shift (shown_action c.action)) cs) shown))
     ∙ ap (λ ns. summary_of_conflicts count (length (map shown cs)) (length (filter (λ c. is_with_shift c.action) (map shown cs))) (states_of_conflicts ns))
     (sym (map_twice (λ c. c.state) shown cs))

@@ -141,6 +141,46 @@ fn send<W: Sink>(text: &str, out: &mut W) -> Result<(), ReportError>
     }
 }
 
+/// Writes reports of constructions to a writer, over these terminals.
+#[derive(Drop)]
+pub struct ReportGenerator<'report, W> {
+    out: &'report mut W,
+    terminals: &'report TerminalSet,
+}
+
+impl<'report, W: Sink> ReportGenerator<'report, W> {
+    /// Reports go to this writer.
+    pub fn new(out: &'report mut W, terminals: &'report TerminalSet) -> ReportGenerator<'report, W>
+        ensures same_writer { result.out.ghost_name ≡ out.entry.ghost_name }
+        ensures unwritten { result.out.now ≡ out.old }
+        ensures terminals { result.terminals.now ≡ terminals.entry.now }
+    {
+        ReportGenerator { out, terminals }
+    }
+
+    /// Writes the report of a construction that didn't run out of memory, as [`generate_report`] does.
+    ///
+    /// # Errors
+    ///
+    /// As there.
+    pub fn report_lr_table_construction(
+        &mut self,
+        alloc: Global,
+        tables: &Lr1Result<'_>,
+    ) -> Result<(), ReportError>
+        requires { IsNoMemory tables.now }
+        ensures same_writer { self.new.out.ghost_name ≡ self.old.out.ghost_name }
+        ensures same_terminals { self.new.terminals ≡ self.old.terminals }
+        ensures sent { W.has_failed self.old.out.now ≡ false → HasBeenSent (W.contents self.old.out.now) (W.contents self.new.out.now)
+            (table_report (token_set_texts self.old.terminals.now) tables.now) result }
+        ensures keeps { OnOk result (W.has_failed self.new.out.now ≡ W.has_failed self.old.out.now) }
+        ensures fault { IfErr result (λ e. e ≡ errors.Write → W.has_failed self.new.out.now ≡ true) }
+        ensures memory { IfErr result (λ e. e ≡ errors.Memory → self.new.out.now ≡ self.old.out.now) }
+    {
+        generate_report(alloc, self.out, tables, self.terminals)
+    }
+}
+
 /// Writes the report of a construction that didn't run out of memory. Nothing is written before the whole text is made.
 ///
 /// # Errors

@@ -11,5 +11,5 @@ mod state_lines;
 mod summary;
 
 pub use display_len::HasDisplayLen;
-pub use generating::{ReportError, generate_report, report_text};
+pub use generating::{ReportError, ReportGenerator, generate_report, report_text};
 pub use lookahead_printer::LookaheadPrinter;

@@ -282,6 +282,31 @@ fn push_conflicts<L: LookaheadPrinter>(
     Ok(())
 }
 
+/// Appends the line that a state begins with.
+fn push_opening(alloc: Global, index: StateIndex, out: &mut String) -> Result<(), AllocError>
+    ensures { OnOk result (string_bytes out.new ≡ string_bytes out.old ++ codes "\nState " ++ decimal index.0 ++ codes " {\n") }
+{
+    out.push_str("\nState ")?;
+    push_number(alloc, index.0, out)?;
+    out.push_str(" {\n")
+}
+
+/// Appends the lines of the state's items and reductions.
+fn push_held<L: LookaheadPrinter>(
+    alloc: Global,
+    state: &State<'_, L>,
+    terminals: &TerminalSet,
+    out: &mut String,
+) -> Result<(), AllocError>
+    ensures { let items = map (shown_item (L.token_texts terminals.now)) state.now.items.vec in
+        OnOk result (string_bytes out.new ≡ string_bytes out.old
+        ++ flat_map (item_lines (widest (map (λ i. i.left) items))) items
+        ++ reductions_part (map (shown_reduction (L.token_texts terminals.now)) state.now.reductions)) }
+{
+    push_items(alloc, state.items.vec.as_slice(), terminals, out)?;
+    push_reductions(alloc, state.reductions.as_slice(), terminals, out)
+}
+
 /// Appends the lines of the state, its conflicts among them.
 pub(crate) fn push_state<L: LookaheadPrinter>(
     alloc: Global,
@@ -294,11 +319,8 @@ pub(crate) fn push_state<L: LookaheadPrinter>(
         ++ state_lines (map (shown_conflict_of (L.token_texts terminals.now)) conflicts.now)
         (shown_state (L.token_texts terminals.now) state.now)) }
 {
-    out.push_str("\nState ")?;
-    push_number(alloc, state.index.0, out)?;
-    out.push_str(" {\n")?;
-    push_items(alloc, state.items.vec.as_slice(), terminals, out)?;
-    push_reductions(alloc, state.reductions.as_slice(), terminals, out)?;
+    push_opening(alloc, state.index, out)?;
+    push_held(alloc, state, terminals, out)?;
     push_edges(alloc, &state.shifts, &state.gotos, out)?;
     push_conflicts(alloc, conflicts, state.index, terminals, out)?;
     out.push_str("}\n")

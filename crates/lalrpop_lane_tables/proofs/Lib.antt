@@ -3,7 +3,9 @@ pub mod AppliedLemmas
 pub mod AscendingLemmas
 pub mod AskLemmas
 pub mod BackLemmas
+mod ExamplesOfClasses
 mod ExamplesOfContextSets
+mod ExamplesOfMerges
 mod ExamplesOfTables
 pub mod FrontLemmas
 pub mod GatherLemmas
@@ -16,3 +18,9 @@ pub mod TableLemmas
 pub mod TableGainLemmas
 pub mod TraceLemmas
 pub mod TracingLemmas
+pub mod UnifyLemmas
+pub mod CopiedLemmas
+pub mod MergeClassLemmas
+pub mod MergeLemmas
+pub mod MergeWalkLemmas
+pub mod SpreadViewLemmas

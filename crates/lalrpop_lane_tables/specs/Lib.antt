@@ -1,6 +1,11 @@
 pub mod AppliedSets
 pub mod ColumnAnswers
+pub mod CopiedStates
 pub mod LaneTraces
+pub mod MergeClasses
+pub mod MergeViews
+pub mod MergeWalks
+pub mod MergedStates
 pub mod NodeKeys
 pub mod ReachedStates
 pub mod RowColumns
@@ -8,3 +13,4 @@ pub mod TableGains
 pub mod TableViews
 pub mod TraceNodes
 pub mod TracerViews
+pub mod UnifiedClasses

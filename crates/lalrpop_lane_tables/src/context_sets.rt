@@ -1,6 +1,6 @@
 //! Sets of tokens for the conflicting actions of a state, a column for each.
 
-ghost use Rattle.std.specs.Prelude.{◌≡◌, ◌↔◌, ◌<◌, ◌≤◌, [], All, IfOk, IsTrue, OnErr, OnOk, length};
+ghost use Rattle.std.specs.Prelude.{◌≡◌, ◌⊎◌, ◌↔◌, ◌<◌, ◌≤◌, [], All, IfOk, IsTrue, OnErr, OnOk, length};
 ghost use Rattle.lalrpop_lane_theory.specs.Columns.{GathersColumns, InColumn, MeetsAnother};
 ghost use Rattle.lalrpop_lane_tables.specs.AppliedSets.{IsAmongActions, HasSetOfAction, HaveActions, HaveSetsOfActions, IsReductionBy};
 ghost use Rattle.lalrpop_lane_tables.specs.ColumnAnswers.{ColumnsMeetComing, GatherAnswer, HasToken, IsColumnOfSet, IsOverlap, NewTokens};
@@ -80,6 +80,25 @@ fn meets_another(columns: &[TokenSet], column: usize, set: &TokenSet) -> bool
 {
     for other in 0..columns.len() {
         if other != column && columns[other].is_intersecting(set) {
+            return true;
+        }
+    }
+    false
+}
+
+/// Whether another column of either has one of the tokens.
+fn meets_either(columns: &[TokenSet], others: &[TokenSet], column: usize, set: &TokenSet) -> bool
+    ensures { IsTrue result ↔ (MeetsAnother HasToken columns.now column set.now ⊎ MeetsAnother HasToken others.now column set.now) }
+{
+    meets_another(columns, column, set) || meets_another(others, column, set)
+}
+
+/// Whether one of the others has a token in common with another column of what would come of both.
+fn meet_coming(columns: &[TokenSet], others: &[TokenSet]) -> bool
+    ensures { IsTrue result ↔ ColumnsMeetComing columns.now (InColumn HasToken others.now) }
+{
+    for (index, set) in others.iter().enumerate() {
+        if meets_either(columns, others, index, set) {
             return true;
         }
     }
@@ -182,6 +201,13 @@ impl ContextSet {
         let mut columns = set1.try_clone(alloc)?;
         insert_sets(&mut columns, set2.values.as_slice())?;
         Ok(columns)
+    }
+
+    /// Whether a column of the other has a token in common with another column of what would come of both.
+    pub(crate) fn meets(&self, other: &ContextSet) -> bool
+        ensures { IsTrue result ↔ ColumnsMeetComing self.now (InColumn HasToken other.now) }
+    {
+        meet_coming(self.values.as_slice(), other.values.as_slice())
     }
 
     /// Puts the tokens into the column, one of those that there are, and says whether some came.

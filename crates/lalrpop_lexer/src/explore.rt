@@ -12,7 +12,7 @@ use crate::groups::Groups;
 use crate::kind::DfaStateIndex;
 use crate::moves::moves;
 use crate::states::States;
-use lalrpop_lexer_nfa::{Nfa, StateSet, Test};
+use lalrpop_lexer_nfa::{Nfa, NfaStateSet, Test};
 use std::alloc::{AllocError, Global};
 
 impl States {
@@ -23,7 +23,7 @@ impl States {
         nfa: &Nfa,
         kernel: &[usize],
         known: &mut Option<usize>,
-        scratch: &mut StateSet,
+        scratch: &mut NfaStateSet,
     ) -> Result<usize, AllocError>
         requires bound { vec_len scratch.old.places ≡ vec_len nfa.now.states }
         requires inside { All (λ q. q < vec_len nfa.now.states) kernel.now }
@@ -56,7 +56,7 @@ impl States {
         pieces: &[Test],
         groups: &Groups,
         state: usize,
-        scratch: &mut StateSet,
+        scratch: &mut NfaStateSet,
     ) -> Result<Vec<DfaEdge>, AllocError>
         requires state { state < length self.old.sets }
         requires pieces { AreClassesOf (nfa_view nfa.now) pieces.now }

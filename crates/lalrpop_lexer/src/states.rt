@@ -8,7 +8,7 @@ ghost use Rattle.lalrpop_lexer.specs.States.{AreNumbered, HasKernel, IsInterned,
 
 use crate::kernels::Kernels;
 use crate::slices::Slices;
-use lalrpop_lexer_nfa::{Nfa, StateSet};
+use lalrpop_lexer_nfa::{Nfa, NfaStateSet};
 use std::alloc::{AllocError, Global};
 
 /// The states of the automaton under way.
@@ -21,7 +21,7 @@ pub(crate) struct States {
 }
 
 /// Makes the set the states that edges which read nothing lead to from some states.
-fn close_kernel(nfa: &Nfa, kernel: &[usize], set: &mut StateSet) -> Result<(), AllocError>
+fn close_kernel(nfa: &Nfa, kernel: &[usize], set: &mut NfaStateSet) -> Result<(), AllocError>
     requires bound { vec_len set.old.places ≡ vec_len nfa.now.states }
     requires inside { All (λ q. q < vec_len nfa.now.states) kernel.now }
     ensures closed { OnOk result (IsEpsilonClosure (nfa_view nfa.now) kernel.now set.new.members.items) }
@@ -43,7 +43,7 @@ impl States {
         alloc: Global,
         nfa: &Nfa,
         kernel: &[usize],
-        scratch: &mut StateSet,
+        scratch: &mut NfaStateSet,
     ) -> Result<usize, AllocError>
         requires rises { IsStrictlyIncreasing kernel.now }
         requires bound { vec_len scratch.old.places ≡ vec_len nfa.now.states }
@@ -76,7 +76,7 @@ impl States {
         alloc: Global,
         nfa: &Nfa,
         kernel: &[usize],
-        scratch: &mut StateSet,
+        scratch: &mut NfaStateSet,
     ) -> Result<usize, AllocError>
         requires bound { vec_len scratch.old.places ≡ vec_len nfa.now.states }
         requires inside { All (λ q. q < vec_len nfa.now.states) kernel.now }

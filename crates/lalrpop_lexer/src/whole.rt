@@ -18,7 +18,7 @@ use crate::pieces::pieces_of;
 use crate::row::row_of;
 use crate::slices::Slices;
 use crate::states::States;
-use lalrpop_lexer_nfa::{Nfa, START, StateSet, Test};
+use lalrpop_lexer_nfa::{Nfa, NfaStateSet, START, Test};
 use std::alloc::{AllocError, Global};
 
 /// All states of the automaton, before it is known what they accept.
@@ -51,7 +51,7 @@ fn push_state(
 }
 
 /// The state that the empty word leads to, alone.
-fn first_state(alloc: Global, nfa: &Nfa, scratch: &mut StateSet) -> Result<States, AllocError>
+fn first_state(alloc: Global, nfa: &Nfa, scratch: &mut NfaStateSet) -> Result<States, AllocError>
     requires bound { vec_len scratch.old.places ≡ vec_len nfa.now.states }
     ensures found { IfOk result (λ known. (n : ℕ) × IsInterned (nfa_view nfa.now) (START.0 ∷ []) [] known.sets n) }
     ensures sets { IfOk result (λ known. AreInside (vec_len nfa.now.states) known.sets) }
@@ -79,7 +79,7 @@ fn explored_states(
     ensures states { IfOk result (λ whole. IsAutomaton (nfa_view nfa.now) START.0 whole.sets (edges_in whole.edges) (length whole.sets)) }
     ensures tables { IfOk result (λ whole. AreTables (length whole.sets) whole.edges whole.rows) }
 {
-    let mut scratch = StateSet::new(alloc, nfa.state_count())?;
+    let mut scratch = NfaStateSet::new(alloc, nfa.state_count())?;
     let mut known = first_state(alloc, nfa, &mut scratch)?;
     let mut edges = Slices::new(alloc);
     let mut rows = Slices::new(alloc);

@@ -8,7 +8,7 @@ use Rattle.std.proofs.lemmas.List.{append_cancel_right, nil_from_length}
 use Rattle.std.proofs.lemmas.Str.{chars-nil}
 use denote.Ref.{Bor}
 use Rattle.lalrpop_lexer_nfa.specs.declared.automaton.Nfa.{Nfa}
-use Rattle.lalrpop_lexer_nfa.specs.declared.state_set.StateSet.{StateSet}
+use Rattle.lalrpop_lexer_nfa.specs.declared.state_set.NfaStateSet.{NfaStateSet}
 use Rattle.lalrpop_lexer_nfa.specs.declared.automaton.TheConstants.{ACCEPT, START}
 use Rattle.lalrpop_lexer_nfa.specs.Paths.{nfa_view, Accepts}
 use Rattle.lalrpop_lexer_nfa.specs.Sets.{IsReachedSet, Inserts}
@@ -105,7 +105,7 @@ accepts_from_set nfa word set is = (
 )
 
 -- after the characters of a word
-pub record IsRunning (nfa : Nfa) (text rest word : List ℕ) (current next : StateSet) (found : Option (Bor (List ℕ))) : Type 0 where
+pub record IsRunning (nfa : Nfa) (text rest word : List ℕ) (current next : NfaStateSet) (found : Option (Bor (List ℕ))) : Type 0 where
   pub read : IsRead text rest word
   pub set : IsReachedSet (nfa_view nfa) START.0 word current.members.items
   pub inside : All (λ q. q < vec_len nfa.states) current.members.items

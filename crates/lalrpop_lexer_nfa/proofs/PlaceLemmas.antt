@@ -1,4 +1,4 @@
--- Members that stand where a set looks for them: none stands twice, and they are no more than the bound. For `StateSet`.
+-- Members that stand where a set looks for them: none stands twice, and they are no more than the bound. For `NfaStateSet`.
 use Rattle.std.proofs.Common.{◌≡◌, ◌≢◌, ℕ, zero, suc, ◌<◌, ◌≤◌, List, [], ◌∷◌, ◌++◌, length, get_or}
 use Rattle.std.proofs.Common.{set, All, Contains}
 use Rattle.std.proofs.Common.{sym, ap, ◌∙◌, arith, eqb, false, Bool, true, ⊎_elim, cond}

@@ -5,7 +5,7 @@ ghost use Rattle.lalrpop_lexer_nfa.specs.Paths.{Accepts};
 ghost use Rattle.lalrpop_lexer_nfa.specs.Fronts.{HasNoFront, IsLongestFront};
 
 use crate::automaton::{ACCEPT, Nfa, START};
-use crate::state_set::StateSet;
+use crate::state_set::NfaStateSet;
 use std::alloc::{AllocError, Global};
 use std::mem;
 
@@ -23,8 +23,8 @@ fn before<'t>(text: &'t str, rest: &str) -> &'t str
 pub fn interpret<'t>(alloc: Global, nfa: &Nfa, text: &'t str) -> Result<Option<&'t str>, AllocError>
     ensures { IfOk result (λ found. MatchOption found (HasNoFront nfa.now text.now) (λ front. IsLongestFront nfa.now text.now front.now)) }
 {
-    let mut current = StateSet::new(alloc, nfa.states.len())?;
-    let mut next = StateSet::new(alloc, nfa.states.len())?;
+    let mut current = NfaStateSet::new(alloc, nfa.states.len())?;
+    let mut next = NfaStateSet::new(alloc, nfa.states.len())?;
     current.insert(START.0)?;
     nfa.close(&mut current)?;
     let mut found = None;

@@ -28,5 +28,5 @@ pub use label::EdgeLabel;
 pub use laws::other_edges_reject;
 pub use overlap::remove_overlap;
 pub use state::{Edges, State, StateKind};
-pub use state_set::StateSet;
+pub use state_set::NfaStateSet;
 pub use test::Test;

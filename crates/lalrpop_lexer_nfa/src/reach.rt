@@ -6,13 +6,13 @@ ghost use Rattle.lalrpop_lexer_nfa.specs.Sets.{IsEpsilonClosure, IsSubsetStep, H
 
 use crate::automaton::Nfa;
 use crate::edge::{NfaStateIndex, Noop};
-use crate::state_set::StateSet;
+use crate::state_set::NfaStateSet;
 use crate::test::Test;
 use std::alloc::AllocError;
 
 impl Nfa {
     /// Adds the states that the epsilon edges from `state` lead to.
-    fn insert_targets(&self, state: usize, set: &mut StateSet) -> Result<(), AllocError>
+    fn insert_targets(&self, state: usize, set: &mut NfaStateSet) -> Result<(), AllocError>
         requires state { state < vec_len self.now.states }
         requires bound { vec_len set.old.places ≡ vec_len self.now.states }
         ensures targets { OnOk result (HasEpsilonTargets (nfa_view self.now) state set.old.members.items set.new.members.items) }
@@ -25,7 +25,7 @@ impl Nfa {
     }
 
     /// Adds to the set each state that epsilon edges lead to from its members: it becomes its epsilon closure.
-    pub fn close(&self, set: &mut StateSet) -> Result<(), AllocError>
+    pub fn close(&self, set: &mut NfaStateSet) -> Result<(), AllocError>
         requires bound { vec_len set.old.places ≡ vec_len self.now.states }
         requires inside { All (λ q. q < vec_len self.now.states) set.old.members.items }
         ensures closed { OnOk result (IsEpsilonClosure (nfa_view self.now) set.old.members.items set.new.members.items) }
@@ -42,7 +42,12 @@ impl Nfa {
     }
 
     /// Adds the states that the transitions from `state` lead to which read the number.
-    fn insert_read(&self, state: usize, number: u32, set: &mut StateSet) -> Result<(), AllocError>
+    fn insert_read(
+        &self,
+        state: usize,
+        number: u32,
+        set: &mut NfaStateSet,
+    ) -> Result<(), AllocError>
         requires state { state < vec_len self.now.states }
         requires bound { vec_len set.old.places ≡ vec_len self.now.states }
         ensures read { OnOk result (AddsTransitionTargets (nfa_view self.now) state number set.old.members.items set.new.members.items) }
@@ -57,7 +62,12 @@ impl Nfa {
     }
 
     /// Makes `next` the states that the number leads to from those of `set`.
-    pub fn step(&self, set: &StateSet, number: u32, next: &mut StateSet) -> Result<(), AllocError>
+    pub fn step(
+        &self,
+        set: &NfaStateSet,
+        number: u32,
+        next: &mut NfaStateSet,
+    ) -> Result<(), AllocError>
         requires inside { All (λ q. q < vec_len self.now.states) set.now.members.items }
         requires bound { vec_len next.old.places ≡ vec_len self.now.states }
         ensures step { OnOk result (IsSubsetStep (nfa_view self.now) set.now.members.items number next.new.members.items) }

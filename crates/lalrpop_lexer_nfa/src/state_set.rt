@@ -10,20 +10,20 @@ use std::alloc::{AllocError, Global};
 ///
 /// To empty it takes no time. To insert a number, or to ask for one, takes the same for every number.
 #[derive(Drop)]
-pub struct StateSet {
+pub struct NfaStateSet {
     members: Vec<usize>,
     places: Vec<usize>,
     pub ghost below: { All (λ q. q < vec_len places) members.items },
     pub ghost placed: { ArePlaced members.items places.items },
 }
 
-impl StateSet {
+impl NfaStateSet {
     /// The set without members, for numbers below `bound`.
-    pub fn new(alloc: Global, bound: usize) -> Result<StateSet, AllocError>
+    pub fn new(alloc: Global, bound: usize) -> Result<NfaStateSet, AllocError>
         ensures members { IfOk result (λ s. s.members.items ≡ []) }
         ensures bound { IfOk result (λ s. vec_len s.places ≡ bound) }
     {
-        Ok(StateSet {
+        Ok(NfaStateSet {
             members: Vec::new(alloc),
             places: vec![in alloc; 0; bound]?,
         })

@@ -7,7 +7,7 @@ use lalrpop_lexer::nfa::{
     StateKind, Test,
 };
 use lalrpop_lexer::re::{Regex, parse_literal};
-use lalrpop_lexer_nfa::{FIRST_ACCEPT, StateSet};
+use lalrpop_lexer_nfa::{FIRST_ACCEPT, NfaStateSet};
 use lalrpop_lexer_regex::parse_regex;
 use std::alloc::Global;
 use std::process::Abort;
@@ -81,8 +81,8 @@ fn count_of(rt: &impl Abort, alloc: Global, pattern: &str) -> usize {
 
 /// Of the copies that may be left out only the next one is entered.
 fn enters_the_next_copy(rt: &impl Abort, alloc: Global, counted: &Nfa) {
-    let mut set = StateSet::new(alloc, counted.state_count()).expect(rt, "memory");
-    let mut next = StateSet::new(alloc, set.limit()).expect(rt, "memory");
+    let mut set = NfaStateSet::new(alloc, counted.state_count()).expect(rt, "memory");
+    let mut next = NfaStateSet::new(alloc, set.limit()).expect(rt, "memory");
     let fresh = set.insert(START.0).expect(rt, "memory");
     let again = set.insert(START.0).expect(rt, "memory");
     check(rt, fresh & !again);
@@ -103,8 +103,8 @@ fn repetitions_stay_small(rt: HostRuntime) {
 
 /// That `b` leads from the start to the second pattern's end.
 fn reads_the_second(rt: &impl Abort, alloc: Global, nfa: &Nfa) {
-    let mut set = StateSet::new(alloc, nfa.state_count()).expect(rt, "memory");
-    let mut next = StateSet::new(alloc, nfa.state_count()).expect(rt, "memory");
+    let mut set = NfaStateSet::new(alloc, nfa.state_count()).expect(rt, "memory");
+    let mut next = NfaStateSet::new(alloc, nfa.state_count()).expect(rt, "memory");
     set.insert(START.0).expect(rt, "memory");
     nfa.close(&mut set).expect(rt, "memory");
     check(rt, set.members().len() == 3);

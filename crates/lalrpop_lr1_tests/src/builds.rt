@@ -30,7 +30,7 @@ const CANONICAL_IN_ORDER: &str =
 const COLLAPSED_IN_ORDER: &str =
     r#"0 C 1 S 3 "c" 2 "d" 4; 1 C 5 "c" 2 "d" 4; 2 C 6 "c" 2 "d" 4; 3; 4; 5; 6; "#;
 
-/// Lane tables.
+/// By lanes, with so many copies.
 const LANES: Method = Method::Lane { copies: 9 };
 
 /// Which states are made.
@@ -107,7 +107,7 @@ fn lead(
     check(rt, may.expect(rt, "memory"));
 }
 
-/// The states of the canonical way are these; those of lane tables are the canonical ones, whatever the grammar asks for.
+/// The states of the canonical way are these; those by lanes are the ones put together, whatever the grammar asks for.
 fn lead_in_order(
     rt: &impl Abort,
     alloc: Global,
@@ -127,7 +127,7 @@ fn lead_in_order(
         Method::Canonical,
         canonical,
     );
-    lead(rt, alloc, grammar, start, kind, LANES, CANONICAL_IN_ORDER);
+    lead(rt, alloc, grammar, start, kind, LANES, COLLAPSED_IN_ORDER);
 }
 
 fn lead_by_either_method(
@@ -140,9 +140,9 @@ fn lead_by_either_method(
 {
     let canonical = Method::Canonical;
     lead(rt, alloc, grammar, start, Kind::Lr1, canonical, CANONICAL);
-    lead(rt, alloc, grammar, start, Kind::Lr1, LANES, CANONICAL);
+    lead(rt, alloc, grammar, start, Kind::Lr1, LANES, COLLAPSED);
     lead(rt, alloc, grammar, start, Kind::Lalr, canonical, COLLAPSED);
-    lead(rt, alloc, grammar, start, Kind::Lalr, LANES, CANONICAL);
+    lead(rt, alloc, grammar, start, Kind::Lalr, LANES, COLLAPSED);
     lead_in_order(rt, alloc, grammar, start, CANONICAL_IN_ORDER);
 }
 

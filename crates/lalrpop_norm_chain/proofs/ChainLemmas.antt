@@ -29,7 +29,7 @@ use Rattle.lalrpop_norm_theory.specs.Keys.{leveled_key_text, IsNaming}
 use Rattle.lalrpop_norm_theory.specs.NamesByUse.{IsNamingByUse}
 use Rattle.lalrpop_norm_theory.specs.Inlined.{IsInlined, SameInlined}
 use Rattle.lalrpop_norm_theory.specs.Productions.{NamedProduction, StandsForLabel}
-use Rattle.lalrpop_norm_theory.specs.Types.{IsGrounded, SameTypes}
+use Rattle.lalrpop_norm_theory.specs.Types.{GroundType, IsGrounded, IsGroundedIn, SameTypes}
 use Rattle.lalrpop_norm_theory.proofs.PassLemmas.{productions_before}
 use Rattle.lalrpop_norm_theory.proofs.ExpansionListLemmas.{rule_there}
 use Rattle.lalrpop_norm_theory.specs.KeyRules.{by_name, nonterminal_by_name}
@@ -114,7 +114,8 @@ naming_same text_of prefix g a b same there n = record {
 
 -- right sides have no starts
 
-side_symbols : (g : EnabledGrammar) (x : Nonterminal) (o : Origin) (side : RightSide) → Produces g x o side →
+-- a right side has the symbols of closed ones
+pub side_symbols : (g : EnabledGrammar) (x : Nonterminal) (o : Origin) (side : RightSide) → Produces g x o side →
     (xs : List Closed) × (side ≡ map grammar_symbol xs)
 side_symbols g (Nonterminal.start n) o side m = (Closed.call n Closeds.none (loosest m.0) ∷ [], m.5)
 side_symbols g (Nonterminal.closed (Closed.call n args level)) o side (inl m) =
@@ -199,7 +200,7 @@ module _ (finds : Text → Text → Option Bool) (features : List Text) (w : Gra
     same_checked = subst (λ (g : EnabledGrammar). SameExpansion written g to) (sym checked_is)
         (same_expanded finds features w c.leveled c.expanded c.front)
 
-    expanded_still : IsExpanded checked
+    pub expanded_still : IsExpanded checked
     expanded_still = subst IsExpanded (sym checked_is) c.front.macros.expanded
 
     -- prefixes
@@ -321,7 +322,7 @@ module _ (finds : Text → Text → Option Bool) (features : List Text) (w : Gra
 
     -- actions
 
-    rule_expands : (r : EnabledRule) → Among checked.rules r
+    pub rule_expands : (r : EnabledRule) → Among checked.rules r
         → InExpansion checked (Nonterminal.closed (Closed.call r.name Closeds.none None))
     rule_expands r i =
         (zero, inr (r, None, expanded_still.rules r i, expanded_still.no_macros r i, expanded_still.no_levels r i, refl))
@@ -425,6 +426,21 @@ module _ (finds : Text → Text → Option Bool) (features : List Text) (w : Gra
         let q = among_map rule_between (rules_of c.checked.items) r there.0 in
         (q.0, q.1, ap (λ (e : EnabledRule). e.name) q.2 ∙ there.1)
 
+    grounded_in : (n : Text) (k : ℕ) (t : GroundType) → IsGroundedIn checked k (rule_symbol n) t
+        → InExpansion checked (Nonterminal.closed (rule_symbol n))
+    grounded_in n zero t h = absurd h
+    grounded_in n (suc k) t h = h.0
+
+    -- what has a type is a nonterminal
+    typed_name : (n : Text) (t : TypeRepr) → (at_name (nonterminal_of n) c.inferred ≡ Some t)
+        ⊎ ((m : Text) × InExpansion checked (Nonterminal.start m) × (n ≡ start_name v.prefix m))
+        → (x : Nonterminal) × InExpansion written x × (name_of x ≡ n)
+    typed_name n t (inl e) =
+        let grounded = c.types.right n t e in
+        let u = same_checked.no_other (Nonterminal.closed (rule_symbol n)) (grounded_in n grounded.0 (type_repr_view t) grounded.1) in
+        (u.0, u.1, ap c.lowered.name_of (sym u.2) ∙ c.lowered.rule_names n)
+    typed_name n t (inr s) = (Nonterminal.start s.0, start_from s.0 s.1, c.lowered.start_names s.0 ∙ sym s.2)
+
     pub types_are : HasExpansionTypes written name_of v.types
     types_are = record {
       typed = λ x i.
@@ -457,6 +473,7 @@ module _ (finds : Text → Text → Option Bool) (features : List Text) (w : Gra
           ap (λ (t : Text). at_name (nonterminal_of t) v.types) (c.lowered.start_names n)
           ∙ c.lowered.start_types n (same_checked.there (Nonterminal.start n) i)
           ∙ ap (λ (t : Text). at_name (nonterminal_of t) v.types) (sym rule_name);
+      no_other = λ n t e. typed_name n t (c.lowered.no_other_type n t e);
     }
 
     -- entries

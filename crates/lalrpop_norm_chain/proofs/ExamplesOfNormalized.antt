@@ -1,480 +1,41 @@
--- Computed examples of a normalized grammar, of literals in use, of a free prefix and of alternatives in order; and near misses.
-use Prim.Native.String.{String}
-use Rattle.std.specs.Fmt.{digits}
-use Rattle.std.proofs.Common.{◌≡◌, ◌≢◌, ℕ, List, [], ◌∷◌, ◌++◌, refl, sym, ◌∙◌, subst, inl, inr, arith}
-use Rattle.std.proofs.Common.{Bool, true, false, ap, ◌⊎◌, ◌↔◌}
-use Rattle.std.specs.Prelude.{Option, Some, None, IsSomeAnd, codes, length, flat_map, slice_get}
-use Rattle.std.proofs.lemmas.Bool.{true≢false}
-use Rattle.lalrpop_grammar_symbols.specs.Texts.{escape_byte}
-use Rattle.lalrpop_grammar_symbols.specs.Symbols.{Text, TextSpan, Closed, Closeds, Terminal}
-use Rattle.lalrpop_grammar_symbols.specs.Views.{terminal_view}
-use Rattle.lalrpop_grammar_symbols.specs.contracts.terminal.TerminalStringOrd.TheImpl as terminal_order
-use Rattle.lalrpop_grammar_symbols.specs.declared.terminal.TerminalLiteral.TheVariants as literal
-use Rattle.lalrpop_grammar_symbols.specs.declared.terminal.TerminalString.{TerminalString}
-use Rattle.lalrpop_grammar_symbols.specs.declared.terminal.TerminalString.TheVariants as terminal
-use Rattle.lalrpop_grammar.specs.WrittenGrammar.{Action, Origin, EntryMapping, InternEntry, Grammar, Ty, WrittenItem, ConditionTest}
+-- Computed examples of literals in use, and of a normalized grammar.
+use Rattle.std.proofs.Common.{◌≡◌, ℕ, List, [], ◌∷◌, refl, subst, inl, inr, arith}
+use Rattle.std.proofs.Common.{true, ◌↔◌}
+use Rattle.std.specs.Prelude.{None, codes, length, flat_map}
+use Rattle.lalrpop_grammar_symbols.specs.Symbols.{Terminal}
+use Rattle.lalrpop_grammar.specs.WrittenGrammar.{Origin}
 use Rattle.lalrpop_grammar_language.specs.Among.{Among}
-use Rattle.lalrpop_grammar_language.specs.Enabled.{Choice, EnabledGrammar, EnabledRule, IsRule, enabled_grammar}
-use Rattle.lalrpop_grammar_language.specs.Levels.{loosest}
-use Rattle.lalrpop_grammar_language.specs.Expansion.{GrammarSymbol, Nonterminal, InExpansion, RightSide, WrittenLabel}
-use Rattle.lalrpop_grammar_language.proofs.WrittenTreeLemmas.{here, lit, alt, rule_of, grammar, finds, of_macro, macro_of, on_K}
-use Rattle.lalrpop_norm_theory.proofs.ExpansionListLemmas.{is_all, reached-in, all-of}
+use Rattle.lalrpop_grammar_language.specs.Enabled.{EnabledGrammar}
+use Rattle.lalrpop_grammar_language.specs.Expansion.{GrammarSymbol, Nonterminal, RightSide}
+use Rattle.lalrpop_grammar_language.proofs.WrittenTreeLemmas.{finds}
+use Rattle.lalrpop_norm_theory.proofs.ExpansionListLemmas.{is_all, all-of}
 use Rattle.lalrpop_grammar_language.proofs.AmongLemmas.{flat_map_among}
-use Rattle.lalrpop_grammar_repr.specs.Maps.{at_name, at_terminal}
-use Rattle.lalrpop_grammar.specs.TypeReprs.{named_type}
-use Rattle.lalrpop_grammar.specs.declared.types.type_repr.TypeRepr.{TypeRepr}
-use Rattle.lalrpop_grammar.specs.declared.types.type_repr.TypeRepr.TheFolds.{fold-roll-TypeRepr}
-use Rattle.lalrpop_grammar.specs.declared.types.type_repr.TypeRepr.TheOpen as layer
-use Rattle.lalrpop_grammar.specs.declared.types.type_repr.TypeRepr.TheVariants as types
-use Rattle.lalrpop_norm_theory.specs.Keys.{leveled_key_text}
-use Rattle.lalrpop_norm_theory.specs.NamesByUse.{IsNamingByUse}
-use Rattle.lalrpop_norm_theory.proofs.UsedListLemmas.{keys-by-use}
-use Rattle.lalrpop_norm_theory.specs.Productions.{NamedProduction, AreProductions, StandsForLabel}
-use Rattle.lalrpop_norm_theory.specs.Inlined.{IsInlined}
-use Rattle.lalrpop_norm_theory.specs.Types.{GroundType, IsGrounded, text_type}
-use Rattle.lalrpop_norm_theory.proofs.NamingListLemmas.{name_by, naming-is}
 use Rattle.lalrpop_norm_theory.proofs.ProductionListLemmas.{listed, is_production, productions_of}
-use Rattle.lalrpop_norm_theory.proofs.RowListLemmas.{expansion_productions}
-use Rattle.lalrpop_norm_theory.proofs.DerivableTypeLemmas.{type-in-table}
 use Rattle.lalrpop_lexer_pattern.specs.Matches.{Pattern}
 use Rattle.lalrpop_lexer_pattern.specs.Wins.{HasNoTie}
-use Rattle.lalrpop_norm_token_check.specs.Entries.{tokenizer_entries}
 use Rattle.lalrpop_norm_token_check.specs.Patterns.{entry_patterns, entry_precedences}
-use Rattle.lalrpop_norm_tyinfer.specs.GroundViews.{type_repr_view, ground_step, ground_nominal_step}
-use Rattle.lalrpop_norm_tyinfer.specs.TerminalTypes.{AreTerminalTypes}
-use Rattle.lalrpop_norm_tyinfer.specs.TypeFaults.{nonterminal_of}
-use Rattle.lalrpop_norm_tyinfer.proofs.GroundLemmas.{view-nominal, view-ref}
-use Rattle.lalrpop_norm_lower.specs.Definitions.{definition_of}
-use Rattle.lalrpop_norm_lower.proofs.OrderLemmas.{equal_terminals}
-use Rattle.lalrpop_norm_lower.proofs.PutLemmas.{found_among}
-use Rattle.lalrpop_norm_chain.specs.UsedLiterals.{IsUsedLiteral, AreUsedLiterals, AreFullExpansionEntries}
-use Rattle.lalrpop_norm_chain.specs.Actions.{ChoiceDoes}
-use Rattle.lalrpop_norm_chain.specs.Spans.{HasOwnSpan, IsRuleSpan, IsWrittenSpan, StandsByChoice}
-use Rattle.lalrpop_norm_chain.specs.Lowered.{LoweredGrammar, HasDefinition, IsTerminalOf}
-use Rattle.lalrpop_norm_chain.specs.PremiseLaws.{HasFreePrefix, AreInOrder}
-use Rattle.lalrpop_norm_chain.specs.Normalized.{IsNormalized, HasExpansionTypes, HasWrittenActions, HasWrittenSpans}
-use Rattle.lalrpop_norm_chain.proofs.ExamplesOfSpans.{group_at_grammar_refused, group_made, grouped, the_group}
+use Rattle.lalrpop_norm_chain.specs.UsedLiterals.{IsUsedLiteral, AreFullExpansionEntries}
+use Rattle.lalrpop_norm_chain.specs.Normalized.{IsNormalized}
+use Rattle.lalrpop_norm_chain.proofs.ExamplesOfNormalizedParts.{a, action_order, actions, attributes, expansion_types, g, in_rule, inlined}
+use Rattle.lalrpop_norm_chain.proofs.ExamplesOfNormalizedParts.{lowered, name_of, names, naming, nonterminals, one, productions, s, spans}
+use Rattle.lalrpop_norm_chain.proofs.ExamplesOfNormalizedParts.{starts, starts_alone, terminal_types, terminals}
 
--- S: u8 = "a", where S is public
-abbrev one : Grammar
-one = grammar (WrittenItem.nonterminal (record {
-  public = true;
-  name = codes "S";
-  attributes = [];
-  span = here;
-  parameters = [];
-  declared = Some (Ty.opaque (codes "u8"));
-  alternatives = alt (lit "a" ∷ []) ∷ [];
-}) ∷ [])
+-- the literals of the expansion of S: u8 = "a", the tokenizer's entries
 
-abbrev g : EnabledGrammar
-g = enabled_grammar finds [] one
-
-abbrev s : Closed
-s = Closed.call (codes "S") Closeds.none None
-
-abbrev nonterminals : List Nonterminal
-nonterminals = Nonterminal.start (codes "S") ∷ Nonterminal.closed s ∷ []
-
-abbrev a : Terminal
-a = Terminal.quoted (codes "a")
-
-abbrev name_of : Nonterminal → Text
-name_of = name_by (leveled_key_text g) (codes "__") []
-
--- `&'input str`
-abbrev terminal_a : TerminalString
-terminal_a = terminal.Literal (literal.Quoted (codes "a"))
-
-abbrev text_reference : TypeRepr
-text_reference = types.Ref (Some (codes "'input")) false (named_type (codes "str"))
-
-abbrev lowered : LoweredGrammar
-lowered = record {
-  prefix = codes "__";
-  productions = record { nonterminal = codes "__S"; symbols = GrammarSymbol.nonterminal (codes "S") ∷ []; action = 0 }
-      ∷ record { nonterminal = codes "S"; symbols = GrammarSymbol.terminal a ∷ []; action = 1 } ∷ [];
-  spans = (record { nonterminal = codes "__S"; symbols = GrammarSymbol.nonterminal (codes "S") ∷ []; action = 0 }, here)
-      ∷ (record { nonterminal = codes "S"; symbols = GrammarSymbol.terminal a ∷ []; action = 1 }, here) ∷ [];
-  origins = Origin.start ∷ Origin.alternative (codes "S") [] 0 ∷ [];
-  definitions = definition_of (types.Opaque (codes "u8")) Action.default
-      ∷ definition_of (types.Opaque (codes "u8")) (Action.user (codes "()")) ∷ [];
-  nonterminals = codes "S" ∷ codes "__S" ∷ [];
-  places = (codes "S", here) ∷ (codes "__S", here) ∷ [];
-  starts = (codes "S", codes "__S") ∷ [];
-  inlined = [];
-  terminals = a ∷ [];
-  types = (nonterminal_of (codes "S"), types.Opaque (codes "u8")) ∷ (nonterminal_of (codes "__S"), types.Opaque (codes "u8")) ∷ [];
-  terminal_types = (terminal_a, text_reference) ∷ [];
-  lalr = false;
-  entries = record { precedence = 3; literal = a; mapping = EntryMapping.terminal a } ∷ [];
-}
-
-productions : AreProductions g name_of lowered.productions lowered.origins
-unfolding digits escape_byte
-productions = expansion_productions g 1 nonterminals name_of refl refl refl
-
-naming : IsNamingByUse (leveled_key_text g) (codes "__") g name_of
-unfolding digits
-naming = record {
-  naming = naming-is g (leveled_key_text g) (codes "__") [] 1 nonterminals refl refl refl;
-  levels = tt;
-  others = [];
-  in_order = keys-by-use g [] refl;
-  numbered = tt;
-}
-
-in_rule : InExpansion g (Nonterminal.closed s)
-in_rule = reached-in g 0 (Nonterminal.closed s) (inr (inl refl))
-
-in_start : InExpansion g (Nonterminal.start (codes "S"))
-in_start = reached-in g 0 (Nonterminal.start (codes "S")) (inl refl)
-
-no_other : (x : Nonterminal) → InExpansion g x → (Nonterminal.start (codes "S") ≡ x) ⊎ (Nonterminal.closed s ≡ x)
-no_other x i = go (all-of g nonterminals refl x i)
-  where
-    go : Among nonterminals x → (Nonterminal.start (codes "S") ≡ x) ⊎ (Nonterminal.closed s ≡ x)
-    go (inl e) = inl e
-    go (inr (inl e)) = inr e
-    go (inr (inr m)) = absurd m
-
-names : (n : Text) → Among lowered.nonterminals n ↔ ((x : Nonterminal) × InExpansion g x × (name_of x ≡ n))
-unfolding digits
-names n = (there, λ u. here_too u.0 u.1 u.2)
-  where
-    there : Among lowered.nonterminals n → (x : Nonterminal) × InExpansion g x × (name_of x ≡ n)
-    there (inl e) = (Nonterminal.closed s, in_rule, e)
-    there (inr (inl e)) = (Nonterminal.start (codes "S"), in_start, e)
-    there (inr (inr m)) = absurd m
-
-    here_too : (x : Nonterminal) → InExpansion g x → name_of x ≡ n → Among lowered.nonterminals n
-    here_too x i e = go (no_other x i)
-      where
-        go : (Nonterminal.start (codes "S") ≡ x) ⊎ (Nonterminal.closed s ≡ x) → Among lowered.nonterminals n
-        go (inl f) = inr (inl (subst (λ (y : Nonterminal). name_of y ≡ n) (sym f) e))
-        go (inr f) = inl (subst (λ (y : Nonterminal). name_of y ≡ n) (sym f) e)
-
-abbrev start_of : Text → Text
-start_of n = codes "__" ++ n
-
-starts : (n m : Text) → Among lowered.starts (n, m) ↔ (InExpansion g (Nonterminal.start n) × (m ≡ start_of n))
-starts n m = (there, λ u. here_too u.0 u.1)
-  where
-    there : Among lowered.starts (n, m) → InExpansion g (Nonterminal.start n) × (m ≡ start_of n)
-    there (inl e) = subst (λ (p : Text × Text). InExpansion g (Nonterminal.start p.0) × (p.1 ≡ start_of p.0)) e (in_start, refl)
-    there (inr m) = absurd m
-
-    here_too : InExpansion g (Nonterminal.start n) → m ≡ start_of n → Among lowered.starts (n, m)
-    here_too i e = go (no_other (Nonterminal.start n) i)
-      where
-        go : (Nonterminal.start (codes "S") ≡ Nonterminal.start n) ⊎ (Nonterminal.closed s ≡ Nonterminal.start n) →
-            Among lowered.starts (n, m)
-        go (inl f) =
-            let same : codes "S" ≡ n = cc in
-            subst (λ (k : Text). Among lowered.starts (n, k)) (sym e) (inl (ap (λ (k : Text). (k, start_of k)) same))
-        go (inr f) = cc
-
-starts_alone : (n : Text) (p : NamedProduction) → InExpansion g (Nonterminal.start n) → Among lowered.productions p →
-    Among p.symbols (GrammarSymbol.nonterminal (start_of n)) → ⊥
-starts_alone n p i (inl e) m =
-    go (subst (λ (q : NamedProduction). Among q.symbols (GrammarSymbol.nonterminal (start_of n))) (sym e) m)
-  where
-    go : Among (GrammarSymbol.nonterminal (codes "S") ∷ []) (GrammarSymbol.nonterminal (start_of n)) → ⊥
-    go (inl f) = cc
-    go (inr k) = absurd k
-starts_alone n p i (inr (inr k)) m = absurd k
-starts_alone n p i (inr (inl e)) m =
-    go (subst (λ (q : NamedProduction). Among q.symbols (GrammarSymbol.nonterminal (start_of n))) (sym e) m)
-  where
-    go : Among (GrammarSymbol.terminal a ∷ []) (GrammarSymbol.nonterminal (start_of n)) → ⊥
-    go (inl f) = cc
-    go (inr k) = absurd k
-
-abbrev first_inlined : List EnabledRule → Bool
-first_inlined [] = false
-first_inlined (r ∷ rs) = r.inlined
-
-inlined : (x : Nonterminal) → InExpansion g x → Among lowered.inlined (name_of x) ↔ IsInlined g x
-inlined x i = go (no_other x i)
-  where
-    no_rule : IsInlined g (Nonterminal.closed s) → Among lowered.inlined (name_of (Nonterminal.closed s))
-    no_rule u = go u.0 u.1 u.2
-      where
-        go : (r : EnabledRule) → IsRule g (codes "S") r → r.inlined ≡ true → ⊥
-        go r e f = let no : false ≡ r.inlined = ap first_inlined e in true≢false (sym f ∙ sym no)
-
-    go : (Nonterminal.start (codes "S") ≡ x) ⊎ (Nonterminal.closed s ≡ x) → Among lowered.inlined (name_of x) ↔ IsInlined g x
-    go (inl e) = subst (λ (y : Nonterminal). Among lowered.inlined (name_of y) ↔ IsInlined g y) e ((λ m. m), (λ m. m))
-    go (inr e) = subst (λ (y : Nonterminal). Among lowered.inlined (name_of y) ↔ IsInlined g y) e ((λ m. absurd m), no_rule)
-
-terminals : (t : Terminal) → Among lowered.terminals t ↔ IsTerminalOf lowered t
-terminals t = (there, here_too)
-  where
-    there : Among lowered.terminals t → IsTerminalOf lowered t
-    there (inl e) = inr (record { precedence = 3; literal = a; mapping = EntryMapping.terminal a }, inl refl, ap EntryMapping.terminal e)
-    there (inr m) = absurd m
-
-    of_side : (p : NamedProduction) → Among lowered.productions p → Among p.symbols (GrammarSymbol.terminal t) →
-        Among lowered.terminals t
-    of_side p (inl e) m = go (subst (λ (q : NamedProduction). Among q.symbols (GrammarSymbol.terminal t)) (sym e) m)
-      where
-        go : Among (GrammarSymbol.nonterminal (codes "S") ∷ []) (GrammarSymbol.terminal t) → Among lowered.terminals t
-        go (inl f) = cc
-        go (inr k) = absurd k
-    of_side p (inr (inr k)) m = absurd k
-    of_side p (inr (inl e)) m = go (subst (λ (q : NamedProduction). Among q.symbols (GrammarSymbol.terminal t)) (sym e) m)
-      where
-        go : Among {A = GrammarSymbol Text} (GrammarSymbol.terminal a ∷ []) (GrammarSymbol.terminal t) → Among lowered.terminals t
-        go (inl f) = inl (let e : a ≡ t = cc in e)
-        go (inr k) = absurd k
-
-    here_too : IsTerminalOf lowered t → Among lowered.terminals t
-    here_too (inl u) = of_side u.0 u.1 u.2
-    here_too (inr u) = go u.0 u.1 u.2
-      where
-        go : (e : InternEntry) → Among lowered.entries e → e.mapping ≡ EntryMapping.terminal t → Among lowered.terminals t
-        go e (inl f) m =
-            let same : EntryMapping.terminal a ≡ EntryMapping.terminal t = ap (λ (x : InternEntry). x.mapping) f ∙ m in
-            inl (let e : a ≡ t = cc in e)
-        go e (inr k) m = absurd k
-
-abbrev u8 : GroundType
-u8 = GroundType.opaque (codes "u8")
-
-lowered_u8 : type_repr_view (types.Opaque (codes "u8")) ≡ u8
-lowered_u8 =
-    ap type_repr_view (sym (types.rolls-Opaque (codes "u8")))
-    ∙ fold-roll-TypeRepr GroundType GroundType ground_step ground_nominal_step (layer.Opaque (codes "u8"))
-
-typed : IsGrounded g s u8
-typed = (1, (in_rule, inl (record { rule = _; is_rule = refl; written = Ty.opaque (codes "u8"); declared = refl; type_is = refl })))
-
-one_type : (t : GroundType) → IsGrounded g s t → Some u8 ≡ Some t
-one_type t h = type-in-table g ((s, u8) ∷ []) nonterminals refl s t h
-
-abbrev first_loosest : List EnabledRule → Option ℕ
-first_loosest [] = None
-first_loosest (r ∷ rs) = loosest r
-
-expansion_types : HasExpansionTypes g name_of lowered.types
-unfolding digits
-expansion_types = record {
-  typed = typed_each;
-  once = once;
-  starts = starts_too;
-}
-  where
-    typed_each : (x : Closed) → InExpansion g (Nonterminal.closed x)
-        → IsSomeAnd (at_name (nonterminal_of (name_of (Nonterminal.closed x))) lowered.types) (λ t. IsGrounded g x (type_repr_view t))
-    typed_each x i = go (no_other (Nonterminal.closed x) i)
-      where
-        go : (Nonterminal.start (codes "S") ≡ Nonterminal.closed x) ⊎ (Nonterminal.closed s ≡ Nonterminal.closed x) →
-            IsSomeAnd (at_name (nonterminal_of (name_of (Nonterminal.closed x))) lowered.types) (λ t. IsGrounded g x (type_repr_view t))
-        go (inl e) = cc
-        go (inr e) = subst (λ (y : Closed). IsSomeAnd (at_name (nonterminal_of (name_of (Nonterminal.closed y))) lowered.types)
-            (λ t. IsGrounded g y (type_repr_view t))) (let f : s ≡ x = cc in f)
-            (subst (λ (t : GroundType). IsGrounded g s t) (sym lowered_u8) typed)
-
-    once : (x : Closed) (t u : GroundType) → InExpansion g (Nonterminal.closed x) → IsGrounded g x t → IsGrounded g x u → t ≡ u
-    once x t u i h k = go (no_other (Nonterminal.closed x) i)
-      where
-        go : (Nonterminal.start (codes "S") ≡ Nonterminal.closed x) ⊎ (Nonterminal.closed s ≡ Nonterminal.closed x) → t ≡ u
-        go (inl e) = cc
-        go (inr e) =
-            let same : x ≡ s = cc in
-            let one : Some u8 ≡ Some t = one_type t (subst (λ (y : Closed). IsGrounded g y t) same h) in
-            let two : Some u8 ≡ Some u = one_type u (subst (λ (y : Closed). IsGrounded g y u) same k) in
-            let both : Some t ≡ Some u = sym one ∙ two in
-            cc
-
-    starts_too : (n : Text) (r : EnabledRule) → InExpansion g (Nonterminal.start n) → IsRule g n r
-        → at_name (nonterminal_of (name_of (Nonterminal.start n))) lowered.types
-        ≡ at_name (nonterminal_of (name_of (Nonterminal.closed (Closed.call n Closeds.none (loosest r))))) lowered.types
-    starts_too n r i e = go (no_other (Nonterminal.start n) i)
-      where
-        go : (Nonterminal.start (codes "S") ≡ Nonterminal.start n) ⊎ (Nonterminal.closed s ≡ Nonterminal.start n)
-            → at_name (nonterminal_of (name_of (Nonterminal.start n))) lowered.types
-            ≡ at_name (nonterminal_of (name_of (Nonterminal.closed (Closed.call n Closeds.none (loosest r))))) lowered.types
-        go (inr f) = cc
-        go (inl f) =
-            let same : codes "S" ≡ n = cc in
-            subst (λ (m : Text). IsRule g m r → at_name (nonterminal_of (name_of (Nonterminal.start m))) lowered.types
-            ≡ at_name (nonterminal_of (name_of (Nonterminal.closed (Closed.call m Closeds.none (loosest r))))) lowered.types) same
-            (λ d. subst (λ (l : Option ℕ). at_name (nonterminal_of (name_of (Nonterminal.start (codes "S")))) lowered.types
-            ≡ at_name (nonterminal_of (name_of (Nonterminal.closed (Closed.call (codes "S") Closeds.none l)))) lowered.types)
-            (ap first_loosest d) refl) e
-
-is_text : type_repr_view text_reference ≡ text_type
-is_text =
-    view-ref (Some (codes "'input")) false (named_type (codes "str"))
-    ∙ ap (λ t. GroundType.ref (Some (codes "'input")) false t) (view-nominal (codes "str") [])
-
--- the terminal that is seen so
-only_a : (t : TerminalString) → a ≡ terminal_view t → terminal_a ≡ t
-only_a (terminal.Literal (literal.Quoted k)) e =
-    let same : codes "a" ≡ k = cc in ap (λ x. terminal.Literal (literal.Quoted x)) same
-only_a (terminal.Literal (literal.Regex k)) e = absurd (let wrong : ⊥ = cc in wrong)
-only_a (terminal.Bare n) e = absurd (let wrong : ⊥ = cc in wrong)
-only_a terminal.Error e = absurd (let wrong : ⊥ = cc in wrong)
-
-terminal_types : AreTerminalTypes lowered.terminals lowered.terminal_types
-terminal_types = record { typed = typed_each; only = only_typed }
-  where
-    typed_each : (t : TerminalString) → Among lowered.terminals (terminal_view t)
-        → IsSomeAnd (at_terminal t lowered.terminal_types) (λ u. type_repr_view u ≡ text_type)
-    typed_each t (inl e) =
-        subst (λ x. IsSomeAnd (at_terminal x lowered.terminal_types) (λ u. type_repr_view u ≡ text_type)) (only_a t e) is_text
-    typed_each t (inr i) = absurd i
-
-    only_typed : (t : TerminalString) (u : TypeRepr) → at_terminal t lowered.terminal_types ≡ Some u
-        → Among lowered.terminals (terminal_view t)
-    only_typed t u e = go (found_among (terminal_order.ghosts).cmp equal_terminals lowered.terminal_types t u e)
-      where
-        go : Among lowered.terminal_types (t, u) → Among lowered.terminals (terminal_view t)
-        go (inl same) = inl (ap (λ (x : TerminalString × TypeRepr). terminal_view x.0) same)
-        go (inr i) = absurd i
-
--- what its actions do
-
-abbrev written_code : Action
-written_code = Action.user (codes "()")
-
-abbrev first_of_name : Text → ℕ
-first_of_name (b ∷ t) = b
-first_of_name [] = 0
-
-apart_names : codes "__S" ≡ codes "S" → ⊥
-apart_names e = let byte : ◌≡◌ {A = ℕ} 95 83 = ap first_of_name e in omega (arith, byte)
-
-rule_acts : ChoiceDoes g (Nonterminal.closed s) (Origin.alternative (codes "S") [] 0) written_code
-rule_acts = record {
-  rule = _;
-  choice = _;
-  rule_there = inl refl;
-  name_is = refl;
-  choice_there = inl refl;
-  at = refl;
-  action_is = refl;
-}
-
-actions : HasWrittenActions g name_of lowered
-unfolding digits
-actions = record { defined = defined; no_other = refl }
-  where
-    Acts : Nonterminal → Origin → NamedProduction → Type 0
-    Acts x o p = (b : Action) × ChoiceDoes g x o b × HasDefinition lowered p b
-
-    of_start : (x : Nonterminal) (o : Origin) → InExpansion g x → codes "__S" ≡ name_of x →
-        Acts x o (record { nonterminal = codes "__S"; symbols = GrammarSymbol.nonterminal (codes "S") ∷ []; action = 0 })
-    of_start x o i e = go (no_other x i)
-      where
-        go : (Nonterminal.start (codes "S") ≡ x) ⊎ (Nonterminal.closed s ≡ x) →
-            Acts x o (record { nonterminal = codes "__S"; symbols = GrammarSymbol.nonterminal (codes "S") ∷ []; action = 0 })
-        go (inl f) = subst (λ (y : Nonterminal). Acts y o
-            (record { nonterminal = codes "__S"; symbols = GrammarSymbol.nonterminal (codes "S") ∷ []; action = 0 })) f
-            (Action.default, refl, refl)
-        go (inr f) = absurd (apart_names (e ∙ ap name_of (sym f)))
-
-    of_rule : (x : Nonterminal) (o : Origin) → InExpansion g x → codes "S" ≡ name_of x →
-        Some (Origin.alternative (codes "S") [] 0) ≡ Some o →
-        Acts x o (record { nonterminal = codes "S"; symbols = GrammarSymbol.terminal a ∷ []; action = 1 })
-    of_rule x o i e d = go (no_other x i)
-      where
-        go : (Nonterminal.start (codes "S") ≡ x) ⊎ (Nonterminal.closed s ≡ x) →
-            Acts x o (record { nonterminal = codes "S"; symbols = GrammarSymbol.terminal a ∷ []; action = 1 })
-        go (inl f) = absurd (apart_names (ap name_of f ∙ sym e))
-        go (inr f) =
-            let same : Origin.alternative (codes "S") [] 0 ≡ o = cc in
-            subst (λ (y : Nonterminal). Acts y o
-            (record { nonterminal = codes "S"; symbols = GrammarSymbol.terminal a ∷ []; action = 1 })) f
-            (subst (λ (q : Origin). Acts (Nonterminal.closed s) q
-            (record { nonterminal = codes "S"; symbols = GrammarSymbol.terminal a ∷ []; action = 1 })) same
-            (written_code, rule_acts, refl))
-
-    defined : (p : NamedProduction) (label : WrittenLabel) (side : RightSide) → Among lowered.productions p →
-        StandsForLabel g name_of lowered.origins p label side → Acts label.head label.choice p
-    defined p label side (inl e) t =
-        subst (λ (q : NamedProduction). q.nonterminal ≡ name_of label.head → Acts label.head label.choice q) e
-        (λ n. of_start label.head label.choice t.in_expansion n) t.nonterminal_is
-    defined p label side (inr (inl e)) t =
-        subst (λ (q : NamedProduction). q.nonterminal ≡ name_of label.head →
-        slice_get lowered.origins q.action ≡ Some label.choice → Acts label.head label.choice q) e
-        (λ n o. of_rule label.head label.choice t.in_expansion n o) t.nonterminal_is t.origin_is
-    defined p label side (inr (inr m)) t = absurd m
-
--- where its productions stand
-
-alternative_stands : IsWrittenSpan [] one (codes "S") 0 here
-alternative_stands = record {
-  rule = _;
-  alternative = _;
-  rule_there = inl refl;
-  rule_enabled = refl;
-  name_is = refl;
-  at = inl refl;
-  enabled = refl;
-  span_is = refl;
-}
-
-rule_stands : IsRuleSpan [] one (codes "S") here
-rule_stands = record { rule = _; rule_there = inl refl; enabled = refl; name_is = refl; span_is = refl }
-
-here_alone : (n : Text) (own : TextSpan) → Among lowered.places (n, own) → here ≡ own
-here_alone n own (inl e) = ap (λ (x : Text × TextSpan). x.1) e
-here_alone n own (inr (inl e)) = ap (λ (x : Text × TextSpan). x.1) e
-here_alone n own (inr (inr m)) = absurd m
-
-spans : HasWrittenSpans finds [] one g name_of lowered
-spans = record { each = refl; stands = stands; each_place = refl; places = places }
-  where
-    told : (p : NamedProduction) → Among lowered.productions p → (o : Origin) → slice_get lowered.origins p.action ≡ Some o →
-        StandsByChoice [] one here o here
-    told p (inl e) o f =
-        let start : Some Origin.start ≡ Some o = ap (λ (q : NamedProduction). slice_get lowered.origins q.action) e ∙ f in
-        subst (λ (x : Origin). StandsByChoice [] one here x here) (let same : Origin.start ≡ o = cc in same) refl
-    told p (inr (inl e)) o f =
-        let at : Some (Origin.alternative (codes "S") [] 0) ≡ Some o =
-        ap (λ (q : NamedProduction). slice_get lowered.origins q.action) e ∙ f in
-        subst (λ (x : Origin). StandsByChoice [] one here x here) (let same : Origin.alternative (codes "S") [] 0 ≡ o = cc in same)
-        alternative_stands
-    told p (inr (inr m)) o f = absurd m
-
-    at_here : (p : NamedProduction) (k : TextSpan) → Among lowered.spans (p, k) → Among lowered.productions p × (here ≡ k)
-    at_here p k (inl e) =
-        (inl (ap (λ (x : NamedProduction × TextSpan). x.0) e), ap (λ (x : NamedProduction × TextSpan). x.1) e)
-    at_here p k (inr (inl e)) =
-        (inr (inl (ap (λ (x : NamedProduction × TextSpan). x.0) e)), ap (λ (x : NamedProduction × TextSpan). x.1) e)
-    at_here p k (inr (inr m)) = absurd m
-
-    stands : (p : NamedProduction) (label : WrittenLabel) (side : RightSide) (k own : TextSpan) → Among lowered.spans (p, k) →
-        StandsForLabel g name_of lowered.origins p label side → Among lowered.places (p.nonterminal, own) →
-        StandsByChoice [] one own label.choice k
-    stands p label side k own i t j =
-        let u = at_here p k i in
-        subst (λ (x : TextSpan). StandsByChoice [] one x label.choice k) (here_alone p.nonterminal own j)
-        (subst (λ (x : TextSpan). StandsByChoice [] one here label.choice x) u.1 (told p u.0 label.choice t.origin_is))
-
-    places : (x : Nonterminal) (own : TextSpan) → InExpansion g x → Among lowered.places (name_of x, own)
-        → HasOwnSpan finds [] one x own
-    places x own i j = subst (HasOwnSpan finds [] one x) (here_alone (name_of x) own j) (go (no_other x i))
-      where
-        go : (Nonterminal.start (codes "S") ≡ x) ⊎ (Nonterminal.closed s ≡ x) → HasOwnSpan finds [] one x here
-        go (inl e) = subst (λ (y : Nonterminal). HasOwnSpan finds [] one y here) e rule_stands
-        go (inr e) = subst (λ (y : Nonterminal). HasOwnSpan finds [] one y here) e rule_stands
-
--- the literals of the expansion, the tokenizer's entries
-
-abbrev symbols_of : EnabledGrammar → List Nonterminal → List (GrammarSymbol Nonterminal)
+-- what stands on right sides of these nonterminals
+abbrev pub symbols_of : EnabledGrammar → List Nonterminal → List (GrammarSymbol Nonterminal)
 symbols_of h xs = flat_map (λ (p : Origin × RightSide). p.1) (flat_map (productions_of h) xs)
 
-on_side : (h : EnabledGrammar) (xs : List Nonterminal) → is_all h xs ≡ true → (t : Terminal) → IsUsedLiteral h t →
+-- a literal that an expansion uses stands there
+pub on_side : (h : EnabledGrammar) (xs : List Nonterminal) → is_all h xs ≡ true → (t : Terminal) → IsUsedLiteral h t →
     Among (symbols_of h xs) (GrammarSymbol.terminal t)
 on_side h xs all t u =
     flat_map_among (λ (p : Origin × RightSide). p.1) (flat_map (productions_of h) xs) (u.origin, u.side) (GrammarSymbol.terminal t)
     (flat_map_among (productions_of h) xs u.head (u.origin, u.side) (all-of h xs all u.head u.in_expansion)
     (listed h u.head u.origin u.side u.produced)) u.among
 
-used_a : (t : Terminal) → Among (a ∷ []) t ↔ IsUsedLiteral g t
+-- the one literal in use
+pub used_a : (t : Terminal) → Among (a ∷ []) t ↔ IsUsedLiteral g t
 used_a t = (there, λ u. here_too (on_side g nonterminals refl t u))
   where
     there : Among (a ∷ []) t → IsUsedLiteral g t
@@ -494,55 +55,19 @@ used_a t = (there, λ u. here_too (on_side g nonterminals refl t u))
     here_too (inr (inl e)) = inl (let d : a ≡ t = cc in d)
     here_too (inr (inr k)) = absurd k
 
--- S = "a"; M<K> = "c" if K == "x": what stands in a macro that nothing calls isn't used
-abbrev macro_M : WrittenItem
-macro_M = macro_of "M" ("K" ∷ []) (on_K ConditionTest.equals "x" (lit "c" ∷ []) ∷ [])
-
-abbrev uncalled : EnabledGrammar
-uncalled = enabled_grammar finds [] (grammar (rule_of "S" (alt (lit "a" ∷ []) ∷ []) ∷ macro_M ∷ []))
-
-abbrev first_byte : GrammarSymbol Nonterminal → ℕ
-first_byte (GrammarSymbol.terminal (Terminal.quoted (b ∷ t))) = b
-first_byte _ = 0
-
-uncalled_refused : IsUsedLiteral uncalled (Terminal.quoted (codes "c")) → ⊥
-uncalled_refused u = go (on_side uncalled nonterminals refl (Terminal.quoted (codes "c")) u)
-  where
-    go : Among (symbols_of uncalled nonterminals) (GrammarSymbol.terminal (Terminal.quoted (codes "c"))) → ⊥
-    go (inl e) = cc
-    go (inr (inl e)) = let byte : ◌≡◌ {A = ℕ} 97 99 = ap first_byte e in omega (arith, byte)
-    go (inr (inr k)) = absurd k
-
--- S = M<"x">: "x" is tested, and "c" used
-abbrev tested : EnabledGrammar
-tested = enabled_grammar finds [] (grammar (rule_of "S" (alt (of_macro "M" (lit "x" ∷ []) ∷ []) ∷ []) ∷ macro_M ∷ []))
-
-abbrev instance_M : Nonterminal
-instance_M = Nonterminal.closed (Closed.call (codes "M") (Closeds.more (Closed.terminal (Terminal.quoted (codes "x"))) Closeds.none) None)
-
-tested_refused : IsUsedLiteral tested (Terminal.quoted (codes "x")) → ⊥
-tested_refused u = go (on_side tested (Nonterminal.start (codes "S") ∷ Nonterminal.closed s ∷ instance_M ∷ []) refl
-    (Terminal.quoted (codes "x")) u)
-  where
-    go : Among (symbols_of tested (Nonterminal.start (codes "S") ∷ Nonterminal.closed s ∷ instance_M ∷ []))
-        (GrammarSymbol.terminal (Terminal.quoted (codes "x"))) → ⊥
-    go (inl e) = cc
-    go (inr (inl e)) = cc
-    go (inr (inr (inl e))) = let byte : ◌≡◌ {A = ℕ} 99 120 = ap first_byte e in omega (arith, byte)
-    go (inr (inr (inr k))) = absurd k
-
-entries : AreFullExpansionEntries g None lowered.entries
+-- the entry
+pub entries : AreFullExpansionEntries g None lowered.entries
 entries = record {
   listed = record { used = a ∷ []; are_used = record { ascending = (tt, tt); each = used_a }; entries_are = refl };
   none_lacks = refl;
 }
 
 -- one pattern ties with nothing
-no_tie : (ps : List Pattern) (ns : List ℕ) → length ps ≡ 1 → HasNoTie ps ns
+pub no_tie : (ps : List Pattern) (ns : List ℕ) → length ps ≡ 1 → HasNoTie ps ns
 no_tie ps ns one w e f t = omega (arith, t.apart, t.second.0, one)
 
 -- so the grammar is normalized
-normalized : IsNormalized finds [] one lowered
+pub normalized : IsNormalized finds [] one lowered
 normalized = record {
   name_of = name_of;
   naming = naming;
@@ -550,10 +75,13 @@ normalized = record {
   productions = productions;
   actions = actions;
   spans = spans;
+  attributes = attributes;
   nonterminals = names;
+  order = action_order;
   starts = starts;
   starts_alone = starts_alone;
   inlined = inlined;
+  no_other_inlined = λ n i. absurd i;
   terminals = terminals;
   types = expansion_types;
   terminal_types = terminal_types;
@@ -562,68 +90,3 @@ normalized = record {
   none_refused = refl;
   unambiguous = no_tie (entry_patterns lowered.entries) (entry_precedences lowered.entries) refl;
 }
-
--- without a start it isn't
-no_start_refused : (v : LoweredGrammar) → v.starts ≡ [] → IsNormalized finds [] one v → ⊥
-no_start_refused v e h =
-    subst (λ (l : List (Text × Text)). Among l (codes "S", codes "__S")) e ((h.starts (codes "S") (codes "__S")).1 (in_start, refl))
-
--- nor with a definition too few
-few_definitions_refused : (v : LoweredGrammar) → length v.definitions ≡ 1 → length v.origins ≡ 2 →
-    IsNormalized finds [] one v → ⊥
-few_definitions_refused v one_there two h = let same = h.actions.no_other in omega (arith, same, one_there, two)
-
--- nor where the rule is inlined, whatever its name is
-inlined_refused : (v : LoweredGrammar) (h : IsNormalized finds [] one v) → Among v.inlined (h.name_of (Nonterminal.closed s)) → ⊥
-inlined_refused v h m = (inlined (Nonterminal.closed s) in_rule).1 ((h.inlined (Nonterminal.closed s) in_rule).0 m)
-
--- nor where a group stands elsewhere than at its own symbol
-group_elsewhere_refused : (v : LoweredGrammar) (h : IsNormalized finds [] grouped v) →
-    Among v.places (h.name_of (Nonterminal.closed the_group), here) → ⊥
-group_elsewhere_refused v h m = group_at_grammar_refused (h.spans.places (Nonterminal.closed the_group) here group_made m)
-
--- nor where its terminal has no type
-untyped_refused : (v : LoweredGrammar) → Among v.terminals a → v.terminal_types ≡ [] → IsNormalized finds [] one v → ⊥
-untyped_refused v there none h =
-    subst (λ (es : List (TerminalString × TypeRepr)). IsSomeAnd (at_terminal terminal_a es) (λ u. type_repr_view u ≡ text_type)) none
-    (h.terminal_types.typed terminal_a there)
-
--- nor with an entry too few
-no_entry_refused : (v : LoweredGrammar) → v.entries ≡ [] → IsNormalized finds [] one v → ⊥
-no_entry_refused v none h = go h.entries.listed.used h.entries.listed.are_used (sym none ∙ h.entries.listed.entries_are)
-  where
-    go : (used : List Terminal) → AreUsedLiterals g used → [] ≡ tokenizer_entries None used → ⊥
-    go [] u e = (u.each a).1 ((used_a a).0 (inl refl))
-    go (t ∷ ts) u e = cc
-
--- nor under another prefix
-prefix_refused : (v : LoweredGrammar) → v.prefix ≡ codes "___" → IsNormalized finds [] one v → ⊥
-prefix_refused v e h = let same : codes "__" ≡ codes "___" = sym h.prefix ∙ e in cc
-
--- a name that begins with the prefix, and one that begins with less of it
-abbrev rules_named_so : String → EnabledGrammar
-rules_named_so n = enabled_grammar finds [] (grammar (rule_of n (alt [] ∷ []) ∷ []))
-
-taken_refused : HasFreePrefix (codes "__") (rules_named_so "__S") → ⊥
-taken_refused h = h.rules _ (codes "S") (inl refl) refl
-
-abbrev second_byte : Text → ℕ
-second_byte (b ∷ c ∷ t) = c
-second_byte _ = 0
-
-free : HasFreePrefix (codes "__") (rules_named_so "_S")
-free = record { underscores = 2; some = omega arith; prefix_is = refl; rules = rules; bares = λ n t m. absurd m }
-  where
-    rules : (r : EnabledRule) (t : Text) → Among (rules_named_so "_S").rules r → r.name ≢ codes "__" ++ t
-    rules r t (inr m) e = absurd m
-    rules r t (inl d) e =
-        let same : codes "_S" ≡ codes "__" ++ t = ap (λ (x : EnabledRule). x.name) d ∙ e in
-        let byte : ◌≡◌ {A = ℕ} 83 95 = ap second_byte same in
-        omega (arith, byte)
-
--- alternatives stand by their places, and those of `X*` by their kinds
-abbrev chosen_at : Origin → Choice
-chosen_at o = record { origin = o; expr = []; condition = None; attributes = []; action = Action.user (codes "") }
-
-turned_refused : AreInOrder (chosen_at Origin.star_some ∷ chosen_at Origin.star_none ∷ []) → ⊥
-turned_refused h = h.0 (chosen_at Origin.star_none) (inl refl)

@@ -1,8 +1,13 @@
 pub mod ActionLemmas
+pub mod ActionOrderLemmas
 pub mod ActiveLemmas
 pub mod ChainLemmas
 pub mod ExamplesOfActions
+pub mod ExamplesOfNormalizedParts
 pub mod ExamplesOfNormalized
+pub mod ExamplesOfOneNormalized
+pub mod ExamplesOfPremises
+pub mod ExamplesOfTurnedNumbers
 pub mod ExamplesOfSpans
 pub mod FrontLemmas
 pub mod ItemLemmas
@@ -34,5 +39,11 @@ pub mod ExamplesOfTypeFaults
 pub mod EntryLemmas
 pub mod ExamplesOfViews
 pub mod LoweredLemmas
+pub mod LoweredRestLemmas
+pub mod OneNormalizedLemmas
+pub mod OnePlaceLemmas
+pub mod ProductionNumberLemmas
+pub mod StartedNameLemmas
+pub mod TypeViewLemmas
 pub mod MadeLemmas
 pub mod PremiseLemmas

@@ -57,9 +57,11 @@ use Rattle.lalrpop_norm_chain.specs.PremiseLaws.{entries_of_items}
 use Rattle.lalrpop_norm_chain.proofs.ChainLemmas.{no_start_inside}
 use Rattle.lalrpop_norm_chain.specs.LoweredViews.{HasOneTokenizer, found_entries, lowered_view, spans_at}
 use Rattle.lalrpop_norm_chain.proofs.EntryLemmas.{entry_found, entry_of_terminal, first_is, found_entry, found_name, lalr_is}
-use Rattle.lalrpop_norm_chain.proofs.MadeLemmas.{alternative_made, one_value, places_are_each, same_first, some_there}
+use Rattle.lalrpop_norm_chain.proofs.MadeLemmas.{alternative_made, attributes_are_each, one_value, places_are_each, same_first}
+use Rattle.lalrpop_norm_chain.proofs.MadeLemmas.{some_there}
 use Rattle.lalrpop_norm_chain.proofs.MadeLemmas.{spans_are_each, terminal_in_side, typed_definition}
 use Rattle.lalrpop_norm_chain.proofs.EntryLemmas.{mapping_from, name_found, terminal_of_entry}
+use Rattle.lalrpop_norm_chain.proofs.LoweredRestLemmas.{inlined_named, rule_has, start_has, type_given}
 
 start_is : (m k : Text) → Nonterminal.start m ≡ Nonterminal.start k → m ≡ k
 start_is m k e = cc
@@ -552,6 +554,7 @@ module _ (finds : Text → Text → Option Bool) (g : program.Grammar) (types : 
     start_names = λ n. ap (λ (p : Text). p ++ n) prefix_is;
     prefix_is = k.prefix;
     productions = m.productions;
+    numbered = m.numbered;
     actions = acting;
     no_other_definition = m.sides.as_many ∙ sym (length-map made.origins origin_view);
     each_span = spans_are_each nonterminals;
@@ -559,14 +562,21 @@ module _ (finds : Text → Text → Option Bool) (g : program.Grammar) (types : 
     each_place = places_are_each (found_entries nonterminals);
     rule_places = λ r s i j. rule_place r s i j;
     start_places = λ r s i e j. start_place r s i e j;
+    each_attributes = attributes_are_each (found_entries nonterminals);
+    rule_attributes = λ r as_ i j. rule_has finds g types made l m prefix_is r as_ i j;
+    start_attributes = λ r as_ i e j.
+        start_has finds g types made l m prefix_is r as_ i
+        (public_starts finds w l.expanded l.ordered l.free_prefix r i (start_public r i e)) j;
     nonterminals = λ n. (λ i. name_in n i, λ a. in_name n a);
     starts = λ n t. (λ i. listed_start n t i, λ a. start_listed n t a.0 a.1);
     inlined = λ r i. rule_inlined r i;
     no_start_inlined = λ n i a. no_start n i a;
+    no_other_inlined = λ n i. inlined_named finds g types made l m prefix_is n i;
     terminals = λ t. (λ i. terminal_used t i, λ a. used_terminal t a);
     terminal_types = terminals_typed;
     rule_types = λ r i. between_type r i;
     start_types = λ n i. start_type n i;
+    no_other_type = λ n t e. type_given finds g types made l m prefix_is n t e;
     lalr = k.algorithm ∙ lalr_is g.attributes;
     entries = entries_are;
   }

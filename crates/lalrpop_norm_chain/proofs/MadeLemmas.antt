@@ -4,7 +4,8 @@ use Rattle.std.specs.Prelude.{Option, Some, None, IsSomeAnd, is_some, ◌++◌, 
 use Rattle.lalrpop_grammar_symbols.specs.Symbols.{Text, TextSpan, Terminal, WrittenSymbol, Sym}
 use Rattle.lalrpop_grammar_symbols.specs.Views.{span_view}
 use Rattle.lalrpop_grammar_symbols.specs.declared.names.NonterminalString.{NonterminalString}
-use Rattle.lalrpop_grammar.specs.WrittenGrammar.{Action, Alternative, Rule}
+use Rattle.lalrpop_grammar.specs.Views.{attribute_view}
+use Rattle.lalrpop_grammar.specs.WrittenGrammar.{Action, Alternative, Attr, Rule}
 use Rattle.lalrpop_grammar_language.specs.Among.{Among}
 use Rattle.lalrpop_grammar_language.specs.Expansion.{GrammarSymbol}
 use Rattle.lalrpop_grammar_repr.specs.declared.action.ActionFnDefn.{ActionFnDefn}
@@ -95,6 +96,14 @@ pub places_are_each : (es : List (NonterminalString × NonterminalData))
     ≡ map (λ (e : NonterminalString × NonterminalData). e.0.0) es
 places_are_each [] = refl
 places_are_each (e ∷ es) = ap (λ (k : List Text). e.0.0 ∷ k) (places_are_each es)
+
+-- and so has that of attributes
+pub attributes_are_each : (es : List (NonterminalString × NonterminalData))
+    → map (λ (x : Text × List Attr). x.0)
+    (map (λ (e : NonterminalString × NonterminalData). (e.0.0, map attribute_view e.1.attributes)) es)
+    ≡ map (λ (e : NonterminalString × NonterminalData). e.0.0) es
+attributes_are_each [] = refl
+attributes_are_each (e ∷ es) = ap (λ (k : List Text). e.0.0 ∷ k) (attributes_are_each es)
 
 -- an option that holds a production with its span holds the production when the span is dropped
 pub same_first : (o : Option (NamedProduction × TextSpan)) (p : NamedProduction) (s : TextSpan) → o ≡ Some (p, s)

@@ -1,10 +1,10 @@
--- Where productions and nonterminals stand, and all that a normalized grammar is; for the law of chains.
+-- Where productions and nonterminals stand, which attributes these have, and all that a normalized grammar is; for the law of chains.
 use Rattle.lalrpop_norm_chain.proofs.ChainLemmas as chain
 use Rattle.std.proofs.Common.{◌≡◌, ℕ, zero, suc, List, [], ◌∷◌, refl, ap, sym, ◌∙◌, subst}
 use Rattle.std.proofs.Common.{Bool, inl, inr}
 use Rattle.std.specs.Prelude.{◌⊎◌, Option, Some, codes, slice_get}
-use Rattle.lalrpop_grammar_symbols.specs.Symbols.{Text, TextSpan, Closed, Closeds}
-use Rattle.lalrpop_grammar.specs.WrittenGrammar.{Alternative, InternEntry, Origin, Rule, Grammar, rules_of}
+use Rattle.lalrpop_grammar_symbols.specs.Symbols.{Text, TextSpan, Closed, Closeds, Op}
+use Rattle.lalrpop_grammar.specs.WrittenGrammar.{Alternative, Attr, InternEntry, Origin, Rule, Grammar, rules_of}
 use Rattle.lalrpop_grammar_language.specs.Among.{Among}
 use Rattle.lalrpop_grammar_language.specs.Enabled.{EnabledGrammar, EnabledRule, IsRule, enabled_grammar}
 use Rattle.lalrpop_grammar_language.specs.Enabled.{has_attr}
@@ -30,11 +30,13 @@ use Rattle.lalrpop_norm_keys.specs.KeyPlaces.{IsKeyPlace, IsShapeKey, IsWrittenK
 use Rattle.lalrpop_norm_keys.proofs.MadeKeyLemmas.{placed_made}
 use Rattle.lalrpop_norm_keys.proofs.WrittenKeyLemmas.{key_place_written}
 use Rattle.lalrpop_norm_chain.specs.PremiseLaws.{leveled_part, resolved_part}
+use Rattle.lalrpop_norm_chain.specs.OwnAttributes.{HasOwnAttributes, IsRuleAttributes, added_attributes}
 use Rattle.lalrpop_norm_chain.specs.Spans.{HasOwnSpan, IsAddedOrigin, IsMadeFrom, IsRuleSpan, IsWrittenSpan, StandsByChoice}
 use Rattle.lalrpop_norm_chain.specs.Lowered.{IsAlternativeSpan, IsStartSpan}
 use Rattle.lalrpop_norm_chain.specs.Lowered.{LoweredGrammar, start_name}
 use Rattle.lalrpop_norm_chain.specs.Chains.{IsChain}
-use Rattle.lalrpop_norm_chain.proofs.SpanLemmas.{IsLeveledOf, leveled_alike, leveled_rule_stands, leveled_stands}
+use Rattle.lalrpop_norm_chain.proofs.ActionOrderLemmas.{action_order}
+use Rattle.lalrpop_norm_chain.proofs.SpanLemmas.{IsLeveledOf, leveled_alike, leveled_rule_has, leveled_rule_stands, leveled_stands}
 use Rattle.lalrpop_norm_chain.proofs.FrontLemmas.{levelable, same_resolved, same_leveled}
 use Rattle.lalrpop_norm_chain.specs.Normalized.{IsNormalized}
 
@@ -299,6 +301,110 @@ module _ (finds : Text → Text → Option Bool) (features : List Text) (w : Gra
         subst (λ (s : TextSpan). IsRuleSpan features w n s) (sym place)
         (call_place n Closeds.none (loosest s.0) q.0 s.2 q.1 name)
 
+    -- attributes
+
+    -- the rule of a call has those of the called one
+    call_attributes : (n : Text) (args : Closeds) (level : Option ℕ) (r : Rule)
+        → InExpansion written (Nonterminal.closed (Closed.call n args level)) → Among (rules_of c.checked.items) r
+        → name_of (Nonterminal.closed (Closed.call n args level)) ≡ r.name → IsRuleAttributes features w n r.attributes
+    call_attributes n args level r i j e =
+        let x = Closed.call n args level in
+        let y = by_level_names level_of x in
+        let k = in_keys leveled expanded_one key_of c.front.macros.keys c.front.macros.expansion y
+        ((same_leveled finds features w c.leveled c.expanded c.front).there (Nonterminal.closed x) i) in
+        let q = c.front.macros.rule_attributes (level_name level_of n level) (all_by_level_names level_of args) r k
+        (subst (λ (rs : List Rule). Among rs r) rules_checked j) (sym e ∙ (chain.key_name finds features w v c) y k) in
+        let l = levelable finds features w c.leveled c.expanded c.front in
+        let there = (same_resolved finds features w c.leveled c.expanded c.front).there (Nonterminal.closed x) i in
+        go q.0 (subst (λ (g : Grammar). Among (rules_of g.items) q.0) c.front.levels.value q.1) q.2 q.3
+        (well_in finds (resolved_part features w) level_of l (Nonterminal.closed x) there)
+      where
+        go : (q : Rule) → Among (rules_of (leveled_part level_of features w).items) q → q.name ≡ level_name level_of n level
+            → r.attributes ≡ q.attributes → (Closed.call n args level ≡ Closed.faulty) ⊎ IsWell resolved (Closed.call n args level)
+            → IsRuleAttributes features w n r.attributes
+        go q a name same (inl f) = absurd (let wrong : ⊥ = cc in wrong)
+        go q a name same (inr well) =
+            let u = call_of finds (resolved_part features w) n args level well in
+            subst (λ (m : Text). IsRuleAttributes features w m r.attributes) u.2
+            (subst (λ (l : List Attr). IsRuleAttributes features w u.0.name l) (sym same)
+            (leveled_rule_has features w c.front.read level_of c.front.levels.are_names q u.0 level a u.1.among u.1.has_level
+            (name ∙ ap (λ (m : Text). level_name level_of m level) (sym u.2))))
+
+    -- under the names of levels a repeat, a group and a lookaround say the same
+    added_leveled : (p : TextSpan) (x : Closed) → IsShapeKey x → added_attributes p (by_level_names level_of x) ≡ added_attributes p x
+    added_leveled p (Closed.repeat Op.plus x) h = refl
+    added_leveled p (Closed.repeat Op.star x) h = refl
+    added_leveled p (Closed.repeat Op.question x) h = refl
+    added_leveled p (Closed.group xs) h = refl
+    added_leveled p Closed.lookahead h = refl
+    added_leveled p Closed.lookbehind h = refl
+    added_leveled p (Closed.terminal t) h = absurd h
+    added_leveled p (Closed.call n args level) h = absurd h
+    added_leveled p (Closed.choose x) h = absurd h
+    added_leveled p (Closed.name m n x) h = absurd h
+    added_leveled p Closed.faulty h = absurd h
+
+    shape_attributes : (x : Closed) → IsShapeKey x → (r : Rule) → InExpansion written (Nonterminal.closed x)
+        → Among (rules_of c.checked.items) r → name_of (Nonterminal.closed x) ≡ r.name → r.attributes ≡ added_attributes r.span x
+    shape_attributes x shape r i j e =
+        let y = by_level_names level_of x in
+        let k = in_keys leveled expanded_one key_of c.front.macros.keys c.front.macros.expansion y
+        ((same_leveled finds features w c.leveled c.expanded c.front).there (Nonterminal.closed x) i) in
+        c.front.macros.key_attributes y r (shape_leveled x shape) k (subst (λ (rs : List Rule). Among rs r) rules_checked j)
+        (sym e ∙ (chain.key_name finds features w v c) y k)
+        ∙ added_leveled r.span x shape
+
+    own_of_call : (n : Text) (args : Closeds) (level : Option ℕ) (as_ : List Attr)
+        → InExpansion written (Nonterminal.closed (Closed.call n args level))
+        → Among v.attributes (name_of (Nonterminal.closed (Closed.call n args level)), as_) → IsRuleAttributes features w n as_
+    own_of_call n args level as_ i j =
+        let u = (chain.has_rule finds features w v c) (Closed.call n args level) i in
+        let q = (chain.written_rule_of finds features w v c) u.name u.rule u.is_rule in
+        let name : name_of (Nonterminal.closed (Closed.call n args level)) ≡ q.0.name =
+        (chain.name_is finds features w v c) (Closed.call n args level) u ∙ sym q.2 in
+        let same : as_ ≡ q.0.attributes =
+        c.lowered.rule_attributes q.0 as_ q.1 (subst (λ (m : Text). Among v.attributes (m, as_)) name j) in
+        subst (λ (l : List Attr). IsRuleAttributes features w n l) (sym same) (call_attributes n args level q.0 i q.1 name)
+
+    own_of_shape : (x : Closed) → IsShapeKey x → (p : TextSpan) (as_ : List Attr) → InExpansion written (Nonterminal.closed x)
+        → Among v.places (name_of (Nonterminal.closed x), p) → Among v.attributes (name_of (Nonterminal.closed x), as_)
+        → as_ ≡ added_attributes p x
+    own_of_shape x shape p as_ i j k =
+        let u = (chain.has_rule finds features w v c) x i in
+        let q = (chain.written_rule_of finds features w v c) u.name u.rule u.is_rule in
+        let name : name_of (Nonterminal.closed x) ≡ q.0.name = (chain.name_is finds features w v c) x u ∙ sym q.2 in
+        let place : p ≡ q.0.span = c.lowered.rule_places q.0 p q.1 (subst (λ (m : Text). Among v.places (m, p)) name j) in
+        c.lowered.rule_attributes q.0 as_ q.1 (subst (λ (m : Text). Among v.attributes (m, as_)) name k)
+        ∙ shape_attributes x shape q.0 i q.1 name
+        ∙ ap (λ (s : TextSpan). added_attributes s x) (sym place)
+
+    own_of_start : (n : Text) (as_ : List Attr) → InExpansion written (Nonterminal.start n)
+        → Among v.attributes (name_of (Nonterminal.start n), as_) → as_ ≡ []
+    own_of_start n as_ i j =
+        let s = start_rule n i in
+        let x = Closed.call n Closeds.none (loosest s.0) in
+        let u = (chain.has_rule finds features w v c) x s.2 in
+        let q = (chain.written_rule_of finds features w v c) u.name u.rule u.is_rule in
+        let named_so : name_of (Nonterminal.closed x) ≡ n = s.1 in
+        let name : name_of (Nonterminal.closed x) ≡ q.0.name = (chain.name_is finds features w v c) x u ∙ sym q.2 in
+        let own_name : q.0.name ≡ n = sym name ∙ named_so in
+        c.lowered.start_attributes q.0 as_ q.1
+        (subst (λ (m : Text). InExpansion checked (Nonterminal.start m)) (sym own_name) (same_checked.there (Nonterminal.start n) i))
+        (subst (λ (m : Text). Among v.attributes (m, as_)) (c.lowered.start_names n ∙ ap (start_name v.prefix) (sym own_name)) j)
+
+    own_attributes : (x : Nonterminal) (p : TextSpan) (as_ : List Attr) → InExpansion written x → Among v.places (name_of x, p)
+        → Among v.attributes (name_of x, as_) → HasOwnAttributes features w x p as_
+    own_attributes (Nonterminal.start n) p as_ i j k = own_of_start n as_ i k
+    own_attributes (Nonterminal.closed (Closed.call n args level)) p as_ i j k = own_of_call n args level as_ i k
+    own_attributes (Nonterminal.closed (Closed.repeat op x)) p as_ i j k = own_of_shape (Closed.repeat op x) tt p as_ i j k
+    own_attributes (Nonterminal.closed (Closed.group xs)) p as_ i j k = own_of_shape (Closed.group xs) tt p as_ i j k
+    own_attributes (Nonterminal.closed Closed.lookahead) p as_ i j k = own_of_shape Closed.lookahead tt p as_ i j k
+    own_attributes (Nonterminal.closed Closed.lookbehind) p as_ i j k = own_of_shape Closed.lookbehind tt p as_ i j k
+    own_attributes (Nonterminal.closed (Closed.terminal t)) p as_ i j k = tt
+    own_attributes (Nonterminal.closed (Closed.choose x)) p as_ i j k = tt
+    own_attributes (Nonterminal.closed (Closed.name m n x)) p as_ i j k = tt
+    own_attributes (Nonterminal.closed Closed.faulty) p as_ i j k = tt
+
     -- all of it
 
     pub normalized : IsNormalized finds features w v
@@ -309,12 +415,14 @@ module _ (finds : Text → Text → Option Bool) (features : List Text) (w : Gra
       productions = productions_before written checked to c.lowered.name_of v.productions v.origins same_checked c.lowered.productions;
       actions = record { defined = chain.defined finds features w v c; no_other = c.lowered.no_other_definition };
       spans = record { each = c.lowered.each_span; stands = stands; each_place = c.lowered.each_place; places = places };
+      attributes = record { each = c.lowered.each_attributes; own = own_attributes };
       nonterminals = λ n. (
         λ a. let y = (c.lowered.nonterminals n).0 a in
             let x = same_checked.no_other y.0 y.1 in
             (x.0, x.1, ap c.lowered.name_of (sym x.2) ∙ y.2),
         λ a. (c.lowered.nonterminals n).1 (to a.0, same_checked.there a.0 a.1, a.2),
       );
+      order = action_order finds features w v c;
       starts = λ n m. (
         λ a. let u = (c.lowered.starts n m).0 a in
             ((chain.start_from finds features w v c) n u.0, u.1 ∙ ap (λ (p : Text). start_name p n) prefix_written),
@@ -323,6 +431,7 @@ module _ (finds : Text → Text → Option Bool) (features : List Text) (w : Gra
       );
       starts_alone = chain.alone finds features w v c;
       inlined = (chain.inlined_alike finds features w v c);
+      no_other_inlined = c.lowered.no_other_inlined;
       terminals = c.lowered.terminals;
       types = (chain.types_are finds features w v c);
       terminal_types = c.lowered.terminal_types;

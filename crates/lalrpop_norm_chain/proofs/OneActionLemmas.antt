@@ -33,7 +33,8 @@ not_later n k l p i e =
     let same : k ≡ u.0 = place_is n k u.0 (e ∙ u.2) in
     omega (arith, le, same)
 
-one_at : (n : Text) (k : ℕ) (l : List Alternative) (p q : Origin × Alternative) → Among (at_places n k l) p
+-- so no two are at one place
+pub one_at : (n : Text) (k : ℕ) (l : List Alternative) (p q : Origin × Alternative) → Among (at_places n k l) p
     → Among (at_places n k l) q → p.0 ≡ q.0 → p ≡ q
 one_at n k [] p q i j e = absurd i
 one_at n k (a ∷ l) p q (inl f) (inl h) e = sym f ∙ h

@@ -20,7 +20,7 @@ use Rattle.lalrpop_norm_theory.specs.LevelRules.{all_by_level_names, by_level_na
 use Rattle.lalrpop_norm_theory.specs.Resolving.{defined_names, resolved_type}
 use Rattle.lalrpop_norm_theory.specs.Same.{SameExpansion}
 use Rattle.lalrpop_norm_theory.specs.Types.{ByDefault, ByTighterLevel, GroundType, HaveTupleType, IsGrounded, IsGroundedIn, SameTypes}
-use Rattle.lalrpop_norm_theory.specs.Types.{chosen_or_all, is_chosen, type_scope}
+use Rattle.lalrpop_norm_theory.specs.Types.{chosen_or_all, type_scope}
 use Rattle.lalrpop_norm_theory.proofs.DeclaredLemmas.{well_if_sound}
 use Rattle.lalrpop_norm_theory.proofs.DroppedPlaceLemmas.{cfg_change, changed as dropping_changes, replaces as dropping_replaces}
 use Rattle.lalrpop_norm_theory.proofs.DroppingLemmas.{dropping_expansion, dropping_types}

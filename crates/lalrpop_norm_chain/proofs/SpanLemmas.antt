@@ -22,6 +22,7 @@ use Rattle.lalrpop_norm_theory.specs.LevelNames.{AreLevelNames, LeveledKey, leve
 use Rattle.lalrpop_norm_theory.proofs.LeveledRuleLemmas.{rule_of_key, key_name}
 use Rattle.lalrpop_norm_theory.proofs.ToldPlaceLemmas.{read_tells}
 use Rattle.lalrpop_norm_theory.proofs.WellLeveledLemmas.{key_found, key_named, key_of_rule}
+use Rattle.lalrpop_norm_chain.specs.OwnAttributes.{IsRuleAttributes}
 use Rattle.lalrpop_norm_chain.specs.Spans.{IsRuleSpan, IsWrittenSpan}
 use Rattle.lalrpop_norm_chain.proofs.ActiveLemmas.{zip_front}
 use Rattle.lalrpop_norm_chain.proofs.PlainNameLemmas.{read_tells_resolved}
@@ -39,6 +40,10 @@ IsLeveledOf r a = TellsPlace a ⊎ (a.origin ≡ Origin.pass_down) × (a.span �
 pub key_span : (f : Text → ℕ → Text) (r : Rule) (level : Option ℕ) → (rule_of_key f r level).span ≡ r.span
 key_span f r None = refl
 key_span f r (Some j) = refl
+
+key_attributes : (f : Text → ℕ → Text) (r : Rule) (level : Option ℕ) → (rule_of_key f r level).attributes ≡ r.attributes
+key_attributes f r None = refl
+key_attributes f r (Some j) = refl
 
 -- no two levels of rules have one name
 same_rule : (g : Grammar) (f : Text → ℕ → Text) → AreLevelNames g f → (q r : Rule) (l k : Option ℕ)
@@ -142,6 +147,26 @@ module _ (features : List Text) (w : Grammar) (read : IsReadGrammar w) where
       of_key q None k b m = inl (k b m)
       of_key q (Some j) k b m =
           of_either q j k b (among_parts (level_alternatives f q j) (pass_downs f q (tighter (rule_between q) j)) b m)
+
+  -- the rule of a level has the rule's attributes
+  pub leveled_rule_has : (f : Text → ℕ → Text) → AreLevelNames resolved f → (r q : Rule) (level : Option ℕ)
+      → Among (rules_of (leveled_grammar f resolved).items) r → Among (rules_of resolved.items) q → HasLevel (rule_between q) level
+      → r.name ≡ level_name f q.name level → IsRuleAttributes features w q.name r.attributes
+  leveled_rule_has f names r q level i j has e =
+      let u = leveled_source f resolved r i in
+      let named : level_name f u.rule.name u.level ≡ level_name f q.name level =
+      sym (key_name f u.rule u.level) ∙ ap (λ (x : Rule). x.name) u.is_it ∙ e in
+      let same : u.rule.name ≡ q.name = same_rule resolved f names u.rule q u.level level u.among j u.has_level has named in
+      let s = resolved_source (without_disabled features w) u.rule u.among in
+      let t = left_source features w.items s.0 s.1 in
+      record {
+        rule = t.0;
+        rule_there = t.1;
+        enabled = t.2;
+        name_is = ap (λ (x : Rule). x.name) t.3 ∙ ap (λ (x : Rule). x.name) s.2 ∙ same;
+        attributes_are = ap (λ (x : Rule). x.attributes) t.3 ∙ ap (λ (x : Rule). x.attributes) s.2
+            ∙ sym (key_attributes f u.rule u.level) ∙ ap (λ (x : Rule). x.attributes) u.is_it;
+      }
 
   -- the rule of a level stands where the rule does
   pub leveled_rule_stands : (f : Text → ℕ → Text) → AreLevelNames resolved f → (r q : Rule) (level : Option ℕ)

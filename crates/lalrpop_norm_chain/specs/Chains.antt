@@ -1,5 +1,5 @@
 -- The passes one after the other, with what each promises of the grammar that it got; for the chain of all passes.
-use Rattle.std.specs.Prelude.{◌≡◌, ◌⊎◌, Bool, List, Option, None}
+use Rattle.std.specs.Prelude.{◌≡◌, ◌⊎◌, Bool, List, Option, None, map}
 use Rattle.lalrpop_grammar_symbols.specs.Symbols.{Text, Closed, Closeds}
 use Rattle.lalrpop_grammar_symbols.specs.declared.names.NonterminalString.{NonterminalString}
 use Rattle.lalrpop_grammar.specs.WrittenGrammar.{Alternative, Rule, Grammar, rules_of}
@@ -10,6 +10,7 @@ use Rattle.lalrpop_norm_theory.specs.Between.{grammar_between, without_disabled}
 use Rattle.lalrpop_norm_theory.specs.Premises.{IsReadGrammar, IsExpanded}
 use Rattle.lalrpop_norm_theory.specs.Keys.{flat_key_text}
 use Rattle.lalrpop_norm_theory.specs.NamesByUse.{IsNamingByUse}
+use Rattle.lalrpop_norm_theory.specs.UsedKeys.{IsListByUse}
 use Rattle.lalrpop_norm_theory.specs.KeyRules.{IsMacroExpansion}
 use Rattle.lalrpop_norm_theory.specs.KeyTypes.{DeclareKeyTypes}
 use Rattle.lalrpop_norm_theory.specs.NameFaults.{HasRightNames}
@@ -22,6 +23,7 @@ use Rattle.lalrpop_norm_token_check.specs.Places.{FirstPlaces}
 use Rattle.lalrpop_norm_tyinfer.specs.TypeFaults.{HasRuleTypes}
 use Rattle.lalrpop_norm_chain.specs.PremiseLaws.{resolved_part, entries_of_items}
 use Rattle.lalrpop_norm_chain.specs.Lowered.{LoweredGrammar, IsLoweredFrom}
+use Rattle.lalrpop_norm_chain.specs.OwnAttributes.{added_attributes}
 use Rattle.lalrpop_norm_chain.specs.Spans.{IsAddedOrigin, IsMadeFrom}
 
 -- What the pass over macros makes of a leveled grammar: a rule for each key under a name of its own. All else stays.
@@ -42,9 +44,18 @@ pub record IsMacroResult (finds : Text → Text → Option Bool) (g made : Gramm
   -- that of a repeat, a group or a lookaround stands where this is met
   pub key_spans : (x : Closed) (q : Rule) → IsShapeKey x → Among keys x → Among (rules_of made.items) q → q.name ≡ key_of x
       → IsKeyPlace (grammar_between finds g) x q.span
+  -- they have the attributes of their rule, and those of a repeat, a group and a lookaround say at most that it is inlined
+  pub rule_attributes : (n : Text) (args : Closeds) (q : Rule) → Among keys (Closed.call n args None) → Among (rules_of made.items) q
+      → q.name ≡ key_of (Closed.call n args None)
+      → (r : Rule) × Among (rules_of g.items) r × (r.name ≡ n) × (q.attributes ≡ r.attributes)
+  pub key_attributes : (x : Closed) (q : Rule) → IsShapeKey x → Among keys x → Among (rules_of made.items) q → q.name ≡ key_of x
+      → q.attributes ≡ added_attributes q.span x
   -- alternatives of a rule or of an instance stand where they do before; others stand where their rule does
   pub alternative_spans : (q : Rule) (b : Alternative) → Among (rules_of made.items) q → Among q.alternatives b
       → IsMadeFrom (rules_of g.items) q b ⊎ (b.span ≡ q.span) × IsAddedOrigin b.origin
+  -- the keys are in order of first use, and the rules stand in that order
+  pub in_order : IsListByUse (grammar_between finds g) keys
+  pub rule_order : map (λ q. q.name) (rules_of made.items) ≡ map key_of keys
   pub span : made.span ≡ g.span
   pub prefix : made.prefix ≡ g.prefix
   pub attributes : made.attributes ≡ g.attributes

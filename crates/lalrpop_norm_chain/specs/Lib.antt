@@ -1,7 +1,10 @@
+pub mod ActionOrders
 pub mod Actions
 pub mod Chains
 pub mod Lowered
 pub mod Normalized
+pub mod OneNormalized
+pub mod OwnAttributes
 pub mod PremiseLaws
 pub mod Spans
 pub mod UsedLiterals

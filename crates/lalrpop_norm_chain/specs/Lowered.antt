@@ -1,11 +1,12 @@
 -- What definitions see of a lowered grammar with its tokenizer, and what lowering gives of an expanded grammar; for the chain of
 -- all passes.
-use Rattle.std.specs.Prelude.{◌≡◌, ◌⊎◌, ◌↔◌, true, Bool, List, ◌++◌, Some, None, IsSomeAnd}
+use Rattle.std.specs.Prelude.{◌≡◌, ◌⊎◌, ◌↔◌, true, Bool, List, [], ◌++◌, Some, None, IsSomeAnd}
 use Rattle.std.specs.Prelude.{codes, length, map, slice_get}
 use Rattle.lalrpop_grammar_symbols.specs.Symbols.{Text, TextSpan, Terminal, Closed, Closeds}
 use Rattle.lalrpop_grammar_symbols.specs.declared.names.NonterminalString.{NonterminalString}
 use Rattle.lalrpop_grammar_symbols.specs.declared.terminal.TerminalString.{TerminalString}
-use Rattle.lalrpop_grammar.specs.WrittenGrammar.{Action, Alternative, EntryMapping, InternEntry, Origin, Grammar, Rule, rules_of}
+use Rattle.lalrpop_grammar.specs.WrittenGrammar.{Action, Alternative, Attr, EntryMapping, InternEntry, Origin, Grammar, Rule}
+use Rattle.lalrpop_grammar.specs.WrittenGrammar.{rules_of}
 use Rattle.lalrpop_grammar_language.specs.Among.{Among}
 use Rattle.lalrpop_grammar_language.specs.Enabled.{Choice, EnabledGrammar, EnabledRule, has_attr}
 use Rattle.lalrpop_grammar_language.specs.Expansion.{GrammarSymbol, Nonterminal, InExpansion}
@@ -16,11 +17,12 @@ use Rattle.lalrpop_norm_theory.specs.Productions.{NamedProduction, AreProduction
 use Rattle.lalrpop_norm_tyinfer.specs.TerminalTypes.{AreTerminalTypes}
 use Rattle.lalrpop_norm_tyinfer.specs.TypeFaults.{nonterminal_of}
 use Rattle.lalrpop_norm_lower.specs.Definitions.{definition_of}
+use Rattle.lalrpop_norm_lower.specs.NumberOrders.{AreNumberedAlong, names_in_order}
 use Rattle.lalrpop_norm_chain.specs.PremiseLaws.{entries_of_items}
 
 -- A lowered grammar: its productions, each with where it stands too, the origins and the definitions of their actions, the names of
--- its nonterminals, each with where it stands too, of its starts beside those of their rules, and of what is inlined, its terminals,
--- the types of its nonterminals and of its terminals, whether LALR is asked for, and the tokenizer's entries.
+-- its nonterminals, each with where it stands and with its attributes too, of its starts beside those of their rules, and of what is
+-- inlined, its terminals, the types of its nonterminals and of its terminals, whether LALR is asked for, and the tokenizer's entries.
 pub record LoweredGrammar : Type 0 where
   pub prefix : Text
   pub productions : List NamedProduction
@@ -29,6 +31,7 @@ pub record LoweredGrammar : Type 0 where
   pub definitions : List ActionFnDefn
   pub nonterminals : List Text
   pub places : List (Text × TextSpan)
+  pub attributes : List (Text × List Attr)
   pub starts : List (Text × Text)
   pub inlined : List Text
   pub terminals : List Terminal
@@ -97,6 +100,8 @@ pub record IsLoweredFrom (g : Grammar) (h : EnabledGrammar) (inferred : List (No
   pub start_names : (n : Text) → name_of (Nonterminal.start n) ≡ start_name v.prefix n
   pub prefix_is : v.prefix ≡ g.prefix
   pub productions : AreProductions h name_of v.productions v.origins
+  -- actions are numbered along the starts and then the rules
+  pub numbered : AreNumberedAlong (names_in_order g.prefix (rules_of g.items)) v.productions
   pub actions : (p : NamedProduction) → Among v.productions p → IsRuleProduction h v p ⊎ IsStartProduction h v p
   pub no_other_definition : length v.definitions ≡ length v.origins
   -- each production and each nonterminal stands somewhere
@@ -106,10 +111,16 @@ pub record IsLoweredFrom (g : Grammar) (h : EnabledGrammar) (inferred : List (No
   pub rule_places : (r : Rule) (s : TextSpan) → Among (rules_of g.items) r → Among v.places (r.name, s) → s ≡ r.span
   pub start_places : (r : Rule) (s : TextSpan) → Among (rules_of g.items) r → InExpansion h (Nonterminal.start r.name)
       → Among v.places (start_name v.prefix r.name, s) → s ≡ r.span
+  pub each_attributes : map (λ e. e.0) v.attributes ≡ v.nonterminals
+  pub rule_attributes : (r : Rule) (as_ : List Attr) → Among (rules_of g.items) r → Among v.attributes (r.name, as_)
+      → as_ ≡ r.attributes
+  pub start_attributes : (r : Rule) (as_ : List Attr) → Among (rules_of g.items) r → InExpansion h (Nonterminal.start r.name)
+      → Among v.attributes (start_name v.prefix r.name, as_) → as_ ≡ []
   pub nonterminals : (n : Text) → Among v.nonterminals n ↔ ((x : Nonterminal) × InExpansion h x × (name_of x ≡ n))
   pub starts : (n m : Text) → Among v.starts (n, m) ↔ (InExpansion h (Nonterminal.start n) × (m ≡ start_name v.prefix n))
   pub inlined : (r : EnabledRule) → Among h.rules r → Among v.inlined r.name ↔ (r.inlined ≡ true)
   pub no_start_inlined : (n : Text) → InExpansion h (Nonterminal.start n) → Among v.inlined (start_name v.prefix n) → ⊥
+  pub no_other_inlined : (n : Text) → Among v.inlined n → Among v.nonterminals n
   pub terminals : (t : Terminal) → Among v.terminals t ↔ IsTerminalOf v t
   -- each terminal has a text's type, and the types of nonterminals are those that were inferred; a start's is its rule's
   pub terminal_types : AreTerminalTypes v.terminals v.terminal_types
@@ -117,5 +128,8 @@ pub record IsLoweredFrom (g : Grammar) (h : EnabledGrammar) (inferred : List (No
       → at_name (nonterminal_of r.name) v.types ≡ at_name (nonterminal_of r.name) inferred
   pub start_types : (n : Text) → InExpansion h (Nonterminal.start n)
       → at_name (nonterminal_of (start_name v.prefix n)) v.types ≡ at_name (nonterminal_of n) v.types
+  pub no_other_type : (n : Text) (t : TypeRepr) → at_name (nonterminal_of n) v.types ≡ Some t
+      → (at_name (nonterminal_of n) inferred ≡ Some t)
+      ⊎ ((m : Text) × InExpansion h (Nonterminal.start m) × (n ≡ start_name v.prefix m))
   pub lalr : v.lalr ≡ has_attr (codes "LALR") g.attributes
   pub entries : v.entries ≡ entries_of_items g.items

@@ -3,8 +3,8 @@ use Rattle.std.specs.Prelude.{◌≡◌, List, [], ◌∷◌, filter, filter_map
 use Rattle.lalrpop_grammar_symbols.specs.Symbols.{Text, TextSpan}
 use Rattle.lalrpop_grammar_symbols.specs.Views.{span_view, terminal_view}
 use Rattle.lalrpop_grammar_symbols.specs.declared.names.NonterminalString.{NonterminalString}
-use Rattle.lalrpop_grammar.specs.Views.{intern_entry_view, origin_view}
-use Rattle.lalrpop_grammar.specs.WrittenGrammar.{Grammar, InternEntry, WrittenItem}
+use Rattle.lalrpop_grammar.specs.Views.{attribute_view, intern_entry_view, origin_view}
+use Rattle.lalrpop_grammar.specs.WrittenGrammar.{Attr, Grammar, InternEntry, WrittenItem}
 use Rattle.lalrpop_grammar_language.specs.Among.{Among}
 use Rattle.lalrpop_grammar_repr.specs.Maps.{at_name}
 use Rattle.lalrpop_grammar_repr.specs.declared.production.NonterminalData.{NonterminalData}
@@ -25,6 +25,10 @@ found_names es = map (λ e. e.0.0) (found_entries es)
 -- each of the names with where its nonterminal stands
 abbrev pub found_places : List (NonterminalString × NonterminalData) → List (Text × TextSpan)
 found_places es = map (λ e. (e.0.0, span_view e.1.span)) (found_entries es)
+
+-- each of the names with the attributes of its nonterminal
+abbrev pub found_attributes : List (NonterminalString × NonterminalData) → List (Text × List Attr)
+found_attributes es = map (λ e. (e.0.0, map attribute_view e.1.attributes)) (found_entries es)
 
 -- each of the names with the one that stands at it
 abbrev pub found_pairs : List (NonterminalString × NonterminalString) → List (Text × Text)
@@ -51,6 +55,7 @@ lowered_view made = record {
   definitions = made.grammar.action_fn_defns;
   nonterminals = found_names made.grammar.nonterminals;
   places = found_places made.grammar.nonterminals;
+  attributes = found_attributes made.grammar.nonterminals;
   starts = found_pairs made.grammar.start_nonterminals;
   inlined = names_marked_inline made.grammar.nonterminals;
   terminals = map terminal_view made.grammar.terminals.all;

@@ -3,7 +3,8 @@
 //!
 //! The crate has no code but laws. The definitions stand in `specs/`: `PremiseLaws` (what passes leave), `UsedLiterals` (the
 //! literals and entries of an expansion), `Actions` (what its productions do), `Lowered` (what definitions see of a lowered grammar),
-//! `Chains` (the passes one after the other) and `Normalized` (what a normalized grammar is).
+//! `Chains` (the passes one after the other), `Normalized` (what a normalized grammar is) and `OneNormalized` (what a written
+//! grammar leaves open of one).
 #![tactic(auto)]
 
 pub mod fault_chain;
@@ -14,6 +15,7 @@ ghost use Rattle.lalrpop_norm_chain.specs.PremiseLaws.{PrefixStaysFree, KeysLeav
 ghost use Rattle.lalrpop_norm_chain.specs.PremiseLaws.{NoTokenizerIsMade};
 ghost use Rattle.lalrpop_norm_chain.specs.Actions.{ProductionsDoOneThing};
 ghost use Rattle.lalrpop_norm_chain.specs.Normalized.{ChainsNormalize};
+ghost use Rattle.lalrpop_norm_chain.specs.OneNormalized.{NamesOfNormalizedAreOne, NormalizedAreOne};
 
 /// The law of premises, from the reading to the levels: of a grammar that was read, names are such that levels can be named, and
 /// each alternative tells a place of its own rule. When macros are expanded, no attribute asks for features, no symbol of error
@@ -45,4 +47,11 @@ pub fn productions_do_one_thing()
 /// grammar, with what the features leave of it.
 pub fn chains_normalize()
     ensures { ChainsNormalize }
+{}
+
+/// The law of normalized grammars: where no two rules share a name, the normalized grammars of a written one have the same names, and
+/// once their repeats, groups and lookarounds stand at the same places, the same parts.
+pub fn normalized_are_one()
+    ensures names { NamesOfNormalizedAreOne }
+    ensures parts { NormalizedAreOne }
 {}

@@ -1,5 +1,5 @@
 -- Rules that are written for the keys of a grammar that is ready are what the pass gives; for the pass.
-use Rattle.std.proofs.Common.{◌≡◌, ℕ, List, [], ◌∷◌, ◌++◌, refl, ap, sym, ◌∙◌, subst, map}
+use Rattle.std.proofs.Common.{◌≡◌, ◌+◌, ℕ, List, [], ◌∷◌, ◌++◌, refl, ap, ap₂, sym, ◌∙◌, subst, map}
 use Rattle.std.specs.Prelude.{◌⊎◌, Bool, Option, None, Result, Ok, Err, IfOk, IfErr}
 use Rattle.lalrpop_grammar_symbols.specs.Symbols.{Text, TextSpan, Closed, Closeds}
 use Rattle.lalrpop_grammar.specs.WrittenGrammar.{Alternative, Grammar, Rule, WrittenItem, rules_of}
@@ -14,6 +14,7 @@ use Rattle.lalrpop_norm_theory.specs.KeyTables.{IsKeyTable}
 use Rattle.lalrpop_norm_theory.specs.UsedKeys.{IsListByUse}
 use Rattle.lalrpop_norm_theory.proofs.KeyTableLemmas.{table_expansion}
 use Rattle.lalrpop_norm_chain.specs.Chains.{IsMacroResult}
+use Rattle.lalrpop_norm_chain.specs.OwnAttributes.{added_attributes}
 use Rattle.lalrpop_norm_chain.specs.PremiseLaws.{entries_of_items}
 use Rattle.lalrpop_norm_chain.specs.Spans.{IsAddedOrigin, IsMadeFrom}
 use Rattle.lalrpop_norm_keys.specs.KeyPlaces.{IsKeyPlace, IsShapeKey}
@@ -27,7 +28,7 @@ use Rattle.lalrpop_norm_macros.specs.OrderedNames.{key_names_from, key_names_of}
 use Rattle.lalrpop_norm_macros.proofs.ExpansionNameLemmas.{expansion_named}
 use Rattle.lalrpop_norm_macros.proofs.FoundNamingLemmas.{texts_between}
 use Rattle.lalrpop_norm_macros.proofs.UsedNameLemmas.{named_by_use}
-use Rattle.lalrpop_norm_macros.specs.FinishedRules.{AreFinishedRules, IsFinishedRule}
+use Rattle.lalrpop_norm_macros.specs.FinishedRules.{AreFinishedRules, AreRulesFrom, IsFinishedRule}
 use Rattle.lalrpop_norm_macros.specs.KeyRuleLaws.{AreRulesUnderNames, HasRightKeys, TellsOfRightKeys}
 use Rattle.lalrpop_norm_macros.specs.RuleItems.{grammar_with_rules, other_items}
 use Rattle.lalrpop_norm_macros.proofs.CountLemmas.{right_by_counts}
@@ -37,7 +38,7 @@ use Rattle.lalrpop_norm_macros.proofs.FinishedLemmas.{finished_name, rules_of_ma
 use Rattle.lalrpop_norm_macros.specs.MacroPass.{IsMacroFault, IsReadyForMacros}
 use Rattle.lalrpop_norm_macros.proofs.FaultLemmas.{told_condition}
 use Rattle.lalrpop_norm_macros.proofs.KeySpanLemmas.{ArePlacedFrom, rules_placed}
-use Rattle.lalrpop_norm_macros.proofs.SpanLemmas.{finished_place, finished_stands}
+use Rattle.lalrpop_norm_macros.proofs.SpanLemmas.{finished_attributes, finished_place, finished_stands}
 
 -- what lies beside rules
 
@@ -146,6 +147,39 @@ module _ (finds : Text → Text → Option Bool) (w : Grammar) where
         (subst (λ rs. Among rs q) (rules_of_made w.items made) i) in
         finished_stands g (rules_of w.items) f keys u.1 (places u.0) q u.3 b j
 
+    -- that of a call has the attributes of the called one, that of a repeat, a group or a lookaround its own
+    attributes_of_called : (n : Text) (args : Closeds) (i : ℕ) (q : Rule) → Done i (Closed.call n args None) q
+        → (r : Rule) × Among (rules_of w.items) r × (r.name ≡ n) × (q.attributes ≡ r.attributes)
+    attributes_of_called n args i q (written, c, m) =
+        (written, c.among, (rule_there g n (rule_between written) c.is_rule).1, m.attributes)
+
+    rule_of_key : (x : Closed) (q : Rule) → Among keys x → Among (rules_of expanded.items) q → q.name ≡ f x → (i : ℕ) × Done i x q
+    rule_of_key x q k i e =
+        let u = rule_of_some Done f (λ j y r m. (finished_name g (rules_of w.items) f keys y (places j) r m).0) 0 keys made done q
+        (subst (λ rs. Among rs q) (rules_of_made w.items made) i) in
+        let name : q.name ≡ f u.1 = (finished_name g (rules_of w.items) f keys u.1 (places u.0) q u.3).0 in
+        let same : u.1 ≡ x = names.apart u.1 x u.2 k (sym name ∙ e) in
+        (u.0, subst (λ y. Done u.0 y q) same u.3)
+
+    attributes_of_rule : (n : Text) (args : Closeds) (q : Rule) → Among keys (Closed.call n args None)
+        → Among (rules_of expanded.items) q → q.name ≡ f (Closed.call n args None)
+        → (r : Rule) × Among (rules_of w.items) r × (r.name ≡ n) × (q.attributes ≡ r.attributes)
+    attributes_of_rule n args q k i e =
+        let u = rule_of_key (Closed.call n args None) q k i e in attributes_of_called n args u.0 q u.1
+
+    attributes_of_shape : (x : Closed) (q : Rule) → IsShapeKey x → Among keys x → Among (rules_of expanded.items) q → q.name ≡ f x
+        → q.attributes ≡ added_attributes q.span x
+    attributes_of_shape x q shape k i e =
+        let u = rule_of_key x q k i e in finished_attributes g (rules_of w.items) f keys x (places u.0) q shape u.1
+
+    -- rules stand in the order of their keys
+    rules_from : (k : ℕ) (xs : List Closed) (rs : List Rule) → AreRulesFrom Done k xs rs → map (λ (r : Rule). r.name) rs ≡ map f xs
+    rules_from k [] rs e = ap (map (λ (r : Rule). r.name)) e
+    rules_from k (x ∷ xs) rs (r, rest, e, m, more) =
+        ap (map (λ (q : Rule). q.name)) e
+        ∙ ap₂ (λ (n : Text) (l : List Text). n ∷ l) (finished_name g (rules_of w.items) f keys x (places k) r m).0
+        (rules_from (k + 1) xs rest more)
+
     pub macro_result : IsMacroResult finds w expanded
     macro_result =
         let h = grammar_between finds expanded in
@@ -164,6 +198,10 @@ module _ (finds : Text → Text → Option Bool) (w : Grammar) where
           named = λ x i. refl;
           rule_spans = span_of_rule;
           key_spans = span_of_shape;
+          rule_attributes = attributes_of_rule;
+          key_attributes = attributes_of_shape;
+          in_order = right.in_order;
+          rule_order = ap (map (λ (r : Rule). r.name)) (rules_of_made w.items made) ∙ rules_from 0 keys made done;
           alternative_spans = stands_before;
           span = refl;
           prefix = refl;

@@ -1,13 +1,14 @@
 -- Rules of keys stand at their places, and their alternatives where those that they are made of do; for the pass.
 use Rattle.std.proofs.Common.{◌≡◌, List, [], ◌∷◌, refl, ap, sym, ◌∙◌, subst, inl, inr, ◌⊎◌}
-use Rattle.std.specs.Prelude.{Option}
+use Rattle.std.specs.Prelude.{Option, codes}
 use Rattle.lalrpop_grammar_symbols.specs.Symbols.{Closed, Op, Text, TextSpan, WrittenSymbol}
-use Rattle.lalrpop_grammar.specs.WrittenGrammar.{Alternative, Condition, Rule, Ty}
+use Rattle.lalrpop_grammar.specs.WrittenGrammar.{Alternative, Attr, Condition, Rule, Ty}
 use Rattle.lalrpop_grammar_language.specs.Among.{Among}
 use Rattle.lalrpop_grammar_language.specs.Enabled.{EnabledGrammar}
 use Rattle.lalrpop_grammar_language.specs.Admitting.{argument_list, bind}
 use Rattle.lalrpop_grammar_language.specs.Conditions.{Holds}
 use Rattle.lalrpop_norm_theory.specs.Between.{rule_between}
+use Rattle.lalrpop_norm_chain.specs.OwnAttributes.{added_attributes}
 use Rattle.lalrpop_norm_chain.specs.Spans.{IsAddedOrigin, IsMadeFrom}
 use Rattle.lalrpop_norm_keys.specs.KeyPlaces.{IsShapeKey}
 use Rattle.lalrpop_norm_macros.specs.AddedRules.{AddedChoice, AreAddedAlternatives, IsAddedRule, added_choices}
@@ -110,6 +111,24 @@ finished_stands g rs f keys (Closed.terminal t) p made d b i = absurd d
 finished_stands g rs f keys (Closed.choose x) p made d b i = absurd d
 finished_stands g rs f keys (Closed.name m k x) p made d b i = absurd d
 finished_stands g rs f keys Closed.faulty p made d b i = absurd d
+
+abbrev inline_there : TextSpan → List Attr
+inline_there p = Attr.empty p (codes "inline") ∷ []
+
+-- the rule of a repeat, a group or a lookaround says at most that it is inlined, at its place
+pub finished_attributes : (g : EnabledGrammar) (rs : List Rule) (f : Closed → Text) (keys : List Closed) (x : Closed) (p : TextSpan)
+    (made : Rule) → IsShapeKey x → IsFinishedRule g rs f keys x p made → made.attributes ≡ added_attributes made.span x
+finished_attributes g rs f keys (Closed.repeat Op.plus x) p made shape d = d.attributes
+finished_attributes g rs f keys (Closed.repeat Op.star x) p made shape d = d.attributes ∙ ap inline_there (sym d.span)
+finished_attributes g rs f keys (Closed.repeat Op.question x) p made shape d = d.attributes ∙ ap inline_there (sym d.span)
+finished_attributes g rs f keys (Closed.group xs) p made shape d = d.attributes ∙ ap inline_there (sym d.span)
+finished_attributes g rs f keys Closed.lookahead p made shape d = d.attributes ∙ ap inline_there (sym d.span)
+finished_attributes g rs f keys Closed.lookbehind p made shape d = d.attributes ∙ ap inline_there (sym d.span)
+finished_attributes g rs f keys (Closed.call m xs level) p made shape d = absurd shape
+finished_attributes g rs f keys (Closed.terminal t) p made shape d = absurd shape
+finished_attributes g rs f keys (Closed.choose x) p made shape d = absurd shape
+finished_attributes g rs f keys (Closed.name m k x) p made shape d = absurd shape
+finished_attributes g rs f keys Closed.faulty p made shape d = absurd shape
 
 -- the rule of a repeat, a group or a lookaround stands at its place
 pub finished_place : (g : EnabledGrammar) (rs : List Rule) (f : Closed → Text) (keys : List Closed) (x : Closed) (p : TextSpan)

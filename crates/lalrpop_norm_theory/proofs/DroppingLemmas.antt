@@ -28,7 +28,8 @@ use Rattle.lalrpop_norm_theory.proofs.ClosedNameLemmas.{name_closed, side_kept, 
 use Rattle.lalrpop_norm_theory.proofs.TypeChangeLemmas.{mapped_type, mapped_by_itself, KeepsDeclared, symbol_kept, changed_types}
 use Rattle.lalrpop_norm_theory.proofs.TypeChangeLemmas.{changed_chains}
 use Rattle.lalrpop_norm_theory.specs.NamesByUse.{IsNamingByUse}
-use Rattle.lalrpop_norm_theory.proofs.UseChangeLemmas.{naming_before}
+use Rattle.lalrpop_norm_theory.specs.UsedKeys.{IsListByUse}
+use Rattle.lalrpop_norm_theory.proofs.UseChangeLemmas.{list_before, naming_before}
 
 -- ranks aren't asked of cfg attributes
 
@@ -205,3 +206,11 @@ dropped_names_by_use finds features g prefix name_of w a =
     let k = rules_changed finds features g w in
     naming_before cfg_change (enabled_grammar finds features g) (grammar_between finds (without_disabled features g)) k
     (sides_kept (enabled_grammar finds features g) (grammar_between finds (without_disabled features g)) k) prefix name_of a
+
+-- keys in order of first use in what is left of a grammar that was read are so in its enabled grammar
+pub dropped_keys_by_use : (finds : Text → Text → Option Bool) (features : List Text) (g : Grammar) (keys : List Closed) → IsReadGrammar g
+    → IsListByUse (grammar_between finds (without_disabled features g)) keys → IsListByUse (enabled_grammar finds features g) keys
+dropped_keys_by_use finds features g keys w a =
+    let k = rules_changed finds features g w in
+    list_before cfg_change (enabled_grammar finds features g) (grammar_between finds (without_disabled features g)) k
+    (sides_kept (enabled_grammar finds features g) (grammar_between finds (without_disabled features g)) k) keys a

@@ -1,7 +1,7 @@
 -- Computed examples of what a pass keeps, of which nonterminals are inlined, and passes that are refused.
 use Prim.Native.String.{String}
 use Rattle.std.specs.Fmt.{digits}
-use Rattle.std.proofs.Common.{◌≡◌, ℕ, List, [], ◌∷◌, ◌++◌, refl, ap, sym, ◌∙◌, subst, true, false, inl, inr}
+use Rattle.std.proofs.Common.{◌≡◌, List, [], ◌∷◌, ◌++◌, refl, ap, sym, ◌∙◌, true, false, inl, inr}
 use Rattle.std.proofs.Common.{◌⊎◌}
 use Rattle.std.specs.Prelude.{None, codes}
 use Rattle.std.proofs.lemmas.Bool.{true≢false}

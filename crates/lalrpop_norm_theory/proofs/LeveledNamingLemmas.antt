@@ -69,7 +69,7 @@ falling_falls [] = tt
 falling_falls (n ∷ ns) = put_falls n (falling_levels ns) (falling_falls ns)
 
 -- a tighter level is below the loosest
-below_loosest : (r : EnabledRule) (j m : ℕ) → loosest r ≡ Some m → Among (after_first (levels_in_order r)) j → j < m
+pub below_loosest : (r : EnabledRule) (j m : ℕ) → loosest r ≡ Some m → Among (after_first (levels_in_order r)) j → j < m
 below_loosest r j m e i = go (levels_in_order r) (falling_falls (levels r)) (falling-front (levels r)) i
   where
     go : (ns : List ℕ) → IsFalling ns → front ns ≡ loosest r → Among (after_first ns) j → j < m

@@ -30,7 +30,8 @@ use Rattle.lalrpop_norm_theory.proofs.TypeChangeLemmas.{mapped_type, mapped_type
 use Rattle.lalrpop_norm_theory.proofs.TypeChangeLemmas.{changed_chains}
 use Rattle.lalrpop_norm_theory.proofs.NameUseLemmas.{IsUse, use_is, no_value, no_rule_named}
 use Rattle.lalrpop_norm_theory.specs.NamesByUse.{IsNamingByUse}
-use Rattle.lalrpop_norm_theory.proofs.UseChangeLemmas.{naming_before}
+use Rattle.lalrpop_norm_theory.specs.UsedKeys.{IsListByUse}
+use Rattle.lalrpop_norm_theory.proofs.UseChangeLemmas.{list_before, naming_before}
 
 -- rules with resolved names
 
@@ -283,3 +284,10 @@ pub resolved_names_by_use : (finds : Text → Text → Option Bool) (g : Grammar
 resolved_names_by_use finds g prefix name_of a =
     naming_before (name_change (defined_names g)) (grammar_between finds g) (grammar_between finds (resolved_grammar g))
     (rules_changed finds g) (sides_kept finds g) prefix name_of a
+
+-- keys in order of first use in the grammar whose names are resolved are so in the grammar before
+pub resolved_keys_by_use : (finds : Text → Text → Option Bool) (g : Grammar) (keys : List Closed)
+    → IsListByUse (grammar_between finds (resolved_grammar g)) keys → IsListByUse (grammar_between finds g) keys
+resolved_keys_by_use finds g keys a =
+    list_before (name_change (defined_names g)) (grammar_between finds g) (grammar_between finds (resolved_grammar g))
+    (rules_changed finds g) (sides_kept finds g) keys a

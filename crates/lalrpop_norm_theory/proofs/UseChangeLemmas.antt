@@ -12,7 +12,7 @@ use Rattle.lalrpop_norm_theory.specs.KeyTables.{keys_in}
 use Rattle.lalrpop_norm_theory.specs.LevelNames.{after_first}
 use Rattle.lalrpop_norm_theory.specs.LeveledGrammar.{falling_levels}
 use Rattle.lalrpop_norm_theory.specs.FirstUse.{AreInOrderOfUse, AreUsesOf, FollowByUse}
-use Rattle.lalrpop_norm_theory.specs.UsedKeys.{AreKeysByUse, CallUses, ChoiceUses, ChoicesUse, KeyUses}
+use Rattle.lalrpop_norm_theory.specs.UsedKeys.{AreKeysByUse, CallUses, ChoiceUses, ChoicesUse, IsListByUse, KeyUses}
 use Rattle.lalrpop_norm_theory.specs.UsedKeys.{call_at_level, rule_at_levels, tighter_at, tighter_call, unless_macro, written_keys}
 use Rattle.lalrpop_norm_theory.specs.NamesByUse.{AreNumberedByUse, IsNamingByUse, own_texts, texts_of_rules, tighter_keys}
 use Rattle.lalrpop_norm_theory.proofs.NamesByUseLemmas.{name_of_key}
@@ -128,6 +128,10 @@ module _ (w : RuleChange) (g h : EnabledGrammar) (k : HasChangedRules w g h) (s 
   order_before others v =
       subst (λ l. AreInOrderOfUse (KeyUses g) l others) written_before
       (order_on (KeyUses h) (KeyUses g) uses_before (written_keys h) others v)
+
+  -- and so they are with the rules in front
+  pub list_before : (keys : List Closed) → IsListByUse h keys → IsListByUse g keys
+  list_before keys (others, e, v) = (others, e ∙ ap (λ l. l ++ others) written_before, order_before others v)
 
   -- names
 

@@ -33,6 +33,7 @@ use Rattle.lalrpop_run.specs.Check.{HasStateCountBy}
 use Rattle.lalrpop_run.specs.InlineCycles.{IsCyclic}
 use Rattle.lalrpop_run.specs.InliningNumbers.{HasNumbersEnough}
 use Rattle.lalrpop_run.specs.ListedFaults.{HasNoPassFault, IsListedFault}
+use Rattle.lalrpop_run.specs.Report.{IsReportOfConflicts, IsReportOfStates}
 use Rattle.lalrpop_run.specs.RightAnswer.{HasTokens, IsRightAnswerTo, MayBeParsed}
 use Rattle.lalrpop_grammar_repr.specs.declared.methods.Method.{Method}
 use Rattle.lalrpop_run.proofs.ExamplesOfUncarried.{AreCalm, IsCalm, calm_rules, only_rules}
@@ -160,6 +161,12 @@ pub conflicts_beside_a_barren_rule : (text : List ℕ) (told : List ToldConflict
     IsRightAnswerTo asked endless text (WrittenAnswer.conflicting told) → ⊥
 conflicts_beside_a_barren_rule text told (IsRightAnswerTo.conflicts all h) = some_barren h.faultless.none_barren
 
+pub report_beside_a_barren_rule : (method : Method) (text : Text) → IsReportOfStates asked endless method text → ⊥
+report_beside_a_barren_rule method text h = not_parsed h.parsed
+
+pub report_of_conflicts_beside_a_barren_rule : (text : Text) → IsReportOfConflicts asked endless text → ⊥
+report_of_conflicts_beside_a_barren_rule text h = some_barren h.faultless.none_barren
+
 carried : IsCarried finds [] endless
 carried = record {
   no_extern = only_rules endless refl;
@@ -272,6 +279,9 @@ not_one_tree h =
     (yes [] twice "S" (nd "S" 1 (tok "a" ∷ [])) refl) in
     let places : ◌≡◌ {A = ℕ} 0 1 = cc in
     omega (arith, places)
+
+pub report_of_an_ambiguous_grammar : (method : Method) (text : Text) → IsReportOfStates asked twice method text → ⊥
+report_of_an_ambiguous_grammar method text h = not_one_tree h.parsed
 
 pub answer_of_an_ambiguous_grammar : (text : List ℕ) (answer : TextAnswer) →
     IsRightAnswerTo asked twice text (WrittenAnswer.to_text answer) → ⊥

@@ -1,5 +1,5 @@
 -- Of two labels not both come first: for the order of an expansion's productions.
-use Rattle.std.proofs.Common.{◌≡◌, ◌∙◌, ◌≤◌, ◌⊎◌, inl, inr, ℕ, List, Some, ap, arith, refl, subst, sym}
+use Rattle.std.proofs.Common.{◌≡◌, ◌∙◌, ◌⊎◌, inl, inr, ℕ, List, Some, ap, arith, refl, subst, sym}
 use Rattle.lalrpop_grammar.specs.WrittenGrammar.{Origin}
 use Rattle.lalrpop_grammar_language.specs.Labels.{Inlinings, Label}
 use Rattle.lalrpop_lr1_theory.proofs.StepLemmas.{some_same}

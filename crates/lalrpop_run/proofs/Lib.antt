@@ -1,5 +1,6 @@
 pub mod TokenLineLemmas
 pub mod ParserLemmas
+pub mod ReportLemmas
 pub mod ReadLemmas
 pub mod WitnessedTreeLemmas
 pub mod ListedFaultLemmas

@@ -1,6 +1,6 @@
 -- After a step of inlining the productions of each nonterminal stand in the order of their labels, and are numbered in theirs, where they did
 -- before it; for the numbers of an inlined grammar.
-use Rattle.std.proofs.Common.{◌≡◌, ◌∙◌, ◌≤◌, ◌<◌, ◌+◌, ◌⊎◌, inl, inr, ℕ, suc, List, [], ◌∷◌, ◌++◌, ap, arith, length, map, refl, subst, sym}
+use Rattle.std.proofs.Common.{◌≡◌, ◌∙◌, ◌≤◌, ◌<◌, ◌+◌, ◌⊎◌, inl, inr, ℕ, suc, List, [], ◌∷◌, ap, arith, length, map, refl, subst, sym}
 use Rattle.std.proofs.Common.{true, false, take}
 use Rattle.std.specs.Prelude.{Bool, if◌then◌else◌}
 use Rattle.std.specs.List.{list_any}

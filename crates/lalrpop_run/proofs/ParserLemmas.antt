@@ -1,4 +1,4 @@
--- What was prepared for a question gives its replies; for `check`, `tokens` and `parse`.
+-- What was prepared for a question gives its replies; for `check`, `tokens`, `parse` and `report`.
 use Rattle.std.proofs.Common.{◌≡◌, ◌∙◌, ◌++◌, ℕ, List, Contains, Vec, ap, map, refl, subst, sym}
 use Rattle.std.proofs.lemmas.List.{length-map}
 use Rattle.std.specs.Global.{Global}
@@ -27,16 +27,18 @@ use Rattle.lalrpop_run_prepare.specs.PreparedGrammars.{MayBeParsedFrom, Prepared
 use Rattle.lalrpop_run_prepare.specs.Tokenizers.{scan_entries}
 use Rattle.lalrpop_run.specs.Asked.{Asked, WrittenAnswer}
 use Rattle.lalrpop_run.specs.Check.{HasStateCountBy, IsCheckReply}
+use Rattle.lalrpop_run.specs.ListedFaults.{IsFaultless}
 use Rattle.lalrpop_run.specs.Parse.{IsAnswerTold, IsParseReply}
 use Rattle.lalrpop_run.specs.Parsers.{IsNoParserReply, IsPreparedFor, conflict_view}
 use Rattle.lalrpop_run.specs.Questions.{Question, asked_of}
+use Rattle.lalrpop_run.specs.Report.{IsReportedExpansion}
 use Rattle.lalrpop_run.specs.RightAnswer.{AreItsEntries, IsRightAnswerTo, MayBeParsed}
 use Rattle.lalrpop_run.specs.Tokens.{IsScanReply, IsTokensReply}
 use Rattle.lalrpop_run.specs.ToldConflicts.{IsConflicting}
 use Rattle.lalrpop_run.specs.declared.replies.reply.Reply.{Reply}
 use Rattle.lalrpop_run.specs.declared.replies.reply.Reply.TheVariants as replies
-use Rattle.lalrpop_run.proofs.RightAnswerLemmas.{conflicting_prepared, count_prepared, entries_prepared, own_question, parsed_prepared}
-use Rattle.lalrpop_run.proofs.RightAnswerLemmas.{right_by_entries, states_prepared}
+use Rattle.lalrpop_run.proofs.RightAnswerLemmas.{conflicting_prepared, count_prepared, entries_prepared, expansion_prepared, own_question, parsed_prepared}
+use Rattle.lalrpop_run.proofs.RightAnswerLemmas.{faultless_prepared, right_by_entries, states_prepared}
 
 -- what is lent out of a box is what was prepared for the question
 pub lent : (q : Question) (g : Grammar) {v w : PreparedGrammar} → v ≡ w → IsPreparedFor q g w → IsPreparedFor q g v
@@ -82,6 +84,15 @@ module _ (q : Question) (g : Grammar) (v : PreparedGrammar) (h : IsPreparedFor q
       asked (λ fs n s w. AreItsEntries (asked_with fs n s) (grammar_view w) (scan_entries (lowered_view h.prepared.made).entries))
       (entries_prepared v q.limit h.prepared name)
 
+  pub faultless_asked : IsFaultless (asked_of q) (grammar_view g)
+  faultless_asked = asked (λ fs n s w. IsFaultless (asked_with fs n s) (grammar_view w)) (faultless_prepared v q.limit h.prepared name)
+
+  pub expansion_asked : HasItsTerminals v.expansion → IsStrictlySortedBy (terminal_order.ghosts).cmp v.expansion.terminals.all
+      → IsReportedExpansion (asked_of q) (grammar_view g) v.expansion
+  expansion_asked terminals ascending =
+      asked (λ fs n s w. IsReportedExpansion (asked_with fs n s) (grammar_view w) v.expansion)
+      (expansion_prepared v q.limit h.prepared name terminals ascending)
+
   pub conflicts_asked : (certificates : List Certificate) (shown : Vec WrittenConflict Global) (reply : Reply)
       → HasConflicts v certificates → AreWrittenConflicts v certificates shown.items → reply ≡ replies.Conflicts shown
       → HasItsTerminals v.expansion
@@ -95,7 +106,7 @@ module _ (q : Question) (g : Grammar) (v : PreparedGrammar) (h : IsPreparedFor q
 
   module _ (lr1 : IsLr1 (Contains (theory_grammar v.expansion)) v.start_name.0)
       (one_tree : IsReadGrammar (grammar_view v.written) → HasOneTreeEach v) where
-    parsed_asked : MayBeParsed (asked_of q) (grammar_view g)
+    pub parsed_asked : MayBeParsed (asked_of q) (grammar_view g)
     parsed_asked =
         asked (λ fs n s w. MayBeParsed (asked_with fs n s) (grammar_view w))
         (parsed_prepared v q.limit h.prepared name lr1 (one_tree own_read))

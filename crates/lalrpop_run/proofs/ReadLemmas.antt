@@ -25,6 +25,7 @@ grammar_read tasks.Judge bytes g given = tt
 grammar_read tasks.Tokens bytes g given = readable g (grammar_takes given.0 g given.1.1).1
 grammar_read tasks.Check bytes g given = readable g (grammar_takes given.0 g given.1.1).1
 grammar_read tasks.Parse bytes g given = readable g (grammar_takes given.0 g given.1.1).1
+grammar_read tasks.Report bytes g given = readable g (grammar_takes given.0 g given.1.1).1
 
 -- where no text is read, it is the empty one
 pub unread_text : (reads : Bool) (r : RunReader) → reads ≡ false → IsTextIn reads r []

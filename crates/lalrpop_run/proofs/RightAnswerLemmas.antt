@@ -34,6 +34,7 @@ use Rattle.lalrpop_run.specs.Asked.{Asked, WrittenAnswer}
 use Rattle.lalrpop_run.specs.Check.{HasStates}
 use Rattle.lalrpop_run.specs.ListedFaults.{IsFaultless}
 use Rattle.lalrpop_run.specs.Parsers.{conflict_view, kind_view}
+use Rattle.lalrpop_run.specs.Report.{IsReportedExpansion}
 use Rattle.lalrpop_run.specs.RightAnswer.{AreItsEntries, HasTokens, IsRightAnswerTo, IsRightStateCount, MayBeParsed}
 use Rattle.lalrpop_run.specs.ToldConflicts.{AreToldOf, IsConflicting, kind_of_move, told_of}
 use Rattle.lalrpop_run.proofs.ItsProductionsLemmas.{AreToldInOrder, prepared_in_order}
@@ -138,6 +139,20 @@ module _ (v : PreparedGrammar) (limit : ℕ) (p : IsPrepared finds is_too_deep v
   ordered : AreToldInOrder (enabled_grammar finds v.session.features.items (grammar_view v.written)) v.written.prefix
       v.expansion.action_fn_defns v.origins (theory_grammar v.expansion)
   ordered = prepared_in_order finds is_too_deep v p
+
+  pub expansion_prepared : HasItsTerminals v.expansion
+      → IsStrictlySortedBy (terminal_order.ghosts).cmp v.expansion.terminals.all → IsReportedExpansion own w v.expansion
+  expansion_prepared terminals ascending = record {
+    productions = record {
+      expansion = ordered.told.expansion;
+      order = ordered.order;
+      is_order = ordered.is_order;
+      in_order = ordered.in_order;
+    };
+    naming = ordered.naming;
+    terminals = terminals;
+    ascending = ascending;
+  }
 
   -- an unfolded tree is the written tree of what was unfolded
   tree_told : (ts : SpannedForest) (t : Tree) → IsUnfolded v ts t → t ≡ written_of_forest ordered.told.expansion.label_of ts

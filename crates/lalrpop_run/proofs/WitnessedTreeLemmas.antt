@@ -1,5 +1,5 @@
 -- Certificates of a prepared grammar's conflicts have trees to tell; for conflicts as replies.
-use Rattle.std.proofs.Common.{◌≡◌, ℕ, List, arith}
+use Rattle.std.proofs.Common.{ℕ, List, arith}
 use Rattle.std.proofs.lemmas.Option.{slice_get_within}
 use Rattle.lalrpop_grammar.specs.Views.{grammar_view}
 use Rattle.lalrpop_judge.specs.declared.certificates.certificate.Certificate.{Certificate}

@@ -13,6 +13,7 @@ pub mod Check
 pub mod Judge
 pub mod Parse
 pub mod Parsers
+pub mod Report
 pub mod Replies
 pub mod Runs
 pub mod Tokens

@@ -63,6 +63,7 @@ task_reads_grammar tasks.Judge (Some tree) = true
 task_reads_grammar tasks.Tokens tree = true
 task_reads_grammar tasks.Check tree = true
 task_reads_grammar tasks.Parse tree = true
+task_reads_grammar tasks.Report tree = true
 
 -- the grammar is read: always, but where `judge` has no tree
 abbrev pub reads_grammar : Question → Bool
@@ -73,6 +74,7 @@ task_reads_text tasks.Judge = false
 task_reads_text tasks.Tokens = true
 task_reads_text tasks.Check = false
 task_reads_text tasks.Parse = true
+task_reads_text tasks.Report = false
 
 -- the text is read
 abbrev pub reads_text : Question → Bool

@@ -15,6 +15,7 @@ use Rattle.lalrpop_run.specs.Inputs.{IsJsonOf, IsNoJson}
 use Rattle.lalrpop_run.specs.Judge.{IsJudgeReply}
 use Rattle.lalrpop_run.specs.Parse.{IsParseReply}
 use Rattle.lalrpop_run.specs.Questions.{Question, reads_text}
+use Rattle.lalrpop_run.specs.Report.{IsReportReply}
 use Rattle.lalrpop_run.specs.Tokens.{IsTokensReply}
 use Rattle.lalrpop_run.specs.declared.replies.reply.Reply.{Reply}
 use Rattle.lalrpop_run.specs.declared.replies.reply.Reply.TheVariants as replies
@@ -24,18 +25,20 @@ IsTaskReply tasks.Judge q g text reply = IsJudgeReply q g reply
 IsTaskReply tasks.Tokens q g text reply = IsTokensReply q g text reply
 IsTaskReply tasks.Check q g text reply = IsCheckReply q g reply
 IsTaskReply tasks.Parse q g text reply = IsParseReply q g text reply
+IsTaskReply tasks.Report q g text reply = IsReportReply q g reply
 
 -- to a grammar and a text, by the task
 abbrev pub IsReplyTo : Question → Grammar → Text → Reply → Type 0
 IsReplyTo q g text reply = IsTaskReply q.task q g text reply
 
--- the grammars for which a task's reply is promised: for `tokens`, `check` and `parse` those that look as one that was read, any prefix
--- of two or more underscores
+-- the grammars for which a task's reply is promised: for all but `judge` those that look as one that was read, any prefix of two or more
+-- underscores
 abbrev pub IsGrammarFor : Task → Grammar → Type 0
 IsGrammarFor tasks.Judge g = Unit {0}
 IsGrammarFor tasks.Tokens g = IsReadGrammar (grammar_view g)
 IsGrammarFor tasks.Check g = IsReadGrammar (grammar_view g)
 IsGrammarFor tasks.Parse g = IsReadGrammar (grammar_view g)
+IsGrammarFor tasks.Report g = IsReadGrammar (grammar_view g)
 
 -- what the grammar's bytes give
 abbrev pub GivesGrammar : List ℕ → Result Grammar Fault → Type 0

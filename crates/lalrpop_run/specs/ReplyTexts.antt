@@ -42,6 +42,7 @@ reply_text (replies.NoToken at) = line (codes "no token at byte " ++ decimal at)
 reply_text (replies.Tree tree) = line (tree_text (tree_view tree))
 reply_text (replies.WrongToken at text) = line (codes "token " ++ json_text text ++ codes " at byte " ++ decimal at)
 reply_text replies.EarlyEnd = line (codes "end of input")
+reply_text (replies.Report text conflicts) = string_bytes text
 reply_text (replies.OverLimit limit) = line (codes "limit of " ++ decimal limit ++ codes " moves used up")
 
 abbrev pub refusal_status : GenerateError → ℕ
@@ -73,6 +74,8 @@ reply_status (replies.Tree tree) = 0
 reply_status (replies.WrongToken at text) = 1
 reply_status replies.EarlyEnd = 1
 reply_status (replies.OverLimit limit) = 2
+reply_status (replies.Report text false) = 0
+reply_status (replies.Report text true) = 3
 
 -- where a growth was refused
 abbrev pub memory_text : List ℕ

@@ -10,13 +10,14 @@ use crate::judging::judge_reply;
 use crate::parsing::parse_reply;
 use crate::questions::{Question, question_of};
 use crate::replies::{Answer, Reply, put};
+use crate::reporting::report_reply;
 use crate::tokens::tokens_reply;
 use lalrpop_grammar::Grammar;
 use lalrpop_run_options::{Options, Task};
 use std::alloc::{AllocError, Global};
 
-/// The answer once the grammar and the text are read. `judge` and `check` have no use for the text. What `tokens`, `check` and `parse` answer is
-/// promised for a grammar that looks as one that was read, with any prefix of two or more underscores.
+/// The answer once the grammar and the text are read. `judge`, `check` and `report` have no use for the text. What is answered to all tasks but
+/// `judge` is promised for a grammar that looks as one that was read, with any prefix of two or more underscores.
 pub fn answer(
     alloc: Global,
     options: &Options,
@@ -58,6 +59,10 @@ fn reply_to(
         }
         Task::Parse => {
             let reply = parse_reply(alloc, question, grammar, text)?;
+            Ok(reply)
+        }
+        Task::Report => {
+            let reply = report_reply(alloc, question, grammar)?;
             Ok(reply)
         }
     }

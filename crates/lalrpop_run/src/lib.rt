@@ -1,6 +1,6 @@
 //! The answers of the program: from the words, a grammar's JSON and a text to what is written.
 //!
-//! In `specs/`, `RightAnswer` says what the right answer is, `Judge`, `Tokens`, `Check` and `Parse` have the replies of each command,
+//! In `specs/`, `RightAnswer` says what the right answer is, `Judge`, `Tokens`, `Check`, `Parse` and `Report` have the replies of each command,
 //! `Parsers` why a grammar has no parser, and `Runs` the whole run.
 #![tactic(auto)]
 
@@ -13,6 +13,7 @@ mod parsing;
 mod preparing;
 pub mod questions;
 pub mod replies;
+mod reporting;
 mod running;
 mod tokens;
 mod words;

@@ -21,8 +21,8 @@ use std::str;
 /// Answers the words over the grammar's JSON and, for `tokens` and `parse`, over the text, and writes the answer; its own answer is
 /// the exit status.
 ///
-/// `grammar` is read to its end, but not where the words give `judge` no tree. `judge` and `check` never read `text`; `tokens` and
-/// `parse` read it to its end, once the grammar's JSON has given a grammar, whatever is wrong with that, and not where it gives none. The
+/// `grammar` is read to its end, but not where the words give `judge` no tree. `judge`, `check` and `report` never read `text`;
+/// `tokens` and `parse` read it to its end, once the grammar's JSON has given a grammar, whatever is wrong with that, and not where it gives none. The
 /// answer's text is made whole before the first write. Where memory was wanting the status is 5, where a reader or the writer has
 /// failed it is 6.
 pub fn run<R1: Source, R2: Source, W: Sink>(

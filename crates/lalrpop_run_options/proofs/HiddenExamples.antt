@@ -159,6 +159,6 @@ no_copies-faults : faults (checked (codes "--copies" ∷ [])) ≡ InvalidValue �
 unfolding program clap_on_literals
 no_copies-faults = refl
 
-another_task-faults : faults (codes "lalrpop_run" ∷ codes "report" ∷ codes "--start" ∷ codes "S" ∷ []) ≡ InvalidValue ∷ []
+another_task-faults : faults (codes "lalrpop_run" ∷ codes "explain" ∷ codes "--start" ∷ codes "S" ∷ []) ≡ InvalidValue ∷ []
 unfolding program clap_on_literals
 another_task-faults = refl

@@ -25,16 +25,18 @@ Commands, each with its options and an example:
           lalrpop_run tokens --start S --text 'a b' < examples/lists.grammar.json
   judge   whether the grammar admits a tree: --start, --tree; [--features]
           lalrpop_run judge --start S --tree \"$(cat examples/lists.tree.json)\" < examples/lists.grammar.json
+  report  the tables of the grammar, state by state: --start; [--features, --macro-limit, --method, --copies]
+          lalrpop_run report --start S < examples/lists.grammar.json
 
 Methods:
-  lane       lane tables; they aren't built yet, so the canonical states answer
+  lane       the states without lookaheads, where these leave no conflict; else the canonical ones
   canonical  canonical LR(1) states
 
 Status:
   0  an answer
   1  the answer no, or a text without a tree
   2  a parse would make more moves than --limit says
-  3  the grammar is refused
+  3  the grammar is refused, or its tables are reported with conflicts
   4  wrong words, a call for help or the version, or a value that can't be read
   5  out of memory
   6  a read or a write failed";

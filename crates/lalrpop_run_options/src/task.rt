@@ -13,10 +13,12 @@ pub enum Task {
     Check,
     /// The tree of a text.
     Parse,
+    /// The report of a grammar's tables.
+    Report,
 }
 
 /// The words that name tasks, in the order of `Task`.
-pub(crate) static TASK_WORDS: [&str; 4] = ["judge", "tokens", "check", "parse"];
+pub(crate) static TASK_WORDS: [&str; 5] = ["judge", "tokens", "check", "parse", "report"];
 
 impl Task {
     /// The word that names the task.
@@ -28,6 +30,7 @@ impl Task {
             Task::Tokens => "tokens",
             Task::Check => "check",
             Task::Parse => "parse",
+            Task::Report => "report",
         }
     }
 
@@ -41,6 +44,7 @@ impl Task {
             "tokens" => Task::Tokens,
             "check" => Task::Check,
             "parse" => Task::Parse,
+            "report" => Task::Report,
             _ => unreachable!(),
         }
     }

@@ -3,6 +3,7 @@ pub mod ExamplesOfLimits
 pub mod FaultLawLemmas
 pub mod GenerateLemmas
 pub mod LimitLawLemmas
+pub mod TwoWayLemmas
 pub mod ParseLemmas
 pub mod ParserLimitLemmas
 pub mod PlaceLemmas

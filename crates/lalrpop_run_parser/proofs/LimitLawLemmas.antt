@@ -25,7 +25,7 @@ same_some : (a b : TextAnswer) → ◌≡◌ {A = Option TextAnswer} (Some a) (S
 same_some a b e = cc
 
 -- what is told of a result is told of its answer
-told_answer : (Right : TextAnswer → Type 0) (result : Result WrittenTree ParseError) (a : TextAnswer) →
+pub told_answer : (Right : TextAnswer → Type 0) (result : Result WrittenTree ParseError) (a : TextAnswer) →
     answer_of_result result ≡ Some a →
     TellsResult Right result → Right a
 told_answer Right (Ok t) a e h = subst Right (same_some (TextAnswer.written (tree_view t)) a e) h

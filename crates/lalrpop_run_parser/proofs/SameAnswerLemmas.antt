@@ -1,4 +1,4 @@
--- Two right answers to one text are one, but for the limit: for the law that a greater limit changes no other answer.
+-- Two right answers to one text are one, but for the limit: for the laws that a greater limit changes no other answer, and of both ways.
 use Rattle.std.proofs.Common.{◌≡◌, ◌∙◌, ◌<◌, ◌≤◌, ◌⊎◌, inl, inr, ℕ, suc, List, [], ◌++◌}
 use Rattle.std.proofs.Common.{refl, ap, sym, subst, arith}
 use Rattle.std.proofs.Common.{append_assoc, append-nil, drop, take}
@@ -11,6 +11,7 @@ use Rattle.lalrpop_grammar.specs.WrittenGrammar.{Grammar}
 use Rattle.lalrpop_grammar_language.specs.Admitting.{AdmitsFrom}
 use Rattle.lalrpop_grammar_language.specs.Sentences.{Begins, IsSentence}
 use Rattle.lalrpop_lexer_scan.specs.Entries.{ScanEntry}
+use Rattle.lalrpop_lexer_scan.specs.Tokens.{AreTokensOf}
 use Rattle.lalrpop_lexer_scan.proofs.CutLemmas.{never_both, same_place, same_tokens}
 use Rattle.lalrpop_run_theory.specs.TextAnswers.{IsFirstWrong, IsRightForText, IsRightForTokens, TextAnswer, terminals_of_tokens}
 
@@ -105,3 +106,60 @@ module _ (finds : Text → Text → Option Bool) (features : List Text) (w : Gra
       same_for_text a b (IsRightForText.reads tokens c h r) (IsRightForText.reads tokens' d k s) n m =
           same_for_tokens tokens a b r
           (subst (λ ts. IsRightForTokens finds features w start ts greater b) (same_tokens entries text tokens' tokens k h) s) n m
+
+  module _ (one_each : (t u : Tree) (tokens : List Token) → AdmitsFrom finds features w start t tokens →
+      AdmitsFrom finds features w start u tokens → t ≡ u) (limit : ℕ) where
+    abbrev IsRight : List Token → TextAnswer → Type 0
+    IsRight tokens a = IsRightForTokens finds features w start tokens limit a
+
+    is_limit : (a : TextAnswer) → (a ≡ TextAnswer.over_limit) ⊎ (a ≡ TextAnswer.over_limit → ⊥)
+    is_limit TextAnswer.over_limit = inl refl
+    is_limit (TextAnswer.no_token at) = inr (λ e. let z : ⊥ = cc in z)
+    is_limit (TextAnswer.written t) = inr (λ e. let z : ⊥ = cc in z)
+    is_limit (TextAnswer.wrong_token at text) = inr (λ e. let z : ⊥ = cc in z)
+    is_limit TextAnswer.early_end = inr (λ e. let z : ⊥ = cc in z)
+
+    -- where the limit is right, and another answer is, too, the tokens are no sentence
+    no_sentence_beside : (tokens : List Token) (b : TextAnswer) → IsRight tokens TextAnswer.over_limit → IsRight tokens b →
+        (b ≡ TextAnswer.over_limit → ⊥) → IsSentence finds features w start tokens → ⊥
+    no_sentence_beside tokens (TextAnswer.no_token at) r s m sentence = s
+    no_sentence_beside tokens TextAnswer.over_limit r s m sentence = m refl
+    no_sentence_beside tokens (TextAnswer.written t) r s m sentence =
+        let large = r.large t s.expanded s.is_expanded in
+        let small = s.small in
+        omega (arith, large, small)
+    no_sentence_beside tokens (TextAnswer.wrong_token at text) r s m sentence =
+        s.begins_no_more (sentence_begins tokens (suc s.number) sentence)
+    no_sentence_beside tokens TextAnswer.early_end r s m sentence = s.1 sentence
+
+    abbrev Agree : (Type 0) → TextAnswer → TextAnswer → Type 0
+    Agree None_is a b = (a ≡ b) ⊎ (None_is × ((a ≡ TextAnswer.over_limit) ⊎ (b ≡ TextAnswer.over_limit)))
+
+    agree_for_tokens : (tokens : List Token) (a b : TextAnswer) → IsRight tokens a → IsRight tokens b →
+        Agree (IsSentence finds features w start tokens → ⊥) a b
+    agree_for_tokens tokens a b r s = go (is_limit a) (is_limit b)
+      where
+        go : (a ≡ TextAnswer.over_limit) ⊎ (a ≡ TextAnswer.over_limit → ⊥) → (b ≡ TextAnswer.over_limit) ⊎ (b ≡ TextAnswer.over_limit → ⊥)
+            → Agree (IsSentence finds features w start tokens → ⊥) a b
+        go (inl e) (inl f) = inl (e ∙ sym f)
+        go (inl e) (inr m) = inr (no_sentence_beside tokens b (subst (IsRight tokens) e r) s m, inl e)
+        go (inr n) (inl f) = inr (no_sentence_beside tokens a (subst (IsRight tokens) f s) r n, inr f)
+        go (inr n) (inr m) = inl (same_for_tokens one_each limit limit tokens a b r s n m)
+
+    -- two right answers to a text under one limit are one; or its tokens are no sentence, and one of the two is the limit
+    pub agree_for_text : (entries : List ScanEntry) (text : List ℕ) (a b : TextAnswer) →
+        IsRightForText finds features w start entries text limit a → IsRightForText finds features w start entries text limit b →
+        Agree ((tokens : List Token) → AreTokensOf entries text tokens → IsSentence finds features w start tokens → ⊥) a b
+    agree_for_text entries text a b (IsRightForText.stops at h) (IsRightForText.stops at' k) =
+        inl (ap TextAnswer.no_token (same_place entries text at at' h k))
+    agree_for_text entries text a b (IsRightForText.stops at h) (IsRightForText.reads tokens c k s) =
+        absurd (never_both entries text tokens at k h)
+    agree_for_text entries text a b (IsRightForText.reads tokens c h r) (IsRightForText.stops at k) =
+        absurd (never_both entries text tokens at h k)
+    agree_for_text entries text a b (IsRightForText.reads tokens c h r) (IsRightForText.reads tokens' d k s) =
+        by (agree_for_tokens tokens a b r (subst (λ ts. IsRight ts b) (same_tokens entries text tokens' tokens k h) s))
+      where
+        by : Agree (IsSentence finds features w start tokens → ⊥) a b
+            → Agree ((us : List Token) → AreTokensOf entries text us → IsSentence finds features w start us → ⊥) a b
+        by (inl e) = inl e
+        by (inr n) = inr (λ us cut sentence. n.0 (subst (IsSentence finds features w start) (same_tokens entries text us tokens cut h) sentence), n.1)

@@ -9,3 +9,4 @@ pub mod PostOrders
 pub mod Witnesses
 pub mod WrittenConflicts
 pub mod ConflictTexts
+pub mod TwoWays

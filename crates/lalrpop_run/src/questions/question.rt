@@ -65,16 +65,16 @@ pub fn reads_grammar(options: &Options) -> bool
 {
     match options.task {
         Task::Judge => options.tree.is_some(),
-        Task::Tokens | Task::Check | Task::Parse => true,
+        Task::Tokens | Task::Check | Task::Parse | Task::Report => true,
     }
 }
 
-/// Whether the text is read: `judge` and `check` have no use for it.
+/// Whether the text is read: `judge`, `check` and `report` have no use for it.
 pub fn reads_text(options: &Options) -> bool
     ensures { result ≡ reads_text (question_of options.now) }
 {
     match options.task {
-        Task::Judge | Task::Check => false,
+        Task::Judge | Task::Check | Task::Report => false,
         Task::Tokens | Task::Parse => true,
     }
 }

@@ -17,8 +17,9 @@ pub fn put(alloc: Global, reply: Reply) -> Result<Answer, AllocError>
     ensures { IfOk result (λ answer. answer_view answer ≡ reply_output reply) }
 {
     match reply {
-        // these lines may be long, so they aren't written once more
-        Reply::Tokens(text) => Ok(Answer { text, status: 0 }),
+        // these texts may be long, so they aren't written once more
+        Reply::Tokens(text) | Reply::Report(text, false) => Ok(Answer { text, status: 0 }),
+        Reply::Report(text, true) => Ok(Answer { text, status: 3 }),
         reply => answer_to(alloc, &reply),
     }
 }
@@ -39,11 +40,12 @@ fn status(reply: &Reply) -> u8
 {
     match reply {
         Reply::Judged(true) | Reply::Parser(_) | Reply::Tokens(_) | Reply::Tree(_) => 0,
+        Reply::Report(_, false) => 0,
         Reply::Judged(false) | Reply::NoToken(_) => 1,
         Reply::WrongToken(_, _) | Reply::EarlyEnd => 1,
         Reply::OverLimit(_) => 2,
         Reply::ConditionLimit => 3,
-        Reply::Conflicts(_) => 3,
+        Reply::Conflicts(_) | Reply::Report(_, true) => 3,
         Reply::Refused(error) => refusal_status(error),
         Reply::WantsTree | Reply::NotJson | Reply::NotUtf8 => 4,
         Reply::GrammarFault(_) | Reply::TreeFault(_) => 4,

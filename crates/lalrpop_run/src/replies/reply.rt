@@ -40,6 +40,8 @@ pub enum Reply {
     EarlyEnd,
     /// A parse would make more moves than this.
     OverLimit(u64),
+    /// The report of the tables, and whether they have conflicts.
+    Report(String, bool),
 }
 
 /// What the program writes, and the status that it ends with.

@@ -1,8 +1,9 @@
-use Rattle.std.proofs.Common.{◌++◌, ◌≡◌, ◌∙◌, ap, length, map, sym}
+use Rattle.std.proofs.Common.{◌++◌, ◌∙◌, ap, length, map, sym}
+use Rattle.std.proofs.lemmas.List.{length-map}
 use Rattle.std.specs.Prelude.{filter, string_bytes}
 use Rattle.lalrpop_lane_report.specs.Reports.{head_lines, is_with_shift, states_of_conflicts, summary_of_conflicts, table_lines}
 use Rattle.lalrpop_lane_report.specs.ShownStates.{shown_action, shown_conflict_of, shown_state}
-use Rattle.lalrpop_lane_report.proofs.ShownLemmas.{length_shown, summary_shown}
+use Rattle.lalrpop_lane_report.proofs.ShownLemmas.{summary_shown}
 use Rattle.lalrpop_lane_report.proofs.generating.text_of_conflicts.Goals as goal
 
 pub returns : goal.returns
@@ -12,7 +13,7 @@ returns g c =
     let conflicts = c.args.error.now.conflicts.items in
     let counted = ap (λ n. summary_of_conflicts n (length c.as_slice.result.now)
     (length (filter (λ d. is_with_shift (shown_action d.action)) c.as_slice.result.now)) (states_of_conflicts (map (λ d. d.state.0) c.as_slice.result.now)))
-    (c.len.ensures ∙ c.args.error.now.states.ok.0 ∙ sym (length_shown (shown_state tokens) states))
+    (c.len.ensures ∙ c.args.error.now.states.ok.0 ∙ sym (length-map states (shown_state tokens)))
     ∙ ap (λ l. summary_of_conflicts (length (map (shown_state tokens) states)) (length l)
     (length (filter (λ d. is_with_shift (shown_action d.action)) l)) (states_of_conflicts (map (λ d. d.state.0) l))) c.as_slice.ensures.value
     ∙ summary_shown tokens (length (map (shown_state tokens) states)) conflicts in

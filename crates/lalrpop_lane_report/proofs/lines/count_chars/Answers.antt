@@ -1,4 +1,4 @@
-use Rattle.std.proofs.Common.{◌≡◌, ◌+◌, ◌<◌, ◌≤◌, ◌∙◌, ap, arith, length, rules, sym}
+use Rattle.std.proofs.Common.{◌≡◌, ◌<◌, ◌≤◌, ◌∙◌, ap, arith, length, rules}
 use Rattle.std.specs.Fmt.{char_count}
 use Rattle.lalrpop_lane_report.proofs.CharacterLemmas.{next_byte, no_byte}
 use Rattle.lalrpop_lane_report.proofs.lines.count_chars.Goals as goal

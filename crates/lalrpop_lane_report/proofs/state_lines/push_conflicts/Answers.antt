@@ -1,4 +1,4 @@
-use Rattle.std.proofs.Common.{◌++◌, ◌≡◌, ◌∙◌, ◌≤◌, [], ap, length, rules, sym}
+use Rattle.std.proofs.Common.{◌++◌, ◌∙◌, ◌≤◌, [], ap, length, rules, sym}
 use Rattle.std.specs.Prelude.{cond, nat_eq, string_bytes}
 use Rattle.lalrpop_lane_report.specs.Reports.{lines_of_conflict}
 use Rattle.lalrpop_lane_report.specs.ShownStates.{shown_conflict_of}

@@ -1,4 +1,4 @@
-use Rattle.std.proofs.Common.{◌++◌, ◌≡◌, ◌∙◌, ◌+◌, ap, append_assoc, drop, sym}
+use Rattle.std.proofs.Common.{◌++◌, ◌∙◌, ◌+◌, ap, append_assoc, drop, sym}
 use Rattle.std.specs.Prelude.{flat_map, string_bytes}
 use Rattle.lalrpop_lane_report.specs.Reports.{reduction_lines}
 use Rattle.lalrpop_lane_report.specs.ShownStates.{shown_reduction}

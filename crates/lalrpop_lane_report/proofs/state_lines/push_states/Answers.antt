@@ -1,4 +1,4 @@
-use Rattle.std.proofs.Common.{◌++◌, ◌≡◌, ◌∙◌, ◌≤◌, ap, length, map, rules, sym}
+use Rattle.std.proofs.Common.{◌++◌, ◌∙◌, ◌≤◌, ap, length, map, rules, sym}
 use Rattle.std.specs.Prelude.{string_bytes}
 use Rattle.lalrpop_lane_report.specs.Reports.{state_lines}
 use Rattle.lalrpop_lane_report.specs.ShownStates.{shown_conflict_of, shown_state}

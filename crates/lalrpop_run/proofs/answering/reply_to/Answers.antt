@@ -24,3 +24,10 @@ returns-in_ok-reply-in-Parse c =
     λ fit.
     subst (λ (t : Task). IsTaskReply t (question_view c.args.question) g c.args.text.now c.in_ok-reply-in-Parse.reply)
     (sym c.in-Parse.is) (c.in_ok-reply-in-Parse.ensures (subst (λ (t : Task). IsGrammarFor t g) c.in-Parse.is fit))
+
+pub returns-in_ok-reply-in-Report : goal.returns-in_ok-reply-in-Report
+returns-in_ok-reply-in-Report c =
+    let g = c.args.grammar in
+    λ fit.
+    subst (λ (t : Task). IsTaskReply t (question_view c.args.question) g c.args.text.now c.in_ok-reply-in-Report.reply)
+    (sym c.in-Report.is) (c.in_ok-reply-in-Report.ensures (subst (λ (t : Task). IsGrammarFor t g) c.in-Report.is fit))
