@@ -12,6 +12,7 @@ pub mod GatherLemmas
 pub mod InsertLemmas
 pub mod KeyLemmas
 pub mod NodeLemmas
+pub mod PatchLemmas
 pub mod PutLemmas
 pub mod RowLemmas
 pub mod TableLemmas

@@ -62,7 +62,7 @@ got_push [] (suc k) v t h = let w : ⊥ = cc in absurd w
 got_push (x ∷ xs) zero v t h = inl h
 got_push (x ∷ xs) (suc k) v t h = ⊎_elim (λ a. inl a) (λ b. inr (ap suc b.0, b.1)) (got_push xs k v t h)
 
-after_set : {X : Type 0} (xs : List X) (n k : ℕ) (v t : X) → slice_get xs k ≡ Some t →
+pub after_set : {X : Type 0} (xs : List X) (n k : ℕ) (v t : X) → slice_get xs k ≡ Some t →
     (slice_get (set xs n v) k ≡ Some t) ⊎ ((k ≡ n) × (slice_get (set xs n v) k ≡ Some v))
 after_set [] zero k v t h = inl h
 after_set [] (suc n) k v t h = inl h
@@ -76,12 +76,12 @@ after_push [] ys k t h = let w : ⊥ = cc in absurd w
 after_push (x ∷ xs) ys zero t h = h
 after_push (x ∷ xs) ys (suc k) t h = after_push xs ys k t h
 
-some_at : {X : Type 0} (xs : List X) (k : ℕ) → k < length xs → (x : X) × (slice_get xs k ≡ Some x)
+pub some_at : {X : Type 0} (xs : List X) (k : ℕ) → k < length xs → (x : X) × (slice_get xs k ≡ Some x)
 some_at [] k h = absurd (omega (arith, h))
 some_at (x ∷ xs) zero h = (x, refl)
 some_at (x ∷ xs) (suc k) h = some_at xs k (omega (arith, h))
 
-below_or : (n k : ℕ) → (n < k) ⊎ (k ≤ n)
+pub below_or : (n k : ℕ) → (n < k) ⊎ (k ≤ n)
 below_or n k = grind arith
 
 module _ {L : Type 0} where

@@ -1,5 +1,5 @@
 -- States that a merge left are spread over the originals, as the theory says it.
-use Rattle.std.proofs.Common.{◌≡◌, ◌∙◌, ◌⊎◌, ◌<◌, ◌≤◌, ◌+◌, ◌↔◌, ℕ, zero, suc, Bool, true, false, List, [], ◌∷◌, map, length, refl, sym, ap, subst}
+use Rattle.std.proofs.Common.{◌≡◌, ◌∙◌, ◌<◌, ◌≤◌, ◌+◌, ◌↔◌, ℕ, zero, suc, Bool, true, false, List, [], ◌∷◌, map, length, refl, sym, ap, subst}
 use Rattle.std.proofs.Common.{⊎_elim, arith, cond, Contains, Some, slice_get, nat_lt}
 use Rattle.std.proofs.lemmas.Bool.Decides.{Decides-ltb}
 use Rattle.std.proofs.lemmas.Option.{slice_get_within}
@@ -17,6 +17,7 @@ use Rattle.lalrpop_lr1_core.specs.declared.state_index.StateIndex.{StateIndex}
 use Rattle.lalrpop_lane_theory.specs.SpreadStates.{AreSpreadStates, LeadAsOriginal}
 use Rattle.lalrpop_lane_tables.specs.MergedStates.{AreMerged, HasOneEdgeEach, StandsFor, edges_by_origin}
 use Rattle.lalrpop_lane_tables.specs.declared.merged_states.FirstEdges.{FirstEdges}
+use Rattle.lalrpop_lane_tables.proofs.MergeLemmas.{below_or, some_at}
 
 got_map : {X Y : Type 0} (f : X → Y) (xs : List X) (k : ℕ) (y : Y) → slice_get (map f xs) k ≡ Some y →
     (x : X) × (slice_get xs k ≡ Some x) × (f x ≡ y)
@@ -28,11 +29,6 @@ map_got : {X Y : Type 0} (f : X → Y) (xs : List X) (k : ℕ) (x : X) → slice
 map_got f [] k x h = let w : ⊥ = cc in absurd w
 map_got f (y ∷ ys) zero x h = ap (λ v. Some (f v)) (some_same y x h)
 map_got f (y ∷ ys) (suc k) x h = map_got f ys k x h
-
-some_at : {X : Type 0} (xs : List X) (k : ℕ) → k < length xs → (x : X) × (slice_get xs k ≡ Some x)
-some_at [] k h = absurd (omega (arith, h))
-some_at (x ∷ xs) zero h = (x, refl)
-some_at (x ∷ xs) (suc k) h = some_at xs k (omega (arith, h))
 
 -- edges that lead alike, by symbols as they are seen
 module _ {K S : Type 0} (see : K → S) (origin : ℕ → ℕ) (es us : List (K × StateIndex))
@@ -109,9 +105,6 @@ beyond_past origin count base n h = go (nat_lt n count) refl
     go : (b : Bool) → nat_lt n count ≡ b → cond b (origin n) (base + n) ≡ base + n
     go true e = let z : n < count = (Decides-ltb n count).0 e in absurd (omega (arith, z, h))
     go false e = refl
-
-below_or : (n k : ℕ) → (n < k) ⊎ (k ≤ n)
-below_or n k = grind arith
 
 module _ {L : Type 0} (look : L → LookaheadSet) (originals states : List (State L)) (origin : ℕ → ℕ)
     (copies : List (StateIndex × StateIndex)) (firsts : List (StateIndex × FirstEdges)) (h : AreMerged originals origin copies firsts states)

@@ -7,6 +7,7 @@ pub mod MergeViews
 pub mod MergeWalks
 pub mod MergedStates
 pub mod NodeKeys
+pub mod PatchedTargets
 pub mod ReachedStates
 pub mod RowColumns
 pub mod TableGains

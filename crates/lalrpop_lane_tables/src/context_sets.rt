@@ -257,6 +257,25 @@ impl ContextSet {
         Ok(())
     }
 
+    /// The reductions, each with the set of its column, where the actions, in order, are those of the columns. Each reduction is one of
+    /// the actions.
+    ///
+    /// # Errors
+    ///
+    /// Memory is refused.
+    pub(crate) fn applied<'g>(
+        &self,
+        alloc: Global,
+        reductions: &[(TokenSet, &'g Production)],
+        actions: &BTreeSet<Action<'_>>,
+    ) -> Result<List<(TokenSet, &'g Production)>, AllocError>
+        requires sets { length self.now ≡ length actions.now.keys }
+        requires actions { HaveActions actions.now.keys reductions.now }
+        ensures { IfOk result (λ applied. HaveSetsOfActions actions.now.keys self.now reductions.now applied) }
+    {
+        reductions_with(alloc, self.values.as_slice(), actions, reductions)
+    }
+
     /// A copy that equals it.
     ///
     /// # Errors

@@ -1,16 +1,18 @@
 //! Merges: states that conflict are kept apart by copies, as lane tables tell.
 
-ghost use Rattle.std.specs.Prelude.{◌≡◌, [], Err, None, OnOk, Some};
+ghost use Rattle.std.specs.Prelude.{◌≡◌, [], Err, None, OnErr, OnOk, Some, length};
 ghost use Rattle.lalrpop_lane_tables.specs.MergeViews.{AreClasses, MergeKeeps, UnlessMemory};
+ghost use Rattle.lalrpop_lane_tables.specs.PatchedTargets.{HaveTargetActions, PatchesTargets};
 
 use crate::lane_tables::LaneTable;
 use crate::merge_classes::MergeFault;
+use crate::merge_targets::{patches_of, put_patches};
 use crate::merge_walk::walk;
 use crate::merged_states::Copying;
 use crate::unify_tables::{StateSet, UnifyTable};
 use lalrpop_grammar_repr::Map;
-use lalrpop_lr1_core::{Lr1State, StateIndex};
-use std::alloc::Global;
+use lalrpop_lr1_core::{Action, Lr1State, StateIndex};
+use std::alloc::{AllocError, Global};
 use std::collections::BTreeSet;
 use std::marker::Model;
 
@@ -116,5 +118,37 @@ impl Merge {
                 Err(fault)
             }
         }
+    }
+
+    /// Gives the reductions of the state with the conflicts, and those of the copies of it that were made, the sets that their actions
+    /// have in the state's class, as `ContextSet::apply` does. The actions, in order, are those of the columns, and each of these
+    /// reductions is one of them. What is no state or has no class stays as it is, and so do all other states.
+    ///
+    /// # Errors
+    ///
+    /// Memory is refused; the states are as before.
+    pub fn patch_target_starts<'g>(
+        self,
+        unify: &UnifyTable,
+        states: &mut [Lr1State<'g>],
+        sets: &Map<StateIndex, StateSet>,
+        actions: &BTreeSet<Action<'g>>,
+    ) -> Result<(), AllocError>
+        requires classes { AreClasses (length actions.now.keys) sets.now unify.now }
+        requires actions { HaveTargetActions self.target self.copies actions.now.keys states.old }
+        ensures patched { OnOk result (PatchesTargets actions.now.keys sets.now unify.now self.target self.copies states.old states.new) }
+        ensures kept { OnErr result (states.new ≡ states.old) }
+    {
+        let patches = patches_of(
+            self.alloc,
+            unify,
+            states,
+            sets,
+            actions,
+            self.target,
+            self.copying.copies.as_slice(),
+        )?;
+        put_patches(states, patches);
+        Ok(())
     }
 }

@@ -44,7 +44,7 @@ impl From<AllocError> for MergeFault {
 }
 
 /// The class of the state, if it has one.
-fn class_of(sets: &Map<StateIndex, StateSet>, state: StateIndex) -> Option<StateSet>
+pub(crate) fn class_of(sets: &Map<StateIndex, StateSet>, state: StateIndex) -> Option<StateSet>
     ensures { result ≡ class_key_of sets.now state }
 {
     sets.get(&state).copied()
