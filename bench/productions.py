@@ -1,5 +1,5 @@
-"""Plain productions: how they are read, written for our programs, bison and menhir, and how programs are run over them. For the scripts of
-this folder."""
+"""Plain productions: how they are read, written for our programs, bison and menhir, and how programs are run over them and tell their
+times. For the scripts of this folder."""
 import ctypes
 import hashlib
 import json
@@ -14,6 +14,13 @@ from grammars import alternative, grammar as written, literal, name, rule
 
 TOP = Path(__file__).resolve().parent.parent
 GRAMMARS = TOP / "bench" / "grammars"
+
+RUNS = 3
+
+# what bison and menhir say of how long their parts took, and LALRPOP of its states
+PHASE = re.compile(r"^ (\S.*?) +([\d.]+)(?: \([^)]*\))? +([\d.]+)(?: \([^)]*\))? +[\d.]+(?: \([^)]*\))?$", re.M)
+TABLES_OF_MENHIR = r"^(?:Analysis of the grammar|Running loop detection|Construction of the LR\([01]\) automaton): ([\d.]+)s$"
+LALRPOP_PHASE = r"^Phase `LR\(1\) state construction.*` completed in ([\d.]+) seconds$"
 
 NAME, STRING = r"[A-Za-z0-9_]+", r'"(?:[^"\\]|\\.)*"'
 LINE = re.compile(rf"({NAME}):((?: +(?:{NAME}|{STRING}))*) *")
@@ -44,6 +51,14 @@ class Grammar(NamedTuple):
 
     def digest(self):
         return hashlib.sha256(self.file.read_bytes()).hexdigest()
+
+
+class Row(NamedTuple):
+    states: int
+    milliseconds: float  # of the tables alone, as the program tells
+    seconds: float
+    memory: float
+    note: str = ""
 
 
 class Run(NamedTuple):
@@ -102,6 +117,33 @@ def menhir_text(grammar):
     for left, rights in grammar.rules():
         text += f"{left}:\n" + "".join(f"| {' '.join(it)} {{}}\n" for it in rights)
     return text
+
+
+def lalrpop_text(grammar):
+    """The grammar for LALRPOP."""
+    tokens = "".join(f'"{it}" => Token::{it}, ' for it in grammar.terminals.values())
+    text = f"grammar;\nextern {{ type Location = usize; type Error = (); enum Token {{ {tokens}}} }}\n"
+    for left, rights in grammar.rules():
+        shown = [" ".join(it if it.startswith("n_") else f'"{it}"' for it in right) for right in rights]
+        text += ("pub " if left == grammar.start() else "") + f"{left}: () = {{\n"
+        text += "".join(f"{it} => (),\n" for it in shown) + "};\n"
+    return text
+
+
+def bison_states(room, kind):
+    """The number of states of one kind, and what bison says of them."""
+    told = run(room, ["bison", "-D", f"lr.type={kind}", "-o", "parser.c", "grammar.y"])
+    return number(r"^#define YYNSTATES +(\d+)$", (room / "parser.c").read_text()), told.err
+
+
+def lalrpop_states(room):
+    """The number of states in the parser that LALRPOP wrote."""
+    parser = (room / "grammar.rs").read_text()
+    return parser.partition("const __EOF_ACTION")[2].partition("];")[0].count("// State ")
+
+
+def best(row):
+    return min((row() for _ in range(RUNS)), key=lambda it: it.milliseconds)
 
 
 def run(room, command, source=os.devnull, **environment):

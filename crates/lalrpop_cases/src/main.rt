@@ -2,8 +2,8 @@
 //!
 //! The words name kinds of cases and files: a file's cases are of the kind that is named last before it. Behind the word `tokens`
 //! stand a start and a file, behind `parse` a limit of moves, too: the program answers as `lalrpop_run` does, whose text is a word
-//! and so no longer than a word may be. Behind `productions` stand a start, what is asked (`counts`, `check`, `tokens` or `sentence`), and
-//! of what: tokens, the file of a sentence, or nothing.
+//! and so no longer than a word may be. Behind `productions` stand a start, what is asked (`counts`, `check`, `lanes`, `tokens` or
+//! `sentence`), and of what: how many copies lanes may make, tokens, the file of a sentence, or nothing.
 #![tactic(auto)]
 
 mod case;

@@ -10,16 +10,18 @@ ghost use Rattle.lalrpop_lr1_interpret.specs.Parses.{AreParsable};
 
 use anyhow::{Context, Result, bail};
 use lalrpop_grammar::ScanToken;
+use lalrpop_grammar_repr::methods::Method;
 use lalrpop_grammar_repr::{Grammar, TerminalSet};
 use lalrpop_grammar_symbols::NonterminalString;
+use lalrpop_lane::build_lr1_states;
 use lalrpop_lr1_check::check_states;
-use lalrpop_lr1_core::Lr1State;
+use lalrpop_lr1_core::{Lr1Result, Lr1State, TableFault};
 use lalrpop_lr1_interpret::parse::{ActionTable, NoTrees, Stop};
 use lalrpop_plain_tables::answers::{
     Canonical, canonical_states, counts_of, parsable_states, read_productions, start_of,
 };
 use lalrpop_table_cases::{stop_text, tokens_of, tree_text};
-use std::alloc::Global;
+use std::alloc::{AllocError, Global};
 use std::rt::{Clock, Files};
 use std::time::Instant;
 use std::{fs, io};
@@ -59,6 +61,7 @@ fn tell<R: Alloc<A = Global> + Clock + Eprint + Files + Print>(
     match word {
         "counts" => tell_counts(rt, grammar, start),
         "check" => tell_check(rt, grammar, start),
+        "lanes" => tell_lanes(rt, grammar, start, of),
         "tokens" => tell_tree(rt, grammar, start, of),
         "sentence" => tell_sentence(rt, grammar, start, of),
         _ => bail!("nothing is asked by {word}"),
@@ -123,6 +126,38 @@ fn tell_checked<R: Alloc<A = Global> + Clock + Eprint + Print>(
     Ok(())
 }
 
+/// Tells how many states there are by lanes, with at most so many copies.
+fn tell_lanes<R: Alloc<A = Global> + Clock + Eprint + Print>(
+    rt: &R,
+    grammar: &Grammar,
+    start: &NonterminalString,
+    copies: &str,
+) -> Result<()>
+    requires { HasItsTerminals grammar.now }
+{
+    let copies = copies.parse::<usize>()?;
+    let start = start.try_clone()?;
+    let began = Instant::now(rt)?;
+    let built = build_lr1_states(rt.alloc(), grammar, start, Method::Lane { copies });
+    tell_time(rt, began)?;
+    tell_built(rt, built)
+}
+
+/// Tells how many there are.
+fn tell_count<R: Print>(rt: &R, count: usize, what: &str) -> Result<()> {
+    println!(rt; "{count} {what}")?;
+    Ok(())
+}
+
+/// Tells how many states were built, or how many conflicts there are.
+fn tell_built<R: Print>(rt: &R, built: Lr1Result<'_>) -> Result<()> {
+    match built {
+        Ok(states) => tell_count(rt, states.len(), "states"),
+        Err(TableFault::Conflicts(error)) => tell_count(rt, error.conflicts.len(), "conflicts"),
+        Err(TableFault::Memory) => Err(AllocError.into()),
+    }
+}
+
 /// Tells the tree of the tokens, or where they are stuck.
 fn tell_tree<R: Alloc<A = Global> + Print>(
     rt: &R,
@@ -147,7 +182,7 @@ fn tell_sentence<R: Alloc<A = Global> + Clock + Eprint + Files + Print>(
     requires { HasItsTerminals grammar.now }
 {
     let tokens = read_sentence(rt, file)?;
-    let states = parsable_states(rt.alloc(), grammar, start)?;
+    let states = parsable_states(rt.alloc(), grammar, start, Method::Canonical)?;
     tell_parse(rt, states.as_slice(), &grammar.terminals, tokens.as_slice())
 }
 

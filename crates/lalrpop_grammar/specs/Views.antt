@@ -141,7 +141,8 @@ abbrev pub conversion_view : Conversion → pure.Conversion
 conversion_view c = record { from = terminal_view c.from; to = c.to }
 
 abbrev pub enum_token_view : EnumToken → pure.EnumToken
-enum_token_view e = record { conversions = map conversion_view e.conversions; type_text = e.type_text }
+enum_token_view e =
+    record { conversions = map (λ c. record { from = terminal_view c.from; to = c.to }) e.conversions; type_text = e.type_text }
 
 abbrev pub extern_view : ExternToken → pure.ExternBlock
 extern_view e = record {

@@ -42,19 +42,10 @@ item_rows =
 unfoldable pub item_form : Data → Option Form
 item_form d = form_at item_words item_rows d
 
-abbrev pub as_rule : Result NonterminalData Fault → Result GrammarItem Fault
-as_rule read = read >>= λ rule. Ok (items.Nonterminal rule)
-
-abbrev pub as_match : Result MatchToken Fault → Result GrammarItem Fault
-as_match read = read >>= λ block. Ok (items.MatchToken block)
-
-abbrev pub as_extern : Result ExternToken Fault → Result GrammarItem Fault
-as_extern read = read >>= λ block. Ok (items.ExternToken block)
-
 abbrev pub item_by : Option Form → Data → Result GrammarItem Fault
-item_by (Some form.Extern) d = as_extern (extern_at d)
-item_by (Some form.Match) d = as_match (match_at d)
-item_by (Some form.Rule) d = as_rule (rule_at d)
+item_by (Some form.Extern) d = extern_at d >>= λ block. Ok (items.ExternToken block)
+item_by (Some form.Match) d = match_at d >>= λ block. Ok (items.MatchToken block)
+item_by (Some form.Rule) d = rule_at d >>= λ rule. Ok (items.Nonterminal rule)
 item_by (Some form.Use) d = import_at d
 item_by _ d = Err (here fault.WrongShape)
 

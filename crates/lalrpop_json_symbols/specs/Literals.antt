@@ -57,8 +57,8 @@ as_literal read = read >>= λ l. Ok (terminals.Literal l)
 
 abbrev pub terminal_by : Option Form → Data → Result TerminalString Fault
 terminal_by (Some form.Bare) d = bare_at d
-terminal_by (Some form.Quoted) d = as_literal (quoted_at d)
-terminal_by (Some form.Regex) d = as_literal (regex_at d)
+terminal_by (Some form.Quoted) d = quoted_at d >>= λ l. Ok (terminals.Literal l)
+terminal_by (Some form.Regex) d = regex_at d >>= λ l. Ok (terminals.Literal l)
 terminal_by _ d = Err (here fault.WrongShape)
 
 unfoldable pub terminal_at : Data → Result TerminalString Fault

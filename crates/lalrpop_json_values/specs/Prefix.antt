@@ -32,4 +32,4 @@ longest_of (t ∷ ts) = max (longest_run t) (longest_of ts)
 
 -- one underscore more than the longest run
 abbrev pub prefix_past : ℕ → List ℕ
-prefix_past longest = underscores (suc (max 1 longest))
+prefix_past longest = replicate (suc (max 1 longest)) 95

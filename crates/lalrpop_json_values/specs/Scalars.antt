@@ -56,7 +56,7 @@ continues_name c = is_ascii_alphanumeric c || c == 95
 -- an ASCII letter or `_`, then ASCII letters, digits or `_`
 abbrev pub is_name : List ℕ → Bool
 is_name [] = false
-is_name (c ∷ cs) = begins_name c && list_all continues_name cs
+is_name (c ∷ cs) = (is_ascii_alphabetic c || c == 95) && list_all (λ d. is_ascii_alphanumeric d || d == 95) cs
 
 abbrev pub as_name : List ℕ → Result (List ℕ) Fault
 as_name t = if is_name t then Ok t else Err (here fault.BadName)

@@ -382,7 +382,7 @@ module _ (g : Grammar) (own : HasItsTerminals g) (s : Text) where
 
   module _ (copies : ℕ) (all : List (State (List ℕ))) (are : AreReducedStates g s copies all) where
     -- where what is carried over the originals leaves no conflict, they have none
-    no_conflict_from : HaveNoCarriedConflict (theory_grammar g) s are.states_are.originals → HaveNoConflict (seen all)
+    pub no_conflict_from : HaveNoCarriedConflict (theory_grammar g) s are.states_are.originals → HaveNoConflict (seen all)
     no_conflict_from none =
         (carried_conflicts (theory_grammar g) s (seen all) are.carried are.states_are.once).1
         (spread_no_conflict (theory_grammar g) s are.states_are.originals (seen all) are.states_are.origin are.states_are.spread none)

@@ -6,5 +6,12 @@ pub mod Lr0Lemmas
 pub mod CarriedStateLemmas
 pub mod LaneStateLemmas
 pub mod CheckedLaneLemmas
+pub mod SpreadAgainLemmas
+pub mod MergedLaneLemmas
+pub mod MergingLemmas
+pub mod OneEdgeLemmas
+pub mod RoundLemmas
+pub mod ConflictListLemmas
 pub mod ExamplesOfOrders
 pub mod ExamplesOfLaneStates
+pub mod ExamplesOfRounds

@@ -80,9 +80,10 @@ fn states_by_lanes<'g>(
 }
 
 /// LR(1) states of the grammar for a start, which the end follows, to parse with; or all conflicts of its canonical states. By the
-/// canonical way these are the states. By lanes they are the states without lookaheads, with each reduction before what is carried to it
-/// over them (DeRemer and Pennello, 1982), where these have no conflict; else they are the canonical ones, too. The terminals of the
-/// grammar are numbered by their places, and each terminal on a right side is one of them.
+/// canonical way these are the states. By lanes they are those of [`crate::build_lane_table_states`]: the states without lookaheads, with
+/// copies of some where these keep conflicts apart (Pager, 1977), and each reduction before what is carried to it over them (DeRemer and
+/// Pennello, 1982). Where a conflict stays they are the canonical ones, too. The terminals of the grammar are numbered by their places,
+/// and each terminal on a right side is one of them.
 ///
 /// # Errors
 ///

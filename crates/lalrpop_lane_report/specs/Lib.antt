@@ -1,4 +1,17 @@
+pub mod BacktracerViews
+pub mod Backtraces
+pub mod EdgeKeys
+pub mod Enumerators
+pub mod Examples
+pub mod FittingPaths
+pub mod GraphViews
+pub mod PathSteps
+pub mod PathWalks
+pub mod Paths
 pub mod Reports
 pub mod Sending
 pub mod ShownStates
 pub mod TableReports
+pub mod TraceGraphs
+pub mod TraceNodes
+pub mod Tracings

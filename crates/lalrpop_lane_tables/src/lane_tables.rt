@@ -26,6 +26,8 @@ ghost use Rattle.lalrpop_lane_tables.specs.TableGains.{
 };
 ghost use Rattle.lalrpop_lane_tables.specs.TableViews.{IsStateKey, RowsAnswer, SomeRowHolds, rows_view};
 
+mod table_text;
+
 use crate::context_sets::{ConflictIndex, ContextFault, ContextSet};
 use lalrpop_grammar_repr::{Grammar, Map};
 use lalrpop_lr1_core::StateIndex;

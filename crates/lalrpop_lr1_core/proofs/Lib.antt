@@ -10,4 +10,5 @@ mod ExamplesOfConflicts
 mod ExamplesOfDots
 mod ExamplesOfEdges
 pub mod GraphLemmas
+pub mod IncomingLemmas
 pub mod ProductionViewLemmas

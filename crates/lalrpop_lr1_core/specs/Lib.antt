@@ -2,6 +2,7 @@ pub mod Conflicts
 pub mod Dots
 pub mod Edges
 pub mod EdgesLeft
+pub mod IncomingEdges
 pub mod ItemTexts
 pub mod Numbering
 pub mod Steps

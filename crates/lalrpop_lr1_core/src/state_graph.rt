@@ -2,6 +2,7 @@
 
 ghost use Rattle.std.specs.Prelude.{◌≡◌, ◌++◌, ◌↔◌, ◌∷◌, [], ℕ, Contains, IfOk, IsTrue, MatchOption, OnOk, map};
 ghost use Rattle.std.specs.List.Sorted.{IsStrictlyIncreasing};
+ghost use Rattle.lalrpop_lr1_core.specs.IncomingEdges.{HasIncoming, edges_to};
 ghost use Rattle.lalrpop_lr1_core.specs.Edges.{SymbolsLead, state_edges, edges_of, goto_edge, shift_edge, sources_of, targets_of};
 
 use crate::edge::Edge;
@@ -10,6 +11,7 @@ use crate::state_index::StateIndex;
 use crate::trace::{sources_by, state_indexes};
 use lalrpop_grammar_repr::{Map, Symbol};
 use lalrpop_grammar_symbols::{List, NonterminalString, TerminalString};
+use lalrpop_sets::Multimap;
 use std::alloc::{AllocError, Global};
 use std::collections::BTreeSet;
 use std::marker::Model;
@@ -19,15 +21,20 @@ use std::marker::Model;
 pub struct StateGraph {
     // The edges, state by state, the shifts of each before its gotos.
     edges: List<Edge>,
+    // The same edges by the states to which they lead, those to one state in this order.
+    incoming: Multimap<usize, Vec<Edge>>,
 }
 
 impl Model for StateGraph {
     ghost use Rattle.std.specs.Prelude.{List};
     ghost use Rattle.lalrpop_lr1_core.specs.declared.edge.Edge.{Edge};
+    ghost use Rattle.lalrpop_lr1_core.specs.IncomingEdges.{HasIncoming};
 
     ghost Value = { List Edge };
 
     ghost view = { λ it. it.edges };
+
+    ghost invariant = { λ it. HasIncoming it.edges it.incoming };
 }
 
 /// The states to which the edges from a state lead, the newest edge first. `StateGraph::successors` makes it.
@@ -93,6 +100,17 @@ fn add_edges<L>(
 {
     add_shift_edges(source, &state.shifts, edges)?;
     add_goto_edges(source, &state.gotos, edges)
+}
+
+/// The edges by the states to which they lead, those to one state in their order.
+fn by_target(alloc: Global, edges: &[Edge]) -> Result<Multimap<usize, Vec<Edge>>, AllocError>
+    ensures { IfOk result (λ incoming. HasIncoming edges.now incoming) }
+{
+    let mut incoming = Multimap::new(alloc);
+    for edge in edges {
+        incoming.push(edge.target, edge.try_clone()?)?;
+    }
+    Ok(incoming)
 }
 
 /// The target of the last edge from the state among the edges, which become those before it.
@@ -166,7 +184,8 @@ impl StateGraph {
         for (source, state) in states.iter().enumerate() {
             add_edges(source, state, &mut edges)?;
         }
-        Ok(StateGraph { edges })
+        let incoming = by_target(alloc, edges.as_slice())?;
+        Ok(StateGraph { edges, incoming })
     }
 
     /// The states from which the symbols lead to the state, ascending, each once.
@@ -201,12 +220,22 @@ impl StateGraph {
         }
     }
 
+    /// The edges that lead to the state.
+    fn edges_to(&self, state: StateIndex) -> &[Edge]
+        ensures { result.now ≡ edges_to state.0 self.now }
+    {
+        match self.incoming.get(&state.0) {
+            Some(edges) => edges.as_slice(),
+            None => &[],
+        }
+    }
+
     /// The states from which edges by the symbol lead to the state, one for each edge, the newest edge first.
     pub fn predecessors<'s>(&'s self, state: StateIndex, symbol: &'s Symbol) -> Predecessors<'s>
         ensures { predecessors_left result ≡ sources_of state.0 symbol.now self.now }
     {
         Predecessors {
-            edges: self.edges.as_slice(),
+            edges: self.edges_to(state),
             symbol,
             state: state.0,
         }

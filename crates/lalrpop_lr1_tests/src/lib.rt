@@ -21,6 +21,8 @@ mod items;
 #[cfg(test)]
 mod kernels;
 #[cfg(test)]
+mod lanes;
+#[cfg(test)]
 mod lowered;
 #[cfg(test)]
 mod moves;
@@ -32,3 +34,5 @@ mod reports;
 mod states;
 #[cfg(test)]
 mod token_sets;
+#[cfg(test)]
+mod traces;

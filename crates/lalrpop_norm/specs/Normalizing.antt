@@ -6,7 +6,7 @@ use Rattle.lalrpop_grammar.specs.WrittenGrammar.{Grammar}
 use Rattle.lalrpop_grammar_rules.specs.Finding.{IsSearch}
 use Rattle.lalrpop_grammar_language.specs.Among.{Among}
 use Rattle.lalrpop_grammar_language.specs.Enabled.{EnabledGrammar, enabled_grammar}
-use Rattle.lalrpop_grammar_language.specs.Expansion.{InExpansion, IsWrittenProduction, RightSide, WrittenLabel}
+use Rattle.lalrpop_grammar_language.specs.Expansion.{InExpansion, IsWrittenProduction, Produces, RightSide, WrittenLabel}
 use Rattle.lalrpop_grammar_repr.specs.declared.norm_error.NormErrorKind.{NormErrorKind}
 use Rattle.lalrpop_grammar_repr.specs.declared.norm_error.NormErrorKind.TheVariants as kinds
 use Rattle.lalrpop_grammar_repr.specs.declared.session.NormFault.{NormFault}
@@ -37,7 +37,8 @@ IsLabelOf g label = InExpansion g label.head × (side : RightSide) × IsWrittenP
 -- The expansion has more labels than there are numbers for actions.
 pub record HasTooManyLabels (g : EnabledGrammar) : Type 0 where
   pub labels : List WrittenLabel
-  pub each : (label : WrittenLabel) → Among labels label → IsLabelOf g label
+  pub each : (label : WrittenLabel) → Among labels label → InExpansion g label.head
+      × (side : RightSide) × Produces g label.head label.choice side
   pub once : HasEachOnce labels
   pub many : 2 ^ 32 < length labels
 

@@ -31,7 +31,7 @@ pub record HasConditionWhere (g : EnabledGrammar) (P : Condition → Option Clos
   pub name : Text
   pub args : Closeds
   pub level : Option ℕ
-  pub made : IsMade g (Closed.call name args level)
+  pub made : IsRoot g (Nonterminal.closed (Closed.call name args level)) ⊎ ((k : ℕ) × HasCallChain g k (Closed.call name args level))
   pub condition : Condition
   pub value : Option Closed
   pub there : IsConditionAt g name args level condition value

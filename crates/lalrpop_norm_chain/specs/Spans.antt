@@ -3,9 +3,9 @@ use Rattle.std.specs.Prelude.{ℕ, ◌≡◌, Bool, true, List, [], Option}
 use Rattle.lalrpop_grammar_symbols.specs.Symbols.{Argument, Text, TextSpan, Closed}
 use Rattle.lalrpop_grammar.specs.WrittenGrammar.{Alternative, Grammar, Origin, Rule, rules_of}
 use Rattle.lalrpop_grammar_language.specs.Among.{Among}
-use Rattle.lalrpop_grammar_language.specs.Enabled.{at_places, is_active}
+use Rattle.lalrpop_grammar_language.specs.Enabled.{at_places, enabled_grammar, is_active}
 use Rattle.lalrpop_grammar_language.specs.Expansion.{Nonterminal, origin_with}
-use Rattle.lalrpop_norm_keys.specs.KeyPlaces.{IsWrittenKeyPlace}
+use Rattle.lalrpop_norm_keys.specs.KeyPlaces.{IsKeyPlace}
 
 -- The rule stands there; it is enabled.
 pub record IsRuleSpan (features : List Text) (w : Grammar) (n : Text) (p : TextSpan) : Type 0 where
@@ -45,10 +45,10 @@ StandsByChoice features w own Origin.look p = p ≡ own
 abbrev pub HasOwnSpan : (Text → Text → Option Bool) → List Text → Grammar → Nonterminal → TextSpan → Type 0
 HasOwnSpan finds features w (Nonterminal.start n) p = IsRuleSpan features w n p
 HasOwnSpan finds features w (Nonterminal.closed (Closed.call n args level)) p = IsRuleSpan features w n p
-HasOwnSpan finds features w (Nonterminal.closed (Closed.repeat op x)) p = IsWrittenKeyPlace finds features w (Closed.repeat op x) p
-HasOwnSpan finds features w (Nonterminal.closed (Closed.group xs)) p = IsWrittenKeyPlace finds features w (Closed.group xs) p
-HasOwnSpan finds features w (Nonterminal.closed Closed.lookahead) p = IsWrittenKeyPlace finds features w Closed.lookahead p
-HasOwnSpan finds features w (Nonterminal.closed Closed.lookbehind) p = IsWrittenKeyPlace finds features w Closed.lookbehind p
+HasOwnSpan finds features w (Nonterminal.closed (Closed.repeat op x)) p = IsKeyPlace (enabled_grammar finds features w) (Closed.repeat op x) p
+HasOwnSpan finds features w (Nonterminal.closed (Closed.group xs)) p = IsKeyPlace (enabled_grammar finds features w) (Closed.group xs) p
+HasOwnSpan finds features w (Nonterminal.closed Closed.lookahead) p = IsKeyPlace (enabled_grammar finds features w) Closed.lookahead p
+HasOwnSpan finds features w (Nonterminal.closed Closed.lookbehind) p = IsKeyPlace (enabled_grammar finds features w) Closed.lookbehind p
 HasOwnSpan finds features w (Nonterminal.closed (Closed.terminal t)) p = Unit {0}
 HasOwnSpan finds features w (Nonterminal.closed (Closed.choose x)) p = Unit {0}
 HasOwnSpan finds features w (Nonterminal.closed (Closed.name m n x)) p = Unit {0}

@@ -41,7 +41,7 @@ abbrev pub arity_faults_in : EnabledGrammar → Rule → List TextSpan
 arity_faults_in g r = flat_map (arity_faults_at g) r.alternatives
 
 abbrev pub arity_faults : EnabledGrammar → List Rule → List TextSpan
-arity_faults g rs = flat_map (arity_faults_in g) rs
+arity_faults g rs = flat_map (λ r. flat_map (λ a. flat_map (arity_fault g) (subsymbols_of (syms a.expr))) r.alternatives) rs
 
 -- one of these is told, or memory ran out
 abbrev pub TellsArity : List TextSpan → NormFault → Type 0

@@ -2,16 +2,16 @@
 use Rattle.std.specs.Prelude.{◌≡◌, true, flat_map}
 use Rattle.lalrpop_grammar_symbols.specs.Symbols.{Text, TextSpan}
 use Rattle.lalrpop_grammar_symbols.specs.Views.{span_view}
-use Rattle.lalrpop_grammar.specs.WrittenGrammar.{Attr, attr_id, Grammar}
+use Rattle.lalrpop_grammar.specs.WrittenGrammar.{Attr, attr_id, Grammar, rules_of}
 use Rattle.lalrpop_grammar_language.specs.Among.{Among}
 use Rattle.lalrpop_grammar_repr.specs.declared.norm_error.NormErrorKind.{NormErrorKind}
 use Rattle.lalrpop_grammar_repr.specs.declared.norm_error.NormErrorKind.TheVariants as kinds
 use Rattle.lalrpop_grammar_repr.specs.declared.session.NormFault.{NormFault}
 use Rattle.lalrpop_grammar_repr.specs.declared.session.NormFault.TheVariants as faults
 use Rattle.lalrpop_norm_prevalidate.specs.Attributes.{attr_span, unknown_attributes}
-use Rattle.lalrpop_norm_prevalidate.specs.Blocks.{later_blocks, public_inlines}
-use Rattle.lalrpop_norm_prevalidate.specs.Entries.{IsEntryTwice}
-use Rattle.lalrpop_norm_prevalidate.specs.Labels.{misplaced_labels}
+use Rattle.lalrpop_norm_prevalidate.specs.Blocks.{behind_first, block_span, public_inline_span}
+use Rattle.lalrpop_norm_prevalidate.specs.Entries.{IsListedAgain, entries_in_item}
+use Rattle.lalrpop_norm_prevalidate.specs.Labels.{misplaced_in_rule}
 use Rattle.lalrpop_norm_prevalidate.specs.Names.{SpannedName, has_prefix, names_in_item}
 
 -- an attribute of this name and with this span may not stand where it does
@@ -30,12 +30,12 @@ pub record IsReservedName (g : Grammar) (p : TextSpan) : Type 0 where
 
 -- The fault stands in the grammar with this span. The kinds that later passes find aren't looked for.
 abbrev pub CheckStands : NormErrorKind → TextSpan → Grammar → Type 0
-CheckStands kinds.SecondMatchBlock p g = Among (later_blocks g.items) p
+CheckStands kinds.SecondMatchBlock p g = Among (behind_first (flat_map block_span g.items)) p
 CheckStands (kinds.UnknownAttribute name) p g = IsUnknownAttribute g name p
-CheckStands kinds.PublicInline p g = Among (public_inlines g.items) p
+CheckStands kinds.PublicInline p g = Among (flat_map public_inline_span (rules_of g.items)) p
 CheckStands kinds.ReservedPrefix p g = IsReservedName g p
-CheckStands kinds.NamedNotAllowed p g = Among (misplaced_labels g.items) p
-CheckStands kinds.EntryTwice p g = IsEntryTwice g.items p
+CheckStands kinds.NamedNotAllowed p g = Among (flat_map misplaced_in_rule (rules_of g.items)) p
+CheckStands kinds.EntryTwice p g = IsListedAgain (flat_map entries_in_item g.items) p
 CheckStands (kinds.DuplicateDefinition name) p g = ⊥
 CheckStands kinds.FirstWithoutLevel p g = ⊥
 CheckStands kinds.LevelIsNoNumber p g = ⊥
@@ -61,7 +61,7 @@ StandsNowhere kind g = (p : TextSpan) → CheckStands kind p g → ⊥
 
 -- none of them stands
 abbrev pub HasNoCheckFault : Grammar → Type 0
-HasNoCheckFault g = (kind : NormErrorKind) → StandsNowhere kind g
+HasNoCheckFault g = (kind : NormErrorKind) (p : TextSpan) → CheckStands kind p g → ⊥
 
 -- the fault that is told stands where it says, or memory ran out
 abbrev pub IsCheckFault : Grammar → NormFault → Type 0

@@ -18,7 +18,7 @@ rule_between r = record {
   inlined = has_attr (codes "inline") r.attributes;
   parameters = r.parameters;
   declared = r.declared;
-  choices = map choice_of (with_origins r.alternatives);
+  choices = map choice_of (map (λ a. (a.origin, a)) r.alternatives);
 }
 
 -- the name that the first alternative tells that tells one, else the other name

@@ -24,7 +24,8 @@ IsUsedNext {A} uses known x = (us : List A) × AreUsesOf uses known us × IsFirs
 -- behind the known ones stands, again and again, the first thing that all before it use, and that is none of them
 abbrev pub FollowByUse : {A : Type 0} → (A → List A → Type 0) → List A → List A → Type 0
 FollowByUse uses known [] = Unit {0}
-FollowByUse uses known (x ∷ xs) = IsUsedNext uses known x × FollowByUse uses (known ++ x ∷ []) xs
+FollowByUse {A} uses known (x ∷ xs) =
+    ((us : List A) × AreUsesOf uses known us × IsFirstNew known us x) × FollowByUse uses (known ++ x ∷ []) xs
 
 -- these use nothing but themselves
 abbrev pub UseNoOther : {A : Type 0} → (A → List A → Type 0) → List A → Type 0
@@ -33,4 +34,4 @@ UseNoOther {A} uses xs = (us : List A) × AreUsesOf uses xs us × ((z : A) → A
 -- Behind the first ones stand the others, each where it is used first, and no more are used.
 pub record AreInOrderOfUse {A : Type 0} (uses : A → List A → Type 0) (firsts others : List A) : Type 0 where
   pub follow : FollowByUse uses firsts others
-  pub no_more : UseNoOther uses (firsts ++ others)
+  pub no_more : (us : List A) × AreUsesOf uses (firsts ++ others) us × ((z : A) → Among us z → Among (firsts ++ others) z)

@@ -31,7 +31,9 @@ AreNumberedByUse text_of name_of taken (x ∷ xs) =
 -- macros are taken; then the other keys as they are used first, where what rules and macros take is taken.
 pub record IsNamingByUse (text_of : Closed → Text) (prefix : Text) (g : EnabledGrammar) (name_of : Nonterminal → Text) : Type 0 where
   pub naming : IsNaming text_of prefix g name_of
-  pub levels : AreNumberedByUse text_of (λ x. name_of (Nonterminal.closed x)) (map (λ r. r.name) g.rules) (tighter_keys g)
+  pub levels : AreNumberedByUse text_of (λ x. name_of (Nonterminal.closed x)) (map (λ r. r.name) g.rules)
+      (flat_map (λ r. unless_macro r.parameters (tighter_at r)) g.rules)
   pub others : List Closed
   pub in_order : AreKeysByUse g others
-  pub numbered : AreNumberedByUse text_of (λ x. name_of (Nonterminal.closed x)) (texts_of_rules text_of g) others
+  pub numbered : AreNumberedByUse text_of (λ x. name_of (Nonterminal.closed x))
+      (flat_map (λ r. own_texts r.parameters r.name (map text_of (rule_at_levels r))) g.rules) others

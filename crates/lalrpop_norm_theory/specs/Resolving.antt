@@ -21,8 +21,8 @@ has_parameters r = has_any_name r.parameters
 
 abbrev pub defined_names : Grammar → DefinedNames
 defined_names g = record {
-  plain = map (λ r. r.name) (filter (λ r. not (has_parameters r)) (rules_of g.items));
-  macros = map (λ r. r.name) (filter has_parameters (rules_of g.items));
+  plain = map (λ r. r.name) (filter (λ r. not (has_any_name r.parameters)) (rules_of g.items));
+  macros = map (λ r. r.name) (filter (λ r. has_any_name r.parameters) (rules_of g.items));
   bares = bares_of g.items;
 }
 

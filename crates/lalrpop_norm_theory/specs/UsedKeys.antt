@@ -25,7 +25,8 @@ keys_of_side g r args c = flat_map keys_in (right_side g r (bind r args) c)
 -- an alternative that may be chosen uses these, another one nothing
 abbrev pub ChoiceUses : EnabledGrammar → Text → Closeds → Option ℕ → EnabledRule → Choice × Option Rank → List Closed → Type 0
 ChoiceUses g n args level r c us =
-    IsChosenAt g n args level r c × (us ≡ keys_of_side g r args c) ⊎ (IsChosenAt g n args level r c → ⊥) × (us ≡ [])
+    IsChosenAt g n args level r c × (us ≡ flat_map keys_in (right_side g r (bind r args) c))
+    ⊎ (IsChosenAt g n args level r c → ⊥) × (us ≡ [])
 
 -- the same of several alternatives, one after another
 abbrev pub ChoicesUse : EnabledGrammar → Text → Closeds → Option ℕ → EnabledRule → List (Choice × Option Rank) → List Closed

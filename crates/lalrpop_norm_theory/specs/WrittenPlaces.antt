@@ -32,7 +32,7 @@ IsWrittenIn g d y x p = IsPlaceOfCall g y x p ⊎ IsPassDownAt g d y x p
 
 -- the call stands there in one of that depth
 abbrev pub IsWrittenBelow : EnabledGrammar → Grammar → ℕ → Closed → TextSpan → Type 0
-IsWrittenBelow g d depth x p = (y : Closed) × IsMadeAt g depth y × IsWrittenIn g d y x p
+IsWrittenBelow g d depth x p = (y : Closed) × IsMadeAt g depth y × (IsPlaceOfCall g y x p ⊎ IsPassDownAt g d y x p)
 
 -- the same of a written grammar under features
 abbrev pub IsWrittenPlace : (Text → Text → Option Bool) → List Text → Grammar → ℕ → Closed → TextSpan → Type 0

@@ -52,7 +52,7 @@ abbrev pub literal_turned : WrittenEntry → Option Terminal
 literal_turned (WrittenEntry.catch_all p) = None
 literal_turned (WrittenEntry.unmapped l p) = None
 literal_turned (WrittenEntry.skip l p) = Some l
-literal_turned (WrittenEntry.mapped l t p) = if is_mapped_to l (EntryMapping.terminal t) then None else Some l
+literal_turned (WrittenEntry.mapped l t p) = if is_option_of l (literal_mapped (EntryMapping.terminal t)) then None else Some l
 
 abbrev pub is_catch_all : WrittenEntry → Bool
 is_catch_all (WrittenEntry.catch_all p) = true

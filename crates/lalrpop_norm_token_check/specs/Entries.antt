@@ -40,7 +40,7 @@ not_listed entries used = filter (λ l. not (lists_literal entries l)) used
 -- without a block all literals are one group, each for itself
 abbrev pub tokenizer_entries : Option (List (List WrittenEntry)) → List Terminal → List InternEntry
 tokenizer_entries None used = map (own_entry 1) used
-tokenizer_entries (Some groups) used = entries_of_groups (not_listed (entries_in_groups groups) used) groups
+tokenizer_entries (Some groups) used = entries_of_groups (filter (λ l. not (lists_literal (entries_in_groups groups) l)) used) groups
 
 -- The literals in use, each once, quoted ones before regexes, each by their bytes.
 pub record AreUsed (g : Grammar) (used : List Terminal) : Type 0 where

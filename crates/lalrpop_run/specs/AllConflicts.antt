@@ -1,13 +1,14 @@
 -- The conflicts of productions, one for each of the canonical states', in their order. A state is a set of valid items, and stands for all
 -- lists of symbols that have it.
 use Rattle.std.specs.Prelude.{ℕ, ◌<◌, ◌≡◌, ◌⊎◌, List, ◌∷◌, length, drop, Some, slice_get}
+use Rattle.std.specs.declared.cmp.Ordering.TheVariants.{Less}
 use Rattle.lalrpop_grammar_symbols.specs.Symbols.{Text, Terminal}
 use Rattle.lalrpop_lr1_theory.specs.Productions.{Symbol, terminal, Production, Next}
 use Rattle.lalrpop_lr1_theory.specs.Spans.{without_spans}
 use Rattle.lalrpop_lr1_theory.specs.Trees.{roots}
 use Rattle.lalrpop_lr1_theory.specs.ValidItems.{IsValidItem, HaveSameItems}
 use Rattle.lalrpop_judge.specs.Certificates.{Certifies, NumberedMove, ShownConflict, reduce_by, shift_of}
-use Rattle.lalrpop_run.specs.ConflictOrders.{IsNextBefore, IsProductionBefore, IsSooner, IsTerminalBefore}
+use Rattle.lalrpop_run.specs.ConflictOrders.{IsProductionBefore, IsSooner, compare_texts, next_key, terminal_key}
 
 -- a reduction against a shift of a terminal, or against a reduction that comes behind it
 pub data ReductionConflict : Type 0 where
@@ -29,9 +30,9 @@ MayBeReduced G s g p x = IsValidItem G s g p (length p.right) x
 
 -- on the symbols the conflict stands before a terminal or the end
 abbrev pub ConflictStands : (Production → Type 0) → Text → List Symbol → ReductionConflict → Next → Type 0
-ConflictStands G s g (with_shift p t) x = MayBeReduced G s g p x × MayBeShifted G s g t × (x ≡ Some t)
+ConflictStands G s g (with_shift p t) x = IsValidItem G s g p (length p.right) x × MayBeShifted G s g t × (x ≡ Some t)
 ConflictStands G s g (with_reduction p r) x =
-    MayBeReduced G s g p x × MayBeReduced G s g r x × IsProductionBefore p r
+    IsValidItem G s g p (length p.right) x × IsValidItem G s g r (length r.right) x × IsProductionBefore p r
 
 -- a conflict with the soonest of the lists of symbols on which it stands
 pub record PlacedConflict : Type 0 where
@@ -45,7 +46,7 @@ IsSoonest G s g = (h : List Symbol) → HaveSameItems G s h g → IsSooner h g �
 -- shifts by their terminals, each against one reduction after the other; then each reduction against one after the other
 abbrev pub IsConflictBefore : ReductionConflict → ReductionConflict → Type 0
 IsConflictBefore (with_shift p t) (with_shift r u) =
-    IsTerminalBefore t u ⊎ ((t ≡ u) × IsProductionBefore p r)
+    (compare_texts (terminal_key t) (terminal_key u) ≡ Less) ⊎ ((t ≡ u) × IsProductionBefore p r)
 IsConflictBefore (with_shift p t) (with_reduction r k) = Unit {0}
 IsConflictBefore (with_reduction p r) (with_shift k u) = ⊥
 IsConflictBefore (with_reduction p r) (with_reduction k m) =
@@ -68,9 +69,11 @@ pub record IsPlacedIn (G : Production → Type 0) (s : Text) (all : List PlacedC
 -- All conflicts of the productions from the start, each once, in order.
 pub record AreConflictsInOrder (G : Production → Type 0) (s : Text) (all : List PlacedConflict) : Type 0 where
   pub stand : (i : ℕ) (c : PlacedConflict) → slice_get all i ≡ Some c → (x : Next) × ConflictStands G s c.symbols c.conflict x
-  pub soonest : (i : ℕ) (c : PlacedConflict) → slice_get all i ≡ Some c → IsSoonest G s c.symbols
+  pub soonest : (i : ℕ) (c : PlacedConflict) → slice_get all i ≡ Some c
+      → (h : List Symbol) → HaveSameItems G s h c.symbols → IsSooner h c.symbols → ⊥
   pub every : (g : List Symbol) (c : ReductionConflict) (x : Next) → ConflictStands G s g c x → IsPlacedIn G s all g c
-  pub ordered : (i j : ℕ) (c d : PlacedConflict) → i < j → slice_get all i ≡ Some c → slice_get all j ≡ Some d → IsPlacedBefore c d
+  pub ordered : (i j : ℕ) (c d : PlacedConflict) → i < j → slice_get all i ≡ Some c → slice_get all j ≡ Some d
+      → IsSooner c.symbols d.symbols ⊎ ((c.symbols ≡ d.symbols) × IsConflictBefore c.conflict d.conflict)
 
 -- the reduction, and the move against it
 abbrev pub reducing_move : ReductionConflict → NumberedMove
@@ -88,4 +91,4 @@ pub record CertifiesPlaced (G : Production → Type 0) (s : Text) (c : PlacedCon
   pub move2_is : it.move2 ≡ opposing_move c.conflict
   pub state : HaveSameItems G s (roots (without_spans it.shared)) c.symbols
   pub next_stands : ConflictStands G s c.symbols c.conflict it.next
-  pub next_least : (x : Next) → ConflictStands G s c.symbols c.conflict x → (x ≡ it.next) ⊎ IsNextBefore it.next x
+  pub next_least : (x : Next) → ConflictStands G s c.symbols c.conflict x → (x ≡ it.next) ⊎ (compare_texts (next_key it.next) (next_key x) ≡ Less)

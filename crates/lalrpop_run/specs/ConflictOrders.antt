@@ -33,7 +33,7 @@ compare_symbols x y = compare_texts (symbol_key x) (symbol_key y)
 
 -- as in a dictionary
 abbrev pub compare_sides : List Symbol → List Symbol → Ordering
-compare_sides = slice_cmp compare_symbols
+compare_sides = slice_cmp (λ x y. compare_texts (symbol_key x) (symbol_key y))
 
 -- by the left side, then by the right side, then by the number of the action
 abbrev pub compare_productions : Production → Production → Ordering
@@ -48,7 +48,9 @@ abbrev pub IsNextBefore : Next → Next → Type 0
 IsNextBefore x y = compare_texts (next_key x) (next_key y) ≡ Less
 
 abbrev pub IsProductionBefore : Production → Production → Type 0
-IsProductionBefore p q = compare_productions p q ≡ Less
+IsProductionBefore p q =
+    ordering_then (compare_texts p.left q.left)
+    (ordering_then (compare_sides p.right q.right) (nat_cmp p.action q.action)) ≡ Less
 
 -- a list of symbols comes sooner than a longer one, and than one as long that is behind it in a dictionary
 abbrev pub IsSooner : List Symbol → List Symbol → Type 0

@@ -45,9 +45,9 @@ pub data IsListedFault (q : Asked) (w : Grammar) : Refusal → Type 0 where
   condition_limit : IsCarried q.finds q.features w → IsRightToLevels q.features w
       → HasConditionWhere (grammar_between q.finds (without_disabled q.features w)) (λ t v. IsSearch t.test)
       → IsListedFault q w Refusal.condition_limit
-  unknown_start : IsCarried q.finds q.features w → HasNoPassFault q w → has_start q.start false (enabled q w) ≡ false
+  unknown_start : IsCarried q.finds q.features w → HasNoWrittenFault q.finds q.deep q.features q.macro_limit w → has_start q.start false (enabled q w) ≡ false
       → IsListedFault q w (Refusal.unknown_start q.start)
-  private_start : IsCarried q.finds q.features w → HasNoPassFault q w → has_start q.start false (enabled q w) ≡ true
+  private_start : IsCarried q.finds q.features w → HasNoWrittenFault q.finds q.deep q.features q.macro_limit w → has_start q.start false (enabled q w) ≡ true
       → has_start q.start true (enabled q w) ≡ false → IsListedFault q w (Refusal.private_start q.start)
   inlining : (kind : NormErrorKind) (p : TextSpan) → IsGenerable q.finds q.deep q.features q.macro_limit q.start w
       → IsInliningFault q w kind p → IsListedFault q w (Refusal.fault kind p)

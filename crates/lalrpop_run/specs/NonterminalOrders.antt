@@ -57,7 +57,9 @@ IsNonterminalWalk g before (x ∷ xs) NonterminalWalk.no_more = ⊥
 IsNonterminalWalk g before (x ∷ xs) (NonterminalWalk.met_before rest) = Among before x × IsNonterminalWalk g before xs rest
 IsNonterminalWalk g before (x ∷ xs) (NonterminalWalk.met_first y inside rest) =
     (y ≡ x) × (Among before x → ⊥)
-    × ((names : List Nonterminal) × AreInlinedNamed g x names × IsNonterminalWalk g before (reverse names) inside)
+    × ((names : List Nonterminal)
+    × ((all : List ChosenSide) × AreChosenSides g x all × (names ≡ flat_map (λ (c : ChosenSide). inlined_on g c.side) all))
+    × IsNonterminalWalk g before (reverse names) inside)
     × IsNonterminalWalk g (before ++ walked_nonterminals inside ++ x ∷ []) xs rest
 
 -- the order in which a walk over the inlined nonterminals, by their names, meets them

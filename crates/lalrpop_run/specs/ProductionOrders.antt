@@ -30,13 +30,15 @@ IsInlinedSooner order x y = (steps : ℕ) × Among (take steps order) x × (Amon
 
 -- a place of the one is replaced no later than a place of the other: in an earlier step, or in the same one and not further to the right
 abbrev pub IsReplacedFirst : {N : Type 0} → List N → ℕ → N → ℕ → N → Type 0
-IsReplacedFirst order i x j y = IsInlinedSooner order x y ⊎ ((x ≡ y) × (i ≤ j))
+IsReplacedFirst order i x j y =
+    ((steps : ℕ) × Among (take steps order) x × (Among (take steps order) y → ⊥)) ⊎ ((x ≡ y) × (i ≤ j))
 
 -- of all places at which the two differ none is replaced before this one of the nonterminal
 abbrev pub DifferFirstAt : {N C : Type 0} → List N → Inlinings N C → Inlinings N C → ℕ → N → Type 0
 DifferFirstAt {N = N} {C = C} order inlinings others i x =
     (j : ℕ) (label other : Label N C) → inlined_at inlinings j ≡ Some label → inlined_at others j ≡ Some other
-    → (label ≡ other) ⊎ IsReplacedFirst order i x j (label_head label)
+    → (label ≡ other) ⊎ (((steps : ℕ) × Among (take steps order) x × (Among (take steps order) (label_head label) → ⊥))
+    ⊎ ((x ≡ label_head label) × (i ≤ j)))
 
 -- The production of the label stands first among those of its nonterminal: by the choice; or, where that is the same, by what is inlined at the
 -- place that is replaced first of those at which they differ.
@@ -60,7 +62,9 @@ IsMadeSooner order label other = (steps : ℕ) × IsMadeWithin order steps label
 -- The label's action has the smaller number: it's made in an earlier step, or in the same one and stands first.
 abbrev pub IsNumberedBefore : (N : Type 0) (C : Type 0) → (C → C → Type 0) → List N → Label N C → Label N C → Type 0
 IsNumberedBefore N C IsBefore order label other =
-    IsMadeSooner order label other ⊎ ((IsMadeSooner order other label → ⊥) × IsLabelBefore N C IsBefore order label other)
+    ((steps : ℕ) × IsMadeWithin order steps label × (IsMadeWithin order steps other → ⊥))
+    ⊎ ((((steps : ℕ) × IsMadeWithin order steps other × (IsMadeWithin order steps label → ⊥)) → ⊥)
+    × IsLabelBefore N C IsBefore order label other)
 
 -- The productions are those of the grammar's expansion, and the actions of one nonterminal's are numbered in the order of their labels.
 pub record AreItsProductions (q : Asked) (w : Grammar) (grammar : List Production) : Type 0 where

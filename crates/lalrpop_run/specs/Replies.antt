@@ -67,4 +67,4 @@ pub data IsRunReply (q : Question) (bytes : List ℕ) (r : RunReader) (reply : R
   no_text : (g : Grammar) (text : List ℕ) → GivesGrammar bytes (Ok g) → reads_text q ≡ true → HasRead r text
       → (IsUtf8 text → ⊥) → reply ≡ replies.NotUtf8 → IsRunReply q bytes r reply
   replied : (g : Grammar) (text : List ℕ) → GivesGrammar bytes (Ok g) → IsTextIn (reads_text q) r text
-      → IsReplyTo q g text reply → IsRunReply q bytes r reply
+      → IsTaskReply q.task q g text reply → IsRunReply q bytes r reply

@@ -30,7 +30,9 @@ abbrev pub tree_line : WrittenMove → Tree → Text
 tree_line kind tree = move_text kind ++ codes ": " ++ tree_text tree ++ codes "\n"
 
 abbrev pub conflict_text : WrittenConflict → Text
-conflict_text c = place_text c ++ tree_line c.move1 (tree_view c.tree1) ++ tree_line c.move2 (tree_view c.tree2)
+conflict_text c =
+    ((codes "after " ++ decimal c.shared) ++ (codes " trees before " ++ coming_text c.next ++ codes "\n"))
+    ++ tree_line c.move1 (tree_view c.tree1) ++ tree_line c.move2 (tree_view c.tree2)
 
 -- those of all
 abbrev pub conflict_lines : List WrittenConflict → Text
@@ -38,4 +40,4 @@ conflict_lines conflicts = flat_map conflict_text conflicts
 
 -- how many there are, and the lines of all
 abbrev pub conflicts_text : List WrittenConflict → Text
-conflicts_text conflicts = (codes "conflicts: " ++ decimal (length conflicts) ++ codes "\n") ++ conflict_lines conflicts
+conflicts_text conflicts = (codes "conflicts: " ++ decimal (length conflicts) ++ codes "\n") ++ flat_map conflict_text conflicts

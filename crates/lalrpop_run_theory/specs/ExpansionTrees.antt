@@ -40,7 +40,7 @@ abbrev pub tree_by_labels : (ℕ → Label Nonterminal Origin) → SpannedForest
 tree_by_labels label_of ts = first_expanded (trees_by_labels label_of ts)
 
 abbrev pub written_of_forest : (ℕ → Label Nonterminal Origin) → SpannedForest → Tree
-written_of_forest label_of ts = tree_written (tree_by_labels label_of ts)
+written_of_forest label_of ts = tree_written (first_expanded (trees_by_labels label_of ts))
 
 -- The test whether a nonterminal of an expansion is inlined.
 abbrev pub is_marked_rule : List EnabledRule → Bool

@@ -6,7 +6,7 @@ use Rattle.lalrpop_grammar_language.specs.Enabled.{EnabledGrammar}
 use Rattle.lalrpop_grammar_language.specs.Expansion.{GrammarSymbol, Nonterminal, RightSide, Produces, InExpansion}
 use Rattle.lalrpop_norm_theory.specs.Inlined.{IsInlined}
 use Rattle.lalrpop_norm_theory.specs.Keys.{IsNaming, leveled_key_text}
-use Rattle.lalrpop_norm_theory.specs.Same.{rename_side}
+use Rattle.lalrpop_norm_theory.specs.Same.{rename_side, rename_symbol}
 use Rattle.lalrpop_grammar_language.specs.Labels.{Label}
 use Rattle.lalrpop_grammar_language.specs.Inlining.{Inlines}
 use Rattle.lalrpop_lr1_theory.specs.Productions as theory
@@ -28,7 +28,7 @@ pub record StandsForInlined (g : EnabledGrammar) (In : Nonterminal → Type 0) (
   pub in_expansion : InExpansion g x
   pub produced : Inlines (Produces g) In x label side
   pub left_is : p.left ≡ name_of x
-  pub right_is : p.right ≡ theory_side name_of side
+  pub right_is : p.right ≡ map theory_symbol (map (rename_symbol name_of) side)
   pub label_is : label_of p.action ≡ label
 
 -- The productions are those of the expansion where these nonterminals are inlined: there are names for its nonterminals and a label

@@ -14,7 +14,7 @@ use Rattle.lalrpop_grammar_language.specs.ExpandedTrees.{ExpandedTree}
 use Rattle.lalrpop_grammar_language.specs.WrittenTrees.{IsExpandedTreeOfTree}
 use Rattle.lalrpop_lr1_theory.specs.Productions.{Production}
 use Rattle.lalrpop_lr1_theory.specs.Answers.{HasRun}
-use Rattle.lalrpop_run_theory.specs.Expansions.{AreExpansion}
+use Rattle.lalrpop_run_theory.specs.Expansions.{AreInlinedExpansion}
 use Rattle.lalrpop_run_theory.specs.ExpansionTrees.{expanded_size}
 
 -- What a parser answers to a text: the first byte at which there is no token; the tree; the first wrong token, where it begins and
@@ -31,7 +31,8 @@ terminals_of_tokens tokens = map (λ k. k.terminal) tokens
 
 -- the productions are those of the grammar's expansion
 abbrev pub AreExpansionOf : (Text → Text → Option Bool) → List Text → Grammar → List Production → Type 0
-AreExpansionOf finds features w grammar = AreExpansion (enabled_grammar finds features w) w.prefix (Contains grammar)
+AreExpansionOf finds features w grammar =
+    AreInlinedExpansion (enabled_grammar finds features w) (IsInlined (enabled_grammar finds features w)) w.prefix (Contains grammar)
 
 -- The expanded tree of a written tree from the start.
 abbrev pub IsExpandedFrom : (Text → Text → Option Bool) → List Text → Grammar → Text → Tree → List Token

@@ -7,12 +7,14 @@ use crate::case::{Case, Question};
 use crate::checks::{check_text, text_of_written};
 use crate::conflicts::{canonical_conflicts, collapsed_conflicts};
 use crate::firsts::first_text;
+use crate::lanes::{both_ways_text, lane_text};
 use crate::leasts::{begin_text, empty_text, least_text};
 use crate::onto::onto_text;
 use crate::parses::parse_text;
 use anyhow::{Error, Result};
 use lalrpop_case_kinds::files::fields;
 use lalrpop_grammar_repr::Grammar;
+use lalrpop_grammar_repr::methods::Method;
 use lalrpop_grammar_symbols::NonterminalString;
 use lalrpop_plain_tables::answers::{
     AnswerFault, answer_tokens, canonical_states, counts_of, parsable_states, read_productions,
@@ -31,7 +33,7 @@ pub(crate) fn answer_of(alloc: Global, case: &Case<'_>) -> Result<String> {
 }
 
 /// The text of the fault.
-fn fault_text(alloc: Global, fault: AnswerFault) -> Result<String> {
+pub(crate) fn fault_text(alloc: Global, fault: AnswerFault) -> Result<String> {
     match fault {
         AnswerFault::Memory => Err(Error::from(AllocError)),
         fault => Ok(format!(in alloc; "{fault}")?),
@@ -54,6 +56,9 @@ fn answer_under(alloc: Global, case: &Case<'_>, grammar: &Grammar) -> Result<Str
 {
     let question = &case.question;
     let start = start_of(alloc, question.start)?;
+    if let Call::BothWays = question.call {
+        return both_ways_text(alloc, grammar, &start, question.copies, question.texts);
+    }
     if let Some(states) = question.checked.states {
         return check_written(alloc, question.checked.others, grammar, &start, states);
     }
@@ -95,6 +100,7 @@ fn answer_call(
         Call::Parse => return parse_text(alloc, grammar, start, tokens, limit),
         Call::Onto => return onto_text(alloc, grammar, start, tokens, limit),
         Call::Begin => return begin_text(alloc, grammar, start, tokens),
+        Call::Lanes | Call::BothWays => return lane_text(alloc, grammar, start, question.copies),
         Call::Counts => counts_text(alloc, grammar, start),
         Call::Check => check_text(alloc, grammar, start),
         Call::Conflicts => canonical_conflicts(alloc, grammar, start),
@@ -128,6 +134,6 @@ pub fn tree_text(
 ) -> Result<String, AnswerFault>
     requires { HasItsTerminals grammar.now }
 {
-    let states = parsable_states(alloc, grammar, start)?;
+    let states = parsable_states(alloc, grammar, start, Method::Canonical)?;
     answer_tokens(alloc, states.as_slice(), &grammar.terminals, tokens)
 }

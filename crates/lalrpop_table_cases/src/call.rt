@@ -14,6 +14,10 @@ pub(crate) enum Call {
     Parse,
     /// What is made of the tokens within the limit, leaf by leaf and node by node, or why that ends.
     Onto,
+    /// How many states there are by lanes, and whether these may be parsed with.
+    Lanes,
+    /// Whether the states by lanes may be parsed with, and of how many texts both methods say the same.
+    BothWays,
     /// Whether states may be parsed with: those that are written, or the canonical ones.
     Check,
     /// The conflicts of the canonical states.
@@ -43,6 +47,8 @@ impl Call {
             "tree" => Ok(Call::Tree),
             "parse" => Ok(Call::Parse),
             "onto" => Ok(Call::Onto),
+            "lanes" => Ok(Call::Lanes),
+            "both_ways" => Ok(Call::BothWays),
             "check" => Ok(Call::Check),
             "conflicts" => Ok(Call::Conflicts),
             "collapsed_conflicts" => Ok(Call::CollapsedConflicts),

@@ -14,12 +14,14 @@ const NEEDED: [Key; 4] = [
 ];
 
 /// What a case may have.
-const OTHERS: [Key; 6] = [
+const OTHERS: [Key; 8] = [
     ("start", Form::Text),
     ("tokens", Form::Text),
     ("states", Form::List),
     ("others", Form::List),
     ("limit", Form::Number),
+    ("copies", Form::Number),
+    ("texts", Form::List),
     ("names", Form::Text),
 ];
 
@@ -77,6 +79,10 @@ pub(crate) struct Question<'v> {
     pub(crate) tokens: &'v str,
     /// How many moves a parse may make.
     pub(crate) limit: u64,
+    /// How many copies of states lanes may make.
+    pub(crate) copies: u64,
+    /// Texts of which both methods are asked, each of tokens between blanks.
+    pub(crate) texts: &'v [Value],
     /// Nonterminals between blanks, whose first set is asked for.
     pub(crate) names: &'v str,
     /// Which states are to be checked.
@@ -91,6 +97,8 @@ impl<'v> Question<'v> {
             start: fields.text("start"),
             tokens: fields.text("tokens"),
             limit: fields.number("limit", 0),
+            copies: fields.number("copies", 0),
+            texts: fields.list("texts"),
             names: fields.text("names"),
             checked: Checked::of(fields),
         })

@@ -7,6 +7,7 @@ mod case;
 mod checks;
 mod conflicts;
 mod firsts;
+mod lanes;
 mod leasts;
 mod onto;
 mod parses;

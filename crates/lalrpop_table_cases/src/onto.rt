@@ -5,6 +5,7 @@ ghost use Rattle.lalrpop_lr1_interpret.specs.Parses.{AreParsable};
 
 use crate::parses::{stop_text, tokens_of};
 use lalrpop_grammar::ScanToken;
+use lalrpop_grammar_repr::methods::Method;
 use lalrpop_grammar_repr::{Grammar, Production, TerminalSet};
 use lalrpop_grammar_symbols::NonterminalString;
 use lalrpop_lr1_core::Lr1State;
@@ -76,7 +77,7 @@ pub(crate) fn onto_text(
 ) -> Result<String, AnswerFault>
     requires { HasItsTerminals grammar.now }
 {
-    let states = parsable_states(alloc, grammar, start)?;
+    let states = parsable_states(alloc, grammar, start, Method::Canonical)?;
     let tokens = tokens_of(alloc, tokens)?;
     let terminals = &grammar.terminals;
     Ok(made_text(

@@ -4,6 +4,7 @@ ghost use Rattle.lalrpop_lr1_first.specs.NumberedGrammars.{HasItsTerminals};
 ghost use Rattle.lalrpop_lr1_interpret.specs.Parses.{AreParsable};
 
 use lalrpop_grammar::ScanToken;
+use lalrpop_grammar_repr::methods::Method;
 use lalrpop_grammar_repr::{Grammar, TerminalSet};
 use lalrpop_grammar_symbols::{NonterminalString, Span};
 use lalrpop_lr1_core::Lr1State;
@@ -61,7 +62,7 @@ pub(crate) fn parse_text(
 ) -> Result<String, AnswerFault>
     requires { HasItsTerminals grammar.now }
 {
-    let states = parsable_states(alloc, grammar, start)?;
+    let states = parsable_states(alloc, grammar, start, Method::Canonical)?;
     let tokens = tokens_of(alloc, tokens)?;
     let terminals = &grammar.terminals;
     Ok(count_text(

@@ -9,9 +9,10 @@ ghost use Rattle.lalrpop_lr1_interpret.specs.Parses.{AreParsable};
 
 use crate::answers::fault::AnswerFault;
 use lalrpop_grammar_repr::Grammar;
+use lalrpop_grammar_repr::methods::Method;
 use lalrpop_grammar_symbols::NonterminalString;
+use lalrpop_lane::build_lr1_states;
 use lalrpop_lr1_barren::none_is_barren;
-use lalrpop_lr1_build::build_lr1_states_canonical;
 use lalrpop_lr1_core::{Lr1State, TableFault};
 use lalrpop_lr1_first::Numbered;
 use std::alloc::{AllocError, Global};
@@ -37,7 +38,7 @@ fn reaches_trees(
     Ok(none)
 }
 
-/// The canonical states of the grammar for a start, where they may be parsed with.
+/// The states of the grammar for a start by the method, where they may be parsed with.
 ///
 /// # Errors
 ///
@@ -46,6 +47,7 @@ pub fn parsable_states<'g>(
     alloc: Global,
     grammar: &'g Grammar,
     start: &NonterminalString,
+    method: Method,
 ) -> Result<Vec<Lr1State<'g>>, AnswerFault>
     requires { HasItsTerminals grammar.now }
     ensures { IfOk result (λ states. AreParsable grammar.now.terminals states.items) }
@@ -56,7 +58,7 @@ pub fn parsable_states<'g>(
     if !reaches_trees(alloc, grammar, start)? {
         return Err(AnswerFault::Barren);
     }
-    match build_lr1_states_canonical(alloc, grammar, start.try_clone()?) {
+    match build_lr1_states(alloc, grammar, start.try_clone()?, method) {
         Ok(states) => Ok(states),
         Err(TableFault::Conflicts(_)) => Err(AnswerFault::Conflicts),
         Err(TableFault::Memory) => Err(AnswerFault::Memory),
