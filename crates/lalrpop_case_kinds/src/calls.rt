@@ -28,10 +28,16 @@ struct Calls;
 
 impl TableCase for Calls {
     fn is_right<R: Alloc<A = Global> + Print>(rt: &R, case: &Value) -> Result<bool> {
-        let fields = Fields::of(case, &NEEDED, &OTHERS)?;
+        let fields = fields_of(case)?;
+        let wanted = fields.value("wanted")?;
         let answer = answer_of(rt.alloc(), fields.value("call")?)?;
-        compare(rt, fields.text("name"), fields.value("wanted")?, &answer)
+        compare(rt, fields.text("name"), wanted, &answer)
     }
+}
+
+/// What the case says under its keys.
+fn fields_of(case: &Value) -> Result<Fields<'_>> {
+    Fields::of(case, &NEEDED, &OTHERS)
 }
 
 /// How many cases of the file pass; each of the others is told.

@@ -40,22 +40,61 @@ fn respond<R: Alloc<A = Global> + Clock + Env + Eprint + Files + Input + Print>(
     respond_to(rt, words.as_slice())
 }
 
+/// What the words ask for.
+#[derive(Clone, Copy)]
+enum Task<'w> {
+    /// The tokens of standard input, under the grammar in the file.
+    Tokens {
+        start: &'w str,
+        file: &'w str,
+    },
+    /// The tree of standard input, under the grammar in the file, in no more moves than the limit.
+    Parse {
+        start: &'w str,
+        file: &'w str,
+        limit: &'w str,
+    },
+    /// What the word asks of the productions on standard input.
+    Productions {
+        start: &'w str,
+        word: &'w str,
+        of: &'w str,
+    },
+    /// The cases of files.
+    Cases,
+}
+
+/// What the words ask for, the first of which names the program.
+fn task_of(words: &[String]) -> Task<'_> {
+    match words {
+        [_, first, start, file] if first.as_str() == "tokens" => Task::Tokens {
+            start: start.as_str(),
+            file: file.as_str(),
+        },
+        [_, first, start, file, limit] if first.as_str() == "parse" => Task::Parse {
+            start: start.as_str(),
+            file: file.as_str(),
+            limit: limit.as_str(),
+        },
+        [_, first, start, word, of] if first.as_str() == "productions" => Task::Productions {
+            start: start.as_str(),
+            word: word.as_str(),
+            of: of.as_str(),
+        },
+        _ => Task::Cases,
+    }
+}
+
 /// Answers the words, the first of which names the program.
 fn respond_to<R: Alloc<A = Global> + Clock + Eprint + Files + Input + Print>(
     rt: &R,
     words: &[String],
 ) -> Result<u8> {
-    match words {
-        [_, first, start, file] if first.as_str() == "tokens" => {
-            answer_tokens(rt, start.as_str(), file.as_str())
-        }
-        [_, first, start, file, limit] if first.as_str() == "parse" => {
-            answer_parse(rt, start.as_str(), file.as_str(), limit.as_str())
-        }
-        [_, first, start, word, of] if first.as_str() == "productions" => {
-            answer_productions(rt, start.as_str(), word.as_str(), of.as_str())
-        }
-        words => run_tables(rt, words),
+    match task_of(words) {
+        Task::Tokens { start, file } => answer_tokens(rt, start, file),
+        Task::Parse { start, file, limit } => answer_parse(rt, start, file, limit),
+        Task::Productions { start, word, of } => answer_productions(rt, start, word, of),
+        Task::Cases => run_tables(rt, words),
     }
 }
 

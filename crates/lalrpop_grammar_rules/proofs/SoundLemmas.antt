@@ -1,13 +1,13 @@
--- What names and calls stand for has faulty parts only where an argument has, or is faulty itself: for the closing of symbols.
+-- What a name stands for has faulty parts only where an argument has, or is faulty itself: for the closing of symbols.
 use Rattle.std.proofs.Common.{◌≡◌, ℕ, List, [], ◌∷◌, ◌++◌, refl, ap, sym, ◌∙◌, subst, cond, map}
-use Rattle.std.specs.Prelude.{Bool, true, false, ◌&&◌, not, ◌==◌, if◌then◌else◌, Option, Some, None, filter, length, option_map, zip}
+use Rattle.std.specs.Prelude.{Bool, true, false, ◌&&◌, not, filter, zip}
 use Rattle.std.specs.Str.{bytes_eq}
-use Rattle.std.proofs.Math.Bool.{and-true, and-false}
+use Rattle.std.proofs.Math.Bool.{and-true}
 use Rattle.std.proofs.lemmas.List.{map-append}
-use Rattle.lalrpop_grammar_symbols.specs.Symbols.{Text, Closed, Closeds, closed_list}
+use Rattle.lalrpop_grammar_symbols.specs.Symbols.{Text, Closed, Closeds}
 use Rattle.lalrpop_grammar_symbols.specs.declared.names.NonterminalString.{NonterminalString}
-use Rattle.lalrpop_grammar_language.specs.Closing.{Meaning, Scope, are_sound, call_level, if_macro, if_plain, is_sound, name_or}
-use Rattle.lalrpop_grammar_language.specs.Closing.{only_value, parameter_value, plain_call, plain_name}
+use Rattle.lalrpop_grammar_language.specs.Closing.{Meaning, Scope, are_sound, call_level, if_plain, is_sound, name_or}
+use Rattle.lalrpop_grammar_language.specs.Closing.{only_value, parameter_value, plain_name}
 use Rattle.lalrpop_grammar_rules.specs.declared.closed.closed_symbol.ClosedSymbol.{ClosedSymbol}
 use Rattle.lalrpop_grammar_rules.specs.Views.{binding_of, closed_view, closeds, is_faulty}
 
@@ -82,30 +82,6 @@ name_whole ps args known knows holds s k n m c named =
     (only_whole _ (plain_name s k n m)
     (values_whole (map (λ p. p.0) ps) (map closed_view args) n (all_whole (map closed_view args) (sym knows ∙ holds)))
     (plain_whole s k n m))
-
--- a call has faulty parts where its arguments have, or is faulty
-abbrev IsCallOf : Bool → Closed → Type 0
-IsCallOf sound c = is_sound c ≡ (sound && not (is_faulty c))
-
-macro_sound : (ps : List Text) (args : Closeds) (n : Text) (l : Option ℕ) → IsCallOf (are_sound args) (if_macro ps args (Closed.call n args l))
-macro_sound [] args n l = sym (and-false (are_sound args))
-macro_sound (p ∷ ps) args n l = go (length (closed_list args) == length (p ∷ ps))
-  where
-    go : (b : Bool) → IsCallOf (are_sound args) (if b then Closed.call n args l else Closed.faulty)
-    go true = sym (and-true (are_sound args))
-    go false = sym (and-false (are_sound args))
-
-called_sound : (s : Scope) (k : ℕ) (n : Text) (args : Closeds) (m : Meaning) → IsCallOf (are_sound args) (plain_call s k n args m)
-called_sound s k n args (Meaning.rule r) = macro_sound r.parameters args n (call_level s k n r)
-called_sound s k n args Meaning.terminal = sym (and-false (are_sound args))
-called_sound s k n args Meaning.unclear = sym (and-false (are_sound args))
-
--- what a call stands for has no faulty part where its arguments have none and it isn't faulty
-pub call_sound : (v : Option Closed) (s : Scope) (k : ℕ) (n : Text) (args : Closeds) (m : Meaning) (c : Closed)
-    → c ≡ name_or (option_map (λ b. Closed.faulty) v) (plain_call s k n args m)
-    → IsCallOf (are_sound args) c
-call_sound None s k n args m c e = subst (IsCallOf (are_sound args)) (sym e) (called_sound s k n args m)
-call_sound (Some d) s k n args m c e = subst (IsCallOf (are_sound args)) (sym e) (sym (and-false (are_sound args)))
 
 with_first : (x a b rest more : Bool) → a ≡ (x && rest) → ((k : Bool) → k ≡ rest → (k && b) ≡ more) → (a && b) ≡ (x && more)
 with_first true a b rest more e f = f a e

@@ -1,10 +1,14 @@
 -- States by lanes may be parsed with, and are as many as those without lookaheads where these are enough. For the builder of LR(1) states.
-use Rattle.std.proofs.Common.{◌∙◌, ℕ, List, Contains}
+use Rattle.std.proofs.Common.{◌∙◌, ℕ, List, Contains, subst, sym}
 use Rattle.lalrpop_grammar_symbols.specs.Symbols.{Text}
 use Rattle.lalrpop_grammar_repr.specs.declared.grammar.Grammar.{Grammar}
 use Rattle.lalrpop_lr1_theory.specs.CheckedStates.{AreCheckedStates, IsStartAlone}
 use Rattle.lalrpop_lr1_theory.specs.ValidItems.{NoneBarren}
+use Rattle.lalrpop_lr1_theory.specs.ValidCores.{CountsCoreSets}
+use Rattle.lalrpop_lr1_theory.proofs.Lr0CoreLemmas.{states_counted}
 use Rattle.lalrpop_lane_theory.proofs.CarriedLemmas.{carried_checked}
+use Rattle.lalrpop_lane_theory.proofs.FewestLemmas.{as_many}
+use Rattle.lalrpop_lane_theory.proofs.Lalr1Lemmas.{lr0_lalr1}
 use Rattle.lalrpop_lane_theory.proofs.LaneLemmas.{lr0_reached}
 use Rattle.lalrpop_lr1_core.specs.TheoryGrammars.{theory_grammar}
 use Rattle.lalrpop_lr1_core.specs.declared.state.State.{State}
@@ -14,7 +18,6 @@ use Rattle.lalrpop_lr1_check.specs.StatesOver.{AreStatesOver}
 use Rattle.lalrpop_lane.specs.BuilderAnswers.{AreCheckedByLanes}
 use Rattle.lalrpop_lane.specs.LaneStates.{AreLaneStates}
 use Rattle.lalrpop_lane.proofs.LaneStateLemmas.{spread_known}
-use Rattle.lalrpop_lane.proofs.Lr0Lemmas.{as_many, no_conflict_alike}
 use Rattle.lalrpop_lane.proofs.TargetLemmas.{cover_within}
 
 module _ (g : Grammar) (own : HasItsTerminals g) (s : Text) (copies : ℕ) (all : List (State (List ℕ))) (are : AreLaneStates g s copies all) where
@@ -37,7 +40,10 @@ module _ (g : Grammar) (own : HasItsTerminals g) (s : Text) (copies : ℕ) (all 
         checked = checked;
         targets = cover_within g.terminals (Contains (theory_grammar g)) s all checked.cover;
         fewest = λ lr0 is none.
-            are.reduced.needed (no_conflict_alike (theory_grammar g) s of.originals lr0
-            (lr0_reached (theory_grammar g) s of.originals of.lr0) is none)
+            are.reduced.needed ((lr0_lalr1 (theory_grammar g) s of.originals of.lr0).0 ((lr0_lalr1 (theory_grammar g) s lr0 is).1 none))
             ∙ as_many (theory_grammar g) s of.originals lr0 of.lr0 is checked.none_barren;
+        for_each_core = λ lalr1.
+            subst (CountsCoreSets (Contains (theory_grammar g)) s)
+            (sym (are.reduced.needed ((lr0_lalr1 (theory_grammar g) s of.originals of.lr0).0 lalr1)))
+            (states_counted (theory_grammar g) s of.originals of.lr0 checked.none_barren);
       }

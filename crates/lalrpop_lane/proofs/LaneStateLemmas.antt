@@ -21,7 +21,9 @@ use Rattle.lalrpop_lr1_theory.proofs.ListLemmas.{contains_get}
 use Rattle.lalrpop_lr1_theory.proofs.StepLemmas.{some_same}
 use Rattle.lalrpop_lr1_theory.proofs.OrderLemmas.{get_image, image_get, image_of, image_there}
 use Rattle.lalrpop_lane_theory.specs.CarriedConflicts.{AreCarriedReductions, HaveNoCarriedConflict}
-use Rattle.lalrpop_lane_theory.proofs.CarriedLemmas.{carried_conflicts}
+use Rattle.lalrpop_lane_theory.specs.Lalr1Grammars.{IsLalr1}
+use Rattle.lalrpop_lane_theory.proofs.CarriedLemmas.{carried_conflicts, reduce_once}
+use Rattle.lalrpop_lane_theory.proofs.Lalr1Lemmas.{lr0_lalr1}
 use Rattle.lalrpop_lane_theory.proofs.LaneLemmas.{item_given, lr0_reached}
 use Rattle.lalrpop_lane_theory.proofs.SpreadLemmas.{spread_itself}
 use Rattle.lalrpop_sets.specs.Bits.{has}
@@ -43,11 +45,10 @@ use Rattle.lalrpop_lr1_check_lookaheads.specs.CarriedSets.{AreCarriedSets, IsCar
 use Rattle.lalrpop_lr1_check_lookaheads.specs.LookaheadFlows.{HaveKnownItems}
 use Rattle.lalrpop_lr1_check_lookaheads.specs.Reductions.{OverTokens}
 use Rattle.lalrpop_lr1_check_lookaheads.proofs.SeenLemmas.{same_view}
-use Rattle.lalrpop_lane.specs.LaneStates.{AreLaneStates, AreReducedStates, AreSpreadOverLr0, HasCarriedConflict, HaveSetEach}
+use Rattle.lalrpop_lane.specs.LaneStates.{AreLaneStates, AreReducedStates, AreSpreadOverLr0, HaveSetEach}
 use Rattle.lalrpop_lane.specs.LaneStates.{IsBeforeSets, ReduceBeforeCarried, item_before, reduction_before, state_before}
 use Rattle.lalrpop_lane.proofs.CarriedStateLemmas.{AreSameBut, IsSameBut, carried_before, items_same, once_same, reductions_same}
 use Rattle.lalrpop_lane.proofs.CarriedStateLemmas.{spread_no_conflict, spread_same}
-use Rattle.lalrpop_lane.proofs.Lr0Lemmas.{no_conflict_alike, reduce_once}
 
 -- an item, with what may follow
 abbrev item_of : theory.Production → ℕ → states.LookaheadSet → states.Item
@@ -148,7 +149,8 @@ lr0_spread g start set built made =
             λ h. (items_same originals new same n p (length p.right)).1 (by.0 ((reductions_same originals new same n p).0 h)),
             λ h. (reductions_same originals new same n p).1 (by.1 ((items_same originals new same n p (length p.right)).0 h)),
           );
-      once = once_same originals new same (reduce_once (theory_grammar g) start.0 originals lr0);
+      once = once_same originals new same
+          (reduce_once originals lr0.reductions (λ n state e j k a b x y c d. lr0.once n state j k a b e x y c d));
       least = omega (arith, count);
       most = omega (arith, count);
     }
@@ -387,11 +389,10 @@ module _ (g : Grammar) (own : HasItsTerminals g) (s : Text) where
         (carried_conflicts (theory_grammar g) s (seen all) are.carried are.states_are.once).1
         (spread_no_conflict (theory_grammar g) s are.states_are.originals (seen all) are.states_are.origin are.states_are.spread none)
 
-    -- so if they have one, it does
-    pub conflict_carried : (HaveNoConflict (seen all) → ⊥) → HasCarriedConflict g s
-    conflict_carried some lr0 is none =
-        some (no_conflict_from (no_conflict_alike (theory_grammar g) s are.states_are.originals lr0
-        (lr0_reached (theory_grammar g) s are.states_are.originals are.states_are.lr0) is none))
+    -- so if they have one, the grammar isn't LALR(1)
+    pub conflict_carried : (HaveNoConflict (seen all) → ⊥) → IsLalr1 (Contains (theory_grammar g)) s → ⊥
+    conflict_carried some lalr1 =
+        some (no_conflict_from ((lr0_lalr1 (theory_grammar g) s are.states_are.originals are.states_are.lr0).0 lalr1))
 
     -- and if they have none, they are lane states, under any greater limit
     pub lane_found : (limit : ℕ) → copies ≤ limit → HaveNoConflict (seen all) → AreLaneStates g s limit all

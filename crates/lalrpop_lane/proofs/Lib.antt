@@ -2,10 +2,10 @@ pub mod NumberLemmas
 pub mod OrderLemmas
 pub mod TargetLemmas
 pub mod AnswerLemmas
-pub mod Lr0Lemmas
 pub mod CarriedStateLemmas
 pub mod LaneStateLemmas
 pub mod CheckedLaneLemmas
+pub mod CoreCountLemmas
 pub mod SpreadAgainLemmas
 pub mod MergedLaneLemmas
 pub mod MergingLemmas

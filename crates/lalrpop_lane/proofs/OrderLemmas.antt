@@ -24,7 +24,7 @@ use Rattle.lalrpop_lr1_theory.specs.GotoOrders.{AreInGotoOrder, IsInFront}
 use Rattle.lalrpop_lr1_theory.specs.RenumberedStates.{AreRenumberedStates, IsRenumberedState}
 use Rattle.lalrpop_lane.specs.GotoNumbers.{count_marked, fronts_of, goto_numbers, has_some, in_goto_order, with_mark}
 use Rattle.lalrpop_lane.specs.GotoNumbers.{state_by_numbers, states_by_numbers}
-use Rattle.lalrpop_lane.proofs.NumberLemmas.{front_first, front_given, front_mark, fronts_length, numbers_length}
+use Rattle.lalrpop_lane.proofs.NumberLemmas.{counts, front_first, front_given, front_mark, fronts_length, numbers_length}
 use Rattle.lalrpop_lane.proofs.NumberLemmas.{picked_length, placed, renumbered_get, renumbered_length, rest_given, rises}
 
 get_past : {X : Type 0} (xs ys : List X) (k : ℕ) → slice_get (xs ++ ys) (length xs + k) ≡ slice_get ys k
@@ -52,6 +52,19 @@ some_there f (x ∷ xs) e g = let h = ap length g in absurd (omega (arith, h))
 
 same_mark : (a b : Bool) → Some a ≡ Some b → a ≡ b
 same_mark a b e = cc
+
+-- states put in order are as many as before
+pub ordered_length : {L : Type 0} (old : List (State L)) → length (in_goto_order old) ≡ length old
+ordered_length old =
+    let marks = fronts_of true old in
+    let numbers = goto_numbers marks in
+    let made = states_by_numbers numbers numbers old in
+    let each = fronts_length true old in
+    let long = renumbered_length numbers numbers old (numbers_length marks 0 (count_marked marks) ∙ each) in
+    let picked = picked_length marks made (each ∙ sym long) in
+    let both = length-append (with_mark true marks made) (with_mark false marks made) in
+    let all = counts marks in
+    omega (arith, both, picked.0, picked.1, all, each)
 
 first_number : {L : Type 0} (old : List (State L)) (m : ℕ) → slice_get (goto_numbers (fronts_of true old)) 0 ≡ Some m → m ≡ 0
 first_number [] m e = let z : ⊥ = cc in absurd z

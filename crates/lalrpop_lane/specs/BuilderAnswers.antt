@@ -17,9 +17,10 @@ use Rattle.lalrpop_lr1_theory.specs.CanonicalStates.{AreLr0States}
 use Rattle.lalrpop_lr1_theory.specs.CheckedStates.{AreCheckedStates, IsStartAlone}
 use Rattle.lalrpop_lr1_theory.specs.GotoOrders.{AreInGotoOrder}
 use Rattle.lalrpop_lr1_theory.specs.States as states
+use Rattle.lalrpop_lr1_theory.specs.ValidCores.{CountsCoreSets}
 use Rattle.lalrpop_lr1_theory.specs.ValidItems.{NoneBarren}
 use Rattle.lalrpop_lane_theory.specs.CarriedConflicts.{HaveNoCarriedConflict}
-use Rattle.lalrpop_lane.specs.LaneStates.{HasCarriedConflict}
+use Rattle.lalrpop_lane_theory.specs.Lalr1Grammars.{IsLalr1}
 use Rattle.lalrpop_lr1_theory.specs.RenumberedStates.{AreRenumberedStates}
 
 -- the canonical states have no conflict, and put together by their cores they are these, without conflicts
@@ -67,18 +68,38 @@ abbrev pub AreFewestBy : Method → Grammar → NonterminalString → Result (Ve
 AreFewestBy (methods.Lane copies) g start result = HaveFewest g start result
 AreFewestBy methods.Canonical g start result = Unit {0}
 
+-- a start that is alone reaches nothing barren, and the grammar is LALR(1)
+pub record IsLalr1Alone (g : Grammar) (start : NonterminalString) : Type 0 where
+  pub none_barren : NoneBarren (Contains (theory_grammar g)) start.0
+  pub alone : IsStartAlone (theory_grammar g) start.0
+  pub lalr1 : IsLalr1 (Contains (theory_grammar g)) start.0
+
+-- Then there is one state for each nonempty set of valid items, whatever may follow them; or memory ran out.
+abbrev pub HaveOneForEachCore : Grammar → NonterminalString → Result (Vec (State (List ℕ)) Global) (TableFault (List ℕ)) → Type 0
+HaveOneForEachCore g start result =
+    IsLalr1Alone g start →
+    MatchResult result (λ found. CountsCoreSets (Contains (theory_grammar g)) start.0 (length found.items))
+    (λ fault. fault ≡ faults.Memory)
+
+-- this is so by lanes
+abbrev pub AreForEachCoreBy : Method → Grammar → NonterminalString → Result (Vec (State (List ℕ)) Global) (TableFault (List ℕ)) →
+    Type 0
+AreForEachCoreBy (methods.Lane copies) g start result = HaveOneForEachCore g start result
+AreForEachCoreBy methods.Canonical g start result = Unit {0}
+
 -- states by lanes that may be parsed with, to which all edges lead, and no more than are needed
 pub record AreCheckedByLanes (g : Grammar) (s : Text) (all : List (State (List ℕ))) : Type 0 where
   pub checked : AreCheckedStates (theory_grammar g) s (states_over g.terminals all)
   pub targets : HaveTargetsWithin (length all) all
   pub fewest : (lr0 : List states.State) → AreLr0States (theory_grammar g) s lr0 →
       HaveNoCarriedConflict (theory_grammar g) s lr0 → length all ≡ length lr0
+  pub for_each_core : IsLalr1 (Contains (theory_grammar g)) s → CountsCoreSets (Contains (theory_grammar g)) s (length all)
 
 -- what is answered by lanes of states that may be parsed with: some, or none only where something is in the way
 abbrev pub CheckedLaneAnswer : Grammar → Text → Option (Vec (State (List ℕ)) Global) → Type 0
 CheckedLaneAnswer g s (Some found) = AreCheckedByLanes g s found.items
 CheckedLaneAnswer g s None =
-    NoneBarren (Contains (theory_grammar g)) s → IsStartAlone (theory_grammar g) s → HasCarriedConflict g s
+    NoneBarren (Contains (theory_grammar g)) s → IsStartAlone (theory_grammar g) s → IsLalr1 (Contains (theory_grammar g)) s → ⊥
 
 -- conflicts of the canonical states; or, by the canonical way, where these have none, of them put together
 abbrev pub IsLalrFaultBy : Method → Grammar → NonterminalString → TableFault (List ℕ) → Type 0

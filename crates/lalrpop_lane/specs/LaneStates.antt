@@ -1,5 +1,5 @@
 -- States by lanes: spread over those without lookaheads, and reducing before just what is carried. For the builders of states.
-use Rattle.std.specs.Prelude.{ℕ, ◌+◌, ◌≤◌, ◌≡◌, ◌↔◌, List, Option, None, Some, length, map, slice_get}
+use Rattle.std.specs.Prelude.{ℕ, ◌+◌, ◌≤◌, ◌≡◌, ◌↔◌, Contains, List, Option, None, Some, length, map, slice_get}
 use Rattle.std.specs.Borrow.{Bor}
 use Rattle.std.specs.Global.{Global}
 use Rattle.std.specs.Prelude.{Vec}
@@ -13,6 +13,7 @@ use Rattle.lalrpop_lr1_theory.specs.SameStates.{HasReductionBy}
 use Rattle.lalrpop_lr1_theory.specs.States as states
 use Rattle.lalrpop_lr1_theory.specs.States.{HasItem}
 use Rattle.lalrpop_lane_theory.specs.CarriedConflicts.{AreCarriedReductions, HaveNoCarriedConflict, ReduceByEachOnce}
+use Rattle.lalrpop_lane_theory.specs.Lalr1Grammars.{IsLalr1}
 use Rattle.lalrpop_lane_theory.specs.SpreadStates.{AreSpreadStates}
 use Rattle.lalrpop_lr1_core.specs.TheoryGrammars.{theory_grammar}
 use Rattle.lalrpop_lr1_core.specs.declared.item.Item.{Item}
@@ -93,12 +94,7 @@ pub record AreLaneStates (g : Grammar) (s : Text) (copies : ℕ) (all : List (St
   pub reduced : AreReducedStates g s copies all
   pub no_conflict : HaveNoConflict (states_over g.terminals all)
 
--- what is carried over the states without lookaheads leaves a conflict
-abbrev pub HasCarriedConflict : Grammar → Text → Type 0
-HasCarriedConflict g s =
-    (lr0 : List states.State) → AreLr0States (theory_grammar g) s lr0 → HaveNoCarriedConflict (theory_grammar g) s lr0 → ⊥
-
--- what is answered by lanes: such states, or, only where something conflicts without a copy, none
+-- what is answered by lanes: such states, or, only where the grammar isn't LALR(1), none
 abbrev pub LaneAnswer : Grammar → Text → ℕ → Option (Vec (State (List ℕ)) Global) → Type 0
 LaneAnswer g s copies (Some found) = AreLaneStates g s copies found.items
-LaneAnswer g s copies None = HasCarriedConflict g s
+LaneAnswer g s copies None = IsLalr1 (Contains (theory_grammar g)) s → ⊥

@@ -16,9 +16,11 @@ ghost use Rattle.lalrpop_lane.specs.BuilderAnswers.{
   AreLalrBy,
   AreLalrWithout,
   AreFewestBy,
+  AreForEachCoreBy,
   AreLr1By,
   CheckedLaneAnswer,
   HaveFewest,
+  HaveOneForEachCore,
   IsAskedFault,
   IsLalrFault,
   IsLalrFaultBy,
@@ -71,6 +73,7 @@ fn states_by_lanes<'g>(
     ensures checked { NoneBarren (Contains (theory_grammar grammar.now)) start.0 → IsStartAlone (theory_grammar grammar.now) start.0
         → IfOk result (λ states. AreCheckedStates (theory_grammar grammar.now) start.0 (states_over grammar.now.terminals states.items)) }
     ensures fewest { HaveFewest grammar.now start result }
+    ensures for_each_core { HaveOneForEachCore grammar.now start result }
 {
     let found = checked_lane_states(alloc, grammar, &start, copies)?;
     match found {
@@ -82,7 +85,8 @@ fn states_by_lanes<'g>(
 /// LR(1) states of the grammar for a start, which the end follows, to parse with; or all conflicts of its canonical states. By the
 /// canonical way these are the states. By lanes they are those of [`crate::build_lane_table_states`]: the states without lookaheads, with
 /// copies of some where these keep conflicts apart (Pager, 1977), and each reduction before what is carried to it over them (DeRemer and
-/// Pennello, 1982). Where a conflict stays they are the canonical ones, too. The terminals of the grammar are numbered by their places,
+/// Pennello, 1982). Where a conflict stays they are the canonical ones, too. So an LALR(1) grammar, whose start stands on no right side and
+/// reaches nothing barren, has one state for each nonempty set of valid items, whatever may follow them, and is never refused. The terminals of the grammar are numbered by their places,
 /// and each terminal on a right side is one of them.
 ///
 /// # Errors
@@ -103,6 +107,7 @@ pub fn build_lr1_states<'g>(
     ensures checked { NoneBarren (Contains (theory_grammar grammar.now)) start.0 → IsStartAlone (theory_grammar grammar.now) start.0
         → IfOk result (λ states. AreCheckedStates (theory_grammar grammar.now) start.0 (states_over grammar.now.terminals states.items)) }
     ensures fewest { AreFewestBy method grammar.now start result }
+    ensures for_each_core { AreForEachCoreBy method grammar.now start result }
 {
     match method {
         Method::Lane { copies } => states_by_lanes(alloc, grammar, start, copies),
@@ -144,6 +149,7 @@ pub fn build_lalr_states<'g>(
     ensures targets { IfOk result (λ states. HaveTargetsWithin (length states.items) states.items) }
     ensures checked { NoneBarren (Contains (theory_grammar grammar.now)) start.0 → IsStartAlone (theory_grammar grammar.now) start.0
         → IfOk result (λ states. AreCheckedStates (theory_grammar grammar.now) start.0 (states_over grammar.now.terminals states.items)) }
+    ensures for_each_core { AreForEachCoreBy method grammar.now start result }
 {
     match method {
         Method::Lane { copies } => build_lr1_states(alloc, grammar, start, Method::Lane { copies }),
@@ -164,6 +170,7 @@ fn asked_states<'g>(
     ensures targets { IfOk result (λ states. HaveTargetsWithin (length states.items) states.items) }
     ensures checked { NoneBarren (Contains (theory_grammar grammar.now)) start.0 → IsStartAlone (theory_grammar grammar.now) start.0
         → IfOk result (λ states. AreCheckedStates (theory_grammar grammar.now) start.0 (states_over grammar.now.terminals states.items)) }
+    ensures for_each_core { AreForEachCoreBy method grammar.now start result }
 {
     if grammar.algorithm.lalr {
         build_lalr_states(alloc, grammar, start, method)
@@ -190,6 +197,7 @@ pub fn build_states<'g>(
     ensures fault { IfErr result (λ fault. IsAskedFault grammar.now.algorithm.lalr method grammar.now start fault) }
     ensures checked { NoneBarren (Contains (theory_grammar grammar.now)) start.0 → IsStartAlone (theory_grammar grammar.now) start.0
         → IfOk result (λ states. AreCheckedStates (theory_grammar grammar.now) start.0 (states_over grammar.now.terminals states.items)) }
+    ensures for_each_core { AreForEachCoreBy method grammar.now start result }
 {
     let states = asked_states(alloc, grammar, start, method)?;
     let ordered = goto_order(alloc, states)?;

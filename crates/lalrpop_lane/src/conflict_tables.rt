@@ -11,6 +11,7 @@ use lalrpop_grammar_symbols::NonterminalString;
 use lalrpop_lane_tables::{ConflictIndex, ContextSet, LaneTable, LaneTracer, StateSet, UnifyTable};
 use lalrpop_lr1_core::{Action, Lr1State, StateGraph, StateIndex};
 use lalrpop_lr1_first::FirstSets;
+use lalrpop_sets::TokenSet;
 use std::alloc::{AllocError, Global};
 
 /// The actions of the state: its shifts, and then its reductions.
@@ -23,6 +24,21 @@ fn actions_of<'g>(alloc: Global, state: &Lr1State<'g>) -> Result<Vec<Action<'g>>
         actions.push(Action::Reduce(reduction.1))?;
     }
     Ok(actions)
+}
+
+/// Traces the actions of the state, each into the column at its place.
+fn trace_actions<'g>(
+    tracer: &mut LaneTracer<'_, 'g, TokenSet>,
+    state: usize,
+    actions: &[Action<'g>],
+) -> Result<(), AllocError>
+    requires { tracer.old.table.conflicts ≡ length actions.now }
+{
+    for column in 0..actions.len() {
+        let action = actions[column].try_clone()?;
+        tracer.start_trace(StateIndex(state), ConflictIndex::new(column), action)?;
+    }
+    Ok(())
 }
 
 /// The table of the lanes of all actions of a state over the states as they stand, a column for each action.
@@ -49,10 +65,7 @@ pub(crate) fn table_of_actions<'g>(
         &*state_graph,
         actions.len(),
     );
-    for column in 0..actions.len() {
-        let action = actions[column].try_clone()?;
-        tracer.start_trace(StateIndex(state), ConflictIndex::new(column), action)?;
-    }
+    trace_actions(&mut tracer, state, actions.as_slice())?;
     Ok(tracer.into_table())
 }
 

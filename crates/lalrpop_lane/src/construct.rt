@@ -5,10 +5,10 @@ ghost use Rattle.lalrpop_lr1_first.specs.NumberedGrammars.{HasItsTerminals};
 ghost use Rattle.lalrpop_lane.specs.Constructions.{IsLaneFault};
 ghost use Rattle.lalrpop_lane.specs.LaneStates.{AreLaneStates, LaneAnswer};
 
-use crate::conflicts::conflicts_of;
 use crate::rounds::last_round;
 use lalrpop_grammar_repr::Grammar;
 use lalrpop_grammar_symbols::NonterminalString;
+use lalrpop_lr1_build::conflicts_of;
 use lalrpop_lr1_core::{Lr1Result, Lr1State, TableConstructionError, TableFault};
 use std::alloc::{AllocError, Global};
 use std::marker::Model;

@@ -10,7 +10,6 @@
 mod building;
 mod carried;
 mod conflict_tables;
-mod conflicts;
 mod construct;
 mod edges;
 mod lr0;
@@ -22,6 +21,11 @@ mod rounds;
 pub use building::{build_lalr_states, build_lr1_states, build_states};
 pub use construct::{LaneTableConstruct, build_lane_table_states};
 pub use lalrpop_grammar_repr::methods::Method;
+pub use lalrpop_lane_report::{
+    Example, ExampleSymbol, FilteredPathEnumerator, HasDisplayLen, LookaheadPrinter,
+    PathEnumerator, Reduction, ReportError, ReportGenerator, TraceGraph, TraceGraphEdge,
+    TraceGraphNode, Tracer, generate_report, report_text,
+};
 pub use lalrpop_lane_tables::{
     ConflictIndex, ContextFault, ContextSet, LaneTable, LaneTracer, Merge, MergeFault,
     OverlappingLookahead, RowsFault, StateSet, UnifyTable,

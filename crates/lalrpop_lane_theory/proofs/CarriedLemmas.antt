@@ -1,17 +1,18 @@
 -- Spread states that reduce before just what is carried are checked, and conflict where that does: for both laws.
-use Rattle.std.proofs.Common.{◌≡◌, ◌↔◌, ◌∙◌, ℕ, Bool, true, false, List, ◌∷◌, drop, length, None, Some, Contains, refl, ap}
+use Rattle.std.proofs.Common.{◌≡◌, ◌↔◌, ◌∙◌, ℕ, Bool, true, false, List, ◌∷◌, drop, length, None, Some, Contains, refl, ap, subst}
 use Rattle.std.specs.Prelude.{slice_get}
 use Rattle.lalrpop_grammar_symbols.specs.Symbols.{Text}
 use Rattle.lalrpop_lr1_theory.specs.Productions.{Next, Production, Symbol, nonterminal}
 use Rattle.lalrpop_lr1_theory.specs.ValidItems.{NoneBarren}
 use Rattle.lalrpop_lr1_theory.specs.Automata.{Carries, Closure, IsCover, begins_with_end, closed, in_kernel, passes_next, shifts_next}
 use Rattle.lalrpop_lr1_theory.specs.Automata.{starts_next}
-use Rattle.lalrpop_lr1_theory.specs.States.{HasEdge, HasItem, Reduction, State}
+use Rattle.lalrpop_lr1_theory.specs.States.{HasEdge, HasItem, Reduction, State, finished_reductions}
 use Rattle.lalrpop_lr1_theory.specs.CheckedStates.{AreCheckedStates, HasNoConflict, IsStartAlone}
 use Rattle.lalrpop_lr1_theory.specs.Laws.{HaveNoConflict}
 use Rattle.lalrpop_lr1_theory.proofs.CheckedLemmas.{no_shift_before, reductions_agree}
 use Rattle.lalrpop_lr1_theory.proofs.CollapsedCoverLemmas.{closure_more}
 use Rattle.lalrpop_lr1_theory.proofs.ListLemmas.{get_contains}
+use Rattle.lalrpop_lr1_theory.proofs.ReductionLemmas.{StandOnce, reductions_once}
 use Rattle.lalrpop_lr1_theory.proofs.WalkLemmas.{contains_after}
 use Rattle.lalrpop_lane_theory.specs.CarriedConflicts.{AreCarriedReductions, AreReachedCover, CarriesToFinished}
 use Rattle.lalrpop_lane_theory.specs.CarriedConflicts.{HaveNoCarriedConflict, ReduceByEachOnce}
@@ -128,3 +129,12 @@ module _ (grammar : List Production) (s : Text) (states : List State) (carried :
     },
     λ none n state e. no_conflict_of once none n state e,
   )
+
+-- where reductions are by the finished items, and each item stands once in a state, a state reduces by each production once
+pub reduce_once : (states : List State) →
+    ((n : ℕ) (state : State) → slice_get states n ≡ Some state → state.reductions ≡ finished_reductions state.items) →
+    ((n : ℕ) (state : State) → slice_get states n ≡ Some state → StandOnce state.items) → ReduceByEachOnce states
+reduce_once states made once n state j k a b e f g h =
+    let by = made n state e in
+    reductions_once state.items (once n state e) j k a b (subst (λ l. slice_get l j ≡ Some a) by f)
+    (subst (λ l. slice_get l k ≡ Some b) by g) h

@@ -18,29 +18,29 @@ use Rattle.lalrpop_lane_theory.proofs.LaneLemmas.{lane_least}
 abbrev start_name : Text
 start_name = name 95
 
-abbrev s_name : Text
+abbrev pub s_name : Text
 s_name = name 83
 
-abbrev c_name : Text
+abbrev pub c_name : Text
 c_name = name 67
 
-abbrev c_token : Terminal
+abbrev pub c_token : Terminal
 c_token = quoted 99
 
-abbrev d_token : Terminal
+abbrev pub d_token : Terminal
 d_token = quoted 100
 
 -- `__S = S`, `S = C C`, `C = "c" C` and `C = "d"`
 abbrev starts_s : Production
 starts_s = production 0 start_name (nonterminal s_name ∷ [])
 
-abbrev two_c : Production
+abbrev pub two_c : Production
 two_c = production 1 s_name (nonterminal c_name ∷ nonterminal c_name ∷ [])
 
-abbrev c_more : Production
+abbrev pub c_more : Production
 c_more = production 2 c_name (terminal c_token ∷ nonterminal c_name ∷ [])
 
-abbrev c_ends : Production
+abbrev pub c_ends : Production
 c_ends = production 3 c_name (terminal d_token ∷ [])
 
 abbrev grammar : List Production
@@ -50,13 +50,13 @@ abbrev G : Production → Type 0
 G = Contains grammar
 
 -- the states in which a C may begin: the first, the one behind the first C of an S, the one behind `"c"`
-data BeginsC : ℕ → Type 0 where
+pub data BeginsC : ℕ → Type 0 where
   at_first : BeginsC 0
   behind_one : BeginsC 2
   behind_c : BeginsC 3
 
 -- the items of the seven states
-data StandsIn : ℕ → Production → ℕ → Type 0 where
+pub data StandsIn : ℕ → Production → ℕ → Type 0 where
   start_first : StandsIn 0 starts_s 0
   two_first : StandsIn 0 two_c 0
   start_done : StandsIn 1 starts_s 1
@@ -69,7 +69,7 @@ data StandsIn : ℕ → Production → ℕ → Type 0 where
   ends_first : (n : ℕ) → BeginsC n → StandsIn n c_ends 0
 
 -- their edges
-data LeadsOn : ℕ → Symbol → ℕ → Type 0 where
+pub data LeadsOn : ℕ → Symbol → ℕ → Type 0 where
   by_s : LeadsOn 0 (nonterminal s_name) 1
   by_one : LeadsOn 0 (nonterminal c_name) 2
   by_two : LeadsOn 2 (nonterminal c_name) 5
@@ -443,7 +443,7 @@ wrong_state : (x : Next) → LaneAdds G start_name StandsIn LeadsOn 4 c_ends 1 3
 wrong_state x a = omega (arith, (adds_any 4 c_ends 1 d_behind 3 x a).0)
 
 -- What is carried over these states leaves no conflict: a state that has finished an item has no other, and shifts nothing.
-finished_one : (n k : ℕ) (p q : Production) (i j : ℕ) → StandsIn n p i → StandsIn k q j → i ≡ length p.right →
+pub finished_one : (n k : ℕ) (p q : Production) (i j : ℕ) → StandsIn n p i → StandsIn k q j → i ≡ length p.right →
     j ≡ length q.right → n ≡ k → p ≡ q
 finished_one n k p q i j start_done start_done e f h = refl
 finished_one n k p q i j ends_done ends_done e f h = refl
@@ -451,7 +451,7 @@ finished_one n k p q i j two_done two_done e f h = refl
 finished_one n k p q i j more_done more_done e f h = refl
 finished_one n k p q i j it other e f h = absurd (omega (arith, e, f, h))
 
-leads_from : (n : ℕ) (x : Symbol) (m : ℕ) → LeadsOn n x m → BeginsC n
+pub leads_from : (n : ℕ) (x : Symbol) (m : ℕ) → LeadsOn n x m → BeginsC n
 leads_from n x m by_s = at_first
 leads_from n x m by_one = at_first
 leads_from n x m by_two = behind_one
@@ -464,7 +464,7 @@ begins_unfinished k at_first = (λ e. omega (arith, e), λ e. omega (arith, e), 
 begins_unfinished k behind_one = (λ e. omega (arith, e), λ e. omega (arith, e), λ e. omega (arith, e), λ e. omega (arith, e))
 begins_unfinished k behind_c = (λ e. omega (arith, e), λ e. omega (arith, e), λ e. omega (arith, e), λ e. omega (arith, e))
 
-finished_last : (n k : ℕ) (p : Production) (i : ℕ) → StandsIn n p i → BeginsC k → i ≡ length p.right → n ≡ k → ⊥
+pub finished_last : (n k : ℕ) (p : Production) (i : ℕ) → StandsIn n p i → BeginsC k → i ≡ length p.right → n ≡ k → ⊥
 finished_last n k p i start_done o e f = (begins_unfinished k o).0 (sym f)
 finished_last n k p i ends_done o e f = (begins_unfinished k o).1 (sym f)
 finished_last n k p i two_done o e f = (begins_unfinished k o).2 (sym f)

@@ -17,19 +17,19 @@ use Rattle.lalrpop_lane_theory.proofs.LaneLemmas.{lanes_carried}
 
 -- A start on right sides, S of `S = "(" S ")" or "x"`: behind the bracket its items stand with the dot in front, so the lane from
 -- `S = (*) "x"` adds the end there; but nothing is carried there but the closing bracket, whichever the states.
-abbrev s_name : Text
+abbrev pub s_name : Text
 s_name = name 83
 
-abbrev closing : Terminal
+abbrev pub closing : Terminal
 closing = quoted 41
 
-abbrev inner : Production
+abbrev pub inner : Production
 inner = production 0 s_name (terminal (quoted 40) ∷ nonterminal s_name ∷ terminal closing ∷ [])
 
-abbrev innermost : Production
+abbrev pub innermost : Production
 innermost = production 1 s_name (terminal (quoted 120) ∷ [])
 
-abbrev brackets : List Production
+abbrev pub brackets : List Production
 brackets = inner ∷ innermost ∷ []
 
 -- the closing bracket derives something
@@ -39,12 +39,12 @@ never_empty xs ys (keeps x d) e f = let z : ⊥ = cc in absurd z
 never_empty xs ys (grows p {xs = zs} g d d') e f =
     not_terminal closing p.left (head_same (nonterminal p.left) (terminal closing) zs [] e)
 
-no_dot : (j : ℕ) (x : Symbol) (b : List Symbol) → drop j [] ≡ x ∷ b → ⊥
+pub no_dot : (j : ℕ) (x : Symbol) (b : List Symbol) → drop j [] ≡ x ∷ b → ⊥
 no_dot zero x b e = not_empty x b e
 no_dot (suc j) x b e = not_empty x b e
 
 -- what stands behind S in a right side derives something
-never_last : (A : Text) (j : ℕ) (b : List Symbol) (q : Production) → Contains brackets q → drop j q.right ≡ nonterminal A ∷ b →
+pub never_last : (A : Text) (j : ℕ) (b : List Symbol) (q : Production) → Contains brackets q → drop j q.right ≡ nonterminal A ∷ b →
     First0 (Contains brackets) b None → ⊥
 never_last A j b q g d h = all_of (λ r. drop j r.right ≡ nonterminal A ∷ b → ⊥) brackets (by_inner j, (by_innermost j, tt)) q g d
   where
@@ -146,36 +146,36 @@ not_reached states =
 
 -- Carried lookaheads that conflict: `__S = S; S = "a" E "a", "b" E "b", "a" F "b" or "b" F "a"; E = "e"; F = "e"`. Of the states without
 -- lookaheads here stand those behind `"a"`, 1, behind `"b"`, 2, and behind `"e"`, 3.
-abbrev start_name : Text
+abbrev pub start_name : Text
 start_name = name 95
 
-abbrev a_token : Terminal
+abbrev pub a_token : Terminal
 a_token = quoted 97
 
-abbrev b_token : Terminal
+abbrev pub b_token : Terminal
 b_token = quoted 98
 
-abbrev e_token : Terminal
+abbrev pub e_token : Terminal
 e_token = quoted 101
 
-abbrev around : ℕ → Terminal → ℕ → Terminal → Production
+abbrev pub around : ℕ → Terminal → ℕ → Terminal → Production
 around number left inside right = production number s_name (terminal left ∷ nonterminal (name inside) ∷ terminal right ∷ [])
 
-abbrev by_e : Production
+abbrev pub by_e : Production
 by_e = production 5 (name 69) (terminal e_token ∷ [])
 
-abbrev by_f : Production
+abbrev pub by_f : Production
 by_f = production 6 (name 70) (terminal e_token ∷ [])
 
-abbrev contexts : List Production
+abbrev pub contexts : List Production
 contexts =
     production 0 start_name (nonterminal s_name ∷ []) ∷ around 1 a_token 69 a_token ∷ around 2 b_token 69 b_token
     ∷ around 3 a_token 70 b_token ∷ around 4 b_token 70 a_token ∷ by_e ∷ by_f ∷ []
 
-e_given : Contains contexts by_e
+pub e_given : Contains contexts by_e
 e_given = (5, omega arith, refl)
 
-f_given : Contains contexts by_f
+pub f_given : Contains contexts by_f
 f_given = (6, omega arith, refl)
 
 data StandsIn : ℕ → Production → ℕ → Type 0 where

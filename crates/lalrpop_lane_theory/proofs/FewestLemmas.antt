@@ -22,6 +22,7 @@ use Rattle.lalrpop_lr1_theory.proofs.Lr0CoreLemmas.{states_counted}
 use Rattle.lalrpop_lr1_theory.proofs.PassLemmas.{some_carried}
 use Rattle.lalrpop_lr1_theory.proofs.ValidItemLemmas.{carried_from_valid, valid_from_carried}
 use Rattle.lalrpop_lr1_theory.proofs.WalkLemmas.{carried_there, walk_one}
+use Rattle.lalrpop_lane_theory.specs.Lalr1Grammars.{IsLeastStateCount}
 
 -- numbers of which none stands at two places
 abbrev StandOnce : List ℕ → Type 0
@@ -100,3 +101,19 @@ pub checked_no_fewer : (grammar : List Production) (s : Text) (lr0 states : List
     AreCheckedStates grammar s states → length lr0 ≤ length states
 checked_no_fewer grammar s lr0 states are ok =
     no_fewer grammar s states ok.cover ok.none_barren (length lr0) (states_counted grammar s lr0 are ok.none_barren)
+
+-- two lists of states without lookaheads have as many, where nothing that the start reaches is barren
+pub as_many : (grammar : List Production) (s : Text) (states others : List State) → AreLr0States grammar s states →
+    AreLr0States grammar s others → NoneBarren (Contains grammar) s → length states ≡ length others
+as_many grammar s states others a b nb =
+    omega (
+      arith,
+      no_fewer grammar s others b.automaton.cover nb (length states) (states_counted grammar s states a nb),
+      no_fewer grammar s states a.automaton.cover nb (length others) (states_counted grammar s others b nb),
+    )
+
+-- where as many as there are sets of valid items, whatever may follow them, no states that may be parsed with are fewer
+pub least_count : (grammar : List Production) (s : Text) (count : ℕ) → NoneBarren (Contains grammar) s →
+    CountsCoreSets (Contains grammar) s count → IsLeastStateCount grammar s count
+least_count grammar s count nb counts =
+    record { for_each_core = counts; no_fewer = λ states ok. no_fewer grammar s states ok.cover nb count counts }

@@ -4,8 +4,13 @@ pub mod SpreadLemmas
 pub mod CarriedLemmas
 pub mod FewestLemmas
 pub mod AgreeLemmas
+pub mod Lalr1Lemmas
+pub mod CollapsedConflictLemmas
+pub mod Lr1Lemmas
 pub mod ExamplesOfLanes
 pub mod ExamplesOfColumns
 pub mod ExamplesOfSpreadStates
 pub mod ExamplesOfPremises
 pub mod ExamplesOfAnswers
+pub mod ExamplesOfLalr1Grammars
+pub mod ExamplesOfOddGrammars

@@ -6,12 +6,14 @@ use Rattle.lalrpop_lr1_theory.specs.Trees.{Move}
 use Rattle.lalrpop_lr1_theory.specs.ValidItems.{NoneBarren}
 use Rattle.lalrpop_lr1_theory.specs.Automata.{Carries, IsCover}
 use Rattle.lalrpop_lr1_theory.specs.States.{HasEdge, HasItem, State}
-use Rattle.lalrpop_lr1_theory.specs.Answers.{IsYieldOf, ParseAnswer, RunEnds, over_limit}
+use Rattle.lalrpop_lr1_theory.specs.Answers.{IsLr1, IsYieldOf, ParseAnswer, RunEnds, over_limit}
 use Rattle.lalrpop_lr1_theory.specs.CheckedStates.{AreCheckedStates, IsStartAlone}
-use Rattle.lalrpop_lr1_theory.specs.CanonicalStates.{AreLr0States}
+use Rattle.lalrpop_lr1_theory.specs.CanonicalStates.{AreCanonicalStates, AreLr0States}
+use Rattle.lalrpop_lr1_theory.specs.CollapsedStates.{IsCollapse}
 use Rattle.lalrpop_lr1_theory.specs.Laws.{HaveNoConflict}
 use Rattle.lalrpop_lane_theory.specs.CarriedConflicts.{AreCarriedReductions, AreReachedCover, HaveNoCarriedConflict, ReduceByEachOnce}
 use Rattle.lalrpop_lane_theory.specs.Columns.{AllFitBeside, NeverMeet, RowHolds}
+use Rattle.lalrpop_lane_theory.specs.Lalr1Grammars.{IsLalr1}
 use Rattle.lalrpop_lane_theory.specs.LaneTables.{AreStateMoves, AreTraceEntries, HasNextIn}
 use Rattle.lalrpop_lane_theory.specs.Lanes.{LaneAdds}
 use Rattle.lalrpop_lane_theory.specs.SpreadStates.{AreRedirected, AreSpreadStates, IsCopied, LeadAsOriginal, LeavesBy}
@@ -93,6 +95,23 @@ abbrev pub CheckedAreNoFewer : Type 0
 CheckedAreNoFewer =
     (grammar : List Production) (s : Text) (lr0 states : List State) → AreLr0States grammar s lr0 →
     AreCheckedStates grammar s states → length lr0 ≤ length states
+
+-- over states without lookaheads, what is carried leaves no conflict exactly where the grammar is LALR(1)
+abbrev pub Lalr1IsNoCarriedConflict : Type 0
+Lalr1IsNoCarriedConflict =
+    (grammar : List Production) (s : Text) (states : List State) → AreLr0States grammar s states →
+    IsLalr1 (Contains grammar) s ↔ HaveNoCarriedConflict grammar s states
+
+-- canonical states put together by their cores have no conflict exactly where the grammar is LALR(1)
+abbrev pub Lalr1IsNoCollapsedConflict : Type 0
+Lalr1IsNoCollapsedConflict =
+    (grammar : List Production) (s : Text) (states collapsed : List State) (numbers : List ℕ) →
+    AreCanonicalStates grammar s states → IsCollapse states numbers collapsed →
+    IsLalr1 (Contains grammar) s ↔ HaveNoConflict collapsed
+
+-- an LALR(1) grammar is LR(1)
+abbrev pub Lalr1IsLr1 : Type 0
+Lalr1IsLr1 = (grammar : List Production) (s : Text) → IsLalr1 (Contains grammar) s → IsLr1 (Contains grammar) s
 
 -- over two lists of checked states, for a start alone, runs over the same tokens end alike, but that one may pass the limit where the
 -- tokens are no sentence

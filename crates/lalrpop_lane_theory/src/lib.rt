@@ -3,10 +3,11 @@
 //! The crate has no code but laws, over lists of productions and of states. In `specs/`, `Lanes` says from which states and items the
 //! lookaheads of an item come and what they are there, `Columns` what columns, rows and tables of tokens hold and when columns meet,
 //! `LaneTables` what the traces of a state's moves leave in a table, `SpreadStates` what copies of states and redirected edges are,
-//! `CarriedConflicts` when what is carried over states leaves no conflict, and `LaneLaws` what the laws say.
+//! `CarriedConflicts` when what is carried over states leaves no conflict, `Lalr1Grammars` which grammars are LALR(1), and `LaneLaws` what
+//! the laws say.
 #![tactic(auto)]
 
-ghost use Rattle.lalrpop_lane_theory.specs.LaneLaws.{AnswersAgree, CarriedAreChecked, CheckedAreNoFewer, ColumnsSucceed, ConflictsAreCarried, FitIsApart, LanesAreCarried, MergesKeepCover};
+ghost use Rattle.lalrpop_lane_theory.specs.LaneLaws.{AnswersAgree, CarriedAreChecked, CheckedAreNoFewer, ColumnsSucceed, ConflictsAreCarried, FitIsApart, Lalr1IsLr1, Lalr1IsNoCarriedConflict, Lalr1IsNoCollapsedConflict, LanesAreCarried, MergesKeepCover};
 
 /// The law that over states that are reached, as those without lookaheads are, just that is carried to an item of a state which its
 /// lane adds somewhere, where the start stands alone.
@@ -46,6 +47,21 @@ pub fn conflicts_are_carried()
 /// The law that states which may be parsed with are at least as many as the states without lookaheads.
 pub fn checked_are_no_fewer()
     ensures { CheckedAreNoFewer }
+{}
+
+/// The law that over states without lookaheads what is carried leaves no conflict exactly where the grammar is LALR(1).
+pub fn lalr1_is_no_carried_conflict()
+    ensures { Lalr1IsNoCarriedConflict }
+{}
+
+/// The law that canonical states put together by their cores have no conflict exactly where the grammar is LALR(1).
+pub fn lalr1_is_no_collapsed_conflict()
+    ensures { Lalr1IsNoCollapsedConflict }
+{}
+
+/// The law that an LALR(1) grammar is LR(1).
+pub fn lalr1_is_lr1()
+    ensures { Lalr1IsLr1 }
 {}
 
 /// The law that runs over two lists of checked states end alike, for a start alone, but that over one of them a run may pass the limit

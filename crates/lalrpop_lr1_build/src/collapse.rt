@@ -4,7 +4,6 @@
 //! and `CollapseAnswers` what the collapse answers. What these states are, the laws of `lalrpop_lr1_theory::collapse_laws` say.
 
 mod collapse;
-mod conflicts;
 mod cores;
 mod edges;
 mod joined_states;

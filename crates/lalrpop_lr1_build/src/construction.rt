@@ -1,6 +1,6 @@
 //! The construction of states, for both lookaheads by one body.
 
-ghost use Rattle.std.specs.Prelude.{◌≡◌, ◌++◌, ◌≤◌, ℕ, true, IfErr, IfOk, MatchResult, OnOk, Contains, flat_map, map};
+ghost use Rattle.std.specs.Prelude.{◌≡◌, ◌≤◌, ℕ, true, IfErr, IfOk, MatchResult, Contains, map};
 ghost use Rattle.lalrpop_lr1_theory.specs.Answers.{IsLr1};
 ghost use Rattle.lalrpop_lr1_theory.specs.CheckedStates.{AreCheckedStates, IsStartAlone};
 ghost use Rattle.lalrpop_lr1_theory.specs.ValidItems.{NoneBarren};
@@ -13,46 +13,16 @@ ghost use Rattle.lalrpop_lr1_build.specs.Nexts.{IsNextIn};
 ghost use Rattle.lalrpop_lr1_build.specs.BuiltStates.{AreBuiltStates, AreCanonicalWithout, AreLr0Without, HaveNoConflictBuilt, IsCanonicalFault, IsFaultBuilt, IsLr0Fault, TellsNoLr1};
 ghost use Rattle.lalrpop_lr1_core.specs.TheoryGrammars.{theory_grammar};
 
+use crate::conflicts::conflicts_of;
 use crate::public_states::states_at;
 use crate::start::start_kernel;
 use crate::states::{KernelLookahead, states_by_numbers};
-use lalrpop_grammar_repr::{Grammar, TerminalSet};
+use lalrpop_grammar_repr::Grammar;
 use lalrpop_grammar_symbols::NonterminalString;
-use lalrpop_lr1_core::{
-    Conflict, Lookahead, Lr1Result, LrResult, State, TableConstructionError, TableFault,
-};
+use lalrpop_lr1_core::{Lr1Result, LrResult, State, TableConstructionError, TableFault};
 use lalrpop_lr1_first::Closures;
 use lalrpop_sets::{Nil, TokenSet};
 use std::alloc::{AllocError, Global};
-
-/// Adds the conflicts.
-fn add_conflicts<'g, L: Lookahead>(
-    more: Vec<Conflict<'g, L>>,
-    conflicts: &mut Vec<Conflict<'g, L>>,
-) -> Result<(), AllocError>
-    ensures { OnOk result (conflicts.new.items ≡ conflicts.old.items ++ more.entry.items) }
-{
-    for conflict in more {
-        conflicts.push(conflict)?;
-    }
-    Ok(())
-}
-
-/// The conflicts of the states, state by state.
-fn conflicts_of<'g, L: Lookahead>(
-    alloc: Global,
-    terminals: &TerminalSet,
-    states: &[State<'g, L>],
-) -> Result<Vec<Conflict<'g, L>>, AllocError>
-    ensures { IfOk result (λ conflicts. conflicts.items ≡ flat_map (L.conflicts_in terminals.now) states.now) }
-{
-    let mut conflicts = Vec::new(alloc);
-    for state in states {
-        let more = L::conflicts(alloc, terminals, state)?;
-        add_conflicts(more, &mut conflicts)?;
-    }
-    Ok(conflicts)
-}
 
 /// The states of the grammar for a start that the lookahead follows, by the grammar's closures.
 fn states_by_closures<'g, L: KernelLookahead>(

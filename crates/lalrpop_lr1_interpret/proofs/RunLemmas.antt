@@ -32,6 +32,7 @@ use Rattle.lalrpop_lr1_interpret.specs.declared.parse.action_table.ActionTable.{
 use Rattle.lalrpop_lr1_interpret.specs.declared.parse.table_row.NextNumber.{NextNumber}
 use Rattle.lalrpop_lr1_interpret.specs.declared.parse.table_row.NextNumber.TheVariants as nexts
 use Rattle.lalrpop_lr1_interpret.specs.declared.parse.table_row.NumberedProduction.{NumberedProduction}
+use Rattle.lalrpop_lr1_interpret.specs.declared.parse.table_row.TableAction.{TableAction}
 use Rattle.lalrpop_lr1_interpret.specs.declared.parse.table_row.TableAction.TheVariants as actions
 use Rattle.lalrpop_lr1_interpret.proofs.NumberLemmas.{next_at}
 use Rattle.lalrpop_lr1_interpret.proofs.ParsingLemmas.{Parsing, accepts, first_drop, keep_reduce, keep_shift}
@@ -374,6 +375,13 @@ module _ (table : ActionTable) (tokens : List ScanToken) (limit : ℕ) (whole : 
                 ∙ sym (ap leaf_spans parts ∙ spans-beside kept children)
                 ∙ p.spans_are ∙ all_taken (λ k. span_view k.span);
           }
+
+  -- where no move is left, the next one would pass the limit
+  pub move_limit : MayRun table → (a : TableAction) → IsActionBefore table n next (Some a) → left ≡ 0 → (states : List State) →
+      IsTableOf table states → PassesLimit states (terminals_of tokens) limit
+  move_limit q (actions.Shift m) a l states is = shift_limit m a l states is
+  move_limit q (actions.Reduce r) a l states is =
+      let k = has_children q r a in reduce_limit q r a k.kept k.children k.stands k.roots_are l states is
 
 -- the number on top, as it is read
 pub as_read : (ns : List ℕ) (n j : ℕ) → n ≡ get_or ns j n → j ≡ length ns - 1 → n ≡ get_or ns (length ns - 1) n

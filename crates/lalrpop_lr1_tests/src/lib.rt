@@ -9,6 +9,8 @@ mod check;
 #[cfg(test)]
 mod completions;
 #[cfg(test)]
+mod constructions;
+#[cfg(test)]
 mod firsts;
 #[cfg(test)]
 mod grammars;

@@ -6,10 +6,12 @@ ghost use Rattle.lalrpop_lr1_first.specs.NumberedGrammars.{HasItsTerminals};
 
 use crate::check::{check, is_shown, text_is};
 use crate::grammars::{grammar_of, name_of, production_at, token_of};
-use lalrpop_grammar_repr::{Grammar, Symbol};
-use lalrpop_lane_report::{Example, ExampleSymbol, PathEnumerator, Reduction, TraceGraph, Tracer};
+use lalrpop_grammar_repr::{Grammar, Symbol, TerminalSet};
+use lalrpop_lane_report::{
+    Example, ExampleSymbol, FilteredPathEnumerator, PathEnumerator, Reduction, TraceGraph, Tracer,
+};
 use lalrpop_lr1_build::build_lr1_states_canonical;
-use lalrpop_lr1_core::{Item, Lr0Item, Lr1State, StateIndex};
+use lalrpop_lr1_core::{Item, Lr0Item, Lr1Item, Lr1State, StateIndex};
 use lalrpop_lr1_first::FirstSets;
 use lalrpop_sets::TokenSet;
 use std::alloc::Global;
@@ -17,6 +19,9 @@ use std::process::Abort;
 
 /// `__S = S; S = "a" B; B = "b"`
 const BEHIND: &str = "__S: S\nS: \"a\" B\nB: \"b\"\n";
+
+/// Its only example.
+const STACKED: &str = "\"a\" (*) \"b\" | B 1..2 S 0..2 ; ";
 
 /// `__S = S; S = T "e"; T = "a" B D; D = nothing or "d"; B = "b"`
 const EMPTY_REST: &str = "__S: S\nS: T \"e\"\nT: \"a\" B D\nD:\nD: \"d\"\nB: \"b\"\n";
@@ -181,8 +186,7 @@ fn reduction_tells(
 #[test]
 fn examples_are_told(rt: HostRuntime) {
     let alloc = rt.alloc();
-    let stacked = "\"a\" (*) \"b\" | B 1..2 S 0..2 ; ";
-    shift_tells(&rt, alloc, BEHIND, "B", 0, stacked);
+    shift_tells(&rt, alloc, BEHIND, "B", 0, STACKED);
     let recursive = "\"a\" (*) \"b\" | S 1..2 T 0..2 ; ";
     shift_tells(&rt, alloc, RECURSIVE, "S", 1, recursive);
     let two = "\"a\" (*) \"b\" \"c\" | B 1..2 S 0..3 ; \"a\" (*) \"b\" | B 1..2 S 0..2 ; ";
@@ -193,48 +197,104 @@ fn examples_are_told(rt: HostRuntime) {
     reduction_tells(&rt, alloc, NOTHING, 2, 0, nothing);
 }
 
-/// What can come next on the path of the first of these, and which lookaheads it fits.
-fn lookaheads_fit(rt: &impl Abort, alloc: Global) {
-    let grammar = grammar_of(rt, alloc, BEHIND);
-    let item = Item::lr0(production_at(rt, alloc, &grammar, "B", 0), 0);
-    let graph = shift_graph(rt, alloc, &grammar, 2, item);
-    let firsts = FirstSets::new(alloc, &grammar).expect(rt, "memory");
-    let mut paths = graph.lr0_examples(alloc, item).expect(rt, "memory");
+/// That the paths stand at one that tells this example, behind which `b` can come, and there is no other.
+fn tells_what_comes_next(
+    rt: &impl Abort,
+    alloc: Global,
+    paths: &mut PathEnumerator<'_, '_>,
+    firsts: &FirstSets,
+    terminals: &TerminalSet,
+) {
     check(rt, paths.found_trace());
-    let next = paths
-        .first0(alloc, &firsts, &grammar.terminals)
-        .expect(rt, "memory");
-    check(
-        rt,
-        is_shown(rt, alloc, &next, &grammar.terminals, "[\"b\"]"),
-    );
-    check(rt, !paths.advance().expect(rt, "memory"));
-    let b = TokenSet::from_token(alloc, &token_of(rt, alloc, "b"), &grammar.terminals).expect(
-        rt, "memory",
-    );
-    let mut fitting = graph
-        .lr1_examples(alloc, &firsts, &grammar.terminals, &item.with_lookahead(b))
-        .expect(rt, "memory");
     let mut text = String::new(alloc);
-    let first = fitting.next().expect(rt, "an example");
-    push_example(rt, &first.expect(rt, "memory"), &mut text);
-    check(rt, text_is(text, "\"a\" (*) \"b\" | B 1..2 S 0..2 ; "));
-    check(rt, fitting.next().is_none());
-    let end = TokenSet::eof(alloc, &grammar.terminals).expect(rt, "memory");
-    let mut none = graph
-        .lr1_examples(
-            alloc,
-            &firsts,
-            &grammar.terminals,
-            &item.with_lookahead(end),
-        )
+    push_example(rt, &paths.example(alloc).expect(rt, "memory"), &mut text);
+    check(rt, text_is(text, STACKED));
+    let next = paths.first0(alloc, firsts, terminals).expect(rt, "memory");
+    check(rt, is_shown(rt, alloc, &next, terminals, "[\"b\"]"));
+    check(rt, !paths.advance().expect(rt, "memory"));
+}
+
+/// The examples of all paths that fit, one after the other.
+fn push_fitting(rt: &impl Abort, fitting: &mut FilteredPathEnumerator<'_, '_>, text: &mut String) {
+    while let Some(example) = fitting.next() {
+        push_example(rt, &example.expect(rt, "memory"), text);
+    }
+}
+
+/// That the paths from the item that fit its lookahead tell these examples.
+fn fits<'g>(
+    rt: &impl Abort,
+    alloc: Global,
+    graph: &TraceGraph<'g>,
+    item: &Lr1Item<'g>,
+    firsts: &FirstSets,
+    terminals: &TerminalSet,
+    wanted: &str,
+)
+    requires { Contains graph.now.nodes (graph_node_of item.now) }
+{
+    let mut text = String::new(alloc);
+    let mut fitting = graph
+        .lr1_examples(alloc, firsts, terminals, item)
         .expect(rt, "memory");
-    check(rt, none.next().is_none());
+    push_fitting(rt, &mut fitting, &mut text);
+    check(rt, text_is(text, wanted));
+}
+
+/// What can come next on the path from the item, and which lookaheads fit: `b` alone.
+fn lookaheads_fit<'g>(
+    rt: &impl Abort,
+    alloc: Global,
+    graph: &TraceGraph<'g>,
+    item: Lr0Item<'g>,
+    firsts: &FirstSets,
+    terminals: &TerminalSet,
+)
+    requires { Contains graph.now.nodes (graph_node_of item) }
+{
+    let mut paths = graph.lr0_examples(alloc, item).expect(rt, "memory");
+    tells_what_comes_next(rt, alloc, &mut paths, firsts, terminals);
+    let b = TokenSet::from_token(alloc, &token_of(rt, alloc, "b"), terminals).expect(rt, "memory");
+    let before_b = item.with_lookahead(b);
+    fits(rt, alloc, graph, &before_b, firsts, terminals, STACKED);
+    let end = TokenSet::eof(alloc, terminals).expect(rt, "memory");
+    let before_end = item.with_lookahead(end);
+    fits(rt, alloc, graph, &before_end, firsts, terminals, "");
 }
 
 #[test]
 fn examples_are_filtered(rt: HostRuntime) {
-    lookaheads_fit(&rt, rt.alloc());
+    let alloc = rt.alloc();
+    let grammar = grammar_of(&rt, alloc, BEHIND);
+    let item = Item::lr0(production_at(&rt, alloc, &grammar, "B", 0), 0);
+    let graph = shift_graph(&rt, alloc, &grammar, 2, item);
+    let firsts = FirstSets::new(alloc, &grammar).expect(&rt, "memory");
+    lookaheads_fit(&rt, alloc, &graph, item, &firsts, &grammar.terminals);
+}
+
+/// That an edge brings both its nodes, or where memory is refused none: the node that comes then has the next place.
+fn edge_brings_nodes<'g>(
+    rt: &impl Abort,
+    alloc: Global,
+    graph: &mut TraceGraph<'g>,
+    item: Lr0Item<'g>,
+) {
+    let added = graph.add_edge(name_of(rt, alloc, "B"), item, item.symbol_sets());
+    let place = graph.add_node(name_of(rt, alloc, "S")).expect(rt, "memory");
+    let count = if added.is_ok() { 2 } else { 0 };
+    check(rt, place == count);
+    let again = graph.add_node(name_of(rt, alloc, "S")).expect(rt, "memory");
+    check(rt, again == place);
+}
+
+/// Run with each allocation refused in turn (`rt try --test --fail-alloc N`), this sees that a refused edge brings no node.
+#[test]
+fn nodes_are_numbered_as_they_come(rt: HostRuntime) {
+    let alloc = rt.alloc();
+    let grammar = grammar_of(&rt, alloc, BEHIND);
+    let item = Item::lr0(production_at(&rt, alloc, &grammar, "B", 0), 0);
+    let mut graph = TraceGraph::new(alloc);
+    edge_brings_nodes(&rt, alloc, &mut graph, item);
 }
 
 /// Whether the enumerator is at its end behind a refusal, if there is one.
@@ -247,6 +307,22 @@ fn ends_after_refusal(paths: &mut PathEnumerator<'_, '_>) -> bool {
     true
 }
 
+/// Whether the enumerator, where it goes on, tells whether there is a path, and is at its end where memory is refused.
+fn goes_on_or_ends(paths: &mut PathEnumerator<'_, '_>) -> bool {
+    let more = paths.advance();
+    paths.found_trace() == (more == Ok(true))
+}
+
+/// That after a refusal none of the paths from the item is left.
+fn none_is_left<'g>(rt: &impl Abort, alloc: Global, graph: &TraceGraph<'g>, item: Lr0Item<'g>)
+    requires { Contains graph.now.nodes (graph_node_of item) }
+{
+    if let Ok(mut paths) = graph.lr0_examples(alloc, item) {
+        check(rt, goes_on_or_ends(&mut paths));
+        check(rt, ends_after_refusal(&mut paths));
+    }
+}
+
 /// Run with each allocation refused in turn (`rt try --test --fail-alloc N`), this sees that no example comes behind a refusal.
 #[test]
 fn refusals_end_it(rt: HostRuntime) {
@@ -254,7 +330,5 @@ fn refusals_end_it(rt: HostRuntime) {
     let grammar = grammar_of(&rt, alloc, TWO_ASK);
     let item = Item::lr0(production_at(&rt, alloc, &grammar, "B", 0), 0);
     let graph = shift_graph(&rt, alloc, &grammar, 2, item);
-    if let Ok(mut paths) = graph.lr0_examples(alloc, item) {
-        check(&rt, ends_after_refusal(&mut paths));
-    }
+    none_is_left(&rt, alloc, &graph, item);
 }

@@ -33,7 +33,7 @@ first_is_zero (zero ∷ numbers) seen n a e = refl
 first_is_zero (suc b ∷ numbers) seen n a e =
     let h = (seen 0 (suc b) 0 refl (omega arith)).earlier in absurd (omega (arith, h))
 
-without : (b : Bool) → (b ≡ true → ⊥) → b ≡ false
+pub without : (b : Bool) → (b ≡ true → ⊥) → b ≡ false
 without false f = refl
 without true f = absurd (f refl)
 
@@ -86,7 +86,7 @@ module _ (states collapsed : List State) (numbers : List ℕ) (fold : IsCollapse
         (λ n a. slice_get numbers n ≡ Some a) (HasItem collapsed) (HasEdge collapsed) (HasLookahead collapsed) core_map
 
     -- no reduction holds the token of errors, since no state that is put together does
-    no_error_held : (a : ℕ) (state : State) (p : Production) (l : LookaheadSet) → slice_get collapsed a ≡ Some state →
+    pub no_error_held : (a : ℕ) (state : State) (p : Production) (l : LookaheadSet) → slice_get collapsed a ≡ Some state →
         Contains state.items (ended p l) → l.error ≡ true → ⊥
     no_error_held a state p l e c f =
         let k = (fold.errors a p (length p.right)).0

@@ -34,7 +34,7 @@ state_at (x ∷ states) (suc k) h = state_at states k (omega (arith, h))
 
 module _ (grammar : List Production) (s : Text) (states : List State) (lr0 : AreLr0States grammar s states) where
   -- no item has a lookahead
-  looks_nowhere : (g : List Symbol) (n : ℕ) → Walk (HasEdge states) g n → (p : Production) (i : ℕ) (x : Next) →
+  pub looks_nowhere : (g : List Symbol) (n : ℕ) → Walk (HasEdge states) g n → (p : Production) (i : ℕ) (x : Next) →
       HasLookahead states n p i x → ⊥
   looks_nowhere g n stands p i x k =
       never_before (Contains grammar) (IsBegun (Contains grammar) s) (IsBegunBefore (λ y. ⊥) (Contains grammar) s)

@@ -95,7 +95,7 @@ reduces_finished grammar s states can n p x = (
 )
 
 -- items stand once in a list: two places with one production and one dot are one
-abbrev StandOnce : List Item → Type 0
+abbrev pub StandOnce : List Item → Type 0
 StandOnce items =
     (j k : ℕ) (a b : Item) → slice_get items j ≡ Some a → slice_get items k ≡ Some b → a.production ≡ b.production →
     a.dot ≡ b.dot → j ≡ k
@@ -124,7 +124,7 @@ module _ (item : Item) (items : List Item) (once : StandOnce (item ∷ items))
   chosen_apart true e (suc j) (suc k) a b f g h = ap suc (later j k a b f g h)
 
 -- then the reductions by them are by one production each
-reductions_once : (items : List Item) → StandOnce items → (j k : ℕ) (a b : Reduction) →
+pub reductions_once : (items : List Item) → StandOnce items → (j k : ℕ) (a b : Reduction) →
     slice_get (finished_reductions items) j ≡ Some a → slice_get (finished_reductions items) k ≡ Some b →
     a.production ≡ b.production → j ≡ k
 reductions_once [] once j k a b f g h = let z : ⊥ = cc in absurd z

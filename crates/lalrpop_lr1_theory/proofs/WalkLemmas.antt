@@ -89,7 +89,7 @@ contains_after x b [] (suc i) e = let z : ⊥ = cc in absurd z
 contains_after x b (y ∷ xs) (suc i) e = let k = contains_after x b xs i e in (suc k.0, omega (arith, k.1), k.2)
 
 -- at the top of a tree no leaf stands
-no_leaf : (s : Text) (t : Terminal) (l r : Forest) → roots l ++ terminal t ∷ roots r ≡ nonterminal s ∷ [] → ⊥
+pub no_leaf : (s : Text) (t : Terminal) (l r : Forest) → roots l ++ terminal t ∷ roots r ≡ nonterminal s ∷ [] → ⊥
 no_leaf s t none r e = cc
 no_leaf s t (leaf u l) r e = too_many (terminal t) (roots l) (roots r) (cc)
 no_leaf s t (node p cs l) r e = too_many (terminal t) (roots l) (roots r) (cc)

@@ -3,12 +3,13 @@
 ghost use Rattle.std.specs.Prelude.{◌≡◌, [], ◌∷◌, IfErr, IfOk, OnOk, None, drop, length, map};
 ghost use Rattle.lalrpop_grammar_symbols.specs.Symbols.{Closed};
 ghost use Rattle.lalrpop_grammar.specs.Views.{grammar_view};
+ghost use Rattle.lalrpop_grammar.specs.WrittenGrammar.{rules_of};
 ghost use Rattle.lalrpop_grammar_language.specs.Among.{Among};
 ghost use Rattle.lalrpop_grammar_rules.specs.RuleTable.{IsTable, rules_view, rules_with};
 ghost use Rattle.lalrpop_grammar_rules.specs.Views.{closed_view, closeds};
 ghost use Rattle.lalrpop_norm_keys.specs.Tables.{IsKeyIndex, table_keys};
 ghost use Rattle.lalrpop_norm_keys.specs.FoundCalls.{FindsCalls, HasCallIndex, HasFoundCalls, IsToldAt, TellsOfAnyCall};
-ghost use Rattle.lalrpop_norm_keys.specs.FoundCalls.{TellsOfMadeCall, TellsOfOneCall};
+ghost use Rattle.lalrpop_norm_keys.specs.FoundCalls.{TellsOfMadeCall, TellsOfOneCall, plain_calls};
 ghost use Rattle.lalrpop_norm_keys.specs.Instances.{TellsOfCall};
 ghost use Rattle.lalrpop_norm_keys.specs.SearchPremises.{CanSearch};
 ghost use Rattle.lalrpop_norm_keys.specs.StandingCalls.{CallStandsIn};
@@ -171,6 +172,34 @@ struct LastCalls {
 }
 
 impl LastCalls {
+    /// The first round, where no call is known: the callers are the rules that are no macros.
+    fn first<F: Finder>(
+        alloc: Global,
+        finder: &F,
+        grammar: &Grammar,
+        rules: &Rules<'_>,
+        calls: &mut KeyTable,
+    ) -> Result<LastCalls, NormFault>
+        requires table { IsTable rules.now }
+        requires index { IsKeyIndex calls.old }
+        requires none { table_keys calls.old ≡ [] }
+        ensures index { OnOk result (IsKeyIndex calls.new) }
+        ensures found { OnOk result (FindsCalls (rules_with (F.finds finder.now) rules.now)
+            (plain_calls (rules_of (grammar_view grammar.now).items)) [] (table_keys calls.new)) }
+        ensures order { OnOk result (HasNoLevels (rules_view rules.now)
+            → AddsUsesOf (UsesCalls (rules_with (F.finds finder.now) rules.now))
+            (plain_calls (rules_of (grammar_view grammar.now).items)) [] (table_keys calls.new)) }
+        ensures callers { IfOk result (λ last. map closed_view last.callers
+            ≡ plain_calls (rules_of (grammar_view grammar.now).items)) }
+        ensures next { IfOk result (λ last. map closed_view last.next ≡ table_keys calls.new) }
+        ensures fault { IfErr result (TellsOfOneCall (rules_with (F.finds finder.now) rules.now) (F.too_deep finder.now)
+            (plain_calls (rules_of (grammar_view grammar.now).items))) }
+    {
+        let callers = plain_rules(alloc, grammar)?;
+        let next = next_round(alloc, finder, rules, callers.as_slice(), calls)?;
+        Ok(LastCalls { callers, next })
+    }
+
     /// One round further: what was found last are the callers then.
     fn go_on<F: Finder>(
         &mut self,
@@ -250,9 +279,7 @@ pub fn find_calls<F: Finder>(
     ensures condition { IfErr result (TellsOfAnyCall (rules_with (F.finds finder.now) rules.now) (F.too_deep finder.now)) }
 {
     let mut calls = KeyTable::new(alloc);
-    let callers = plain_rules(alloc, grammar)?;
-    let next = next_round(alloc, finder, rules, callers.as_slice(), &mut calls)?;
-    let mut last = LastCalls { callers, next };
+    let mut last = LastCalls::first(alloc, finder, grammar, rules, &mut calls)?;
     let mut round = 0;
     while round < limit {
         last.go_on(alloc, finder, rules, &mut calls)?;

@@ -142,6 +142,42 @@ fn tokenizer_entries(alloc: Global, grammar: &Grammar) -> Result<List<MatchEntry
     }
 }
 
+/// The grammar of plain productions: the starts of these rules, and the grammar's rules.
+fn lower_parts(
+    alloc: Global,
+    grammar: &Grammar,
+    starts: &[&NonterminalData],
+    types: Types,
+) -> Result<LoweredGrammar, AllocError>
+    requires few { count_actions (rules_of (grammar_view grammar.now).items) ≤ 2 ^ 32 }
+    requires starts { rules_at starts.now ≡ rules_with_starts (rules_of (grammar_view grammar.now).items) }
+    ensures nonterminals { IfOk result (λ made. AreMadeNonterminals (grammar_view grammar.now) made.nonterminals) }
+    ensures starts { IfOk result (λ made. made.start_nonterminals ≡ put_names []
+        (start_name_entries grammar.now.prefix (rules_with_starts (rules_of (grammar_view grammar.now).items)))) }
+    ensures definitions { IfOk result (λ made. made.action_fn_defns
+        ≡ lowered_definitions types.nonterminal_types (rules_of (grammar_view grammar.now).items)) }
+    ensures terminal_types { IfOk result (λ made. made.types.terminal_types ≡ types.terminal_types) }
+    ensures nonterminal_types { IfOk result (λ made. made.types.nonterminal_types ≡ put_names types.nonterminal_types
+        (start_type_entries types.nonterminal_types grammar.now.prefix
+        (rules_with_starts (rules_of (grammar_view grammar.now).items)))) }
+    ensures terminals { IfOk result (λ made. IsMadeTerminalSet types.terminal_types made.terminals) }
+    ensures prefix { IfOk result (λ made. made.prefix ≡ grammar.now.prefix) }
+    ensures algorithm { IfOk result (λ made. made.algorithm.lalr ≡ has_lalr grammar.now.attributes) }
+{
+    let action_fn_defns = lower_definitions(alloc, grammar, starts, &types)?;
+    let terminals = terminal_set(alloc, &types.terminal_types)?;
+    let types = lower_types(alloc, &grammar.prefix, starts, types)?;
+    Ok(LoweredGrammar {
+        prefix: grammar.prefix.try_clone()?,
+        terminals,
+        start_nonterminals: lower_starts(alloc, &grammar.prefix, starts)?,
+        nonterminals: lower_nonterminals(alloc, grammar, starts)?,
+        action_fn_defns,
+        types,
+        algorithm: lower_algorithm(grammar),
+    })
+}
+
 /// The lowered grammar, where there is a number for each action.
 fn lower_grammar(alloc: Global, grammar: &Grammar, types: Types) -> Result<Normalized, AllocError>
     requires { count_actions (rules_of (grammar_view grammar.now).items) ≤ 2 ^ 32 }
@@ -149,20 +185,10 @@ fn lower_grammar(alloc: Global, grammar: &Grammar, types: Types) -> Result<Norma
     ensures kept { IfOk result (λ made. KeepsTheRest grammar.now made) }
 {
     let starts = start_rules(alloc, grammar)?;
-    let prefix = &grammar.prefix;
-    let action_fn_defns = lower_definitions(alloc, grammar, starts.as_slice(), &types)?;
     let origins = lower_origins(alloc, grammar, starts.as_slice())?;
-    let grammar_made = LoweredGrammar {
-        prefix: grammar.prefix.try_clone()?,
-        terminals: terminal_set(alloc, &types.terminal_types)?,
-        nonterminals: lower_nonterminals(alloc, grammar, starts.as_slice())?,
-        start_nonterminals: lower_starts(alloc, prefix, starts.as_slice())?,
-        action_fn_defns,
-        types: lower_types(alloc, prefix, starts.as_slice(), types)?,
-        algorithm: lower_algorithm(grammar),
-    };
+    let lowered = lower_parts(alloc, grammar, starts.as_slice(), types)?;
     Ok(Normalized {
-        grammar: grammar_made,
+        grammar: lowered,
         origins,
         entries: tokenizer_entries(alloc, grammar)?,
     })

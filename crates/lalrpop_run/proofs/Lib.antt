@@ -1,4 +1,5 @@
 pub mod TokenLineLemmas
+pub mod PlainReplyLemmas
 pub mod ParserLemmas
 pub mod ReportLemmas
 pub mod ReadLemmas

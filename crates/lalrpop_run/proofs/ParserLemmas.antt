@@ -117,7 +117,7 @@ module _ (q : Question) (g : Grammar) (v : PreparedGrammar) (h : IsPreparedFor q
         count_prepared v q.limit h.prepared name lr1 (one_tree own_read) count has.counted
     counted_by (methods.Lane copies) count has =
         states_prepared v q.limit h.prepared name lr1 (one_tree own_read) (states_over v.expansion.terminals has.states) count
-        has.checked (has.count_is ∙ sym (length-map has.states _))
+        has.checked (has.count_is ∙ sym (length-map has.states _)) has.counted
 
     pub counted : (method : Method) (count : ℕ) (reply : Reply) → q.method ≡ method → HasStatesBy method v count
         → reply ≡ replies.Parser count → IsCheckReply q g reply

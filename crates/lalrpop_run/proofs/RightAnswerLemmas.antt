@@ -22,7 +22,8 @@ use Rattle.lalrpop_lr1_theory.specs.ValidItems.{CountsItemSets}
 use Rattle.lalrpop_norm_chain.specs.LoweredViews.{lowered_view}
 use Rattle.lalrpop_norm_theory.specs.Premises.{IsReadGrammar}
 use Rattle.lalrpop_run_parser.specs.Foldings.{IsUnfolded}
-use Rattle.lalrpop_run_parser.specs.Parsers.{HasConflicts, HasOneTreeEach}
+use Rattle.lalrpop_lane_theory.specs.Lalr1Grammars.{IsLalr1, IsLeastStateCount}
+use Rattle.lalrpop_run_parser.specs.Parsers.{HasConflicts, HasLalr1Expansion, HasOneTreeEach}
 use Rattle.lalrpop_run_parser.specs.WrittenConflicts.{AreWrittenConflicts, IsKindOf, IsWrittenConflict}
 use Rattle.lalrpop_run_parser.specs.declared.conflicts.written_conflict.WrittenConflict.{WrittenConflict}
 use Rattle.lalrpop_run_parser.specs.declared.conflicts.written_conflict.WrittenMove.{WrittenMove}
@@ -118,13 +119,17 @@ module _ (v : PreparedGrammar) (limit : ℕ) (p : IsPrepared finds is_too_deep v
 
   pub states_prepared : (lr1 : IsLr1 (Contains (theory_grammar v.expansion)) v.start_name.0) (one_tree : HasOneTreeEach v)
       (states : List State) (count : ℕ) → AreCheckedStates (theory_grammar v.expansion) v.start_name.0 states
-      → count ≡ length states → HasStates own w count
+      → count ≡ length states → (HasLalr1Expansion v → IsLeastStateCount (theory_grammar v.expansion) v.start_name.0 count)
+      → HasStates own w count
   unfolding parsed_prepared
-  states_prepared lr1 one_tree states count checked many = record {
+  states_prepared lr1 one_tree states count checked many fewest = record {
     parsed = parsed_prepared lr1 one_tree;
     states = states;
     checked = subst (λ s. AreCheckedStates (theory_grammar v.expansion) s states) name checked;
     count_is = many;
+    fewest = λ lalr1.
+        subst (λ s. IsLeastStateCount (theory_grammar v.expansion) s count) name
+        (fewest (subst (IsLalr1 (Contains (theory_grammar v.expansion))) (sym name) lalr1));
   }
 
   pub count_prepared : (lr1 : IsLr1 (Contains (theory_grammar v.expansion)) v.start_name.0) (one_tree : HasOneTreeEach v) (count : ℕ)

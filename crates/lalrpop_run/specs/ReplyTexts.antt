@@ -45,6 +45,21 @@ reply_text replies.EarlyEnd = line (codes "end of input")
 reply_text (replies.Report text conflicts) = string_bytes text
 reply_text (replies.OverLimit limit) = line (codes "limit of " ++ decimal limit ++ codes " moves used up")
 
+-- the reply alone tells the text, and no part of what was answered
+abbrev pub IsPlainReply : Reply → Type 0
+IsPlainReply (replies.GrammarFault fault) = ⊥
+IsPlainReply (replies.TreeFault fault) = ⊥
+IsPlainReply (replies.Refused error) = ⊥
+IsPlainReply (replies.Conflicts conflicts) = ⊥
+IsPlainReply (replies.Parser states) = ⊥
+IsPlainReply (replies.Tokens lines) = ⊥
+IsPlainReply (replies.NoToken at) = ⊥
+IsPlainReply (replies.Tree tree) = ⊥
+IsPlainReply (replies.WrongToken at text) = ⊥
+IsPlainReply (replies.Report text conflicts) = ⊥
+IsPlainReply (replies.OverLimit limit) = ⊥
+IsPlainReply _ = Unit {0}
+
 abbrev pub refusal_status : GenerateError → ℕ
 refusal_status errors.Extern = 3
 refusal_status errors.Recovery = 3

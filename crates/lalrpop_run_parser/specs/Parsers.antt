@@ -25,6 +25,7 @@ use Rattle.lalrpop_lr1_theory.specs.Answers.{IsLr1}
 use Rattle.lalrpop_lr1_theory.specs.CheckedStates.{AreCheckedStates}
 use Rattle.lalrpop_lr1_theory.specs.States.{State}
 use Rattle.lalrpop_lr1_theory.specs.ValidItems.{CountsItemSets}
+use Rattle.lalrpop_lane_theory.specs.Lalr1Grammars.{IsLalr1, IsLeastStateCount}
 use Rattle.lalrpop_run_prepare.specs.PreparedGrammars.{PreparedGrammar}
 use Rattle.lalrpop_run_prepare.specs.declared.refusals.refusing.GenerateError.{GenerateError}
 use Rattle.lalrpop_run_prepare.specs.declared.refusals.refusing.GenerateError.TheVariants as errors
@@ -48,13 +49,19 @@ pub record IsParserWith (v : PreparedGrammar) (table : ActionTable) (columns : C
   pub table_runs : IsParserTable v table count
   pub columns_are : AreColumnsOf table v.scanner.terminals.items columns.numbers.items
 
--- by the canonical way states are as many as the nonempty sets of valid items
+-- the expansion is LALR(1)
+abbrev pub HasLalr1Expansion : PreparedGrammar → Type 0
+HasLalr1Expansion v = IsLalr1 (Contains (theory_grammar v.expansion)) v.start_name.0
+
+-- By lanes the states of an LALR(1) expansion are as many as the nonempty sets of valid items, whatever may follow them, and no states that
+-- it may be parsed with are fewer. By the canonical way states are as many as the nonempty sets of valid items.
 abbrev pub AreCountedBy : Method → PreparedGrammar → ℕ → Type 0
-AreCountedBy (methods.Lane copies) v count = Unit {0}
+AreCountedBy (methods.Lane copies) v count =
+    HasLalr1Expansion v → IsLeastStateCount (theory_grammar v.expansion) v.start_name.0 count
 AreCountedBy methods.Canonical v count = CountsItemSets (Contains (theory_grammar v.expansion)) v.start_name.0 count
 
 -- There are so many states of the expansion by the method, with which it may be parsed from its start. By the canonical way they are
--- the canonical ones, and as many as the nonempty sets of valid items.
+-- the canonical ones, and as many as the nonempty sets of valid items; by lanes no more than are needed, where it is LALR(1).
 pub record HasStatesBy (method : Method) (v : PreparedGrammar) (count : ℕ) : Type 0 where
   pub states : List (built_states.State (List ℕ))
   pub by_method : AreLr1By method v.expansion v.start_name states
@@ -98,3 +105,7 @@ abbrev pub IsGenerateRefusal : PreparedGrammar → GenerateError → Type 0
 IsGenerateRefusal v (errors.Conflicts certificates) = HasConflicts v certificates.items
 IsGenerateRefusal v errors.Memory = Unit {0}
 IsGenerateRefusal v _ = ⊥
+
+-- and where it is LALR(1), memory ran out
+abbrev pub IsLalr1Refusal : PreparedGrammar → GenerateError → Type 0
+IsLalr1Refusal v error = HasLalr1Expansion v → error ≡ errors.Memory

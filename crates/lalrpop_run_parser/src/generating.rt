@@ -9,7 +9,7 @@ ghost use Rattle.lalrpop_lr1_interpret.specs.Columns.{AreColumnsOf};
 ghost use Rattle.lalrpop_lr1_interpret.specs.Tables.{IsTableOf};
 ghost use Rattle.lalrpop_norm_theory.specs.Premises.{IsReadGrammar};
 ghost use Rattle.lalrpop_run_parser.specs.Parsers.{HasOneTreeEach, HasStatesBy, HasTableBy};
-ghost use Rattle.lalrpop_run_parser.specs.Parsers.{HaveShiftsAscending, IsGenerateRefusal, ShowsConflicts};
+ghost use Rattle.lalrpop_run_parser.specs.Parsers.{HaveShiftsAscending, IsGenerateRefusal, IsLalr1Refusal, ShowsConflicts};
 ghost use Rattle.lalrpop_run_parser.specs.Witnesses.{AreItsConflicts};
 
 use crate::parser::Parser;
@@ -61,11 +61,13 @@ fn table_with_columns<'p>(
     Ok((table, columns))
 }
 
-/// The parser of the grammar for its start, by LR(1) states.
+/// The parser of the grammar for its start, by LR(1) states. By lanes, where the expansion is LALR(1), it has one state for each nonempty
+/// set of valid items, whatever may follow them (DeRemer, 1969), whichever number of copies is allowed, and no states that the expansion
+/// may be parsed with are fewer.
 ///
 /// # Errors
 ///
-/// `Conflicts` where the grammar's expansion isn't LR(1), with a certificate for each conflict of its canonical states, in their order; or
+/// `Conflicts` where the grammar's expansion isn't LR(1), so never where it is LALR(1), with a certificate for each conflict of its canonical states, in their order; or
 /// `Memory`.
 pub fn generate<'p>(
     alloc: Global,
@@ -78,6 +80,7 @@ pub fn generate<'p>(
     ensures lr1 { IfOk result (λ _. IsLr1 (Contains (theory_grammar prepared.now.expansion)) prepared.now.start_name.0) }
     ensures one_tree { IfOk result (λ _. IsReadGrammar (grammar_view prepared.now.written) → HasOneTreeEach prepared.now) }
     ensures refused { IfErr result (IsGenerateRefusal prepared.now) }
+    ensures lalr1 { IfErr result (IsLalr1Refusal prepared.now) }
 {
     // the law and what is known of the grammar
     one_written_tree();

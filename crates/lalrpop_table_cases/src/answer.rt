@@ -7,7 +7,7 @@ use crate::case::{Case, Question};
 use crate::checks::{check_text, text_of_written};
 use crate::conflicts::{canonical_conflicts, collapsed_conflicts};
 use crate::firsts::first_text;
-use crate::lanes::{both_ways_text, lane_text};
+use crate::lanes::{both_ways_text, fewest_text, lane_text};
 use crate::leasts::{begin_text, empty_text, least_text};
 use crate::onto::onto_text;
 use crate::parses::parse_text;
@@ -101,6 +101,7 @@ fn answer_call(
         Call::Onto => return onto_text(alloc, grammar, start, tokens, limit),
         Call::Begin => return begin_text(alloc, grammar, start, tokens),
         Call::Lanes | Call::BothWays => return lane_text(alloc, grammar, start, question.copies),
+        Call::Fewest => return fewest_text(alloc, grammar, start, question.copies),
         Call::Counts => counts_text(alloc, grammar, start),
         Call::Check => check_text(alloc, grammar, start),
         Call::Conflicts => canonical_conflicts(alloc, grammar, start),

@@ -16,6 +16,8 @@ pub(crate) enum Call {
     Onto,
     /// How many states there are by lanes, and whether these may be parsed with.
     Lanes,
+    /// How many states there are by lanes, and how many without lookaheads.
+    Fewest,
     /// Whether the states by lanes may be parsed with, and of how many texts both methods say the same.
     BothWays,
     /// Whether states may be parsed with: those that are written, or the canonical ones.
@@ -48,6 +50,7 @@ impl Call {
             "parse" => Ok(Call::Parse),
             "onto" => Ok(Call::Onto),
             "lanes" => Ok(Call::Lanes),
+            "fewest" => Ok(Call::Fewest),
             "both_ways" => Ok(Call::BothWays),
             "check" => Ok(Call::Check),
             "conflicts" => Ok(Call::Conflicts),

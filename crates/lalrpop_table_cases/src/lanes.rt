@@ -10,8 +10,9 @@ use lalrpop_case_kinds::files::fields;
 use lalrpop_grammar_repr::methods::Method;
 use lalrpop_grammar_repr::{Grammar, TerminalSet};
 use lalrpop_grammar_symbols::NonterminalString;
+use lalrpop_lr1_build::build_lr0_states;
 use lalrpop_lr1_check::check_states;
-use lalrpop_lr1_core::Lr1State;
+use lalrpop_lr1_core::{Lr1State, TableFault};
 use lalrpop_lr1_interpret::parse::parse_limited;
 use lalrpop_plain_tables::answers::{AnswerFault, answer_tokens, parsable_states};
 use serde_json::Value;
@@ -35,6 +36,35 @@ pub(crate) fn lane_text(
 {
     let states = parsable_states(alloc, grammar, start, by_lanes(copies))?;
     Ok(count_text(alloc, grammar, start, states.as_slice())?)
+}
+
+/// How many states there are by lanes with so many copies, and how many without lookaheads.
+pub(crate) fn fewest_text(
+    alloc: Global,
+    grammar: &Grammar,
+    start: &NonterminalString,
+    copies: u64,
+) -> Result<String, AnswerFault>
+    requires { HasItsTerminals grammar.now }
+{
+    let states = parsable_states(alloc, grammar, start, by_lanes(copies))?;
+    let fewest = lr0_count(alloc, grammar, start)?;
+    Ok(format!(in alloc; "{} states, {fewest} without lookaheads", states.len())?)
+}
+
+/// How many states without lookaheads there are, whatever their conflicts.
+fn lr0_count(
+    alloc: Global,
+    grammar: &Grammar,
+    start: &NonterminalString,
+) -> Result<usize, AllocError>
+    requires { HasItsTerminals grammar.now }
+{
+    match build_lr0_states(alloc, grammar, start.try_clone()?) {
+        Ok(states) => Ok(states.len()),
+        Err(TableFault::Conflicts(error)) => Ok(error.states.len()),
+        Err(TableFault::Memory) => Err(AllocError),
+    }
 }
 
 /// How many states these are, and whether they may be parsed with.

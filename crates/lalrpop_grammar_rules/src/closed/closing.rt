@@ -1,11 +1,12 @@
 //! The closed symbols that the written symbols of an alternative stand for.
 
-ghost use Rattle.std.specs.Prelude.{◌≡◌, ◌+◌, ◌&&◌, ℕ, Bool, not, IfOk, IsTrue, Option, map, option_map};
+ghost use Rattle.std.specs.Prelude.{◌≡◌, ◌+◌, ℕ, Bool, not, IfOk, IsTrue, Option, if◌then◌else◌, map, option_map};
+ghost use Rattle.std.specs.Str.{bytes_eq};
 ghost use Rattle.lalrpop_grammar_symbols.specs.Symbols.{Text, syms, Closed};
-ghost use Rattle.lalrpop_grammar_symbols.specs.Views.{symbol_view, terminal_view};
+ghost use Rattle.lalrpop_grammar_symbols.specs.Views.{repeat_op_view, symbol_view, terminal_view};
 ghost use Rattle.lalrpop_grammar.specs.WrittenGrammar.{Origin};
 ghost use Rattle.lalrpop_grammar.specs.Views.{alternative_view};
-ghost use Rattle.lalrpop_grammar_language.specs.Closing.{are_sound, is_sound, parameter_value, call_level, close as close_seen, close_all as close_all_seen, close_list, close_terminal, name_meaning, name_or, occurrences, occurrences_in, plain_call, plain_name, right_side as right_side_of, sound_or_faulty};
+ghost use Rattle.lalrpop_grammar_language.specs.Closing.{are_sound, is_sound, parameter_value, call_level, close as close_seen, close_all as close_all_seen, close_list, close_terminal, name_meaning, name_or, names_owner, occurrences, occurrences_in, plain_call, plain_name, right_side as right_side_of, sound_or_faulty};
 ghost use Rattle.lalrpop_grammar_language.specs.Enabled.{choice_of};
 ghost use Rattle.lalrpop_grammar_language.specs.Levels.{levels};
 ghost use Rattle.lalrpop_grammar_rules.specs.Details.{enabled_rule_view, tighter_in};
@@ -20,7 +21,7 @@ use crate::closed::binding::{
 use crate::closed::closed_symbol::{ClosedSymbol, sound_symbols};
 use crate::closed::shared::Shared;
 use crate::{Assoc, Choice, EnabledRule, Meaning, Rules};
-use lalrpop_grammar_symbols::{Atom, List, Symbol, SymbolKind, TerminalString};
+use lalrpop_grammar_symbols::{Atom, List, Name, RepeatOp, Symbol, SymbolKind, TerminalString};
 use std::alloc::{AllocError, Global};
 
 /// Where a symbol is closed: in an alternative of the owner, with the levels that the owner's occurrences may have.
@@ -147,28 +148,6 @@ impl Closing {
             ClosedSymbol::Faulty
         }
     }
-
-    /// The same, for several owners.
-    fn into_shared(self, alloc: Global) -> Result<SharedClosing, AllocError>
-        ensures { IfOk result (λ shared. (shared.symbol ≡ self.symbol)
-            × (shared.is_sound ≡ self.is_sound) × (shared.next ≡ self.next)) }
-    {
-        Ok(SharedClosing {
-            symbol: Shared::new(alloc, self.symbol)?,
-            is_sound: self.is_sound,
-            next: self.next,
-        })
-    }
-}
-
-/// A closed symbol that several may own.
-#[derive(Drop)]
-struct SharedClosing {
-    symbol: Shared<ClosedSymbol>,
-    /// Whether no part of it is faulty.
-    is_sound: bool,
-    /// How many occurrences of the owner stand up to its end.
-    next: u64,
 }
 
 /// Closed symbols.
@@ -198,75 +177,21 @@ fn close(
         ≡ before + occurrences (binding_view scope.now.binding) scope.now.owner.now (symbol_view symbol.now)) }
 {
     match &symbol.kind {
-        SymbolKind::Expr(group) => {
-            let inside = close_all(alloc, scope, before, group.symbols.as_slice())?;
-            Ok(Closing {
-                symbol: ClosedSymbol::Group(Shared::new(alloc, inside.symbols)?),
-                is_sound: inside.are_sound,
-                next: inside.next,
-            })
-        }
-        SymbolKind::AmbiguousId(name) => {
-            let next = sum(before, owner_count(scope.binding, scope.owner, name))?;
-            let symbol = close_name(alloc, scope, before, name)?;
-            Ok(Closing {
-                is_sound: is_sound_name(scope.has_sound_args, &symbol),
-                symbol,
-                next,
-            })
-        }
-        SymbolKind::Nonterminal(name) => {
-            let next = sum(before, rule_count(scope.owner, &name.0))?;
-            let symbol = close_rule(alloc, scope, before, &name.0)?;
-            Ok(Closing {
-                is_sound: symbol.is_sound(),
-                symbol,
-                next,
-            })
-        }
-        SymbolKind::Terminal(terminal) => {
-            let symbol = close_terminal(scope.rules, terminal)?;
-            Ok(Closing {
-                is_sound: symbol.is_sound(),
-                symbol,
-                next: before,
-            })
-        }
+        SymbolKind::Expr(group) => close_group(alloc, scope, before, group.symbols.as_slice()),
+        SymbolKind::AmbiguousId(name) => close_name(alloc, scope, before, name),
+        SymbolKind::Nonterminal(name) => close_nonterminal(alloc, scope, before, &name.0),
+        SymbolKind::Terminal(terminal) => close_terminal(scope.rules, before, terminal),
         SymbolKind::Macro(call) => {
             let own = owner_count(scope.binding, scope.owner, &call.name.0);
-            let inside = close_all(alloc, scope, sum(before, own)?, call.args.as_slice())?;
-            let symbol = close_call(alloc, scope, before, &call.name.0, inside.symbols)?;
-            Ok(Closing {
-                is_sound: is_sound_call(inside.are_sound, &symbol),
-                symbol,
-                next: inside.next,
-            })
+            let args = close_all(alloc, scope, sum(before, own)?, call.args.as_slice())?;
+            close_call(alloc, scope, before, &call.name.0, args)
         }
         SymbolKind::Repeat(repeat) => {
-            let inside = close(alloc, scope, before, &repeat.get().symbol)?.into_shared(alloc)?;
-            Ok(Closing {
-                symbol: ClosedSymbol::Repeat(repeat.get().op, inside.symbol),
-                is_sound: inside.is_sound,
-                next: inside.next,
-            })
+            let repeat = repeat.get();
+            close_repeat(alloc, scope, before, repeat.op, &repeat.symbol)
         }
-        SymbolKind::Choose(chosen) => {
-            let inside = close(alloc, scope, before, chosen.get())?.into_shared(alloc)?;
-            Ok(Closing {
-                symbol: ClosedSymbol::Choose(inside.symbol),
-                is_sound: inside.is_sound,
-                next: inside.next,
-            })
-        }
-        SymbolKind::Name(name, named) => {
-            let name = name.try_clone()?;
-            let inside = close(alloc, scope, before, named.get())?.into_shared(alloc)?;
-            Ok(Closing {
-                symbol: ClosedSymbol::Name(name, inside.symbol),
-                is_sound: inside.is_sound,
-                next: inside.next,
-            })
-        }
+        SymbolKind::Choose(chosen) => close_chosen(alloc, scope, before, chosen.get()),
+        SymbolKind::Name(name, named) => close_named(alloc, scope, before, name, named.get()),
         SymbolKind::Lookahead => Ok(Closing {
             symbol: ClosedSymbol::Lookahead,
             is_sound: true,
@@ -283,6 +208,105 @@ fn close(
             next: before,
         }),
     }
+}
+
+/// The group of the closed symbols.
+#[cycle(close)]
+fn close_group(
+    alloc: Global,
+    scope: &Scope<'_, '_>,
+    before: u64,
+    symbols: &[Symbol],
+) -> Result<Closing, AllocError>
+    requires table { IsTable scope.now.rules.now }
+    requires knows { KnowsSound scope.now }
+    ensures symbol { IfOk result (λ c. closed_view c.symbol
+        ≡ Closed.group (close_all_seen (scope_view scope.now) before (syms (map symbol_view symbols.now)))) }
+    ensures sound { IfOk result (λ c. c.is_sound ≡ is_sound (closed_view c.symbol)) }
+    ensures count { IfOk result (λ c. c.next
+        ≡ before + occurrences_in (binding_view scope.now.binding) scope.now.owner.now (syms (map symbol_view symbols.now))) }
+{
+    let inside = close_all(alloc, scope, before, symbols)?;
+    Ok(Closing {
+        symbol: ClosedSymbol::Group(Shared::new(alloc, inside.symbols)?),
+        is_sound: inside.are_sound,
+        next: inside.next,
+    })
+}
+
+/// The closed symbol, repeated.
+#[cycle(close)]
+fn close_repeat(
+    alloc: Global,
+    scope: &Scope<'_, '_>,
+    before: u64,
+    op: RepeatOp,
+    symbol: &Symbol,
+) -> Result<Closing, AllocError>
+    requires table { IsTable scope.now.rules.now }
+    requires knows { KnowsSound scope.now }
+    ensures symbol { IfOk result (λ c. closed_view c.symbol
+        ≡ Closed.repeat (repeat_op_view op) (close_seen (scope_view scope.now) before (symbol_view symbol.now))) }
+    ensures sound { IfOk result (λ c. c.is_sound ≡ is_sound (closed_view c.symbol)) }
+    ensures count { IfOk result (λ c. c.next
+        ≡ before + occurrences (binding_view scope.now.binding) scope.now.owner.now (symbol_view symbol.now)) }
+{
+    let inside = close(alloc, scope, before, symbol)?;
+    Ok(Closing {
+        symbol: ClosedSymbol::Repeat(op, Shared::new(alloc, inside.symbol)?),
+        is_sound: inside.is_sound,
+        next: inside.next,
+    })
+}
+
+/// The closed symbol, chosen for the action.
+#[cycle(close)]
+fn close_chosen(
+    alloc: Global,
+    scope: &Scope<'_, '_>,
+    before: u64,
+    symbol: &Symbol,
+) -> Result<Closing, AllocError>
+    requires table { IsTable scope.now.rules.now }
+    requires knows { KnowsSound scope.now }
+    ensures symbol { IfOk result (λ c. closed_view c.symbol
+        ≡ Closed.choose (close_seen (scope_view scope.now) before (symbol_view symbol.now))) }
+    ensures sound { IfOk result (λ c. c.is_sound ≡ is_sound (closed_view c.symbol)) }
+    ensures count { IfOk result (λ c. c.next
+        ≡ before + occurrences (binding_view scope.now.binding) scope.now.owner.now (symbol_view symbol.now)) }
+{
+    let inside = close(alloc, scope, before, symbol)?;
+    Ok(Closing {
+        symbol: ClosedSymbol::Choose(Shared::new(alloc, inside.symbol)?),
+        is_sound: inside.is_sound,
+        next: inside.next,
+    })
+}
+
+/// The closed symbol, with a name for the action.
+#[cycle(close)]
+fn close_named(
+    alloc: Global,
+    scope: &Scope<'_, '_>,
+    before: u64,
+    name: &Name,
+    symbol: &Symbol,
+) -> Result<Closing, AllocError>
+    requires table { IsTable scope.now.rules.now }
+    requires knows { KnowsSound scope.now }
+    ensures symbol { IfOk result (λ c. closed_view c.symbol
+        ≡ Closed.name name.now.mutable name.now.name (close_seen (scope_view scope.now) before (symbol_view symbol.now))) }
+    ensures sound { IfOk result (λ c. c.is_sound ≡ is_sound (closed_view c.symbol)) }
+    ensures count { IfOk result (λ c. c.next
+        ≡ before + occurrences (binding_view scope.now.binding) scope.now.owner.now (symbol_view symbol.now)) }
+{
+    let inside = close(alloc, scope, before, symbol)?;
+    let symbol = Shared::new(alloc, inside.symbol)?;
+    Ok(Closing {
+        symbol: ClosedSymbol::Name(name.try_clone()?, symbol),
+        is_sound: inside.is_sound,
+        next: inside.next,
+    })
 }
 
 /// The closed symbols, in order.
@@ -317,6 +341,28 @@ fn close_all(
     })
 }
 
+/// What the name of a rule stands for, and how many occurrences of the owner stand up to its end.
+fn close_nonterminal(
+    alloc: Global,
+    scope: &Scope<'_, '_>,
+    before: u64,
+    name: &Atom,
+) -> Result<Closing, AllocError>
+    requires { IsTable scope.now.rules.now }
+    ensures symbol { IfOk result (λ c. closed_view c.symbol
+        ≡ plain_name (scope_view scope.now) before name.now (name_meaning (rules_view scope.now.rules.now) name.now)) }
+    ensures sound { IfOk result (λ c. c.is_sound ≡ is_sound (closed_view c.symbol)) }
+    ensures count { IfOk result (λ c. c.next ≡ before + (if bytes_eq name.now scope.now.owner.now then 1 else 0)) }
+{
+    let next = sum(before, rule_count(scope.owner, name))?;
+    let symbol = close_rule(alloc, scope, before, name)?;
+    Ok(Closing {
+        is_sound: symbol.is_sound(),
+        symbol,
+        next,
+    })
+}
+
 /// Whether no part is faulty of what a name stands for. Where no part of an argument is, only the symbol itself can be.
 fn is_sound_name(has_sound_args: bool, symbol: &ClosedSymbol) -> bool
     requires { IsTrue has_sound_args → is_sound (closed_view symbol.now) ≡ not (is_faulty (closed_view symbol.now)) }
@@ -329,30 +375,32 @@ fn is_sound_name(has_sound_args: bool, symbol: &ClosedSymbol) -> bool
     }
 }
 
-/// Whether no part is faulty of what a call stands for, by whether none of its arguments is.
-fn is_sound_call(has_sound_args: bool, symbol: &ClosedSymbol) -> bool
-    requires { is_sound (closed_view symbol.now) ≡ (has_sound_args && not (is_faulty (closed_view symbol.now))) }
-    ensures { result ≡ is_sound (closed_view symbol.now) }
-{
-    has_sound_args && !symbol.is_faulty()
-}
-
 /// What a terminal stands for: a bare name has to be a mapped one.
-fn close_terminal(rules: &Rules<'_>, terminal: &TerminalString) -> Result<ClosedSymbol, AllocError>
+fn close_terminal(
+    rules: &Rules<'_>,
+    before: u64,
+    terminal: &TerminalString,
+) -> Result<Closing, AllocError>
     requires { IsTable rules.now }
-    ensures { IfOk result (λ c. closed_view c ≡ close_terminal (rules_view rules.now) (terminal_view terminal.now)) }
+    ensures symbol { IfOk result (λ c. closed_view c.symbol
+        ≡ close_terminal (rules_view rules.now) (terminal_view terminal.now)) }
+    ensures sound { IfOk result (λ c. c.is_sound ≡ is_sound (closed_view c.symbol)) }
+    ensures count { IfOk result (λ c. c.next ≡ before) }
 {
-    match terminal {
-        TerminalString::Literal(_) => Ok(ClosedSymbol::Terminal(terminal.try_clone()?)),
-        TerminalString::Bare(name) => {
-            if rules.is_bare(name) {
-                Ok(ClosedSymbol::Terminal(terminal.try_clone()?))
-            } else {
-                Ok(ClosedSymbol::Faulty)
-            }
-        }
-        TerminalString::Error => Ok(ClosedSymbol::Terminal(TerminalString::Error)),
-    }
+    let is_sound = match terminal {
+        TerminalString::Bare(name) => rules.is_bare(name),
+        TerminalString::Literal(_) | TerminalString::Error => true,
+    };
+    let symbol = if is_sound {
+        ClosedSymbol::Terminal(terminal.try_clone()?)
+    } else {
+        ClosedSymbol::Faulty
+    };
+    Ok(Closing {
+        symbol,
+        is_sound,
+        next: before,
+    })
 }
 
 /// What a name stands for: a parameter hides a rule.
@@ -361,15 +409,28 @@ fn close_name(
     scope: &Scope<'_, '_>,
     before: u64,
     name: &Atom,
-) -> Result<ClosedSymbol, AllocError>
-    requires { IsTable scope.now.rules.now }
-    ensures { IfOk result (λ c. closed_view c ≡ name_or (parameter_value (binding_view scope.now.binding) name.now)
+) -> Result<Closing, AllocError>
+    requires table { IsTable scope.now.rules.now }
+    requires knows { KnowsSound scope.now }
+    ensures symbol { IfOk result (λ c. closed_view c.symbol
+        ≡ name_or (parameter_value (binding_view scope.now.binding) name.now)
         (plain_name (scope_view scope.now) before name.now (name_meaning (rules_view scope.now.rules.now) name.now))) }
+    ensures sound { IfOk result (λ c. c.is_sound ≡ is_sound (closed_view c.symbol)) }
+    ensures count { IfOk result (λ c. c.next
+        ≡ before + names_owner (binding_view scope.now.binding) scope.now.owner.now name.now) }
 {
     match bound_to(scope.binding, name) {
-        Bound::Free => close_rule(alloc, scope, before, name),
-        Bound::To(symbol) => Ok(symbol.try_clone()?),
-        Bound::Unclear => Ok(ClosedSymbol::Faulty),
+        Bound::Free => close_nonterminal(alloc, scope, before, name),
+        Bound::To(symbol) => Ok(Closing {
+            is_sound: is_sound_name(scope.has_sound_args, symbol),
+            symbol: symbol.try_clone()?,
+            next: before,
+        }),
+        Bound::Unclear => Ok(Closing {
+            symbol: ClosedSymbol::Faulty,
+            is_sound: false,
+            next: before,
+        }),
     }
 }
 
@@ -405,18 +466,24 @@ fn close_call(
     scope: &Scope<'_, '_>,
     before: u64,
     name: &Atom,
-    args: List<ClosedSymbol>,
-) -> Result<ClosedSymbol, AllocError>
-    requires { IsTable scope.now.rules.now }
-    ensures { IfOk result (λ c. closed_view c
+    args: Closings,
+) -> Result<Closing, AllocError>
+    requires table { IsTable scope.now.rules.now }
+    requires sound { args.are_sound ≡ are_sound (closeds (map closed_view args.symbols)) }
+    ensures symbol { IfOk result (λ c. closed_view c.symbol
         ≡ name_or (option_map (λ b. Closed.faulty) (parameter_value (binding_view scope.now.binding) name.now))
-        (plain_call (scope_view scope.now) before name.now (closeds (map closed_view args))
+        (plain_call (scope_view scope.now) before name.now (closeds (map closed_view args.symbols))
         (name_meaning (rules_view scope.now.rules.now) name.now))) }
+    ensures sound { IfOk result (λ c. c.is_sound ≡ is_sound (closed_view c.symbol)) }
+    ensures count { IfOk result (λ c. c.next ≡ args.next) }
 {
     match bound_to(scope.binding, name) {
         Bound::Free => close_macro(alloc, scope, before, name, args),
-        Bound::To(_) => Ok(ClosedSymbol::Faulty),
-        Bound::Unclear => Ok(ClosedSymbol::Faulty),
+        Bound::To(_) | Bound::Unclear => Ok(Closing {
+            symbol: ClosedSymbol::Faulty,
+            is_sound: false,
+            next: args.next,
+        }),
     }
 }
 
@@ -426,28 +493,46 @@ fn close_macro(
     scope: &Scope<'_, '_>,
     before: u64,
     name: &Atom,
-    args: List<ClosedSymbol>,
-) -> Result<ClosedSymbol, AllocError>
-    requires { IsTable scope.now.rules.now }
-    ensures { IfOk result (λ c. closed_view c
-        ≡ plain_call (scope_view scope.now) before name.now (closeds (map closed_view args))
+    args: Closings,
+) -> Result<Closing, AllocError>
+    requires table { IsTable scope.now.rules.now }
+    requires sound { args.are_sound ≡ are_sound (closeds (map closed_view args.symbols)) }
+    ensures symbol { IfOk result (λ c. closed_view c.symbol
+        ≡ plain_call (scope_view scope.now) before name.now (closeds (map closed_view args.symbols))
         (name_meaning (rules_view scope.now.rules.now) name.now)) }
+    ensures sound { IfOk result (λ c. c.is_sound ≡ is_sound (closed_view c.symbol)) }
+    ensures count { IfOk result (λ c. c.next ≡ args.next) }
 {
     match scope.rules.meaning(name) {
         Meaning::Rule(rule) => {
             if rule.written.args.is_empty() {
-                return Ok(ClosedSymbol::Faulty);
+                return Ok(Closing {
+                    symbol: ClosedSymbol::Faulty,
+                    is_sound: false,
+                    next: args.next,
+                });
             }
-            if args.len() != rule.written.args.len() {
-                return Ok(ClosedSymbol::Faulty);
+            if args.symbols.len() != rule.written.args.len() {
+                return Ok(Closing {
+                    symbol: ClosedSymbol::Faulty,
+                    is_sound: false,
+                    next: args.next,
+                });
             }
             let level = level_carried(scope, before, name, rule);
             let name = name.try_clone()?;
-            let args = Shared::new(alloc, args)?;
-            Ok(ClosedSymbol::Call(name, args, level))
+            let symbols = Shared::new(alloc, args.symbols)?;
+            Ok(Closing {
+                symbol: ClosedSymbol::Call(name, symbols, level),
+                is_sound: args.are_sound,
+                next: args.next,
+            })
         }
-        Meaning::Terminal => Ok(ClosedSymbol::Faulty),
-        Meaning::Unclear => Ok(ClosedSymbol::Faulty),
+        Meaning::Terminal | Meaning::Unclear => Ok(Closing {
+            symbol: ClosedSymbol::Faulty,
+            is_sound: false,
+            next: args.next,
+        }),
     }
 }
 
@@ -462,17 +547,9 @@ fn level_carried(
     ensures { result ≡ call_level (scope_view scope.now) before name.now
         (enabled_rule_view scope.now.rules.now.features.now rule.now) }
 {
-    if name.as_str() == scope.owner.as_str() {
-        level_at(scope, before)
-    } else {
-        rule.loosest
+    if name.as_str() != scope.owner.as_str() {
+        return rule.loosest;
     }
-}
-
-/// The level that the owner's occurrence with so many before it may have.
-fn level_at(scope: &Scope<'_, '_>, before: u64) -> Option<u32>
-    ensures { result ≡ level_view scope.now before }
-{
     let reaches = match scope.side {
         Assoc::Left => before == 0,
         Assoc::Right => scope.count != 0 && before == scope.count - 1,

@@ -16,9 +16,9 @@ ghost use Rattle.lalrpop_lr1_build.specs.CollapseAnswers.{
   TellsLalrStates,
 };
 
-use crate::collapse::conflicts::conflicts_of;
 use crate::collapse::cores::core_numbers;
 use crate::collapse::joined_states::join_states;
+use crate::conflicts::conflicts_of;
 use lalrpop_grammar_repr::TerminalSet;
 use lalrpop_lr1_core::{Lr1Result, Lr1State, TableConstructionError, TableFault};
 use std::alloc::Global;

@@ -1,14 +1,17 @@
 //! The machine: it runs a table over tokens, and its stack makes what is to be made.
 
 ghost use Rattle.std.specs.Prelude.{◌≡◌, ◌<◌, ◌-◌, ◌++◌, ◌∷◌, [], ℕ, IfNone, IfOk, IfSome, List, MatchResult, OnOk, length, map, take};
+ghost use Rattle.lalrpop_grammar.specs.Trees.{Token};
+ghost use Rattle.lalrpop_grammar.specs.Views.{token_view};
 ghost use Rattle.lalrpop_grammar_symbols.specs.Symbols.{Text};
 ghost use Rattle.lalrpop_grammar_symbols.specs.Views.{span_view, terminal_view};
 ghost use Rattle.lalrpop_lr1_theory.specs.CheckedStates.{AreCheckedStates, IsStartAlone};
 ghost use Rattle.lalrpop_lr1_theory.specs.Productions.{Production};
-ghost use Rattle.lalrpop_lr1_theory.specs.Spans.{none_at};
+ghost use Rattle.lalrpop_lr1_theory.specs.Spans.{SpannedForest, leaf_at, none_at};
 ghost use Rattle.lalrpop_lr1_theory.specs.States.{State};
 ghost use Rattle.lalrpop_lr1_interpret.specs.Columns.{TellNumbers};
 ghost use Rattle.lalrpop_lr1_interpret.specs.Ends.{IsDone, IsEndOfRun, MayRun};
+ghost use Rattle.lalrpop_lr1_interpret.specs.Stacks.{◌beside◌};
 ghost use Rattle.lalrpop_lr1_interpret.specs.Tables.{AreRowsWithin, HasGoto, IsTableOf, StandsUnder};
 
 use crate::parse::action_table::ActionTable;
@@ -81,6 +84,24 @@ fn goto_under(
     table.goto(numbers[kept - 1], nonterminal)
 }
 
+/// Puts a leaf of the token beside the trees, and the number of the state to which it leads behind the others.
+fn shift_token<'g, S: TreeStack<'g>>(
+    token: &ScanToken<'_>,
+    target: usize,
+    numbers: &mut Vec<usize>,
+    stack: &mut S,
+) -> Result<(), AllocError>
+    ensures numbers { OnOk result (numbers.new.items ≡ numbers.old.items ++ target ∷ []) }
+    ensures leaf_stands { (ts : SpannedForest) (ks : List Token) → S.stands stack.old ts ks
+        → OnOk result (S.stands stack.new
+        (ts beside leaf_at (terminal_view token.now.terminal) (span_view token.now.span) none_at)
+        (ks ++ token_view token.now ∷ [])) }
+    ensures same { S.given stack.new ≡ S.given stack.old }
+{
+    stack.leaf(token)?;
+    push_number(numbers, target)
+}
+
 /// Makes the moves of the table over the tokens from state 0, whose number alone stands there, and from no tree: until it accepts,
 /// or, where the parse isn't to be whole, until all tokens are shifted. The numbers are then those of the states on the stack.
 fn make_moves<'g, S: TreeStack<'g>>(
@@ -110,30 +131,27 @@ fn make_moves<'g, S: TreeStack<'g>>(
             return Ok(());
         }
         let state = numbers[numbers.len() - 1];
-        match table.action_before(state, next) {
-            Some(TableAction::Shift(target)) => {
-                if left == 0 {
-                    return Err(Halt::Limit);
-                }
-                left -= 1;
-                let token = &tokens[at];
-                stack.leaf(token)?;
-                push_number(numbers, target)?;
+        let action = match table.action_before(state, next) {
+            Some(action) => action,
+            None => return Err(Halt::Stuck { at, state }),
+        };
+        if left == 0 {
+            return Err(Halt::Limit);
+        }
+        left -= 1;
+        match action {
+            TableAction::Shift(target) => {
+                shift_token(&tokens[at], target, numbers, stack)?;
                 at += 1;
                 next = found.next_number(table, tokens, at);
             }
-            Some(TableAction::Reduce(by)) => {
-                if left == 0 {
-                    return Err(Halt::Limit);
-                }
-                left -= 1;
+            TableAction::Reduce(by) => {
                 stack.node(by.production)?;
                 match goto_under(table, numbers, by.length, by.nonterminal) {
                     Some(target) => push_number(numbers, target)?,
                     None => return Ok(()),
                 }
             }
-            None => return Err(Halt::Stuck { at, state }),
         }
     }
 }

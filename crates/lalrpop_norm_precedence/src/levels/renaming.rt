@@ -233,13 +233,13 @@ fn rename(
         }
         SymbolKind::Nonterminal(name) => rule_of(occurrences, before, span, name),
         SymbolKind::Macro(call) => {
-            let own = owner_count(occurrences.binding, occurrences.owner, &call.name.0);
-            let inside = rename_all(alloc, occurrences, sum(before, own)?, call.args.as_slice())?;
-            call_of(occurrences, before, span, &call.name, inside)
+            let args = call.args.as_slice();
+            rename_call(alloc, occurrences, before, span, &call.name, args)
         }
         SymbolKind::Repeat(repeat) => {
-            let inside = rename(alloc, occurrences, before, &repeat.get().symbol)?;
-            repeat_of(alloc, span, repeat.get().op, inside)
+            let repeat = repeat.get();
+            let inside = rename(alloc, occurrences, before, &repeat.symbol)?;
+            repeat_of(alloc, span, repeat.op, inside)
         }
         SymbolKind::Choose(chosen) => {
             let inside = rename(alloc, occurrences, before, chosen.get())?;
@@ -254,6 +254,27 @@ fn rename(
         | SymbolKind::Lookbehind
         | SymbolKind::Error => copy_of(alloc, symbol, before),
     }
+}
+
+/// The call of the macro of that name, written there, with each occurrence renamed, where so many stand before it.
+#[cycle(rename)]
+fn rename_call(
+    alloc: Global,
+    occurrences: &Occurrences<'_>,
+    before: u64,
+    span: Span,
+    name: &NonterminalString,
+    args: &[Symbol],
+) -> Result<Renaming, AllocError>
+    ensures symbol { IfOk result (λ r. symbol_view r.symbol ≡ symbol_under occurrences.now before
+        (Sym.macro (span_view span) name.now.0 (syms (map symbol_view args.now)))) }
+    ensures count { IfOk result (λ r. r.next
+        ≡ before + occurrences_seen (binding_view occurrences.now.binding) occurrences.now.owner.now
+        (Sym.macro (span_view span) name.now.0 (syms (map symbol_view args.now)))) }
+{
+    let own = owner_count(occurrences.binding, occurrences.owner, &name.0);
+    let inside = rename_all(alloc, occurrences, sum(before, own)?, args)?;
+    call_of(occurrences, before, span, name, inside)
 }
 
 /// The symbols, in order, each with its occurrences renamed.

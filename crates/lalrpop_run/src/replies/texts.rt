@@ -1,12 +1,12 @@
 //! Replies in words.
 
-ghost use Rattle.std.specs.Prelude.{◌++◌, Some, codes, decimal};
+ghost use Rattle.std.specs.Prelude.{◌≡◌, ◌++◌, Some, codes, decimal};
 ghost use Rattle.std.specs.Fmt.{WritesOnOk};
 ghost use Rattle.lalrpop_grammar.specs.Views.{tree_view};
 ghost use Rattle.lalrpop_json_grammar.specs.Printing.{tree_text};
 ghost use Rattle.lalrpop_json_values.specs.FaultText.{fault_text};
 ghost use Rattle.lalrpop_json_values.specs.JsonText.{json_text};
-ghost use Rattle.lalrpop_run.specs.ReplyTexts.{line, reply_text};
+ghost use Rattle.lalrpop_run.specs.ReplyTexts.{IsPlainReply, line, reply_text};
 
 use crate::replies::reply::Reply;
 use lalrpop_grammar::{Atom, WrittenTree};
@@ -57,20 +57,42 @@ fn write_limit<W: Write>(limit: u64, f: &mut Formatter<W>) -> fmt::Result
     writeln!(f, "limit of {limit} moves used up")
 }
 
+impl Reply {
+    /// The text, where the reply alone tells it; else nothing.
+    fn plain_text(&self) -> &'static str
+        ensures { IsPlainReply self.now → result.now ≡ reply_text self.now }
+    {
+        match self {
+            Reply::Judged(true) => "yes\n",
+            Reply::Judged(false) => "no\n",
+            Reply::WantsTree => "judge needs --tree\n",
+            Reply::NotJson => "not JSON\n",
+            Reply::ConditionLimit => "condition limit\n",
+            Reply::NotUtf8 => "text isn't UTF-8\n",
+            Reply::EarlyEnd => "end of input\n",
+            Reply::GrammarFault(_)
+            | Reply::TreeFault(_)
+            | Reply::Refused(_)
+            | Reply::Conflicts(_)
+            | Reply::Parser(_)
+            | Reply::Tokens(_)
+            | Reply::NoToken(_)
+            | Reply::Tree(_)
+            | Reply::WrongToken(_, _)
+            | Reply::OverLimit(_)
+            | Reply::Report(_, _) => "",
+        }
+    }
+}
+
 /// Prints what the program writes for the reply: each line ends with a line feed.
 impl Display for Reply {
     ghost output = { λ reply. Some (reply_text reply) };
 
     fn fmt<W: Write>(&self, f: &mut Formatter<W>) -> fmt::Result {
         match self {
-            Reply::Judged(true) => f.write_str("yes\n"),
-            Reply::Judged(false) => f.write_str("no\n"),
-            Reply::WantsTree => f.write_str("judge needs --tree\n"),
-            Reply::NotJson => f.write_str("not JSON\n"),
             Reply::GrammarFault(fault) => write_fault("grammar", fault, f),
             Reply::TreeFault(fault) => write_fault("tree", fault, f),
-            Reply::ConditionLimit => f.write_str("condition limit\n"),
-            Reply::NotUtf8 => f.write_str("text isn't UTF-8\n"),
             Reply::Refused(error) => writeln!(f, "{error}"),
             Reply::Conflicts(conflicts) => write_conflicts(conflicts.as_slice(), f),
             Reply::Parser(states) => write_states(*states, f),
@@ -78,8 +100,8 @@ impl Display for Reply {
             Reply::NoToken(at) => write_no_token(*at, f),
             Reply::Tree(tree) => write_tree(tree, f),
             Reply::WrongToken(at, text) => write_token(*at, text, f),
-            Reply::EarlyEnd => f.write_str("end of input\n"),
             Reply::OverLimit(limit) => write_limit(*limit, f),
+            _ => f.write_str(self.plain_text()),
         }
     }
 }

@@ -2,6 +2,7 @@ use Rattle.std.proofs.Common.{Contains, inl, inr, length, subst}
 use Rattle.lalrpop_lr1_theory.specs.States.{HasEdge, HasItem, Reduces}
 use Rattle.lalrpop_lr1_theory.proofs.CheckedLemmas.{checked_automaton}
 use Rattle.lalrpop_lr1_theory.proofs.ValidMoveLemmas.{lr1_from_automaton}
+use Rattle.lalrpop_lane_theory.proofs.Lalr1Lemmas.{lr0_lalr1}
 use Rattle.lalrpop_grammar_repr.specs.declared.methods.Method.TheVariants as methods
 use Rattle.lalrpop_lr1_core.specs.TheoryGrammars.{theory_grammar}
 use Rattle.lalrpop_lr1_build.specs.BuiltStates.{AreCanonicalWithout}
@@ -36,6 +37,10 @@ pub returns-in-Some-clause-fewest : goal.returns-in-Some-clause-fewest
 returns-in-Some-clause-fewest c = λ lr0 free.
     (subst (CheckedLaneAnswer c.args.grammar.now c.args.start.0) c.in-Some.is c.in_ok-found.ensures).fewest lr0 free.lr0_are free.no_conflict
 
+pub returns-in-Some-clause-for_each_core : goal.returns-in-Some-clause-for_each_core
+returns-in-Some-clause-for_each_core c = λ is.
+    (subst (CheckedLaneAnswer c.args.grammar.now c.args.start.0) c.in-Some.is c.in_ok-found.ensures).for_each_core is.lalr1
+
 pub returns-clause-states : goal.returns-clause-states
 returns-clause-states c =
     let g = c.args.grammar.now in
@@ -52,5 +57,11 @@ returns-clause-targets c =
 
 pub returns-clause-fewest : goal.returns-clause-fewest
 returns-clause-fewest c = λ lr0 free.
-    let conflict = subst (CheckedLaneAnswer c.args.grammar.now c.args.start.0) c.in-None.is c.in_ok-found.ensures in
-    absurd (conflict free.none_barren free.alone lr0 free.lr0_are free.no_conflict)
+    let g = c.args.grammar.now in
+    let never = subst (CheckedLaneAnswer g c.args.start.0) c.in-None.is c.in_ok-found.ensures in
+    absurd (never free.none_barren free.alone ((lr0_lalr1 (theory_grammar g) c.args.start.0 lr0 free.lr0_are).1 free.no_conflict))
+
+pub returns-clause-for_each_core : goal.returns-clause-for_each_core
+returns-clause-for_each_core c = λ is.
+    let never = subst (CheckedLaneAnswer c.args.grammar.now c.args.start.0) c.in-None.is c.in_ok-found.ensures in
+    absurd (never is.none_barren is.alone is.lalr1)

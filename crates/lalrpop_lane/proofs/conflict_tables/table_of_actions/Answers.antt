@@ -1,21 +1,10 @@
-use Rattle.std.proofs.Common.{◌∙◌, [], ap, arith, false, List, ℕ}
-use Rattle.lalrpop_lr1_theory.specs.States.{LookaheadSet}
+use Rattle.std.proofs.Common.{List, ap, arith, length, ℕ}
 use Rattle.lalrpop_lane_tables.specs.TracerViews.{TracerView}
 use Rattle.lalrpop_lane.proofs.conflict_tables.table_of_actions.Goals as goal
 
-abbrev no_look : List ℕ → LookaheadSet
-no_look set = record { nexts = []; error = false }
-
-pub loop-column-init : goal.loop-column-init
-loop-column-init c =
+pub trace_actions-requires : goal.trace_actions-requires
+trace_actions-requires c =
     let count = ap (λ (t : TracerView (List ℕ)). t.table.conflicts) c.new-tracer.ensures in
     let known = c.in_ok-actions.actions.ok.0 in
-    omega (arith, count, known)
-
-pub start_trace-requires : goal.start_trace-requires
-start_trace-requires c =
-    let count = c.loop-column.invariant in
-    omega (arith, count, c.loop-column-test.true)
-
-pub loop-column-preserved : goal.loop-column-preserved
-loop-column-preserved c = (c.in_ok-start_trace.ensures.traced no_look).conflicts ∙ c.loop-column.invariant
+    let all = ap length c.as_slice.ensures.value in
+    omega (arith, count, known, all)

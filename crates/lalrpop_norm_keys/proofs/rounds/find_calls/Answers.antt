@@ -1,4 +1,4 @@
-use Rattle.std.proofs.Common.{◌≡◌, ◌∙◌, ◌+◌, ◌++◌, [], ap, arith, drop, length, map, subst, suc, sym}
+use Rattle.std.proofs.Common.{◌≡◌, ◌∙◌, ◌+◌, ◌++◌, [], ap, arith, drop, length, map, refl, subst, suc, sym}
 use Rattle.std.specs.Prelude.{filter}
 use Rattle.std.proofs.lemmas.Result.{err_from_is_err_and}
 use Rattle.lalrpop_grammar.specs.Views.{grammar_view}
@@ -8,7 +8,7 @@ use Rattle.lalrpop_grammar_rules.specs.RuleTable.{rules_with}
 use Rattle.lalrpop_grammar_rules.specs.Views.{closed_view}
 use Rattle.lalrpop_norm_keys.specs.Tables.{table_keys}
 use Rattle.lalrpop_norm_theory.specs.CallPlaces.{IsMadeAt}
-use Rattle.lalrpop_norm_keys.specs.FoundCalls.{FindsCalls}
+use Rattle.lalrpop_norm_keys.specs.FoundCalls.{FindsCalls, plain_calls}
 use Rattle.lalrpop_norm_keys.proofs.FoundLemmas.{all_found_by, deep_any, deep_found, deep_told, first_too_deep, found_first}
 use Rattle.lalrpop_norm_keys.proofs.FoundLemmas.{later_stands, next_stands, plain_are_made, round_kept, told_of_any, told_of_made}
 use Rattle.lalrpop_norm_keys.specs.UseSearch.{AddsUsesOf, UsesCalls}
@@ -16,19 +16,24 @@ use Rattle.lalrpop_norm_keys.proofs.FoundLemmas.{later_found, no_calls}
 use Rattle.lalrpop_norm_keys.proofs.OrderedCallLemmas.{IsCallWalk, calls_in_order, deep_order, first_walk, next_walk}
 use Rattle.lalrpop_norm_keys.proofs.rounds.find_calls.Goals as goal
 
-pub returns-in_err-next-clause-fault : goal.returns-in_err-next-clause-fault
-returns-in_err-next-clause-fault g c =
+pub returns-in_err-last-clause-fault : goal.returns-in_err-last-clause-fault
+returns-in_err-last-clause-fault g c =
     let t = rules_with (g.F.Finder.finds c.args.finder.now) c.args.rules.now in
     let features = c.args.rules.now.features.now in
     let rs = rules_of (grammar_view c.args.grammar.now).items in
-    let callers = map closed_view c.in_ok-callers.callers in
-    let p = err_from_is_err_and c.from_residual-in_err-next.result c.from_residual-in_err-next.ensures.1 in
+    let p = err_from_is_err_and c.from_residual.result c.from_residual.ensures.1 in
     rw (p.1, p.2)
-    (λ can. told_of_made t 0 callers
+    (λ can. told_of_made t 0 (plain_calls rs)
     (plain_are_made t features rs
     (ap (λ w. map (enabled_rule features) (filter (λ r. is_active features r.attributes) (rules_of w.items))) c.requires.of_grammar)
-    can.enabled can.single can.flat callers c.in_ok-callers.ensures) (g.F.Finder.too_deep c.args.finder.now) _
-    (rw c.as_slice.ensures at c.in_err-next.ensures.fault))
+    can.enabled can.single can.flat (plain_calls rs) refl) (g.F.Finder.too_deep c.args.finder.now) _ c.in_err-last.ensures.fault)
+
+pub returns-in_err-last-clause-condition : goal.returns-in_err-last-clause-condition
+returns-in_err-last-clause-condition g c =
+    let p = err_from_is_err_and c.from_residual.result c.from_residual.ensures.1 in
+    rw (p.1, p.2)
+    (told_of_any (rules_with (g.F.Finder.finds c.args.finder.now) c.args.rules.now) (g.F.Finder.too_deep c.args.finder.now)
+    (plain_calls (rules_of (grammar_view c.args.grammar.now).items)) _ c.in_err-last.ensures.fault)
 
 pub loop-round-init : goal.loop-round-init
 loop-round-init g c =
@@ -37,31 +42,28 @@ loop-round-init g c =
     let rs = rules_of (grammar_view c.args.grammar.now).items in
     let rules_are = ap (λ w. map (enabled_rule features) (filter (λ r. is_active features r.attributes) (rules_of w.items)))
     c.requires.of_grammar in
-    let callers = map closed_view c.in_ok-callers.callers in
-    let all = table_keys c.next_round.new.calls in
-    let next = map closed_view c.in_ok-next.next in
-    let same : next ≡ all = c.in_ok-next.ensures.next ∙ ap (λ l. drop (length l) all) c.new-calls.ensures.empty in
-    let found : FindsCalls t callers [] all =
-    subst (λ l. FindsCalls t callers l all) c.new-calls.ensures.empty (rw c.as_slice.ensures at c.in_ok-next.ensures.found) in
+    let first = c.in_ok-last.ensures in
+    let callers = map closed_view c.in_ok-last.last.callers in
+    let all = table_keys c.first.new.calls in
+    let next = map closed_view c.in_ok-last.last.next in
+    let same : next ≡ all = first.next in
+    let found : FindsCalls t (plain_calls rs) [] all = first.found in
     record {
       low = omega arith;
-      index = c.in_ok-next.ensures.index;
-      stand = later_stands t callers [] all next found same;
-      made = λ can. plain_are_made t features rs rules_are can.enabled can.single can.flat callers c.in_ok-callers.ensures;
+      index = first.index;
+      stand = later_stands t callers [] all next (subst (λ ys. FindsCalls t ys [] all) (sym first.callers) found) same;
+      made = λ can. plain_are_made t features rs rules_are can.enabled can.single can.flat callers first.callers;
       walked = λ can. (
         [],
         sym same,
         found_first t features rs rules_are can.enabled can.single can.flat next
-            (subst (λ ys. FindsCalls t ys [] next) c.in_ok-callers.ensures (subst (λ l. FindsCalls t callers [] l) (sym same) found)),
+            (subst (λ l. FindsCalls t (plain_calls rs) [] l) (sym same) found),
       );
-      order = λ can.
-          let added : AddsUsesOf (UsesCalls t) callers [] all = subst (λ l. AddsUsesOf (UsesCalls t) callers l all) c.new-calls.ensures.empty
-          ((rw c.as_slice.ensures at c.in_ok-next.ensures.order) can.flat) in (
-            [],
-            sym same,
-            subst (IsCallWalk t rs []) (sym same)
-                (first_walk t rs all (subst (λ ys. AddsUsesOf (UsesCalls t) ys [] all) c.in_ok-callers.ensures added)),
-          );
+      order = λ can. (
+        [],
+        sym same,
+        subst (IsCallWalk t rs []) (sym same) (first_walk t rs all (first.order can.flat)),
+      );
     }
 
 pub returns-in_err-go_on-clause-fault : goal.returns-in_err-go_on-clause-fault
@@ -116,7 +118,7 @@ pub tell_deep_call-requires-clause-stands : goal.tell_deep_call-requires-clause-
 tell_deep_call-requires-clause-stands g c =
     let t = rules_with (g.F.Finder.finds c.args.finder.now) c.args.rules.now in
     next_stands t c.loop-round.last.next c.in-Some.call.now c.in-Some.field-0-1.now (map closed_view c.as_slice-in-Some.result.now)
-    (sym c.as_slice-2.ensures ∙ c.in-Some.ensures.cases.0) (rw c.as_slice-in-Some.ensures c.loop-round.invariant.stand)
+    (sym c.as_slice.ensures ∙ c.in-Some.ensures.cases.0) (rw c.as_slice-in-Some.ensures c.loop-round.invariant.stand)
 
 pub returns-in-None-clause-found : goal.returns-in-None-clause-found
 returns-in-None-clause-found g c = λ can.
@@ -125,7 +127,7 @@ returns-in-None-clause-found g c = λ can.
     let last : c.loop-round.round ≡ c.args.limit = omega arith in (
       c.loop-round.invariant.index,
       all_found_by t c.loop-round.round c.args.limit (table_keys c.loop-round.calls) w.0 c.loop-round.last.next last w.1
-          (sym (ap length c.as_slice-2.ensures) ∙ c.in-None.ensures.cases) w.2,
+          (sym (ap length c.as_slice.ensures) ∙ c.in-None.ensures.cases) w.2,
     )
 
 pub returns-in-Some-clause-found : goal.returns-in-Some-clause-found
@@ -139,7 +141,7 @@ returns-in-Some-clause-found g c =
     (λ can. let w = c.loop-round.invariant.walked can in
     first_too_deep t c.loop-round.round c.args.limit w.0 (map closed_view c.loop-round.last.next)
     (map closed_view c.in-Some.field-0-1.now) x last
-    (ap (map closed_view) (sym c.as_slice-2.ensures ∙ c.in-Some.ensures.cases.0)) w.2)
+    (ap (map closed_view) (sym c.as_slice.ensures ∙ c.in-Some.ensures.cases.0)) w.2)
     (λ can y i. subst (λ k. IsMadeAt t k y) last (c.loop-round.invariant.made can y i))
 
 pub returns-in-Some-clause-fault : goal.returns-in-Some-clause-fault
@@ -165,7 +167,7 @@ returns-in-None-clause-order g c = λ can.
     let w = c.loop-round.invariant.order can in
     calls_in_order t features rs rules_are can.enabled can.single can.flat (table_keys c.loop-round.calls) w.0
     (map closed_view c.loop-round.last.next) w.1
-    (no_calls c.loop-round.last.next (sym (ap length c.as_slice-2.ensures) ∙ c.in-None.ensures.cases)) w.2
+    (no_calls c.loop-round.last.next (sym (ap length c.as_slice.ensures) ∙ c.in-None.ensures.cases)) w.2
 
 pub returns-in-Some-clause-order : goal.returns-in-Some-clause-order
 returns-in-Some-clause-order g c =

@@ -2,13 +2,12 @@ use Rattle.std.proofs.Common.{◌≡◌, [], ◌∷◌, ◌+◌, ap, sym, ◌∙
 use Rattle.std.proofs.lemmas.List.{drop_all, drop_more}
 use Rattle.lalrpop_grammar_symbols.specs.Symbols.{syms}
 use Rattle.lalrpop_grammar_symbols.specs.Views.{symbol_view}
-use Rattle.lalrpop_grammar_language.specs.Closing.{close_all, name_meaning}
-use Rattle.lalrpop_grammar_rules.specs.RuleTable.{rules_view}
+use Rattle.lalrpop_grammar_language.specs.Closing.{close_all}
 use Rattle.lalrpop_grammar_rules.specs.Scopes.{scope_view}
 use Rattle.lalrpop_grammar_rules.specs.Views.{closed_view, closeds}
 use Rattle.lalrpop_grammar_rules.proofs.ClosedListLemmas.{all_closed_on, all_counted_on, joined, joined-end}
 use Rattle.lalrpop_grammar_rules.proofs.SizeLemmas.{breadth_in}
-use Rattle.lalrpop_grammar_rules.proofs.SoundLemmas.{call_sound, name_whole, sounds_on}
+use Rattle.lalrpop_grammar_rules.proofs.SoundLemmas.{sounds_on}
 use Rattle.lalrpop_grammar_rules.proofs.closed.closing.+close.Goals as goal
 
 pub close_all-close-requires : goal.close_all-close-requires
@@ -42,16 +41,3 @@ close_all-returns-clause-symbols t c =
     ∙ ap (λ l. joined (map closed_view c.loop-symbol.closings)
     (close_all (scope_view c.args.scope.now) c.loop-symbol.count (syms (map symbol_view l)))) (sym nothing)
     ∙ c.loop-symbol.invariant.so_far
-
-pub close-is_sound_name-requires : goal.close-is_sound_name-requires
-close-is_sound_name-requires t c = λ holds.
-    let s = c.args.scope.now in
-    name_whole s.binding.parameters.now s.binding.args.now s.has_sound_args c.requires.knows holds (scope_view s) c.args.before
-    c.in-AmbiguousId.name (name_meaning (rules_view s.rules.now) c.in-AmbiguousId.name)
-    (closed_view c.in_ok-symbol-in-AmbiguousId.symbol) c.in_ok-symbol-in-AmbiguousId.ensures
-
-pub close-is_sound_call-requires : goal.close-is_sound_call-requires
-close-is_sound_call-requires t c =
-    rw c.in_ok-inside-in-Macro.ensures.sound
-    (call_sound _ (scope_view c.args.scope.now) c.args.before _ (closeds (map closed_view c.in_ok-inside-in-Macro.inside.symbols)) _
-    (closed_view c.in_ok-symbol-in-Macro.symbol) c.in_ok-symbol-in-Macro.ensures)
