@@ -2,7 +2,7 @@
 use Rattle.std.proofs.Common.{◌≡◌, ℕ, zero, suc, true, false, List, [], ◌∷◌, Some, slice_get, refl, ap, arith}
 use Rattle.std.specs.Borrow.{Bor}
 use Rattle.lalrpop_grammar_repr.specs.declared.production.Production.{Production}
-use Rattle.lalrpop_sets.specs.Bits.{has}
+use Rattle.lalrpop_sets.specs.AscendingLists.{has}
 use Rattle.lalrpop_sets.specs.declared.nil.Nil.{Nil}
 use Rattle.lalrpop_lr1_theory.proofs.ListLemmas.{none_some}
 use Rattle.lalrpop_lr1_theory.proofs.StepLemmas.{some_same}

@@ -26,7 +26,7 @@ use Rattle.lalrpop_lane_theory.proofs.CarriedLemmas.{carried_conflicts, reduce_o
 use Rattle.lalrpop_lane_theory.proofs.Lalr1Lemmas.{lr0_lalr1}
 use Rattle.lalrpop_lane_theory.proofs.LaneLemmas.{item_given, lr0_reached}
 use Rattle.lalrpop_lane_theory.proofs.SpreadLemmas.{spread_itself}
-use Rattle.lalrpop_sets.specs.Bits.{has}
+use Rattle.lalrpop_sets.specs.AscendingLists.{has}
 use Rattle.lalrpop_sets.specs.Tokens.{eof_number}
 use Rattle.lalrpop_sets.specs.declared.nil.Nil.{Nil}
 use Rattle.lalrpop_lr1_core.specs.Numbering.{IsOverTokens}

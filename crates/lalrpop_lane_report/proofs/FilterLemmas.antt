@@ -13,7 +13,7 @@ use Rattle.lalrpop_lr1_theory.proofs.ListLemmas.{contains_split}
 use Rattle.lalrpop_lr1_theory.proofs.NameLemmas.{no_element}
 use Rattle.lalrpop_lr1_core.specs.Views.{production_symbol_view}
 use Rattle.lalrpop_lr1_first.specs.FirstSetsOf.{AreFirstSetsOf, IsFirstSet}
-use Rattle.lalrpop_sets.specs.Bits.{has}
+use Rattle.lalrpop_sets.specs.AscendingLists.{has}
 use Rattle.lalrpop_lane_report.specs.declared.traces.example.Example.{Example}
 use Rattle.lalrpop_lane_report.specs.Enumerators.{EnumeratorView, GivesExample, TracePath}
 use Rattle.lalrpop_lane_report.specs.Examples.{IsExample, labels_of, next_symbols}

@@ -9,7 +9,7 @@ use Rattle.std.proofs.lemmas.Map.Lookups.{exact_unsigned}
 use Rattle.lalrpop_lr1_theory.proofs.NameLemmas.{no_element}
 use Rattle.lalrpop_lr1_core.specs.Edges.{state_index}
 use Rattle.lalrpop_lr1_core.specs.declared.state_index.StateIndex.{StateIndex}
-use Rattle.lalrpop_sets.specs.Bits.{has}
+use Rattle.lalrpop_sets.specs.AscendingLists.{has}
 use Rattle.lalrpop_sets.specs.Collections.{Puts, PutsSome, SameEntries}
 use Rattle.lalrpop_lane_theory.specs.Columns.{TableEnters, TableHolds}
 use Rattle.lalrpop_lane_theory.specs.LaneTables.{NotesEdge}

@@ -15,7 +15,7 @@ use Rattle.lalrpop_lr1_theory.specs.States as states
 use Rattle.lalrpop_lr1_theory.proofs.ListLemmas.{contains_here, contains_split, none_some}
 use Rattle.lalrpop_lr1_theory.proofs.NameLemmas.{no_element}
 use Rattle.lalrpop_lr1_theory.proofs.StepLemmas.{some_same}
-use Rattle.lalrpop_sets.specs.Bits.{has}
+use Rattle.lalrpop_sets.specs.AscendingLists.{has}
 use Rattle.lalrpop_sets.specs.Tokens.{eof_number}
 use Rattle.lalrpop_lr1_core.specs.Views.{lr_item_view, lr_state_view, next_of_number, production_symbol_view, production_view}
 use Rattle.lalrpop_lr1_core.specs.declared.item.Item.{Item}

@@ -6,7 +6,7 @@ use Rattle.lalrpop_lr1_core.specs.declared.conflict.Action.{Action}
 use Rattle.lalrpop_lr1_core.specs.declared.conflict.Action.TheVariants.{Reduce}
 use Rattle.lalrpop_lr1_theory.proofs.ListLemmas.{none_some}
 use Rattle.lalrpop_lr1_theory.proofs.StepLemmas.{some_same}
-use Rattle.lalrpop_sets.specs.Bits.{has}
+use Rattle.lalrpop_sets.specs.AscendingLists.{has}
 use Rattle.lalrpop_lane_theory.specs.Columns.{InColumn}
 use Rattle.lalrpop_lane_tables.specs.AppliedSets.{HaveSetsOfActions, IsReductionBy}
 use Rattle.lalrpop_lane_tables.specs.ColumnAnswers.{AreColumns, ColumnsMeetComing, GathersApart, HasToken, IsColumnOfSet}

@@ -6,8 +6,8 @@ use Rattle.std.proofs.lemmas.Option.{slice_get_within}
 use Rattle.std.proofs.lemmas.List.Elements.{All-contains}
 use Rattle.lalrpop_lr1_theory.proofs.ListLemmas.{get_contains}
 use Rattle.lalrpop_lr1_theory.proofs.StepLemmas.{some_same}
-use Rattle.lalrpop_sets.specs.Bits.{has}
-use Rattle.lalrpop_sets.proofs.WordLemmas.{cases_eq}
+use Rattle.lalrpop_sets.specs.AscendingLists.{has}
+use Rattle.lalrpop_sets.proofs.AscendingListLemmas.{cases_eq}
 use Rattle.lalrpop_lane_theory.specs.Columns.{GathersColumns, InColumn, MeetsAnother}
 use Rattle.lalrpop_lane_tables.specs.ColumnAnswers.{ColumnsMeetComing, GatherAnswer, GathersApart, HasToken, IsColumnOfSet}
 use Rattle.lalrpop_lane_tables.specs.ColumnAnswers.{IsOverlap, NewTokens}

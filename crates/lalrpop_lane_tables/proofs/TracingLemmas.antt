@@ -12,7 +12,7 @@ use Rattle.lalrpop_lr1_theory.specs.Productions.{Next, Production}
 use Rattle.lalrpop_lr1_theory.specs.States as states
 use Rattle.lalrpop_lr1_theory.specs.Trees.{reduce, shift}
 use Rattle.lalrpop_lr1_theory.proofs.StepLemmas.{some_same}
-use Rattle.lalrpop_sets.specs.Bits.{has}
+use Rattle.lalrpop_sets.specs.AscendingLists.{has}
 use Rattle.lalrpop_sets.specs.Tokens.{eof_number, number_alone}
 use Rattle.lalrpop_lr1_core.specs.Views.{next_of_number}
 use Rattle.lalrpop_lr1_core.specs.declared.state.State.{State}

@@ -1,6 +1,6 @@
 -- What comes of sets of tokens that are put into columns, one after the other.
 use Rattle.std.specs.Prelude.{ℕ, List, length, true, ◌≡◌, ◌⊎◌, ◌↔◌, ⊤, Contains, Result, Ok, Err}
-use Rattle.lalrpop_sets.specs.Bits.{has}
+use Rattle.lalrpop_sets.specs.AscendingLists.{has}
 use Rattle.lalrpop_lane_theory.specs.Columns.{GathersColumns, HaveMeeting, InColumn, NeverMeet}
 use Rattle.lalrpop_lane_tables.specs.declared.context_sets.ContextFault.{ContextFault}
 use Rattle.lalrpop_lane_tables.specs.declared.context_sets.ContextFault.TheVariants.{Overlap, Memory}

@@ -17,7 +17,7 @@ use Rattle.lalrpop_lr1_first.specs.Tables.{symbol_or}
 use Rattle.lalrpop_lr1_first.specs.declared.numbered.Numbered.{Numbered}
 use Rattle.lalrpop_lr1_first.specs.declared.place.NumberedRule.{NumberedRule}
 use Rattle.lalrpop_lr1_first.proofs.ListLemmas.{get_slice, set_long}
-use Rattle.lalrpop_sets.proofs.WordLemmas.{cases_eq}
+use Rattle.lalrpop_sets.proofs.AscendingListLemmas.{cases_eq}
 use Rattle.lalrpop_lr1_first.proofs.TableLemmas.{get_mapped, name_at}
 use Rattle.lalrpop_lr1_barren.specs.NameMarks.{IsNumberOf}
 use Rattle.lalrpop_lr1_barren.specs.NamedLists.{AreNamedLists, HoldsNamed, production_lists}

@@ -14,13 +14,13 @@ use Rattle.lalrpop_lr1_core.specs.declared.conflict.Conflict.{Conflict}
 use Rattle.lalrpop_lr1_core.specs.declared.state.State.{State}
 use Rattle.lalrpop_lr1_core.specs.declared.table_fault.TableFault.{TableFault}
 use Rattle.lalrpop_lr1_core.specs.declared.table_fault.TableFault.TheVariants as faults
-use Rattle.lalrpop_sets.specs.Bits.{has}
+use Rattle.lalrpop_sets.specs.AscendingLists.{has}
 use Rattle.lalrpop_sets.specs.Tokens.{eof_number}
 use Rattle.lalrpop_sets.specs.declared.nil.Nil.{Nil}
 use Rattle.lalrpop_lr1_first.specs.NumberedGrammars.{HasItsTerminals}
 use Rattle.lalrpop_lr1_first.specs.Tables.{IsTerminalSet}
 use Rattle.lalrpop_lr1_first.proofs.ListLemmas.{eqb_true, or_cases}
-use Rattle.lalrpop_sets.proofs.WordLemmas.{eqb_self}
+use Rattle.lalrpop_sets.proofs.AscendingListLemmas.{eqb_self}
 use Rattle.lalrpop_lr1_first.proofs.TableLemmas.{end_is_none}
 use Rattle.lalrpop_lr1_build.specs.Nexts.{IsNextIn}
 use Rattle.lalrpop_lr1_build.specs.BuiltStates.{AreCanonicalWithout, AreLr0Without, HaveNoConflictBuilt, IsCanonicalFault, IsFaultBuilt}

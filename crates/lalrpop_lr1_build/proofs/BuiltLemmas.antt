@@ -20,7 +20,7 @@ use Rattle.lalrpop_lr1_core.specs.declared.item.Item.{Item}
 use Rattle.lalrpop_lr1_core.specs.declared.state.State.{State}
 use Rattle.lalrpop_lr1_core.proofs.MemberLemmas.{in_map, map_has}
 use Rattle.lalrpop_lr1_core.proofs.NoConflictLemmas.{at_mapped}
-use Rattle.lalrpop_sets.specs.Bits.{has}
+use Rattle.lalrpop_sets.specs.AscendingLists.{has}
 use Rattle.lalrpop_sets.specs.Tokens.{eof_number}
 use Rattle.lalrpop_lr1_first.specs.ClosureTables.{IsClosureTableOf}
 use Rattle.lalrpop_lr1_first.specs.FirstNumbers.{table_end}

@@ -11,7 +11,7 @@ use Rattle.lalrpop_lr1_theory.proofs.ListLemmas.{contains_here, contains_later, 
 use Rattle.lalrpop_lr1_theory.proofs.MarkLemmas.{item_of}
 use Rattle.lalrpop_lr1_theory.proofs.StepLemmas.{some_same}
 use Rattle.lalrpop_lr1_core.specs.Views.{next_of_number}
-use Rattle.lalrpop_sets.specs.Bits.{AscendsFrom, has}
+use Rattle.lalrpop_sets.specs.AscendingLists.{AscendsFrom, has}
 use Rattle.lalrpop_lr1_first.specs.FirstNumbers.{table_end}
 use Rattle.lalrpop_lr1_first.specs.ItemTables.{HasPlace, ListsItem, ListsNext}
 use Rattle.lalrpop_lr1_first.specs.NumberedGrammars.{HasItemAt, IsNumberTable, IsSeenIn, table_productions}

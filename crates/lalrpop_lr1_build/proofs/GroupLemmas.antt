@@ -9,8 +9,8 @@ use Rattle.lalrpop_sets.specs.Tokens.{is_number}
 use Rattle.lalrpop_lr1_first.specs.declared.place.Place.{Place}
 use Rattle.lalrpop_lr1_first.specs.declared.place.Place.TheVariants as places
 use Rattle.lalrpop_lr1_first.proofs.AddLemmas.{taken_more}
-use Rattle.lalrpop_sets.proofs.WordLemmas.{cases_eq}
-use Rattle.lalrpop_sets.proofs.WordLemmas.{eqb_not}
+use Rattle.lalrpop_sets.proofs.AscendingListLemmas.{cases_eq}
+use Rattle.lalrpop_sets.proofs.AscendingListLemmas.{eqb_not}
 use Rattle.lalrpop_lr1_build.specs.Shifts.{items_in, items_of_group, shifted_items, shifted_over, symbol_behind, symbol_in}
 use Rattle.lalrpop_lr1_build.specs.declared.states.kernel.StateKernel.{StateKernel}
 use Rattle.lalrpop_lr1_build.proofs.StateEdgeLemmas.{get_parts}

@@ -17,7 +17,7 @@ use Rattle.lalrpop_grammar_repr.specs.declared.terminal_set.TerminalSet.{Termina
 use Rattle.lalrpop_lr1_theory.proofs.ListLemmas.{contains_here, contains_later, contains_split}
 use Rattle.lalrpop_lr1_theory.proofs.StepLemmas.{some_same}
 use Rattle.lalrpop_lr1_core.specs.declared.state_index.StateIndex.{StateIndex}
-use Rattle.lalrpop_sets.specs.Bits.{Ascends, AscendsFrom}
+use Rattle.lalrpop_sets.specs.AscendingLists.{Ascends, AscendsFrom}
 use Rattle.lalrpop_lr1_first.specs.Tables.{IsTerminalSet}
 use Rattle.lalrpop_lr1_first.proofs.NameLemmas.{name_antisymm}
 use Rattle.lalrpop_lr1_first.proofs.OrderLemmas.{exact_name, exact_terminal}

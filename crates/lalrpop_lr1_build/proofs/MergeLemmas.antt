@@ -4,7 +4,7 @@ use Rattle.std.proofs.Common.{false, List, [], ◌∷◌, ◌++◌}
 use Rattle.std.proofs.Common.{Contains, refl, sym, ap, subst, arith, inl, inr, ⊎_elim, append-nil, append_assoc}
 use Rattle.std.proofs.lemmas.List.Elements.{Contains-append_cases, Contains-append_left, Contains-append_right}
 use Rattle.lalrpop_lr1_theory.proofs.ListLemmas.{contains_here, contains_split}
-use Rattle.lalrpop_sets.specs.Bits.{Ascends, AscendsFrom, has}
+use Rattle.lalrpop_sets.specs.AscendingLists.{Ascends, AscendsFrom, has}
 use Rattle.lalrpop_lr1_build.specs.Kernels.{HaveOrderedLookaheads, places_of}
 use Rattle.lalrpop_lr1_build.specs.Merges.{AddsJoined, AreBefore, Merges, NoneBefore, TakesBefore}
 use Rattle.lalrpop_lr1_theory.proofs.NameLemmas.{no_element}

@@ -11,7 +11,7 @@ use Rattle.lalrpop_lr1_theory.proofs.ListLemmas.{contains_here, contains_split}
 use Rattle.lalrpop_lr1_theory.proofs.MarkLemmas.{item_of, mark_of}
 use Rattle.lalrpop_lr1_theory.proofs.StepLemmas.{some_same}
 use Rattle.lalrpop_lr1_core.specs.Views.{next_of_number}
-use Rattle.lalrpop_sets.specs.Bits.{AscendsFrom}
+use Rattle.lalrpop_sets.specs.AscendingLists.{AscendsFrom}
 use Rattle.lalrpop_lr1_first.specs.FirstNumbers.{table_end}
 use Rattle.lalrpop_lr1_first.specs.ItemTables.{ListsItem, ListsNext}
 use Rattle.lalrpop_lr1_first.specs.NumberedGrammars.{HasItemAt, IsNumberTable, IsSeenIn, table_names, table_productions}

@@ -9,7 +9,7 @@ use Rattle.lalrpop_lr1_theory.specs.CanonicalStates.{SymbolBefore}
 use Rattle.lalrpop_lr1_theory.specs.Productions as theory
 use Rattle.lalrpop_lr1_theory.specs.States as states
 use Rattle.lalrpop_lr1_theory.proofs.StepLemmas.{some_same}
-use Rattle.lalrpop_sets.specs.Bits.{AscendsFrom}
+use Rattle.lalrpop_sets.specs.AscendingLists.{AscendsFrom}
 use Rattle.lalrpop_lr1_core.proofs.SortedLemmas.{sorted_at}
 use Rattle.lalrpop_lr1_first.specs.NumberedGrammars.{HasItemAt, IsNumberTable, table_names, table_productions}
 use Rattle.lalrpop_lr1_first.specs.Tables.{symbol_of_number}

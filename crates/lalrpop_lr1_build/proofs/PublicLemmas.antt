@@ -20,7 +20,7 @@ use Rattle.lalrpop_lr1_core.specs.declared.item.Item.{Item}
 use Rattle.lalrpop_lr1_core.specs.declared.state.State.{State}
 use Rattle.lalrpop_lr1_core.proofs.MemberLemmas.{in_map, map_has}
 use Rattle.lalrpop_lr1_core.proofs.NoConflictLemmas.{at_mapped}
-use Rattle.lalrpop_sets.specs.Bits.{AscendsFrom, has}
+use Rattle.lalrpop_sets.specs.AscendingLists.{AscendsFrom, has}
 use Rattle.lalrpop_lr1_first.specs.FirstNumbers.{name_count, table_end}
 use Rattle.lalrpop_lr1_first.specs.NumberedGrammars.{HasItemAt, IsNumberTable, IsSeenIn, table_names, table_productions}
 use Rattle.lalrpop_lr1_first.specs.Tables.{symbol_of_number, symbol_or}

@@ -9,7 +9,7 @@ use Rattle.lalrpop_lr1_theory.proofs.StepLemmas.{some_same}
 use Rattle.lalrpop_sets.specs.Queues.{number_in}
 use Rattle.lalrpop_lr1_first.proofs.ListLemmas.{both_and, eqb_true}
 use Rattle.lalrpop_grammar_symbols.proofs.BoolLemmas.{and_both}
-use Rattle.lalrpop_sets.proofs.WordLemmas.{eqb_self}
+use Rattle.lalrpop_sets.proofs.AscendingListLemmas.{eqb_self}
 use Rattle.lalrpop_lr1_build.specs.Edges.{AddsKernel}
 use Rattle.lalrpop_lr1_build.specs.declared.states.kernel.StateKernel.{StateKernel}
 use Rattle.lalrpop_lr1_theory.proofs.ListLemmas.{get_last}

@@ -7,7 +7,7 @@ use Rattle.std.specs.Prelude.{if◌then◌else◌}
 use Rattle.lalrpop_lr1_theory.specs.Productions as theory
 use Rattle.lalrpop_lr1_theory.proofs.ListLemmas.{contains_here, contains_later, contains_split, none_some}
 use Rattle.lalrpop_lr1_core.specs.Views.{production_symbol_view}
-use Rattle.lalrpop_sets.specs.Bits.{AscendsFrom}
+use Rattle.lalrpop_sets.specs.AscendingLists.{AscendsFrom}
 use Rattle.lalrpop_sets.specs.Tokens.{is_number}
 use Rattle.lalrpop_lr1_first.specs.NumberedGrammars.{HasItemAt, IsNumberTable, table_names}
 use Rattle.lalrpop_lr1_first.specs.Numbers.{SpellsSymbols}
@@ -16,7 +16,7 @@ use Rattle.lalrpop_lr1_first.specs.declared.numbered.Numbered.{Numbered}
 use Rattle.lalrpop_lr1_first.specs.declared.place.Place.{Place}
 use Rattle.lalrpop_lr1_first.specs.declared.place.Place.TheVariants as places
 use Rattle.lalrpop_lr1_first.proofs.ListLemmas.{eqb_true}
-use Rattle.lalrpop_sets.proofs.WordLemmas.{eqb_self}
+use Rattle.lalrpop_sets.proofs.AscendingListLemmas.{eqb_self}
 use Rattle.lalrpop_lr1_first.proofs.TableLemmas.{is_item_table, long_map}
 use Rattle.lalrpop_lr1_build.specs.Kernels.{AreKernelItems, places_of}
 use Rattle.lalrpop_lr1_build.specs.Shifts.{shifted_items, shifted_over, symbol_behind}

@@ -10,7 +10,7 @@ use Rattle.lalrpop_lr1_theory.specs.Automata.{IsBegun}
 use Rattle.lalrpop_lr1_theory.proofs.ListLemmas.{contains_get, contains_here, contains_later, contains_split}
 use Rattle.lalrpop_lr1_core.specs.Views.{production_view}
 use Rattle.lalrpop_lr1_core.proofs.MemberLemmas.{in_map}
-use Rattle.lalrpop_sets.specs.Bits.{AscendsFrom, has}
+use Rattle.lalrpop_sets.specs.AscendingLists.{AscendsFrom, has}
 use Rattle.lalrpop_lr1_first.specs.FirstNumbers.{table_end}
 use Rattle.lalrpop_lr1_first.specs.NumberedGrammars.{HasItemAt, IsNumberTable, IsSeenIn, table_productions}
 use Rattle.lalrpop_lr1_first.specs.declared.numbered.Numbered.{Numbered}

@@ -8,7 +8,7 @@ use Rattle.std.proofs.lemmas.List.Elements.{Contains-append_cases, Contains-appe
 use Rattle.std.proofs.lemmas.Option.{slice_get_within}
 use Rattle.lalrpop_lr1_theory.proofs.ListLemmas.{contains_here, contains_split, get_front, get_split, get_last}
 use Rattle.lalrpop_lr1_theory.proofs.StepLemmas.{some_same}
-use Rattle.lalrpop_sets.specs.Bits.{AscendsFrom}
+use Rattle.lalrpop_sets.specs.AscendingLists.{AscendsFrom}
 use Rattle.lalrpop_lr1_build.specs.Edges.{AddsEdge, AddsKernel, AreDistinctKernels, EdgesLead}
 use Rattle.lalrpop_lr1_build.specs.Kernels.{places_of}
 use Rattle.lalrpop_lr1_build.specs.declared.states.kernel.StateKernel.{StateKernel}

@@ -16,7 +16,7 @@ use Rattle.lalrpop_lr1_core.specs.Views.{reduction_view, token_lookahead}
 use Rattle.lalrpop_lr1_core.specs.declared.item.Item.{Item}
 use Rattle.lalrpop_lr1_core.specs.declared.state.State.{State}
 use Rattle.lalrpop_lr1_core.specs.declared.state_index.StateIndex.{StateIndex}
-use Rattle.lalrpop_sets.specs.Bits.{has}
+use Rattle.lalrpop_sets.specs.AscendingLists.{has}
 use Rattle.lalrpop_sets.specs.Tokens.{eof_number}
 use Rattle.lalrpop_lr1_build.specs.NextLaws.{token_nexts}
 use Rattle.lalrpop_lr1_build.specs.PublicStates.{finished_entries}

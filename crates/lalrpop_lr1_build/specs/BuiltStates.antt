@@ -19,7 +19,7 @@ use Rattle.lalrpop_lr1_core.specs.declared.conflict.Conflict.{Conflict}
 use Rattle.lalrpop_lr1_core.specs.declared.state.State.{State}
 use Rattle.lalrpop_lr1_core.specs.declared.table_fault.TableFault.{TableFault}
 use Rattle.lalrpop_lr1_core.specs.declared.table_fault.TableFault.TheVariants as faults
-use Rattle.lalrpop_sets.specs.Bits.{has}
+use Rattle.lalrpop_sets.specs.AscendingLists.{has}
 use Rattle.lalrpop_sets.specs.Tokens.{eof_number}
 use Rattle.lalrpop_sets.specs.declared.nil.Nil.{Nil}
 use Rattle.lalrpop_lr1_core.specs.TheoryGrammars.{NameBefore, theory_grammar}

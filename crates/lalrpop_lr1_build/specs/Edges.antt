@@ -1,7 +1,7 @@
 -- The edges of a state and the kernels to which they lead, for the construction of states.
 use Rattle.std.specs.Prelude.{◌≡◌, ◌⊎◌, ◌<◌, ◌≤◌, ℕ, List, [], ◌∷◌, ◌++◌, length, Some, Contains}
 use Rattle.std.specs.Prelude.{slice_get}
-use Rattle.lalrpop_sets.specs.Bits.{Ascends}
+use Rattle.lalrpop_sets.specs.AscendingLists.{Ascends}
 use Rattle.lalrpop_lr1_build.specs.Kernels.{places_of}
 use Rattle.lalrpop_lr1_build.specs.declared.states.kernel.StateKernel.{StateKernel}
 

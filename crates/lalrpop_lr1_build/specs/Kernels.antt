@@ -2,7 +2,7 @@
 use Rattle.std.specs.Prelude.{◌↔◌, ℕ, Bool, List, Some, None, Contains, map}
 use Rattle.lalrpop_lr1_theory.specs.Productions as theory
 use Rattle.lalrpop_lr1_core.specs.Views.{next_of_number}
-use Rattle.lalrpop_sets.specs.Bits.{Ascends}
+use Rattle.lalrpop_sets.specs.AscendingLists.{Ascends}
 use Rattle.lalrpop_lr1_first.specs.ClosureTables.{AreItems, HoldTokens, TableMarks}
 use Rattle.lalrpop_lr1_first.specs.FirstNumbers.{table_end}
 use Rattle.lalrpop_lr1_first.specs.ItemTables.{ListsItem, ListsNext}

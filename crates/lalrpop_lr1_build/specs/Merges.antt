@@ -1,6 +1,6 @@
 -- What two lists of items in order make together, and the steps to it: for the closure of a kernel.
 use Rattle.std.specs.Prelude.{◌≡◌, ◌↔◌, ◌⊎◌, ◌<◌, ◌≤◌, ◌||◌, ℕ, List, [], ◌∷◌, ◌++◌}
-use Rattle.lalrpop_sets.specs.Bits.{Ascends, has}
+use Rattle.lalrpop_sets.specs.AscendingLists.{Ascends, has}
 use Rattle.lalrpop_lr1_first.specs.ItemTables.{HasMark, HasPlace}
 use Rattle.lalrpop_lr1_build.specs.Kernels.{HaveOrderedLookaheads, places_of}
 

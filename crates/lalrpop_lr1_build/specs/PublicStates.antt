@@ -11,7 +11,7 @@ use Rattle.lalrpop_lr1_core.specs.Views.{production_view}
 use Rattle.lalrpop_lr1_core.specs.declared.item.Item.{Item}
 use Rattle.lalrpop_lr1_core.specs.declared.state.State.{State}
 use Rattle.lalrpop_lr1_core.specs.declared.state_index.StateIndex.{StateIndex}
-use Rattle.lalrpop_sets.specs.Bits.{Ascends}
+use Rattle.lalrpop_sets.specs.AscendingLists.{Ascends}
 use Rattle.lalrpop_lr1_first.specs.ClosureTables.{AreItems}
 use Rattle.lalrpop_lr1_first.specs.FirstNumbers.{name_count, symbol_count}
 use Rattle.lalrpop_lr1_first.specs.NumberedGrammars.{HasItemAt, table_names}

@@ -1,6 +1,6 @@
 -- States by numbers, each with its kernel, as they are built one after another: for the construction of states.
 use Rattle.std.specs.Prelude.{◌≡◌, ◌⊎◌, ◌<◌, ◌≤◌, ℕ, Bool, List, [], ◌++◌, length, Some, Contains, slice_get}
-use Rattle.lalrpop_sets.specs.Bits.{Ascends}
+use Rattle.lalrpop_sets.specs.AscendingLists.{Ascends}
 use Rattle.lalrpop_lr1_first.specs.declared.numbered.Numbered.{Numbered}
 use Rattle.lalrpop_lr1_build.specs.Edges.{AreDistinctKernels}
 use Rattle.lalrpop_lr1_build.specs.Kernels.{AreKernelItems, IsClosureOf, places_of}

@@ -5,7 +5,7 @@ ghost use Rattle.lalrpop_lr1_first.specs.FirstNumbers.{name_count, symbol_count}
 ghost use Rattle.lalrpop_lr1_first.specs.NumberedGrammars.{IsNumberTable, table_names};
 ghost use Rattle.lalrpop_lr1_build.specs.Kernels.{places_of};
 ghost use Rattle.lalrpop_lr1_build.specs.PublicStates.{AreGotos, AreShifts};
-ghost use Rattle.lalrpop_sets.specs.Bits.{Ascends};
+ghost use Rattle.lalrpop_sets.specs.AscendingLists.{Ascends};
 
 use lalrpop_grammar_repr::Map;
 use lalrpop_grammar_symbols::{NonterminalString, TerminalString};

@@ -6,7 +6,7 @@ ghost use Rattle.lalrpop_lr1_theory.specs.Productions as theory;
 ghost use Rattle.lalrpop_lr1_first.specs.ClosureTables.{AreItems};
 ghost use Rattle.lalrpop_lr1_first.specs.FirstNumbers.{name_count, symbol_count};
 ghost use Rattle.lalrpop_lr1_first.specs.NumberedGrammars.{HasItemAt, IsNumberTable, table_names};
-ghost use Rattle.lalrpop_sets.specs.Bits.{Ascends};
+ghost use Rattle.lalrpop_sets.specs.AscendingLists.{Ascends};
 ghost use Rattle.lalrpop_lr1_build.specs.Kernels.{places_of};
 ghost use Rattle.lalrpop_lr1_build.specs.PublicStates.{
   AreGotos,

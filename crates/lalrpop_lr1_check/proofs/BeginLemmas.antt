@@ -1,5 +1,5 @@
 -- Names that follow by the clauses of beginnings are those that a closure brings: for marks of names.
-use Rattle.std.proofs.Common.{◌≡◌, ◌∙◌, ◌⊎◌, ◌↔◌, ℕ, ◌<◌, Bool, List, [], ◌∷◌}
+use Rattle.std.proofs.Common.{◌≡◌, ◌∙◌, ◌↔◌, ℕ, ◌<◌, Bool, List, [], ◌∷◌}
 use Rattle.std.proofs.Common.{refl, sym, ap, subst, get_or, length, slice_get}
 use Rattle.std.proofs.Common.{⊎_elim, arith, Contains, Option, None, Some}
 use Rattle.std.specs.Prelude.{flat_map}

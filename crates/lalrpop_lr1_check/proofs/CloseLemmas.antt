@@ -9,41 +9,12 @@ use Rattle.std.proofs.lemmas.Option.{slice_get_within}
 use Rattle.lalrpop_lr1_theory.proofs.ListLemmas.{contains_get, contains_here, get_contains, get_front}
 use Rattle.lalrpop_lr1_theory.proofs.StepLemmas.{some_same}
 use Rattle.lalrpop_lr1_barren.specs.Clauses.{Follows, IsMarked, by_clause, marked}
-use Rattle.lalrpop_lr1_barren.proofs.ClauseLemmas.{marked_within, set_from, set_kept, set_long, set_there}
+use Rattle.lalrpop_lr1_barren.proofs.ClauseLemmas.{set_from, set_kept, set_long, set_there}
 use Rattle.lalrpop_lr1_check_lookaheads.proofs.GainLemmas.{taken_one}
 use Rattle.lalrpop_lr1_theory.proofs.NameLemmas.{no_element}
 use Rattle.lalrpop_lr1_check_lookaheads.proofs.MoveLemmas.{get_long}
 use Rattle.lalrpop_lr1_check.specs.BeginLists.{AreClosingNames, ListsBegins, Queues}
 use Rattle.lalrpop_lr1_check.proofs.BeginLemmas.{only_one}
-
--- the marked numbers below one, and those below the next one
-pub listed_more : (Mark : ℕ → Type 0) (ns : List ℕ) (k : ℕ) → ((n : ℕ) → Contains ns n ↔ ((n < k) × Mark n)) → Mark k →
-    (n : ℕ) → Contains (ns ++ k ∷ []) n ↔ ((n < k + 1) × Mark n)
-listed_more Mark ns k says own n = (
-  λ c. ⊎_elim
-      (λ d. let p = (says n).0 d in (omega (arith, p.0), p.1))
-      (λ d. let e = only_one k n d in (omega (arith, e), subst Mark e own)) (Contains-append_cases ns (k ∷ []) n c),
-  λ p. ⊎_elim
-      (λ l. Contains-append_left ns (k ∷ []) n ((says n).1 (l, p.1)))
-      (λ l.
-      let e : k ≡ n = omega (arith, l, p.0) in
-      Contains-append_right ns (k ∷ []) n (subst (Contains (k ∷ [])) e (contains_here k []))) (cases_lt n k),
-)
-
-pub listed_skip : (Mark : ℕ → Type 0) (ns : List ℕ) (k : ℕ) → ((n : ℕ) → Contains ns n ↔ ((n < k) × Mark n)) → (Mark k → ⊥) →
-    (n : ℕ) → Contains ns n ↔ ((n < k + 1) × Mark n)
-listed_skip Mark ns k says none n = (
-  λ c. let p = (says n).0 c in (omega (arith, p.0), p.1),
-  λ p. ⊎_elim
-      (λ l. (says n).1 (l, p.1))
-      (λ l. let e : n ≡ k = omega (arith, l, p.0) in absurd (none (subst Mark e p.1))) (cases_lt n k),
-)
-
--- where all marks are below, all marked numbers are listed
-pub listed_all : (marks : List Bool) (ns : List ℕ) (k : ℕ) → length marks ≤ k →
-    ((n : ℕ) → Contains ns n ↔ ((n < k) × IsMarked marks n)) → (n : ℕ) → Contains ns n ↔ IsMarked marks n
-listed_all marks ns k past says n =
-    (λ c. ((says n).0 c).1, λ m. (says n).1 (omega (arith, past, marked_within marks n m), m))
 
 -- no number is queued
 pub queues_none : (old : List Bool) (queue : List ℕ) → Queues [] old old queue queue
@@ -51,6 +22,7 @@ queues_none old queue = record {
   count = refl;
   kept = λ j n e. e;
   has = λ n m. m;
+  from = λ n m. inl m;
   marks = λ n c. absurd (no_element n c);
   queued = λ q. q;
   only = λ n c. inl c;
@@ -63,6 +35,7 @@ queues_kept number old queue was = record {
   count = refl;
   kept = λ j n e. e;
   has = λ n m. m;
+  from = λ n m. inl m;
   marks = λ n c l. let e = only_one number n c in subst (IsMarked old) e (was (omega (arith, e, l)));
   queued = λ q. q;
   only = λ n c. inl c;
@@ -75,6 +48,9 @@ queues_new number old new queue more within is longer = record {
   count = ap length is ∙ set_long old number;
   kept = λ j n e. ap (λ l. slice_get l j) longer ∙ get_front queue (number ∷ []) j n e;
   has = λ n m. subst (λ l. IsMarked l n) (sym is) (set_kept old number n m);
+  from = λ n m. ⊎_elim
+      (λ e. inr (subst (Contains (number ∷ [])) (sym e) (contains_here number [])))
+      (λ o. inl o) (set_from old number n (subst (λ l. IsMarked l n) is m));
   marks = λ n c l. subst (λ k. IsMarked new k) (only_one number n c)
       (subst (λ l. IsMarked l number) (sym is) (set_there old number within));
   queued = λ q n m. subst (λ l. Contains l n) (sym longer) (⊎_elim
@@ -91,6 +67,9 @@ queues_both xs ys a b c q r s g h = record {
   count = h.count ∙ g.count;
   kept = λ j n e. h.kept j n (g.kept j n e);
   has = λ n m. h.has n (g.has n m);
+  from = λ n m. ⊎_elim
+      (λ o. ⊎_elim (λ e. inl e) (λ x. inr (Contains-append_left xs ys n x)) (g.from n o))
+      (λ y. inr (Contains-append_right xs ys n y)) (h.from n m);
   marks = λ n d l. ⊎_elim (λ x. h.has n (g.marks n x l)) (λ y. h.marks n y (omega (arith, l, g.count)))
       (Contains-append_cases xs ys n d);
   queued = λ w. h.queued (g.queued w);
@@ -168,3 +147,8 @@ module _ (clauses : List (List ℕ × ℕ)) (lists : List (List ℕ)) (are : Lis
           let g = contains_get queue o.0 (c.queued o.0 m) in
           c.closed g.0 o.0 k (omega (arith, past, slice_get_within queue g.0 o.0 g.1)) g.1
           ((are o.0 k).1 (subst (Contains clauses) (sym o.1) among))
+
+  -- just what follows is queued then
+  pub queue_end : (now : List Bool) (queue : List ℕ) (done : ℕ) → AreClosingNames clauses lists first now queue done →
+      ((n : ℕ) → IsMarked now n ↔ Follows clauses first n) → (n : ℕ) → Contains queue n ↔ IsMarked now n
+  queue_end now queue done c says n = (λ d. (says n).1 (c.sound n d), λ m. c.queued n m)

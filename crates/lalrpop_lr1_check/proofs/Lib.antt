@@ -1,7 +1,10 @@
 pub mod MarkLemmas
 pub mod BeginLemmas
+pub mod ListedMarkLemmas
+pub mod LostMarkLemmas
 pub mod CloseLemmas
 pub mod ListedBeginLemmas
+pub mod RuleListLemmas
 pub mod NamesBehindLemmas
 pub mod UnmovedLemmas
 pub mod BringLemmas

@@ -10,7 +10,7 @@ use Rattle.lalrpop_lr1_first.specs.FirstNumbers.{name_count}
 use Rattle.lalrpop_lr1_first.specs.declared.numbered.Numbered.{Numbered}
 use Rattle.lalrpop_lr1_first.specs.declared.place.NumberedRule.{NumberedRule}
 use Rattle.lalrpop_lr1_first.proofs.ListLemmas.{at_set_other, at_set_same, set_long}
-use Rattle.lalrpop_sets.proofs.WordLemmas.{cases_eq}
+use Rattle.lalrpop_sets.proofs.AscendingListLemmas.{cases_eq}
 use Rattle.lalrpop_lr1_check_lookaheads.proofs.GainLemmas.{taken_one}
 use Rattle.lalrpop_lr1_theory.proofs.NameLemmas.{no_element}
 use Rattle.lalrpop_lr1_check.specs.BeginClauses.{begin_of_rule, begin_to}
@@ -23,10 +23,10 @@ adds_no_name from lists = record {
   added = λ n s. (λ c. inl c, λ d. ⊎_elim (λ c. c) (λ c. absurd (no_element (n ∷ [], s) c)) d);
 }
 
-only_clause : (c d : List ℕ × ℕ) → Contains (c ∷ []) d → c ≡ d
+pub only_clause : (c d : List ℕ × ℕ) → Contains (c ∷ []) d → c ≡ d
 only_clause c d h = ⊎_elim (λ e. e) (λ n. absurd (no_element d n)) (contains_split c d [] h)
 
-first_of : (from n : ℕ) (s t : ℕ) → ◌≡◌ {A = List ℕ × ℕ} (from ∷ [], s) (n ∷ [], t) → (from ≡ n) × (s ≡ t)
+pub first_of : (from n : ℕ) (s t : ℕ) → ◌≡◌ {A = List ℕ × ℕ} (from ∷ [], s) (n ∷ [], t) → (from ≡ n) × (s ≡ t)
 first_of from n s t e = (one_is from n (ap (λ q. q.0) e), ap (λ q. q.1) e)
   where
     one_is : (a b : ℕ) → ◌≡◌ {A = List ℕ} (a ∷ []) (b ∷ []) → a ≡ b

@@ -1,7 +1,7 @@
 -- What marks gain, number by number and element by element: for all that is marked here.
 use Rattle.std.proofs.Common.{◌≡◌, ◌∙◌, ◌↔◌, ◌⊎◌, ℕ, ◌+◌, ◌<◌, ◌≤◌, Bool}
 use Rattle.std.proofs.Common.{true, false, List, [], ◌∷◌, ◌++◌}
-use Rattle.std.proofs.Common.{length, take, get_or, set, refl, sym, ap, subst, inl, inr, ⊎_elim, arith, Contains, Some}
+use Rattle.std.proofs.Common.{length, take, get_or, set, refl, sym, subst, inl, inr, ⊎_elim, arith, Contains, Some}
 use Rattle.std.proofs.Common.{slice_get}
 use Rattle.std.proofs.lemmas.List.{take_all}
 use Rattle.std.proofs.lemmas.List.Elements.{Contains-append_cases, Contains-append_left, Contains-append_right}
@@ -58,29 +58,10 @@ gains_nothing marks Mark none = record {
   marks = λ n. (λ m. inl m, λ h. ⊎_elim (λ m. m) (λ p. absurd (none n p)) h);
 }
 
--- one mark is gained
-pub gains_mark : (old new : List Bool) (Mark : ℕ → Type 0) (k : ℕ) → k < length old → new ≡ set old k true → Mark k →
-    ((n : ℕ) → Mark n → n ≡ k) → GainsMarks old new Mark
-gains_mark old new Mark k within is own only = record {
-  count = ap length is ∙ set_long old k;
-  marks = λ n. (
-    λ m. ⊎_elim (λ e. inr (subst Mark (sym e) own)) (λ o. inl o) (set_from old k n (subst (λ l. IsMarked l n) is m)),
-    λ h. subst (λ l. IsMarked l n) (sym is) (⊎_elim (λ o. set_kept old k n o)
-        (λ p. subst (IsMarked (set old k true)) (sym (only n p)) (set_there old k within)) h),
-  );
-}
-
 module _ {X : Type 0} (xs : List X) (x : X) where
   -- an element that isn't there marks nothing
   pub gains_missing : (marks : List Bool) → (Contains xs x → ⊥) → GainsMarks marks marks (λ n. slice_get xs n ≡ Some x)
   gains_missing marks missing = gains_nothing marks (λ n. slice_get xs n ≡ Some x) (λ n e. missing (get_contains xs n x e))
-
-  -- one that is there once marks its place
-  pub gains_place : (old new : List Bool) (k : ℕ) → k < length old → slice_get xs k ≡ Some x →
-      ((i j : ℕ) → slice_get xs i ≡ Some x → slice_get xs j ≡ Some x → i ≡ j) → new ≡ set old k true →
-      GainsMarks old new (λ n. slice_get xs n ≡ Some x)
-  gains_place old new k within at once is =
-      gains_mark old new (λ n. slice_get xs n ≡ Some x) k within is at (λ n e. once n k e at)
 
 -- the same marks by another name
 pub gains_same : (old new : List Bool) (Mark Other : ℕ → Type 0) → ((n : ℕ) → Mark n ↔ Other n) → GainsMarks old new Mark →

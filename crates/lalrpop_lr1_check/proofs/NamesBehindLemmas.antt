@@ -21,8 +21,10 @@ use Rattle.lalrpop_lr1_barren.specs.Clauses.{IsMarked}
 use Rattle.lalrpop_lr1_barren.specs.NameMarks.{IsNumberOf}
 use Rattle.lalrpop_lr1_check_lookaheads.proofs.MoveLemmas.{drop_get, get_drop}
 use Rattle.lalrpop_lr1_check.specs.BeginClauses.{AreMarksOf}
-use Rattle.lalrpop_lr1_check.specs.MarkGains.{GainsMarks, IsMarkOfSome}
-use Rattle.lalrpop_lr1_check.proofs.MarkLemmas.{gains_nothing, gains_same}
+use Rattle.lalrpop_lr1_check.specs.MarkGains.{IsMarkOfSome}
+use Rattle.lalrpop_lr1_check.specs.MarkLists.{GainsListed}
+use Rattle.lalrpop_lr1_check.specs.declared.closure.listed_marks.ListedMarks.{ListedMarks}
+use Rattle.lalrpop_lr1_check.proofs.ListedMarkLemmas.{listed_nothing, listed_same}
 use Rattle.lalrpop_lr1_check.specs.NamesBehind.{HasSeenItem, IsNumberBehind, moved_name, name_of_symbol}
 
 abbrev name_of : List ℕ → NonterminalString
@@ -120,17 +122,17 @@ module _ (table : Numbered) (is : IsNumberTable table) where
           )
 
 -- marks of an item without a name behind its dot, and of one with it
-pub gains_no_name : {L : Type 0} (table : Numbered) (item : Item L) (marks : List Bool) → moved_name item ≡ None →
-    GainsMarks marks marks (IsNumberBehind table item)
-gains_no_name table item marks e =
-    gains_nothing marks (IsNumberBehind table item) (λ n p. let both = sym p.1 ∙ e in let w : ⊥ = cc in w)
+pub listed_no_name : {L : Type 0} (table : Numbered) (item : Item L) (marks : ListedMarks) → moved_name item ≡ None →
+    GainsListed marks marks (IsNumberBehind table item)
+listed_no_name table item marks e =
+    listed_nothing marks (IsNumberBehind table item) (λ n p. let both = sym p.1 ∙ e in let w : ⊥ = cc in w)
 
 -- where a name stands behind a moved item's dot, gaining its number is gaining the number behind the dot
-pub gains_behind : {L : Type 0} (table : Numbered) (item : Item L) (name : NonterminalString) (old new : List Bool) →
-    moved_name item ≡ Some name → GainsMarks old new (λ s. slice_get (table_names table) s ≡ Some name) →
-    GainsMarks old new (IsNumberBehind table item)
-gains_behind table item name old new e g =
-    gains_same old new (λ s. slice_get (table_names table) s ≡ Some name) (IsNumberBehind table item) (λ s. (
+pub listed_behind : {L : Type 0} (table : Numbered) (item : Item L) (name : NonterminalString) (old new : ListedMarks) →
+    moved_name item ≡ Some name → GainsListed old new (λ s. slice_get (table_names table) s ≡ Some name) →
+    GainsListed old new (IsNumberBehind table item)
+listed_behind table item name old new e g =
+    listed_same old new (λ s. slice_get (table_names table) s ≡ Some name) (IsNumberBehind table item) (λ s. (
       λ at. (name, e, at),
       λ p. p.2 ∙ ap Some (some_same p.0 name (sym p.1 ∙ e)),
     )) g

@@ -21,11 +21,12 @@ pub record AddsBegins (clauses : List (List ℕ × ℕ)) (old new : List (List �
   pub added : (from s : ℕ) → Contains (slice_index_or new from []) s
       ↔ (Contains (slice_index_or old from []) s ⊎ Contains clauses (from ∷ [], s))
 
--- these numbers are marked, and those that weren't are queued behind the others
+-- these numbers are marked and no others more, and those that weren't are queued behind the others
 pub record Queues (numbers : List ℕ) (old new : List Bool) (queue more : List ℕ) : Type 0 where
   pub count : length new ≡ length old
   pub kept : (j n : ℕ) → slice_get queue j ≡ Some n → slice_get more j ≡ Some n
   pub has : (n : ℕ) → IsMarked old n → IsMarked new n
+  pub from : (n : ℕ) → IsMarked new n → IsMarked old n ⊎ Contains numbers n
   pub marks : (n : ℕ) → Contains numbers n → n < length old → IsMarked new n
   pub queued : ((n : ℕ) → IsMarked old n → Contains queue n) → (n : ℕ) → IsMarked new n → Contains more n
   pub only : (n : ℕ) → Contains more n → Contains queue n ⊎ Contains numbers n

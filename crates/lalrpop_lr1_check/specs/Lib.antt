@@ -1,6 +1,8 @@
 pub mod MarkGains
+pub mod MarkLists
 pub mod BeginClauses
 pub mod BeginLists
+pub mod RuleLists
 pub mod EdgeTargets
 pub mod NamesBehind
 pub mod UnmovedItems

@@ -12,6 +12,12 @@ pub record GainsMarks (old new : List Bool) (Mark : ℕ → Type 0) : Type 0 whe
   pub count : length new ≡ length old
   pub marks : (n : ℕ) → IsMarked new n ↔ (IsMarked old n ⊎ Mark n)
 
+-- no marks are new, and none of these numbers is marked any more
+pub record LosesMarks (numbers : List ℕ) (old new : List Bool) : Type 0 where
+  pub count : length new ≡ length old
+  pub kept : (n : ℕ) → IsMarked new n → IsMarked old n
+  pub lost : (n : ℕ) → Contains numbers n → IsMarked new n → ⊥
+
 -- one of the list marks the number
 abbrev pub IsMarkOfSome : {X : Type 0} → (X → ℕ → Type 0) → List X → ℕ → Type 0
 IsMarkOfSome {X} Mark xs n = (x : X) × Contains xs x × Mark x n

@@ -8,7 +8,7 @@ use Rattle.std.proofs.lemmas.List.{take_all}
 use Rattle.std.specs.List.{list_all}
 use Rattle.lalrpop_grammar_repr.specs.Maps.{at_terminal}
 use Rattle.lalrpop_grammar_repr.specs.declared.terminal_set.TerminalSet.{TerminalSet}
-use Rattle.lalrpop_sets.specs.Bits.{has}
+use Rattle.lalrpop_sets.specs.AscendingLists.{has}
 use Rattle.lalrpop_sets.specs.Tokens.{has_number}
 use Rattle.lalrpop_lr1_theory.proofs.ListLemmas.{contains_here, contains_later, contains_split, get_contains}
 use Rattle.lalrpop_lr1_theory.proofs.StepLemmas.{some_same}

@@ -13,7 +13,7 @@ use Rattle.lalrpop_lr1_core.specs.Views.{lr_state_view, next_of_number, producti
 use Rattle.lalrpop_lr1_core.specs.declared.state.State.{State}
 use Rattle.lalrpop_lr1_core.proofs.MemberLemmas.{filter_has, in_filter, in_map, in_range, map_has, range_has}
 use Rattle.lalrpop_lr1_core.proofs.NoConflictLemmas.{at_mapped, mapped_at}
-use Rattle.lalrpop_sets.specs.Bits.{has}
+use Rattle.lalrpop_sets.specs.AscendingLists.{has}
 use Rattle.lalrpop_sets.specs.Tokens.{eof_number}
 use Rattle.lalrpop_lr1_first.specs.FirstSetsOf.{IsProductionOf}
 use Rattle.lalrpop_lr1_first.specs.NumberedGrammars.{HasItsTerminals}

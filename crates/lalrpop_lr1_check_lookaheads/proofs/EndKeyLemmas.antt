@@ -13,7 +13,7 @@ use Rattle.lalrpop_lr1_theory.specs.States.{HasEdge, LookaheadSet}
 use Rattle.lalrpop_lr1_theory.proofs.StepLemmas.{some_same}
 use Rattle.lalrpop_lr1_core.specs.Views.{lr_state_view, production_symbol_view}
 use Rattle.lalrpop_lr1_core.specs.declared.state.State.{State}
-use Rattle.lalrpop_sets.specs.Bits.{has}
+use Rattle.lalrpop_sets.specs.AscendingLists.{has}
 use Rattle.lalrpop_lr1_first.specs.Numbers.{set_of_number}
 use Rattle.lalrpop_lr1_first.proofs.ListLemmas.{at_read_set}
 use Rattle.lalrpop_lr1_first.proofs.TableLemmas.{long_map}

@@ -26,7 +26,7 @@ use Rattle.lalrpop_lr1_core.specs.Views.{lr_state_view, production_view, token_l
 use Rattle.lalrpop_lr1_core.specs.declared.item.Item.{Item}
 use Rattle.lalrpop_lr1_core.specs.declared.state.State.{State}
 use Rattle.lalrpop_lr1_core.specs.declared.state_index.StateIndex.{StateIndex}
-use Rattle.lalrpop_sets.specs.Bits.{has}
+use Rattle.lalrpop_sets.specs.AscendingLists.{has}
 use Rattle.lalrpop_lr1_first.proofs.ListLemmas.{or_cases}
 use Rattle.lalrpop_lr1_first.specs.FirstSetsOf.{IsProductionOf}
 use Rattle.lalrpop_lr1_check_lookaheads.specs.CarriedSets.{AreCarriedSets, AreSetsOfReductions, CarriesToEnd, CarriesTokenToEnd}

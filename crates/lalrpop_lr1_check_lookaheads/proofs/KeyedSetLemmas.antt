@@ -14,8 +14,8 @@ use Rattle.std.proofs.lemmas.Map.Keys.{apart_from_distinct}
 use Rattle.lalrpop_lr1_theory.proofs.ListLemmas.{contains_here, contains_split, get_contains, get_front, get_split, get_last}
 use Rattle.lalrpop_lr1_theory.proofs.NameLemmas.{no_element}
 use Rattle.lalrpop_lr1_theory.proofs.StepLemmas.{some_same}
-use Rattle.lalrpop_sets.specs.Bits.{has}
-use Rattle.lalrpop_sets.proofs.WordLemmas.{cases_eq}
+use Rattle.lalrpop_sets.specs.AscendingLists.{has}
+use Rattle.lalrpop_sets.proofs.AscendingListLemmas.{cases_eq}
 use Rattle.lalrpop_lr1_core.proofs.MemberLemmas.{in_map, map_has}
 use Rattle.lalrpop_lr1_core.proofs.NoConflictLemmas.{at_mapped}
 use Rattle.lalrpop_lr1_first.specs.Listings.{lent}

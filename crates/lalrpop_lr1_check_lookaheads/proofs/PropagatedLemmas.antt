@@ -17,7 +17,7 @@ use Rattle.lalrpop_lr1_theory.proofs.StepLemmas.{some_same}
 use Rattle.lalrpop_lr1_core.specs.Views.{lr_state_view, next_of_number, production_symbol_view, production_view}
 use Rattle.lalrpop_lr1_core.specs.Views.{token_lookahead}
 use Rattle.lalrpop_lr1_core.specs.declared.state.State.{State}
-use Rattle.lalrpop_sets.specs.Bits.{has}
+use Rattle.lalrpop_sets.specs.AscendingLists.{has}
 use Rattle.lalrpop_sets.specs.Tokens.{eof_number}
 use Rattle.lalrpop_lr1_first.specs.FirstSetsOf.{IsProductionOf}
 use Rattle.lalrpop_lr1_first.specs.Listings.{HoldSame}

@@ -2,7 +2,7 @@
 use Rattle.std.proofs.Common.{◌≡◌, ◌∙◌, ◌↔◌, ℕ, Bool, true, false, ◌||◌, List, Some}
 use Rattle.std.proofs.Common.{refl, sym, ap, subst, ⊎_elim, get_or, slice_get}
 use Rattle.std.specs.Prelude.{not}
-use Rattle.lalrpop_sets.specs.Bits.{has}
+use Rattle.lalrpop_sets.specs.AscendingLists.{has}
 use Rattle.lalrpop_lr1_core.proofs.NoConflictLemmas.{at_mapped, mapped_at}
 use Rattle.lalrpop_lr1_first.proofs.ListLemmas.{at_read_set, or_cases, or_right}
 use Rattle.lalrpop_lr1_first.specs.Numbers.{set_of_number}

@@ -9,7 +9,7 @@ use Rattle.lalrpop_lr1_theory.specs.FirstSets.{First0}
 use Rattle.lalrpop_lr1_core.specs.Views.{next_of_number}
 use Rattle.lalrpop_grammar_symbols.specs.Views.{terminal_view}
 use Rattle.std.specs.Prelude.{option_map}
-use Rattle.lalrpop_sets.specs.Bits.{has}
+use Rattle.lalrpop_sets.specs.AscendingLists.{has}
 use Rattle.lalrpop_sets.specs.Tokens.{eof_number}
 use Rattle.lalrpop_lr1_first.specs.FirstSetsOf.{IsFirstSet, IsProductionOf}
 use Rattle.lalrpop_grammar_repr.proofs.EqualLemmas.{both_parts}

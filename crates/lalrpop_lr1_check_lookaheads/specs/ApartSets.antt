@@ -4,7 +4,7 @@ use Rattle.std.specs.List.{list_all}
 use Rattle.lalrpop_grammar_symbols.specs.declared.terminal.TerminalString.{TerminalString}
 use Rattle.lalrpop_grammar_repr.specs.Maps.{at_terminal}
 use Rattle.lalrpop_grammar_repr.specs.declared.terminal_set.TerminalSet.{TerminalSet}
-use Rattle.lalrpop_sets.specs.Bits.{has}
+use Rattle.lalrpop_sets.specs.AscendingLists.{has}
 use Rattle.lalrpop_sets.specs.Tokens.{has_number}
 use Rattle.lalrpop_lr1_core.specs.Conflicts.{ReductionEntry, ShiftEntry}
 use Rattle.lalrpop_lr1_check_lookaheads.specs.ListTests.{HoldsAtEach}

@@ -9,7 +9,7 @@ use Rattle.lalrpop_lr1_theory.specs.Productions as theory
 use Rattle.lalrpop_lr1_theory.specs.States as states
 use Rattle.lalrpop_lr1_core.specs.Views.{lr_state_view, next_of_number, production_view, token_lookahead}
 use Rattle.lalrpop_lr1_core.specs.declared.state.State.{State}
-use Rattle.lalrpop_sets.specs.Bits.{has}
+use Rattle.lalrpop_sets.specs.AscendingLists.{has}
 use Rattle.lalrpop_sets.specs.Tokens.{eof_number}
 use Rattle.lalrpop_lr1_first.specs.FirstSetsOf.{IsProductionOf}
 use Rattle.lalrpop_lr1_check_lookaheads.specs.Ends.{AreEnds, EndKey, HasEndMark, end_key_at}

@@ -1,6 +1,6 @@
 -- Keys with a set of tokens for each, and what they gain: for what is propagated to slots and carried to ends.
 use Rattle.std.specs.Prelude.{ℕ, ◌≡◌, ◌↔◌, ◌⊎◌, List, Contains, Option, None, Some, length, slice_get, true}
-use Rattle.lalrpop_sets.specs.Bits.{has}
+use Rattle.lalrpop_sets.specs.AscendingLists.{has}
 use Rattle.lalrpop_lr1_first.specs.Numbers.{set_of_number}
 
 -- keys, and sets of which each is that of the key at its place

@@ -8,7 +8,7 @@ use Rattle.lalrpop_grammar_repr.specs.declared.production.Symbol.{Symbol}
 use Rattle.lalrpop_grammar_repr.specs.declared.terminal_set.TerminalSet.{TerminalSet}
 use Rattle.lalrpop_lr1_core.specs.declared.item.Item.{Item}
 use Rattle.lalrpop_lr1_core.specs.declared.state.State.{State}
-use Rattle.lalrpop_sets.specs.Bits.{has}
+use Rattle.lalrpop_sets.specs.AscendingLists.{has}
 use Rattle.lalrpop_sets.specs.Tokens.{eof_number}
 use Rattle.lalrpop_lr1_first.specs.Numbers.{set_of_number}
 use Rattle.lalrpop_lr1_first.specs.Tables.{HasNumberedTerminal}

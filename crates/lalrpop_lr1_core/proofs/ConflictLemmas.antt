@@ -8,8 +8,8 @@ use Rattle.std.proofs.lemmas.Bool.{cases_lt}
 use Rattle.std.proofs.lemmas.Bool.Decides.{nat_tests}
 use Rattle.std.proofs.lemmas.List.{append-nil, append_assoc}
 use Rattle.std.proofs.lemmas.List.Concat.{flat_map-append}
-use Rattle.lalrpop_sets.specs.Bits.{Ascends, AscendsFrom, has}
-use Rattle.lalrpop_sets.proofs.WordLemmas.{asc_filter, asc_same, has_above, has_within}
+use Rattle.lalrpop_sets.specs.AscendingLists.{Ascends, AscendsFrom, has}
+use Rattle.lalrpop_sets.proofs.AscendingListLemmas.{asc_filter, asc_same, has_above, has_within}
 use Rattle.lalrpop_lr1_core.specs.Conflicts.{ReductionEntry, in_both, later_pairs, number_past, pair_conflict, pairs_conflicts}
 use Rattle.lalrpop_lr1_core.specs.Conflicts.{sharing_conflict}
 use Rattle.lalrpop_lr1_core.specs.declared.conflict.Action.TheVariants as actions

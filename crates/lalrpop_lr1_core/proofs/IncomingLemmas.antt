@@ -1,157 +1,105 @@
--- What a map from states has for each of them after an edge is pushed.
-use Rattle.std.proofs.Common.{◌≡◌, ◌∙◌, ◌++◌, ◌∷◌, [], ◌⊎◌, ◌↔◌, ◌<◌, ◌+◌, IsFalse, IsTrue, ℕ, Bool, true, false, cond, List, Option, Some, None, Vec}
-use Rattle.std.proofs.Common.{ap, append-nil, get_or, inl, inr, length, map, refl, subst, sym, take}
+-- Edges are found by the states to which they lead: what is noted of one edge more, and what is given of those to one state.
+use Rattle.std.proofs.Common.{◌≡◌, ◌∙◌, ◌++◌, ◌∷◌, [], ◌⊎◌, ◌<◌, ◌≤◌, ◌+◌, ℕ, Bool, true, false, cond, List, Some}
+use Rattle.std.proofs.Common.{ap, append-nil, arith, get_or, inl, inr, length, map, refl, set, sym, subst, take, zero, suc, append_assoc, drop, length-append}
 use Rattle.std.proofs.lemmas.Bool.Decides.{eqb_tells}
-use Rattle.std.proofs.lemmas.List.{reverse-append, take_more}
+use Rattle.std.proofs.lemmas.List.{get_or-replicate, get_or-set_other, get_or-set_same, length-replicate, length-set, reverse-append, take_at, take_more}
+use Rattle.std.proofs.lemmas.List.{take-append-drop}
 use Rattle.std.proofs.lemmas.List.Elements.{filter-append}
-use Rattle.std.proofs.lemmas.Map.Lookups.{exact_unsigned}
-use Rattle.std.specs.BTreeMap.{insert_entry, is_at}
-use Rattle.std.specs.Cmp.{nat_cmp_is}
-use Rattle.std.specs.Global.{Global}
-use Rattle.std.specs.Prelude.{◌==◌, ◌&&◌, filter, reverse}
-use Rattle.std.specs.Map.{lookup, set_value}
-use Rattle.std.specs.Option.{MatchOption}
-use Rattle.std.specs.Ordering.{is_eq, match_ordering, nat_cmp}
-use Rattle.std.specs.declared.cmp.Ordering.{Ordering}
-use Rattle.std.specs.declared.cmp.Ordering.TheVariants.{Less, Equal, Greater}
+use Rattle.std.proofs.lemmas.Option.{get_or_from_slice_get, slice_get-get_or, slice_get_within}
+use Rattle.std.specs.Prelude.{◌==◌, ◌&&◌, filter, replicate, reverse, slice_get}
 use Rattle.lalrpop_grammar_repr.specs.contracts.production.SymbolPartialEq.TheImpl as compared
 use Rattle.lalrpop_grammar_repr.specs.declared.production.Symbol.{Symbol}
 use Rattle.lalrpop_lr1_core.specs.Edges.{sources_of, state_index}
 use Rattle.lalrpop_lr1_core.specs.declared.edge.Edge.{Edge}
-use Rattle.lalrpop_lr1_core.specs.IncomingEdges.{HasIncoming, edges_to, incoming_edges, kept_edges}
-use Rattle.lalrpop_sets.specs.Collections.{Puts}
+use Rattle.lalrpop_lr1_core.specs.declared.state_index.StateIndex.{StateIndex}
+use Rattle.lalrpop_lr1_core.specs.IncomingEdges.{HasNewest, HasPrevious, HaveAllTo, edges_to}
+use Rattle.lalrpop_lr1_theory.proofs.ListLemmas.{get_split}
+use Rattle.lalrpop_lr1_theory.proofs.PlaceLemmas.{slice_get-append}
+use Rattle.lalrpop_lr1_theory.proofs.StepLemmas.{some_same}
 
-at_itself : (k : ℕ) → is_eq (nat_cmp k k) ≡ true
-at_itself k = ap is_eq (sym (nat_cmp_is k k Equal refl))
-
-not_at : (m k : ℕ) → (m ≡ k → ⊥) → is_eq (nat_cmp m k) ≡ false
-not_at m k other = go (nat_cmp m k) refl
+-- an edge to another state adds none
+to_another : (m : ℕ) (edges : List Edge) (e : Edge) → e.target == m ≡ false → edges_to m (edges ++ e ∷ []) ≡ edges_to m edges
+to_another m edges e other =
+    filter-append (λ (x : Edge). x.target == m) edges (e ∷ []) ∙ go (e.target == m) other
   where
-    go : (o : Ordering) → nat_cmp m k ≡ o → is_eq o ≡ false
-    go Less is = refl
-    go Equal is = absurd (other (exact_unsigned m k is))
-    go Greater is = refl
+    go : (b : Bool) → b ≡ false → edges_to m edges ++ cond b (e ∷ []) [] ≡ edges_to m edges
+    go b is = rw is (append-nil (edges_to m edges))
 
-module _ {X : Type 0} (k : ℕ) (c : X) where
-  -- what is found at the key of an entry that came
-  inserted_there : (es : List (ℕ × X)) → lookup (is_at (nat_cmp k)) (insert_entry nat_cmp es k c) ≡ Some c
-  inserted_there [] = rw (at_itself k) refl
-  inserted_there (e ∷ es) = go (nat_cmp k e.0) refl (inserted_there es)
-    where
-      go : (o : Ordering) → nat_cmp k e.0 ≡ o → lookup (is_at (nat_cmp k)) (insert_entry nat_cmp es k c) ≡ Some c
-          → lookup (is_at (nat_cmp k)) (match_ordering o ((k, c) ∷ e ∷ es) ((e.0, c) ∷ es) (e ∷ insert_entry nat_cmp es k c)) ≡ Some c
-      go Less is rest = rw (at_itself k) refl
-      go Equal is rest = rw is refl
-      go Greater is rest = rw is rest
+-- what a list has at a place where nothing was set
+get_unset : {X : Type 0} (xs : List X) (n m : ℕ) (x y : X) → (m ≡ n → ⊥) → slice_get (set xs n x) m ≡ Some y → slice_get xs m ≡ Some y
+get_unset xs n m x y other found =
+    let within : m < length (set xs n x) = slice_get_within (set xs n x) m y found in
+    let below : m < length xs = subst (λ (k : ℕ). m < k) (length-set xs n x) within in
+    slice_get-get_or xs m y below
+    ∙ ap Some (sym (get_or-set_other xs n m x y other) ∙ get_or_from_slice_get (set xs n x) m y y found)
 
-  -- and at another
-  inserted_elsewhere : (m : ℕ) → (m ≡ k → ⊥) → (es : List (ℕ × X))
-      → lookup (is_at (nat_cmp m)) (insert_entry nat_cmp es k c) ≡ lookup (is_at (nat_cmp m)) es
-  inserted_elsewhere m other [] = rw (not_at m k other) refl
-  inserted_elsewhere m other (e ∷ es) = go (nat_cmp k e.0) refl (inserted_elsewhere m other es)
-    where
-      go : (o : Ordering) → nat_cmp k e.0 ≡ o
-          → lookup (is_at (nat_cmp m)) (insert_entry nat_cmp es k c) ≡ lookup (is_at (nat_cmp m)) es
-          → lookup (is_at (nat_cmp m)) (match_ordering o ((k, c) ∷ e ∷ es) ((e.0, c) ∷ es) (e ∷ insert_entry nat_cmp es k c))
-          ≡ cond (is_eq (nat_cmp m e.0)) (Some e.1) (lookup (is_at (nat_cmp m)) es)
-      go Less is rest = rw (not_at m k other) refl
-      go Equal is rest =
-          let same : k ≡ e.0 = exact_unsigned k e.0 is in
-          let apart : is_eq (nat_cmp m e.0) ≡ false = not_at m e.0 (λ h. other (h ∙ sym same)) in
-          rw apart refl
-      go Greater is rest = ap (λ (r : Option X). cond (is_eq (nat_cmp m e.0)) (Some e.1) r) rest
+-- and where something was
+get_set : {X : Type 0} (xs : List X) (n : ℕ) (x y : X) → slice_get (set xs n x) n ≡ Some y → y ≡ x
+get_set xs n x y found =
+    let within : n < length (set xs n x) = slice_get_within (set xs n x) n y found in
+    let below : n < length xs = subst (λ (k : ℕ). n < k) (length-set xs n x) within in
+    sym (get_or_from_slice_get (set xs n x) n y y found) ∙ get_or-set_same xs n x y below
 
-  -- what is found at the key of an entry whose content is another now
-  set_there : (es : List (ℕ × X)) (d : X) → lookup (is_at (nat_cmp k)) es ≡ Some d
-      → lookup (is_at (nat_cmp k)) (set_value (is_at (nat_cmp k)) es c) ≡ Some c
-  set_there [] d found = let z : ⊥ = cc in absurd z
-  set_there (e ∷ es) d found = go (is_eq (nat_cmp k e.0)) refl found (set_there es d)
-    where
-      go : (b : Bool) → is_eq (nat_cmp k e.0) ≡ b → cond b (Some e.1) (lookup (is_at (nat_cmp k)) es) ≡ Some d
-          → (lookup (is_at (nat_cmp k)) es ≡ Some d → lookup (is_at (nat_cmp k)) (set_value (is_at (nat_cmp k)) es c) ≡ Some c)
-          → lookup (is_at (nat_cmp k)) (cond b ((e.0, c) ∷ es) (e ∷ set_value (is_at (nat_cmp k)) es c)) ≡ Some c
-      go true is at rest = rw is refl
-      go false is at rest = rw is (rest at)
+-- before the first edge the newest of each state is none
+pub newest_begins : (edges : List Edge) (states : ℕ) → HasNewest edges 0 (replicate states 0)
+newest_begins edges states m k found =
+    let fewest : 0 ≤ 0 = omega arith in
+    let begins : HaveAllTo m edges 0 0 = (fewest, refl) in
+    let within : m < length (replicate states 0) = slice_get_within (replicate states 0) m k found in
+    let below : m < states = subst (λ (l : ℕ). m < l) (length-replicate states 0) within in
+    let none : k ≡ 0 =
+    sym (get_or_from_slice_get (replicate states 0) m k k found) ∙ get_or-replicate states m 0 k below in
+    subst (HaveAllTo m edges 0) (sym none) begins
 
-  set_elsewhere : (m : ℕ) → (m ≡ k → ⊥) → (es : List (ℕ × X))
-      → lookup (is_at (nat_cmp m)) (set_value (is_at (nat_cmp k)) es c) ≡ lookup (is_at (nat_cmp m)) es
-  set_elsewhere m other [] = refl
-  set_elsewhere m other (e ∷ es) = go (nat_cmp k e.0) refl (set_elsewhere m other es)
-    where
-      go : (o : Ordering) → nat_cmp k e.0 ≡ o
-          → lookup (is_at (nat_cmp m)) (set_value (is_at (nat_cmp k)) es c) ≡ lookup (is_at (nat_cmp m)) es
-          → lookup (is_at (nat_cmp m)) (cond (is_eq o) ((e.0, c) ∷ es) (e ∷ set_value (is_at (nat_cmp k)) es c))
-          ≡ cond (is_eq (nat_cmp m e.0)) (Some e.1) (lookup (is_at (nat_cmp m)) es)
-      go Less is rest = ap (λ (r : Option X). cond (is_eq (nat_cmp m e.0)) (Some e.1) r) rest
-      go Equal is rest =
-          let same : k ≡ e.0 = exact_unsigned k e.0 is in
-          let apart : is_eq (nat_cmp m e.0) ≡ false = not_at m e.0 (λ h. other (h ∙ sym same)) in
-          rw apart refl
-      go Greater is rest = ap (λ (r : Option X). cond (is_eq (nat_cmp m e.0)) (Some e.1) r) rest
-
--- the edge is pushed at a key
-abbrev pub IsPushedAt : List (ℕ × Vec Edge Global) → ℕ → Edge → Bool → List (ℕ × Vec Edge Global) → Type 0
-IsPushedAt old key edge changed new =
-    Puts nat_cmp (λ (v : Vec Edge Global). v.items ≡ []) (λ v w. v.items ≡ w.items) (λ v x w. w.items ≡ v.items ++ x ∷ [])
-    old key edge changed new
-
--- at its own target
-abbrev IsPushed : List (ℕ × Vec Edge Global) → Edge → Bool → List (ℕ × Vec Edge Global) → Type 0
-IsPushed old edge changed new = IsPushedAt old edge.target edge changed new
-
--- what an edge that is pushed adds
-pushed : (old new : List (ℕ × Vec Edge Global)) (edge : Edge) (changed : Bool) → IsPushed old edge changed new → (m : ℕ)
-    → incoming_edges m new ≡ incoming_edges m old ++ edges_to m (edge ∷ [])
-pushed old new edge changed put m = by (lookup (is_at (nat_cmp edge.target)) old) refl put (eqb_tells edge.target m)
+-- the edge in a place is the newest that leads to its state
+pub newest_goes_on : (edges : List Edge) (place : ℕ) (e : Edge) (newest : List ℕ) → place < length edges → e ≡ get_or edges place e
+    → HasNewest edges place newest → HasNewest edges (place + 1) (set newest e.target (place + 1))
+newest_goes_on edges place e newest below is has m k found = go (eqb_tells e.target m)
   where
-    k : ℕ
-    k = edge.target
+    more : take (place + 1) edges ≡ take place edges ++ e ∷ []
+    more = take_more edges place e below ∙ ap (λ (x : Edge). take place edges ++ x ∷ []) (sym is)
 
-    Put : Option (Vec Edge Global) → Type 0
-    Put o =
-        MatchOption o
-        (IsTrue changed × ((e : Vec Edge Global) × (c : Vec Edge Global) × (e.items ≡ []) × (c.items ≡ e.items ++ edge ∷ [])
-        × (new ≡ insert_entry nat_cmp old k c)))
-        (λ c. (d : Vec Edge Global) × (d.items ≡ c.items ++ edge ∷ []) × (IsFalse changed ↔ (c.items ≡ d.items))
-        × (new ≡ set_value (is_at (nat_cmp k)) old d))
+    go : ((e.target == m ≡ true) × (e.target ≡ m)) ⊎ ((e.target == m ≡ false) × (e.target ≡ m → ⊥)) → HaveAllTo m edges (place + 1) k
+    go (inl at) =
+        let itself : slice_get (set newest m (place + 1)) m ≡ Some k =
+        subst (λ (t : ℕ). slice_get (set newest t (place + 1)) m ≡ Some k) at.1 found in
+        let as_many : place + 1 ≤ place + 1 = omega arith in
+        let all : HaveAllTo m edges (place + 1) (place + 1) = (as_many, refl) in
+        subst (HaveAllTo m edges (place + 1)) (sym (get_set newest m (place + 1) k itself)) all
+    go (inr at) =
+        let before : HaveAllTo m edges place k =
+        has m k (get_unset newest e.target m (place + 1) k (λ h. at.1 (sym h)) found) in
+        let fewer : k ≤ place = before.0 in
+        (omega (arith, fewer), before.1 ∙ sym (ap (edges_to m) more ∙ to_another m (take place edges) e at.0))
 
-    here : incoming_edges k new ≡ incoming_edges k old ++ edge ∷ [] → (k == m ≡ true) × (k ≡ m)
-        → incoming_edges m new ≡ incoming_edges m old ++ cond (k == m) (edge ∷ []) []
-    here is at =
-        subst (λ (j : ℕ). incoming_edges j new ≡ incoming_edges j old ++ edge ∷ []) at.1 is ∙ came (k == m) at.0 (incoming_edges m old)
-      where
-        came : (b : Bool) → b ≡ true → (xs : List Edge) → xs ++ edge ∷ [] ≡ xs ++ cond b (edge ∷ []) []
-        came b same xs = rw same refl
+-- before the edge in a place is what was noted of its state so far
+pub previous_noted : (edges : List Edge) (place : ℕ) (e : Edge) (newest : List ℕ) → e ≡ get_or edges place e
+    → HasNewest edges place newest → e.target < length newest → (edge : Edge) → slice_get edges place ≡ Some edge
+    → HaveAllTo edge.target edges place (get_or newest e.target 0)
+previous_noted edges place e newest is has within edge at =
+    let same : e ≡ edge = is ∙ get_or_from_slice_get edges place edge e at in
+    subst (λ (x : Edge). HaveAllTo x.target edges place (get_or newest e.target 0)) same
+    (has e.target (get_or newest e.target 0) (slice_get-get_or newest e.target 0 within))
 
-    elsewhere : incoming_edges m new ≡ incoming_edges m old → k == m ≡ false
-        → incoming_edges m new ≡ incoming_edges m old ++ cond (k == m) (edge ∷ []) []
-    elsewhere is other = is ∙ no_more (k == m) other (incoming_edges m old)
-      where
-        no_more : (b : Bool) → b ≡ false → (xs : List Edge) → xs ≡ xs ++ cond b (edge ∷ []) []
-        no_more b same xs = rw same (sym (append-nil xs))
+-- one edge more
+pub previous_goes_on : (edges : List Edge) (place k : ℕ) (previous : List ℕ) → length previous ≡ place
+    → ((edge : Edge) → slice_get edges place ≡ Some edge → HaveAllTo edge.target edges place k) → HasPrevious edges previous
+    → HasPrevious edges (previous ++ k ∷ [])
+previous_goes_on edges place k previous count noted has n j e at found = go (get_split previous (k ∷ []) n j found)
+  where
+    last : (i : ℕ) → n ≡ length previous + i → slice_get (k ∷ []) i ≡ Some j → HaveAllTo e.target edges n j
+    last zero f g =
+        let here : place ≡ n = omega (arith, f, count) in
+        let same : k ≡ j = some_same k j g in
+        subst (HaveAllTo e.target edges n) same
+        (subst (λ (p : ℕ). HaveAllTo e.target edges p k) here
+        (noted e (subst (λ (p : ℕ). slice_get edges p ≡ Some e) (sym here) at)))
+    last (suc i) f g = let z : ⊥ = cc in absurd z
 
-    by : (o : Option (Vec Edge Global)) → lookup (is_at (nat_cmp k)) old ≡ o → Put o
-        → ((k == m ≡ true) × (k ≡ m)) ⊎ ((k == m ≡ false) × (k ≡ m → ⊥))
-        → incoming_edges m new ≡ incoming_edges m old ++ cond (k == m) (edge ∷ []) []
-    by None found (t, (e, c, empty, made, is)) (inl at) =
-        here (ap (incoming_edges k) is ∙ ap kept_edges (inserted_there k c old) ∙ made
-        ∙ ap (λ (xs : List Edge). xs ++ edge ∷ []) (empty ∙ sym (ap kept_edges found))) at
-    by None found (t, (e, c, empty, made, is)) (inr at) =
-        elsewhere (ap (incoming_edges m) is ∙ ap kept_edges (inserted_elsewhere k c m (λ h. at.1 (sym h)) old)) at.0
-    by (Some v) found (d, made, unchanged, is) (inl at) =
-        here (ap (incoming_edges k) is ∙ ap kept_edges (set_there k d old v found) ∙ made
-        ∙ ap (λ (xs : List Edge). xs ++ edge ∷ []) (sym (ap kept_edges found))) at
-    by (Some v) found (d, made, unchanged, is) (inr at) =
-        elsewhere (ap (incoming_edges m) is ∙ ap kept_edges (set_elsewhere k d m (λ h. at.1 (sym h)) old)) at.0
-
--- the edges up to one more
-pub edges_more : (edges : List Edge) (i : ℕ) (old new : List (ℕ × Vec Edge Global)) (edge : Edge) (changed : Bool) → i < length edges
-    → edge ≡ get_or edges i edge → HasIncoming (take i edges) old → IsPushed old edge changed new
-    → HasIncoming (take (i + 1) edges) new
-edges_more edges i old new edge changed below is has put m =
-    pushed old new edge changed put m ∙ ap (λ (xs : List Edge). xs ++ edges_to m (edge ∷ [])) (has m)
-    ∙ sym (filter-append (λ (e : Edge). e.target == m) (take i edges) (edge ∷ []))
-    ∙ ap (edges_to m) (ap (λ (x : Edge). take i edges ++ x ∷ []) is ∙ sym (take_more edges i edge below))
+    go : (slice_get previous n ≡ Some j) ⊎ ((i : ℕ) × (n ≡ length previous + i) × (slice_get (k ∷ []) i ≡ Some j))
+        → HaveAllTo e.target edges n j
+    go (inl h) = has n j e at h
+    go (inr h) = last h.0 h.1 h.2
 
 -- what passes of a list turned round
 filter_reverse : {X : Type 0} (p : X → Bool) (xs : List X) → filter p (reverse xs) ≡ reverse (filter p xs)
@@ -184,3 +132,95 @@ sources_by_target m x edges =
           where
             passed : (c : Bool) → c ≡ false → filter by_symbol es ≡ cond c (e ∷ filter by_symbol es) (filter by_symbol es)
             passed c other = rw other refl
+
+-- the sources are those of the edges to the state
+pub sources_by_edges_to : (m : ℕ) (x : Symbol) (es fs : List Edge) → edges_to m es ≡ edges_to m fs → sources_of m x es ≡ sources_of m x fs
+sources_by_edges_to m x es fs same =
+    sym (sources_by_target m x es) ∙ ap (sources_of m x) same ∙ sources_by_target m x fs
+
+-- what the newest edge gives, and then those before it
+pub newest_gives : (m : ℕ) (x : Symbol) (es before : List Edge) (e : Edge) → edges_to m es ≡ edges_to m (before ++ e ∷ [])
+    → sources_of m x es
+    ≡ cond (e.target == m && (compared.ghosts).eq e.symbol x) (state_index e.source ∷ sources_of m x before) (sources_of m x before)
+newest_gives m x es before e same =
+    sources_by_edges_to m x es (before ++ e ∷ []) same
+    ∙ ap (λ (l : List Edge). map source (filter by_symbol l)) (reverse-append before (e ∷ [])) ∙ go (by_symbol e)
+  where
+    source : Edge → StateIndex
+    source it = state_index it.source
+
+    by_symbol : Edge → Bool
+    by_symbol it = it.target == m && (compared.ghosts).eq it.symbol x
+
+    go : (b : Bool) → map source (cond b (e ∷ filter by_symbol (reverse before)) (filter by_symbol (reverse before)))
+        ≡ cond b (source e ∷ map source (filter by_symbol (reverse before))) (map source (filter by_symbol (reverse before)))
+    go true = refl
+    go false = refl
+
+-- the newest edge is one of those by the symbol to the state
+pub newest_taken : (m : ℕ) (x : Symbol) (es before : List Edge) (e : Edge) → edges_to m es ≡ edges_to m (before ++ e ∷ [])
+    → e.target ≡ m → (compared.ghosts).eq e.symbol x ≡ true → sources_of m x es ≡ state_index e.source ∷ sources_of m x before
+newest_taken m x es before e same at by = newest_gives m x es before e same ∙ go (eqb_tells e.target m)
+  where
+    go : ((e.target == m ≡ true) × (e.target ≡ m)) ⊎ ((e.target == m ≡ false) × (e.target ≡ m → ⊥))
+        → cond (e.target == m && (compared.ghosts).eq e.symbol x) (state_index e.source ∷ sources_of m x before) (sources_of m x before)
+        ≡ state_index e.source ∷ sources_of m x before
+    go (inl is) = rw is.0 (rw by refl)
+    go (inr not) = absurd (not.1 at)
+
+-- or it is by another symbol
+pub newest_passed : (m : ℕ) (x : Symbol) (es before : List Edge) (e : Edge) → edges_to m es ≡ edges_to m (before ++ e ∷ [])
+    → (compared.ghosts).eq e.symbol x ≡ false → sources_of m x es ≡ sources_of m x before
+newest_passed m x es before e same by = newest_gives m x es before e same ∙ go (e.target == m)
+  where
+    go : (b : Bool) → cond (b && (compared.ghosts).eq e.symbol x) (state_index e.source ∷ sources_of m x before) (sources_of m x before)
+        ≡ sources_of m x before
+    go true = rw by refl
+    go false = refl
+
+-- or to another state
+pub newest_elsewhere : (m : ℕ) (x : Symbol) (es before : List Edge) (e : Edge) → edges_to m es ≡ edges_to m (before ++ e ∷ [])
+    → (e.target ≡ m → ⊥) → sources_of m x es ≡ sources_of m x before
+newest_elsewhere m x es before e same other = newest_gives m x es before e same ∙ go (eqb_tells e.target m)
+  where
+    go : ((e.target == m ≡ true) × (e.target ≡ m)) ⊎ ((e.target == m ≡ false) × (e.target ≡ m → ⊥))
+        → cond (e.target == m && (compared.ghosts).eq e.symbol x) (state_index e.source ∷ sources_of m x before) (sources_of m x before)
+        ≡ sources_of m x before
+    go (inl is) = absurd (other is.1)
+    go (inr not) = rw not.0 refl
+
+-- what is before the newest of the first so many edges, where all to a state are among the first p of those before it
+pub newest_among : (m n k p : ℕ) (e : Edge) (edges : List Edge) → take n edges ≡ take p edges ++ e ∷ [] → HaveAllTo m edges p k
+    → edges_to m (take n edges) ≡ edges_to m (take k edges ++ e ∷ [])
+newest_among m n k p e edges is all =
+    ap (edges_to m) is ∙ filter-append by_target (take p edges) (e ∷ [])
+    ∙ ap (λ (l : List Edge). l ++ edges_to m (e ∷ [])) (sym all.1) ∙ sym (filter-append by_target (take k edges) (e ∷ []))
+  where
+    by_target : Edge → Bool
+    by_target it = it.target == m
+
+-- the last of the first so many edges stands behind the others of them
+pub last_of_front : (n : ℕ) (edges others : List Edge) (e : Edge) → take n edges ≡ others ++ e ∷ []
+    → (slice_get edges (length others) ≡ Some e) × (take n edges ≡ take (length others) edges ++ e ∷ [])
+    × (length others < length (take n edges))
+last_of_front n edges others e front = (
+  ap (λ (l : List Edge). slice_get l (length others)) whole ∙ slice_get-append others (e ∷ drop n edges) 0 (length others) (omega arith),
+  front ∙ ap (λ (l : List Edge). l ++ e ∷ []) (sym (ap (take (length others)) whole ∙ take_at others (e ∷ drop n edges) (length others) refl)),
+  subst (λ (k : ℕ). length others < k) (sym (ap length front ∙ length-append others (e ∷ []))) (omega arith),
+)
+  where
+    whole : edges ≡ others ++ e ∷ drop n edges
+    whole =
+        sym (take-append-drop n edges) ∙ ap (λ (l : List Edge). l ++ drop n edges) front
+        ∙ append_assoc others (e ∷ []) (drop n edges)
+
+-- and what is found of it, where among so many edges before it are all to its state
+pub last_found : (m n k : ℕ) (edges others : List Edge) (e : Edge) → take n edges ≡ others ++ e ∷ []
+    → HaveAllTo m edges (length others) k
+    → (k < length (take n edges)) × (edges_to m (take n edges) ≡ edges_to m (take k edges ++ e ∷ []))
+last_found m n k edges others e front all =
+    let last : (slice_get edges (length others) ≡ Some e) × (take n edges ≡ take (length others) edges ++ e ∷ [])
+    × (length others < length (take n edges)) = last_of_front n edges others e front in
+    let few : k ≤ length others = all.0 in
+    let fewer : length others < length (take n edges) = last.2 in
+    (omega (arith, few, fewer), newest_among m n k (length others) e edges last.1 all)

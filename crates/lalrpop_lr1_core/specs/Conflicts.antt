@@ -6,7 +6,7 @@ use Rattle.lalrpop_grammar_symbols.specs.declared.terminal.TerminalString.{Termi
 use Rattle.lalrpop_grammar_repr.specs.Maps.{at_terminal}
 use Rattle.lalrpop_grammar_repr.specs.declared.production.Production.{Production}
 use Rattle.lalrpop_grammar_repr.specs.declared.terminal_set.TerminalSet.{TerminalSet}
-use Rattle.lalrpop_sets.specs.Bits.{has}
+use Rattle.lalrpop_sets.specs.AscendingLists.{has}
 use Rattle.lalrpop_sets.specs.Tokens.{has_number, number_alone}
 use Rattle.lalrpop_sets.specs.declared.nil.Nil.{Nil}
 use Rattle.lalrpop_lr1_core.specs.declared.conflict.Action.TheVariants as actions

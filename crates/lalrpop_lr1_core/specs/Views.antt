@@ -12,7 +12,7 @@ use Rattle.lalrpop_grammar_repr.specs.declared.production.Symbol.TheVariants as 
 use Rattle.lalrpop_grammar_repr.specs.declared.terminal_set.TerminalSet.{TerminalSet}
 use Rattle.lalrpop_lr1_theory.specs.Productions as theory
 use Rattle.lalrpop_lr1_theory.specs.States as states
-use Rattle.lalrpop_sets.specs.Bits.{has}
+use Rattle.lalrpop_sets.specs.AscendingLists.{has}
 use Rattle.lalrpop_sets.specs.Tokens.{eof_number}
 use Rattle.lalrpop_sets.specs.declared.nil.Nil.{Nil}
 use Rattle.lalrpop_lr1_core.specs.declared.state_index.StateIndex.{StateIndex}

@@ -1,8 +1,9 @@
 //! The graph of states: their shifts and gotos as edges.
 
-ghost use Rattle.std.specs.Prelude.{◌≡◌, ◌++◌, ◌↔◌, ◌∷◌, [], ℕ, Contains, IfOk, IsTrue, MatchOption, OnOk, map};
+ghost use Rattle.std.specs.Prelude.{◌≡◌, ◌+◌, ◌<◌, ◌++◌, ◌↔◌, ◌∷◌, [], ℕ, Contains, IfOk, IsTrue, MatchOption, OnOk, Some};
+ghost use Rattle.std.specs.Prelude.{length, map, slice_get, take};
 ghost use Rattle.std.specs.List.Sorted.{IsStrictlyIncreasing};
-ghost use Rattle.lalrpop_lr1_core.specs.IncomingEdges.{HasIncoming, edges_to};
+ghost use Rattle.lalrpop_lr1_core.specs.IncomingEdges.{HasNewest, HasPrevious, HaveAllTo, edges_to};
 ghost use Rattle.lalrpop_lr1_core.specs.Edges.{SymbolsLead, state_edges, edges_of, goto_edge, shift_edge, sources_of, targets_of};
 
 use crate::edge::Edge;
@@ -11,7 +12,6 @@ use crate::state_index::StateIndex;
 use crate::trace::{sources_by, state_indexes};
 use lalrpop_grammar_repr::{Map, Symbol};
 use lalrpop_grammar_symbols::{List, NonterminalString, TerminalString};
-use lalrpop_sets::Multimap;
 use std::alloc::{AllocError, Global};
 use std::collections::BTreeSet;
 use std::marker::Model;
@@ -21,20 +21,22 @@ use std::marker::Model;
 pub struct StateGraph {
     // The edges, state by state, the shifts of each before its gotos.
     edges: List<Edge>,
-    // The same edges by the states to which they lead, those to one state in this order.
-    incoming: Multimap<usize, Vec<Edge>>,
+    // For each state how many edges there are until the newest that leads to it, 0 where none does.
+    newest: List<usize>,
+    // For each edge how many there are until the one before it that leads to the same state, 0 where none does.
+    previous: List<usize>,
 }
 
 impl Model for StateGraph {
-    ghost use Rattle.std.specs.Prelude.{List};
+    ghost use Rattle.std.specs.Prelude.{List, length};
     ghost use Rattle.lalrpop_lr1_core.specs.declared.edge.Edge.{Edge};
-    ghost use Rattle.lalrpop_lr1_core.specs.IncomingEdges.{HasIncoming};
+    ghost use Rattle.lalrpop_lr1_core.specs.IncomingEdges.{HasNewest, HasPrevious};
 
     ghost Value = { List Edge };
 
     ghost view = { λ it. it.edges };
 
-    ghost invariant = { λ it. HasIncoming it.edges it.incoming };
+    ghost invariant = { λ it. HasNewest it.edges (length it.edges) it.newest × HasPrevious it.edges it.previous };
 }
 
 /// The states to which the edges from a state lead, the newest edge first. `StateGraph::successors` makes it.
@@ -48,8 +50,9 @@ pub struct Successors<'s> {
 /// The states from which edges by a symbol lead to a state, the newest edge first. `StateGraph::predecessors` makes it.
 #[derive(Clone, Copy)]
 pub struct Predecessors<'s> {
-    // The edges that are still to come, the last one first.
-    edges: &'s [Edge],
+    graph: &'s StateGraph,
+    // So many of its edges are still to come, the last one first.
+    left: usize,
     symbol: &'s Symbol,
     state: usize,
 }
@@ -102,15 +105,40 @@ fn add_edges<L>(
     add_goto_edges(source, &state.gotos, edges)
 }
 
-/// The edges by the states to which they lead, those to one state in their order.
-fn by_target(alloc: Global, edges: &[Edge]) -> Result<Multimap<usize, Vec<Edge>>, AllocError>
-    ensures { IfOk result (λ incoming. HasIncoming edges.now incoming) }
+/// Notes the edge in this place as the newest that leads to its state: how many edges there were until the one before it.
+fn link(edges: &[Edge], place: usize, newest: &mut [usize]) -> usize
+    requires place { place < length edges.now }
+    requires newest { HasNewest edges.now place newest.old }
+    ensures newest { HasNewest edges.now (place + 1) newest.new }
+    ensures previous { (edge : Edge) → slice_get edges.now place ≡ Some edge → HaveAllTo edge.target edges.now place result }
 {
-    let mut incoming = Multimap::new(alloc);
-    for edge in edges {
-        incoming.push(edge.target, edge.try_clone()?)?;
+    let target = edges[place].target;
+    if target < newest.len() {
+        let before = newest[target];
+        newest[target] = place + 1;
+        before
+    } else {
+        place
     }
-    Ok(incoming)
+}
+
+/// For each of so many states how many edges there are until the newest that leads to it, and for each edge until the one before it that
+/// leads to the same state.
+fn links_of(
+    alloc: Global,
+    edges: &[Edge],
+    states: usize,
+) -> Result<(List<usize>, List<usize>), AllocError>
+    ensures newest { IfOk result (λ links. HasNewest edges.now (length edges.now) links.0) }
+    ensures previous { IfOk result (λ links. HasPrevious edges.now links.1) }
+{
+    let mut newest = vec![in alloc; 0; states]?;
+    let mut previous = Vec::with_capacity(alloc, edges.len())?;
+    for place in 0..edges.len() {
+        let before = link(edges, place, newest.as_mut_slice());
+        previous.push(before)?;
+    }
+    Ok((List::from_vec(newest), List::from_vec(previous)))
 }
 
 /// The target of the last edge from the state among the edges, which become those before it.
@@ -128,14 +156,19 @@ fn next_target(edges: &mut &[Edge], state: usize) -> Option<StateIndex>
     None
 }
 
-/// The source of the last edge by the symbol to the state among the edges, which become those before it.
-fn next_source(edges: &mut &[Edge], symbol: &Symbol, state: usize) -> Option<StateIndex>
-    ensures { let before = sources_of state symbol.now edges.old.now in
-        let after = sources_of state symbol.now edges.new.now in
+/// The source of the newest edge by the symbol to the state among the first so many edges of the graph, which become fewer.
+fn next_source(
+    graph: &StateGraph,
+    left: &mut usize,
+    symbol: &Symbol,
+    state: usize,
+) -> Option<StateIndex>
+    ensures { let before = sources_of state symbol.now (take left.old graph.now) in
+        let after = sources_of state symbol.now (take left.new graph.now) in
         MatchOption result ((before ≡ []) × (after ≡ [])) (λ index. before ≡ index ∷ after) }
 {
-    while let Some((newest, others)) = edges.split_last() {
-        *edges = others;
+    while let Some((newest, before)) = graph.newest_to(state, *left) {
+        *left = before;
         if newest.target == state && newest.symbol == *symbol {
             return Some(StateIndex(newest.source));
         }
@@ -169,7 +202,7 @@ impl<'s> Iterator for Predecessors<'s> {
     ghost remaining = { item_count predecessors_left };
 
     fn next(&mut self) -> Option<StateIndex> {
-        next_source(&mut self.edges, self.symbol, self.state)
+        next_source(self.graph, &mut self.left, self.symbol, self.state)
     }
 }
 
@@ -184,8 +217,12 @@ impl StateGraph {
         for (source, state) in states.iter().enumerate() {
             add_edges(source, state, &mut edges)?;
         }
-        let incoming = by_target(alloc, edges.as_slice())?;
-        Ok(StateGraph { edges, incoming })
+        let (newest, previous) = links_of(alloc, edges.as_slice(), states.len())?;
+        Ok(StateGraph {
+            edges,
+            newest,
+            previous,
+        })
     }
 
     /// The states from which the symbols lead to the state, ascending, each once.
@@ -220,13 +257,53 @@ impl StateGraph {
         }
     }
 
-    /// The edges that lead to the state.
-    fn edges_to(&self, state: StateIndex) -> &[Edge]
-        ensures { result.now ≡ edges_to state.0 self.now }
+    /// Among how many edges are all that lead to the state.
+    fn count_to(&self, state: usize) -> usize
+        ensures { HaveAllTo state self.now (length self.now) result }
     {
-        match self.incoming.get(&state.0) {
-            Some(edges) => edges.as_slice(),
-            None => &[],
+        match self.newest.as_slice().get(state) {
+            Some(count) => *count,
+            None => self.edges.len(),
+        }
+    }
+
+    /// Among how many edges are all that lead to the state of the edge in this place and are before it.
+    fn count_before(&self, place: usize) -> usize
+        ensures { (edge : Edge) → slice_get self.now place ≡ Some edge → HaveAllTo edge.target self.now place result }
+    {
+        match self.previous.as_slice().get(place) {
+            Some(count) => *count,
+            None => place,
+        }
+    }
+
+    /// The first so many edges.
+    fn front(&self, count: usize) -> &[Edge]
+        ensures { result.now ≡ take count self.now }
+    {
+        let edges = self.edges.as_slice();
+        if count < edges.len() {
+            &edges[..count]
+        } else {
+            edges
+        }
+    }
+
+    /// The last of the first so many edges, and among how many edges are all that lead to the state and are before it.
+    fn newest_to(&self, state: usize, count: usize) -> Option<(&Edge, usize)>
+        ensures { MatchOption result (take count self.now ≡ []) (λ found. (found.1 < length (take count self.now))
+            × (edges_to state (take count self.now) ≡ edges_to state (take found.1 self.now ++ found.0.now ∷ []))) }
+    {
+        match self.front(count).split_last() {
+            Some((newest, others)) => {
+                let place = others.len();
+                if newest.target == state {
+                    Some((newest, self.count_before(place)))
+                } else {
+                    Some((newest, place))
+                }
+            }
+            None => None,
         }
     }
 
@@ -235,7 +312,8 @@ impl StateGraph {
         ensures { predecessors_left result ≡ sources_of state.0 symbol.now self.now }
     {
         Predecessors {
-            edges: self.edges_to(state),
+            graph: self,
+            left: self.count_to(state.0),
             symbol,
             state: state.0,
         }

@@ -21,7 +21,7 @@ use Rattle.lalrpop_lr1_theory.specs.States.{HasLookahead, finished_reductions}
 use Rattle.lalrpop_lr1_theory.proofs.ListLemmas.{contains_get, contains_split, get_contains}
 use Rattle.lalrpop_lr1_theory.proofs.ReductionLemmas.{reduces_finished}
 use Rattle.lalrpop_lr1_theory.proofs.StepLemmas.{some_same}
-use Rattle.lalrpop_sets.specs.Bits.{has}
+use Rattle.lalrpop_sets.specs.AscendingLists.{has}
 use Rattle.lalrpop_sets.specs.Tokens.{eof_number, has_number}
 use Rattle.lalrpop_sets.specs.TokensLeft.{token_of_number, token_or}
 use Rattle.lalrpop_lr1_core.specs.Conflicts.{ReductionEntry, ShiftEntry, in_both, later_pairs, pair_conflict, pairs_conflicts}

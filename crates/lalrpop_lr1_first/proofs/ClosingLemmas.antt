@@ -9,7 +9,7 @@ use Rattle.lalrpop_lr1_theory.specs.Productions as theory
 use Rattle.lalrpop_lr1_theory.proofs.ListLemmas.{contains_get, contains_here, contains_later, contains_split, get_contains}
 use Rattle.lalrpop_lr1_core.specs.Views.{next_of_number}
 use Rattle.lalrpop_lr1_core.proofs.NoConflictLemmas.{at_mapped}
-use Rattle.lalrpop_sets.specs.Bits.{has}
+use Rattle.lalrpop_sets.specs.AscendingLists.{has}
 use Rattle.lalrpop_lr1_first.specs.ClosureTables.{AreItems, ClosesSeed, HoldTokens, IsClosureTable, SeedsAll, TableMarks}
 use Rattle.lalrpop_lr1_first.specs.ClosureTables.{edge_of_rule, name_behind}
 use Rattle.lalrpop_lr1_first.specs.ClosureTables.{rule_edge_to, started_items, started_with}
@@ -30,8 +30,8 @@ use Rattle.lalrpop_lr1_first.proofs.FlowLemmas.{at_all_marks}
 use Rattle.lalrpop_lr1_core.proofs.GraphLemmas.{flat_has}
 use Rattle.lalrpop_lr1_first.proofs.ListLemmas.{or_cases, or_left, or_right}
 use Rattle.lalrpop_grammar_symbols.proofs.BoolLemmas.{and_both}
-use Rattle.lalrpop_sets.proofs.WordLemmas.{eqb_not}
-use Rattle.lalrpop_sets.proofs.WordLemmas.{eqb_self}
+use Rattle.lalrpop_sets.proofs.AscendingListLemmas.{eqb_not}
+use Rattle.lalrpop_sets.proofs.AscendingListLemmas.{eqb_self}
 use Rattle.lalrpop_lr1_first.proofs.SeedLemmas.{name_is, name_there, rest_within}
 use Rattle.lalrpop_lr1_first.proofs.SweepLemmas.{says_within}
 use Rattle.lalrpop_lr1_first.proofs.TableLemmas.{get_mapped, is_item_table, left_below, rules_are, table_numbering}

@@ -7,7 +7,7 @@ use Rattle.lalrpop_lr1_theory.specs.Productions.{Symbol, nonterminal, Production
 use Rattle.lalrpop_lr1_theory.specs.FirstSets.{First0}
 use Rattle.lalrpop_lr1_theory.specs.Automata.{Marked}
 use Rattle.lalrpop_lr1_theory.specs.Automata as marked
-use Rattle.lalrpop_sets.specs.Bits.{has}
+use Rattle.lalrpop_sets.specs.AscendingLists.{has}
 use Rattle.lalrpop_lr1_first.specs.Flows.{FlowEdge, Flows, begins, brings, comes, passes, starts}
 use Rattle.lalrpop_lr1_first.specs.ItemTables.{AreEdgesOf, AreFirstsOf, AreSeeded, FlowsToStart, HasMark, HasPlace}
 use Rattle.lalrpop_lr1_first.specs.ItemTables.{IsItemTable, ListsItem, ListsNext}
@@ -15,8 +15,8 @@ use Rattle.lalrpop_lr1_first.specs.Numbers.{IsNumbering, SpellsSymbols}
 use Rattle.lalrpop_lr1_first.specs.declared.place.NumberedRule.{NumberedRule}
 use Rattle.lalrpop_lr1_first.proofs.ListLemmas.{both_and, or_cases, or_left, or_right}
 use Rattle.lalrpop_grammar_symbols.proofs.BoolLemmas.{and_both}
-use Rattle.lalrpop_sets.proofs.WordLemmas.{eqb_not}
-use Rattle.lalrpop_sets.proofs.WordLemmas.{eqb_self}
+use Rattle.lalrpop_sets.proofs.AscendingListLemmas.{eqb_not}
+use Rattle.lalrpop_sets.proofs.AscendingListLemmas.{eqb_self}
 
 -- what is spelled with a first number begins with its symbol
 spelled_first : (symbol_at : ℕ → Option Symbol) (s : ℕ) (more : List ℕ) (ys : List Symbol) (x : Symbol) →

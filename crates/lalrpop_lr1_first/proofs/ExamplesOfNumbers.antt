@@ -1,7 +1,7 @@
 -- Computed: A = B "C"; B = "D" or empty; X = "E", by numbers. Names A, B, X are 0, 1, 2; "C", "D", "E" are 3, 4, 5, and as tokens
 -- 0, 1, 2; the end is 3.
 use Rattle.std.proofs.Common.{◌≡◌, ℕ, true, false, List, [], ◌∷◌, Some, None, refl}
-use Rattle.lalrpop_sets.specs.Bits.{has}
+use Rattle.lalrpop_sets.specs.AscendingLists.{has}
 use Rattle.lalrpop_lr1_first.specs.ClosureTables.{name_first, started_items}
 use Rattle.lalrpop_lr1_first.specs.Flows.{comes, slot_marks}
 use Rattle.lalrpop_lr1_first.specs.Numbers.{says}

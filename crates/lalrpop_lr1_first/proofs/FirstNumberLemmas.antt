@@ -6,13 +6,13 @@ use Rattle.lalrpop_grammar_symbols.specs.Symbols.{Text, Terminal}
 use Rattle.lalrpop_lr1_theory.specs.Productions.{Symbol, terminal, nonterminal, Production, Next}
 use Rattle.lalrpop_lr1_theory.specs.FirstSets.{First0, IsClosedTable, TableSays}
 use Rattle.lalrpop_lr1_theory.proofs.FirstTableLemmas.{first_said, said_first}
-use Rattle.lalrpop_sets.specs.Bits.{has}
+use Rattle.lalrpop_sets.specs.AscendingLists.{has}
 use Rattle.lalrpop_lr1_first.specs.Numbers.{AreRulesOf, IsNumbering, RuleByNumbers, SpellsSymbols, says, set_of_number}
 use Rattle.lalrpop_lr1_first.specs.FirstSteps.{AreSound, HasNext, HaveTerminals}
 use Rattle.lalrpop_lr1_first.proofs.ListLemmas.{both_and, eqb_true, or_cases, or_left, or_right}
 use Rattle.lalrpop_grammar_symbols.proofs.BoolLemmas.{and_both}
-use Rattle.lalrpop_sets.proofs.WordLemmas.{eqb_not}
-use Rattle.lalrpop_sets.proofs.WordLemmas.{eqb_self}
+use Rattle.lalrpop_sets.proofs.AscendingListLemmas.{eqb_not}
+use Rattle.lalrpop_sets.proofs.AscendingListLemmas.{eqb_self}
 
 module _ (symbol_at : ℕ → Option Symbol) (next_at : ℕ →
     Next) (end names : ℕ) (numbered : IsNumbering symbol_at next_at end names)

@@ -5,7 +5,7 @@ use Rattle.std.proofs.Common.{length, get_or, set, refl, sym, ap, subst, arith, 
 use Rattle.std.proofs.Common.{Option}
 use Rattle.std.proofs.lemmas.Bool.{cases_lt}
 use Rattle.std.proofs.lemmas.Option.{slice_get_within}
-use Rattle.lalrpop_sets.specs.Bits.{has}
+use Rattle.lalrpop_sets.specs.AscendingLists.{has}
 use Rattle.lalrpop_lr1_first.specs.Numbers.{set_of_number}
 use Rattle.lalrpop_lr1_first.specs.FirstSteps.{missing_in}
 use Rattle.lalrpop_lr1_first.specs.Flows.{AreBelow, EdgesAreWithin, FlowEdge, Flows, MarksAreWithin, all_marks, begins, brings, passes}
@@ -14,9 +14,9 @@ use Rattle.lalrpop_lr1_first.specs.FlowSteps.{FlowsTo, HasFlowedAlong, IsFlowing
 use Rattle.lalrpop_lr1_first.specs.Walks.{place_in_walk}
 use Rattle.lalrpop_lr1_first.proofs.ListLemmas.{at_set_other, at_set_same, both_and, eqb_true}
 use Rattle.lalrpop_grammar_symbols.proofs.BoolLemmas.{and_both}
-use Rattle.lalrpop_sets.proofs.WordLemmas.{cases_eq}
-use Rattle.lalrpop_sets.proofs.WordLemmas.{eqb_not}
-use Rattle.lalrpop_sets.proofs.WordLemmas.{eqb_self}
+use Rattle.lalrpop_sets.proofs.AscendingListLemmas.{cases_eq}
+use Rattle.lalrpop_sets.proofs.AscendingListLemmas.{eqb_not}
+use Rattle.lalrpop_sets.proofs.AscendingListLemmas.{eqb_self}
 use Rattle.lalrpop_lr1_first.proofs.ListLemmas.{get_any}
 use Rattle.lalrpop_lr1_first.proofs.ListLemmas.{or_cases, or_left, or_right, set_itself}
 use Rattle.lalrpop_lr1_first.proofs.MissingLemmas.{missing_less, missing_set}

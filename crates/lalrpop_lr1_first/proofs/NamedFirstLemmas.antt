@@ -22,7 +22,7 @@ use Rattle.lalrpop_lr1_theory.specs.FirstSets.{Derives, First0, TableSays, ends,
 use Rattle.lalrpop_lr1_theory.proofs.FirstTableLemmas.{first_left, first_said, said_first}
 use Rattle.lalrpop_lr1_core.specs.Views.{next_of_number, production_symbol_view}
 use Rattle.lalrpop_lr1_core.proofs.NoConflictLemmas.{same_terminal}
-use Rattle.lalrpop_sets.specs.Bits.{has}
+use Rattle.lalrpop_sets.specs.AscendingLists.{has}
 use Rattle.lalrpop_sets.specs.Tokens.{eof_number, number_alone}
 use Rattle.lalrpop_lr1_first.specs.FirstNumbers.{terminal_set}
 use Rattle.lalrpop_lr1_first.specs.FirstSetsOf.{AreFirstSetsOf, IsFirstSet, IsFirstSetBefore, IsProductionOf, named_from, set_at_name}
@@ -32,9 +32,9 @@ use Rattle.lalrpop_lr1_first.specs.Numbers.{says_by, set_of_number}
 use Rattle.lalrpop_lr1_first.specs.Tables.{pairs_from}
 use Rattle.lalrpop_lr1_first.proofs.ListLemmas.{both_and, eqb_true, or_cases, or_left, or_right}
 use Rattle.lalrpop_grammar_symbols.proofs.BoolLemmas.{and_both}
-use Rattle.lalrpop_sets.proofs.WordLemmas.{cases_eq}
-use Rattle.lalrpop_sets.proofs.WordLemmas.{eqb_not}
-use Rattle.lalrpop_sets.proofs.WordLemmas.{eqb_self}
+use Rattle.lalrpop_sets.proofs.AscendingListLemmas.{cases_eq}
+use Rattle.lalrpop_sets.proofs.AscendingListLemmas.{eqb_not}
+use Rattle.lalrpop_sets.proofs.AscendingListLemmas.{eqb_self}
 use Rattle.lalrpop_lr1_core.proofs.MemberLemmas.{some_is}
 use Rattle.lalrpop_lr1_first.proofs.TableLemmas.{end_is_none, same_next}
 

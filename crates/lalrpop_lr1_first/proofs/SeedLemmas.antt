@@ -7,7 +7,7 @@ use Rattle.std.specs.Prelude.{if◌then◌else◌, nat_lt, filter_map}
 use Rattle.std.proofs.lemmas.Bool.{cases_lt}
 use Rattle.std.proofs.lemmas.List.Elements.{Contains-append_cases, Contains-append_left, Contains-append_right, filter_map-append}
 use Rattle.lalrpop_lr1_theory.proofs.ListLemmas.{contains_here, contains_split}
-use Rattle.lalrpop_sets.specs.Bits.{Ascends, AscendsFrom, has}
+use Rattle.lalrpop_sets.specs.AscendingLists.{Ascends, AscendsFrom, has}
 use Rattle.lalrpop_lr1_first.specs.ClosureTables.{SeedsAll, SeedsOne, name_first, started_items, started_with}
 use Rattle.lalrpop_lr1_first.specs.FirstNumbers.{name_count, table_end}
 use Rattle.lalrpop_lr1_first.specs.Flows.{MarksAreWithin, all_marks, comes, slot_marks}
@@ -20,8 +20,8 @@ use Rattle.lalrpop_lr1_first.specs.declared.place.Place.{Place}
 use Rattle.lalrpop_lr1_first.proofs.AddLemmas.{flat_more}
 use Rattle.lalrpop_lr1_first.proofs.FlowLemmas.{all_marks_set, at_all_marks, length_all_marks, marks_step, read_slot_marks}
 use Rattle.lalrpop_lr1_first.proofs.ListLemmas.{at_set_other, at_set_same, eqb_true, or_cases, or_left, or_right}
-use Rattle.lalrpop_sets.proofs.WordLemmas.{cases_eq}
-use Rattle.lalrpop_sets.proofs.WordLemmas.{eqb_self}
+use Rattle.lalrpop_sets.proofs.AscendingListLemmas.{cases_eq}
+use Rattle.lalrpop_sets.proofs.AscendingListLemmas.{eqb_self}
 use Rattle.lalrpop_lr1_first.proofs.PlaceLemmas.{drop_past}
 use Rattle.lalrpop_lr1_theory.proofs.NameLemmas.{no_element}
 

@@ -3,7 +3,7 @@ use Rattle.std.proofs.Common.{◌≡◌, ◌∙◌, ℕ, zero, suc, ◌+◌, ◌
 use Rattle.std.proofs.Common.{List, [], ◌∷◌, ◌++◌, length, map, refl, ap, sym, arith}
 use Rattle.std.proofs.Common.{Some, slice_get, ⊎_elim}
 use Rattle.std.proofs.lemmas.Bool.{cases_lt}
-use Rattle.lalrpop_sets.specs.Bits.{has}
+use Rattle.lalrpop_sets.specs.AscendingLists.{has}
 use Rattle.lalrpop_sets.specs.Tokens.{number_alone}
 use Rattle.lalrpop_lr1_first.specs.FirstNumbers.{AreSoundSets, AreTableSets, name_count, table_end, terminal_set}
 use Rattle.lalrpop_lr1_first.specs.NumberedGrammars.{IsNumberTable, table_names}

@@ -8,14 +8,14 @@ use Rattle.lalrpop_grammar_symbols.specs.Symbols.{Text}
 use Rattle.lalrpop_lr1_theory.specs.Productions.{Symbol, nonterminal, Production, Next}
 use Rattle.lalrpop_lr1_theory.specs.FirstSets.{First0, TableSays}
 use Rattle.lalrpop_lr1_theory.proofs.FirstTableLemmas.{first_left, first_said}
-use Rattle.lalrpop_sets.specs.Bits.{has}
+use Rattle.lalrpop_sets.specs.AscendingLists.{has}
 use Rattle.lalrpop_lr1_first.specs.Numbers.{AreRulesOf, IsNumbering, IsRuleOf, RuleByNumbers, says, set_of_number}
 use Rattle.lalrpop_lr1_first.specs.FirstSteps.{AreClosed, AreClosedTo, AreSound, AreWithin, HasNext, HaveTerminals, SweepsTo, missing_in}
 use Rattle.lalrpop_lr1_first.specs.Walks.{place_in_walk}
 use Rattle.lalrpop_lr1_first.proofs.FirstNumberLemmas.{says_table}
 use Rattle.lalrpop_lr1_first.proofs.ListLemmas.{at_set_other, at_set_same, eqb_true, or_cases, or_left, or_right}
 use Rattle.lalrpop_grammar_symbols.proofs.BoolLemmas.{and_both}
-use Rattle.lalrpop_sets.proofs.WordLemmas.{cases_eq}
+use Rattle.lalrpop_sets.proofs.AscendingListLemmas.{cases_eq}
 use Rattle.lalrpop_lr1_first.proofs.ListLemmas.{set_itself, set_long}
 use Rattle.lalrpop_lr1_core.proofs.MemberLemmas.{some_is}
 use Rattle.lalrpop_lr1_first.proofs.MissingLemmas.{missing_less, missing_set}

@@ -12,7 +12,7 @@ use Rattle.lalrpop_lr1_theory.specs.FirstSets.{First0}
 use Rattle.lalrpop_lr1_theory.proofs.ListLemmas.{get_contains}
 use Rattle.lalrpop_lr1_core.specs.Views.{next_of_number, production_view}
 use Rattle.lalrpop_lr1_core.proofs.MemberLemmas.{in_map, map_has}
-use Rattle.lalrpop_sets.specs.Bits.{has}
+use Rattle.lalrpop_sets.specs.AscendingLists.{has}
 use Rattle.lalrpop_sets.specs.Tokens.{eof_number}
 use Rattle.lalrpop_lr1_first.specs.FirstNumbers.{AreSymbolFirsts, name_count, rule_of, table_end, table_rules}
 use Rattle.lalrpop_lr1_first.specs.FirstSetsOf.{AreFirstSetsOf, IsFirstSet, IsProductionOf, named_from, set_at_name, set_or_none}

@@ -1,11 +1,11 @@
 -- The first tokens of symbols, gathered symbol by symbol: for the first set of a rest.
 use Rattle.std.proofs.Common.{◌≡◌, ◌∙◌, ℕ, Bool, true, false, not, ◌||◌, ◌&&◌, eqb, List, [], ◌∷◌}
 use Rattle.std.proofs.Common.{refl, sym, ap}
-use Rattle.lalrpop_sets.specs.Bits.{has}
+use Rattle.lalrpop_sets.specs.AscendingLists.{has}
 use Rattle.lalrpop_lr1_first.specs.Numbers.{says_by}
 use Rattle.lalrpop_lr1_first.specs.FirstSteps.{IsGathered}
 use Rattle.lalrpop_lr1_first.proofs.ListLemmas.{eqb_true}
-use Rattle.lalrpop_sets.proofs.WordLemmas.{eqb_self}
+use Rattle.lalrpop_sets.proofs.AscendingListLemmas.{eqb_self}
 use Rattle.lalrpop_grammar_symbols.proofs.BoolLemmas.{or_false}
 
 one_step : (r s e x w : Bool) → (e ≡ true → r ≡ false) → (not e && (r || s)) || (w && x) ≡ r || ((not e && s) || (w && x))

@@ -6,7 +6,7 @@ use Rattle.lalrpop_grammar_repr.specs.declared.grammar.Grammar.{Grammar}
 use Rattle.lalrpop_lr1_theory.specs.Productions as theory
 use Rattle.lalrpop_lr1_theory.specs.Automata.{Marked}
 use Rattle.lalrpop_lr1_core.specs.Views.{next_of_number}
-use Rattle.lalrpop_sets.specs.Bits.{has}
+use Rattle.lalrpop_sets.specs.AscendingLists.{has}
 use Rattle.lalrpop_lr1_first.specs.FirstNumbers.{AreSymbolFirsts, ArePlaceFirsts, name_count, table_end}
 use Rattle.lalrpop_lr1_first.specs.Flows.{MarksAreWithin, all_marks}
 use Rattle.lalrpop_lr1_first.specs.ItemTables.{AreSeeded, HasMark, HasPlace, ListsItem, ListsNext, SeedBrings}

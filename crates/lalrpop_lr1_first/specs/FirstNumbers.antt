@@ -4,7 +4,7 @@ use Rattle.lalrpop_grammar_symbols.specs.declared.terminal.TerminalString.{Termi
 use Rattle.lalrpop_grammar_repr.specs.Maps.{at_terminal}
 use Rattle.lalrpop_grammar_repr.specs.declared.terminal_set.TerminalSet.{TerminalSet}
 use Rattle.lalrpop_lr1_core.specs.Views.{next_of_number}
-use Rattle.lalrpop_sets.specs.Bits.{has}
+use Rattle.lalrpop_sets.specs.AscendingLists.{has}
 use Rattle.lalrpop_sets.specs.Tokens.{eof_number, number_alone}
 use Rattle.lalrpop_lr1_first.specs.FirstSteps.{AreClosed, AreSound, AreWithin, HaveTerminals, SweepsTo}
 use Rattle.lalrpop_lr1_first.specs.NumberedGrammars.{IsSeenIn, table_names, table_productions}

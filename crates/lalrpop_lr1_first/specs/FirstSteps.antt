@@ -4,7 +4,7 @@ use Rattle.std.specs.Prelude.{nat_eq, ◌≡◌, Option, Some, slice_get}
 use Rattle.lalrpop_grammar_symbols.specs.Symbols.{Text}
 use Rattle.lalrpop_lr1_theory.specs.Productions.{Symbol, nonterminal, Production, Next}
 use Rattle.lalrpop_lr1_theory.specs.FirstSets.{HoldsFirstSets}
-use Rattle.lalrpop_sets.specs.Bits.{has}
+use Rattle.lalrpop_sets.specs.AscendingLists.{has}
 use Rattle.lalrpop_lr1_first.specs.Numbers.{RuleByNumbers, says, says_by, set_of_number}
 use Rattle.lalrpop_lr1_first.specs.Walks.{place_in_walk}
 

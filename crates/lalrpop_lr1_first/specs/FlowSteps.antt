@@ -1,6 +1,6 @@
 -- How far marks have flowed: for the sweeps over edges.
 use Rattle.std.specs.Prelude.{ℕ, ◌+◌, ◌<◌, Bool, true, false, ◌||◌, ◌&&◌, List, length, nat_eq, ◌≡◌, Some, slice_get}
-use Rattle.lalrpop_sets.specs.Bits.{has}
+use Rattle.lalrpop_sets.specs.AscendingLists.{has}
 use Rattle.lalrpop_lr1_first.specs.Numbers.{set_of_number}
 use Rattle.lalrpop_lr1_first.specs.FirstSteps.{missing_in}
 use Rattle.lalrpop_lr1_first.specs.Flows.{AreBelow, FlowEdge, Flows, comes}

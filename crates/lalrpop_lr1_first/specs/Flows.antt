@@ -2,7 +2,7 @@
 use Rattle.std.specs.Prelude.{ℕ, ◌+◌, ◌<◌, ◌≤◌, Bool, true, ◌||◌, ◌&&◌, not, List, [], ◌∷◌}
 use Rattle.std.specs.Prelude.{map, nat_eq, ◌≡◌}
 use Rattle.std.specs.Prelude.{Option, Some, None, slice_get, slice_index_or}
-use Rattle.lalrpop_sets.specs.Bits.{has}
+use Rattle.lalrpop_sets.specs.AscendingLists.{has}
 use Rattle.lalrpop_lr1_first.specs.Numbers.{set_of_number}
 
 -- an edge from a slot to another, with what can come first behind what it stands for

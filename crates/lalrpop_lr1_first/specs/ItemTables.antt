@@ -3,7 +3,7 @@ use Rattle.std.specs.Prelude.{ℕ, ◌+◌, ◌<◌, ◌≤◌, Bool, true, List
 use Rattle.std.specs.Prelude.{Option, Some, slice_get, Contains}
 use Rattle.lalrpop_lr1_theory.specs.Productions.{Symbol, nonterminal, Production, Next}
 use Rattle.lalrpop_lr1_theory.specs.FirstSets.{First0}
-use Rattle.lalrpop_sets.specs.Bits.{has}
+use Rattle.lalrpop_sets.specs.AscendingLists.{has}
 use Rattle.lalrpop_lr1_first.specs.Flows.{FlowEdge, Flows, comes}
 use Rattle.lalrpop_lr1_first.specs.Numbers.{SpellsSymbols, set_of_number}
 use Rattle.lalrpop_lr1_first.specs.declared.place.NumberedRule.{NumberedRule}

@@ -2,7 +2,7 @@
 
 ghost use Rattle.std.specs.Prelude.{◌≡◌, ◌≤◌, ◌+◌, ◌<◌, ◌∷◌, [], ℕ, true, None};
 ghost use Rattle.std.specs.Prelude.{Some, IfOk, IsTrue, OnOk, filter_map, length, map, slice_get, slice_index_or};
-ghost use Rattle.lalrpop_sets.specs.Bits.{Ascends, has};
+ghost use Rattle.lalrpop_sets.specs.AscendingLists.{Ascends, has};
 ghost use Rattle.lalrpop_lr1_first.specs.ClosureTables.{
   AreItems,
   HasEmptyClosure,

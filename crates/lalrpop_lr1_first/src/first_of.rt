@@ -1,7 +1,7 @@
 //! First sets by number: of each symbol, by sweeps over the rules, there and back, and of each place.
 
 ghost use Rattle.std.specs.Prelude.{◌≡◌, ◌++◌, ℕ, [], true, IfOk, OnOk, drop, length, map};
-ghost use Rattle.lalrpop_sets.specs.Bits.{Ascends, has};
+ghost use Rattle.lalrpop_sets.specs.AscendingLists.{Ascends, has};
 ghost use Rattle.lalrpop_sets.specs.Tokens.{eof_number};
 ghost use Rattle.lalrpop_lr1_first.specs.FirstNumbers.{
   AreSoundSets,

@@ -3,7 +3,7 @@
 ghost use Rattle.std.specs.Prelude.{◌≡◌, ◌≤◌, ◌||◌, ℕ, IfOk, OnOk, length, map};
 ghost use Rattle.std.specs.List.Sorted.{IsStrictlySortedBy};
 ghost use Rattle.lalrpop_grammar_symbols.specs.contracts.names.NonterminalStringOrd.TheImpl as names_order;
-ghost use Rattle.lalrpop_sets.specs.Bits.{has, Ascends};
+ghost use Rattle.lalrpop_sets.specs.AscendingLists.{has, Ascends};
 ghost use Rattle.lalrpop_sets.specs.Tokens.{eof_number};
 ghost use Rattle.lalrpop_lr1_core.specs.Views.{production_symbol_view};
 ghost use Rattle.lalrpop_lr1_first.specs.FirstSetsOf.{

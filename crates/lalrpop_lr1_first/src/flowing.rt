@@ -2,7 +2,7 @@
 
 ghost use Rattle.std.specs.Prelude.{◌≡◌, ◌<◌, ◌+◌, ◌||◌, ◌↔◌, ℕ, true, false};
 ghost use Rattle.std.specs.Prelude.{IsTrue, IsFalse, length, List, IfOk, nat_eq};
-ghost use Rattle.lalrpop_sets.specs.Bits.{has};
+ghost use Rattle.lalrpop_sets.specs.AscendingLists.{has};
 ghost use Rattle.lalrpop_sets.specs.Tokens.{eof_number};
 ghost use Rattle.lalrpop_lr1_first.specs.Flows.{EdgesAreWithin, Flows, MarksAreWithin, all_marks, slot_marks};
 ghost use Rattle.lalrpop_lr1_first.specs.FlowEdges.{RestsAreWithin, edges_seen};

@@ -17,7 +17,7 @@ use Rattle.lalrpop_lr1_theory.specs.Productions as theory
 use Rattle.lalrpop_lr1_theory.specs.States as theory_states
 use Rattle.lalrpop_lr1_theory.specs.States.{HasEdge, Reduces}
 use Rattle.lalrpop_lr1_theory.proofs.StepLemmas.{some_same}
-use Rattle.lalrpop_sets.specs.Bits.{has}
+use Rattle.lalrpop_sets.specs.AscendingLists.{has}
 use Rattle.lalrpop_sets.specs.Tokens.{eof_number}
 use Rattle.lalrpop_lr1_core.specs.Views.{goto_view, lr_state_view, production_view, reduction_view, shift_view}
 use Rattle.lalrpop_lr1_core.specs.Views.{token_lookahead}

@@ -22,7 +22,7 @@ use Rattle.lalrpop_lr1_theory.proofs.ListLemmas.{contains_get, contains_here, co
 use Rattle.lalrpop_lr1_theory.proofs.ListLemmas.{get_split}
 use Rattle.lalrpop_lr1_theory.proofs.PlaceLemmas.{slice_get-append}
 use Rattle.lalrpop_lr1_theory.proofs.StepLemmas.{some_same}
-use Rattle.lalrpop_sets.specs.Bits.{has}
+use Rattle.lalrpop_sets.specs.AscendingLists.{has}
 use Rattle.lalrpop_sets.specs.Tokens.{eof_number}
 use Rattle.lalrpop_sets.specs.TokensLeft.{token_of_number, token_or, tokens_of}
 use Rattle.lalrpop_sets.specs.declared.token.Token.{Token}

@@ -20,7 +20,7 @@ use Rattle.lalrpop_lr1_least_trees.proofs.BuildLemmas.{AreHad, IsClosed, closed_
 use Rattle.lalrpop_lr1_least_trees.proofs.CountLemmas.{count_other, count_there, entry_other, entry_there, leaf_count, name_count}
 use Rattle.lalrpop_lr1_least_trees.proofs.MeasureLemmas.{falls, total}
 use Rattle.lalrpop_lr1_least_trees.proofs.CountLemmas.{node_from, node_other, node_parts, table_long, weight_falls}
-use Rattle.lalrpop_sets.proofs.WordLemmas.{cases_eq}
+use Rattle.lalrpop_sets.proofs.AscendingListLemmas.{cases_eq}
 
 has_or_not : (xs : List ℕ) (x : ℕ) → Contains xs x ⊎ (Contains xs x → ⊥)
 has_or_not [] x = inr (λ c. omega (arith, c.1))

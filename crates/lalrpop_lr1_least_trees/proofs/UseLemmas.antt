@@ -10,7 +10,7 @@ use Rattle.lalrpop_lr1_theory.proofs.ListLemmas.{contains_here, contains_split}
 use Rattle.lalrpop_lr1_theory.proofs.StepLemmas.{some_same}
 use Rattle.lalrpop_lr1_least_trees.specs.NumberedTrees.{NumberRule}
 use Rattle.lalrpop_lr1_least_trees.specs.Searches.{AddsUses, AreUses, number_lists}
-use Rattle.lalrpop_sets.proofs.WordLemmas.{cases_eq}
+use Rattle.lalrpop_sets.proofs.AscendingListLemmas.{cases_eq}
 
 lists_long : (lists : List (List ℕ)) (s : ℕ) (l : List ℕ) → length (set lists s l) ≡ length lists
 lists_long [] s l = refl

@@ -11,7 +11,7 @@ use Rattle.lalrpop_lr1_theory.proofs.StepLemmas.{some_same}
 use Rattle.lalrpop_lr1_first.specs.FirstSetsOf.{IsProductionOf}
 use Rattle.lalrpop_lr1_first.specs.NumberedGrammars.{IsNumberTableOf}
 use Rattle.lalrpop_lr1_first.specs.declared.numbered.Numbered.{Numbered}
-use Rattle.lalrpop_sets.proofs.WordLemmas.{cases_eq}
+use Rattle.lalrpop_sets.proofs.AscendingListLemmas.{cases_eq}
 use Rattle.lalrpop_lr1_paths.specs.GraphPaths.{EdgesAreBelow}
 use Rattle.lalrpop_lr1_paths.specs.declared.graph_paths.graph.Edge.{Edge}
 use Rattle.lalrpop_lr1_least_trees.specs.RestForests.{HasRest, NoLeaves}

@@ -13,7 +13,7 @@ use Rattle.lalrpop_lr1_theory.specs.Productions.{Next, Production}
 use Rattle.lalrpop_lr1_theory.proofs.ListLemmas.{contains_get, contains_here, contains_split}
 use Rattle.lalrpop_lr1_theory.proofs.NameLemmas.{no_element}
 use Rattle.lalrpop_lr1_theory.proofs.StepLemmas.{some_same}
-use Rattle.lalrpop_sets.specs.Bits.{has}
+use Rattle.lalrpop_sets.specs.AscendingLists.{has}
 use Rattle.lalrpop_sets.specs.Tokens.{eof_number, has_number}
 use Rattle.lalrpop_lr1_core.specs.Conflicts.{ReductionEntry, ShiftEntry, in_both, later_pairs, pair_conflict, pairs_conflicts}
 use Rattle.lalrpop_lr1_core.specs.Conflicts.{sharing_conflict, shift_conflict, shift_conflicts, shift_record, token_conflicts}

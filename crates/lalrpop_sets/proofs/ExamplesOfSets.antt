@@ -3,25 +3,11 @@ use Rattle.std.proofs.Common.{◌≡◌, ℕ, Bool, true, false, List, [], ◌�
 use Rattle.std.specs.Ordering.{nat_cmp}
 use Rattle.lalrpop_grammar_symbols.specs.declared.terminal.TerminalString.TheVariants as terminal
 use Rattle.lalrpop_grammar_repr.specs.declared.terminal_set.TerminalSet.{TerminalSet}
-use Rattle.lalrpop_sets.specs.Bits.{has_bit, bit_numbers, Ascends}
+use Rattle.lalrpop_sets.specs.AscendingLists.{Ascends}
 use Rattle.lalrpop_sets.specs.Collections.{Puts}
 use Rattle.lalrpop_sets.specs.Queues.{number_in, queue_of, with_kernel}
 use Rattle.lalrpop_sets.specs.TokensLeft.{tokens_of}
 use Rattle.lalrpop_sets.specs.declared.token.Token.TheVariants as token
-
--- 5 is the bits 0 and 2, and bit 64 is the first of the second word
-listed_five : bit_numbers (5 ∷ []) ≡ 0 ∷ 2 ∷ []
-unfolding bit_numbers has_bit
-listed_five = refl
-
-listed_second : bit_numbers (0 ∷ 1 ∷ []) ≡ 64 ∷ []
-unfolding bit_numbers has_bit
-listed_second = refl
-
--- zero words at the end make no difference
-listed_zeros : bit_numbers (5 ∷ 0 ∷ 0 ∷ []) ≡ bit_numbers (5 ∷ [])
-unfolding bit_numbers has_bit
-listed_zeros = refl
 
 -- a list that holds a number twice is none of a set
 twice_refused : Ascends (2 ∷ 2 ∷ []) → ⊥

@@ -1,7 +1,10 @@
-pub mod Bits
+pub mod AscendingLists
 pub mod Collections
 pub mod IterLeft
 pub mod Queues
-pub mod Tokens
+pub mod RangeEdits
+pub mod RangeWalks
+pub mod Ranges
 pub mod TokenTexts
+pub mod Tokens
 pub mod TokensLeft

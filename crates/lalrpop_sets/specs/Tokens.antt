@@ -2,7 +2,7 @@
 use Rattle.std.specs.Prelude.{ℕ, ◌+◌, Bool, false, not, List, [], ◌∷◌, length, nat_eq, Option, Some, None}
 use Rattle.lalrpop_grammar_repr.specs.Maps.{at_terminal}
 use Rattle.lalrpop_grammar_repr.specs.declared.terminal_set.TerminalSet.{TerminalSet}
-use Rattle.lalrpop_sets.specs.Bits.{has}
+use Rattle.lalrpop_sets.specs.AscendingLists.{has}
 use Rattle.lalrpop_sets.specs.declared.token.Token.{Token}
 use Rattle.lalrpop_sets.specs.declared.token.Token.TheVariants.{Eof, Error, Terminal}
 

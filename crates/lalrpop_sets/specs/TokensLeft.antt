@@ -1,9 +1,9 @@
 -- The tokens of a set in order of their numbers, as its iterator gives them.
-use Rattle.std.specs.Prelude.{ℕ, ◌+◌, ◌-◌, Bool, cond, List, map, filter, nat_eq, Option, Some, None, slice_get}
+use Rattle.std.specs.Prelude.{ℕ, ◌+◌, Bool, cond, List, map, filter, nat_eq, nat_lt, Option, Some, None, slice_get}
 use Rattle.std.specs.List.{range_with_len}
 use Rattle.lalrpop_grammar_symbols.specs.declared.terminal.TerminalString.{TerminalString}
 use Rattle.lalrpop_grammar_repr.specs.declared.terminal_set.TerminalSet.{TerminalSet}
-use Rattle.lalrpop_sets.specs.Bits.{has, has_bit}
+use Rattle.lalrpop_sets.specs.AscendingLists.{has}
 use Rattle.lalrpop_sets.specs.Tokens.{eof_number}
 use Rattle.lalrpop_sets.specs.declared.token.Token.{Token}
 use Rattle.lalrpop_sets.specs.declared.token.Token.TheVariants as owned
@@ -29,6 +29,6 @@ token_of_number ts k = token_or (slice_get ts.all k) (nat_eq k (eof_number ts))
 abbrev pub tokens_of : TerminalSet → List ℕ → List Token
 tokens_of ts s = map (token_of_number ts) (filter (has s) (range_with_len 0 (eof_number ts + 2)))
 
--- those from the number on that the words have
-abbrev pub left_from : TerminalSet → List ℕ → ℕ → List Token
-left_from ts words next = map (token_of_number ts) (filter (has_bit words) (range_with_len next (eof_number ts + 2 - next)))
+-- the tokens with these numbers, but for numbers that no token has
+abbrev pub known_tokens : TerminalSet → List ℕ → List Token
+known_tokens ts ns = map (token_of_number ts) (filter (λ k. nat_lt k (eof_number ts + 2)) ns)

@@ -2,7 +2,7 @@
 
 ghost use Rattle.std.specs.Prelude.{◌≡◌, ◌↔◌, ◌||◌, ◌∷◌, ◌++◌, [], ℕ, IsFalse, IfOk, IfErr, not, true, false};
 ghost use Rattle.std.specs.BTreeSet.{insert_key};
-ghost use Rattle.lalrpop_sets.specs.Bits.{has};
+ghost use Rattle.lalrpop_sets.specs.AscendingLists.{has};
 
 use crate::nil::Nil;
 use crate::token_set::TokenSet;

@@ -5,15 +5,21 @@
 #![tactic(auto)]
 
 mod collection;
+mod common;
+mod joined;
 mod kernel_set;
 mod multimap;
+mod next_token;
 mod nil;
+mod number_texts;
 mod order;
+mod range_walk;
+mod ranges;
 mod token;
+mod token_range;
 mod token_set;
 mod token_set_iter;
 mod token_text;
-mod words;
 
 pub use collection::Collection;
 pub use kernel_set::{Kernel, KernelSet};

@@ -7,7 +7,7 @@ ghost use Rattle.lalrpop_lr1_build.specs.FrontItems.{front_of, shown_front};
 ghost use Rattle.lalrpop_lr1_first.specs.FirstSetsOf.{AreFirstSetsOf};
 ghost use Rattle.lalrpop_lr1_first.specs.NumberedGrammars.{HasItsTerminals};
 ghost use Rattle.lalrpop_lr1_build.specs.Nexts.{IsNextIn};
-ghost use Rattle.lalrpop_sets.specs.Bits.{has};
+ghost use Rattle.lalrpop_sets.specs.AscendingLists.{has};
 ghost use Rattle.lalrpop_sets.specs.Tokens.{eof_number};
 
 use crate::build_states;

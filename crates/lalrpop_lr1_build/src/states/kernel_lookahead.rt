@@ -3,7 +3,7 @@
 ghost use Rattle.std.specs.Prelude.{◌≡◌, ◌↔◌, ◌+◌, ℕ, true, Contains, IfOk};
 ghost use Rattle.lalrpop_grammar_repr.specs.declared.terminal_set.TerminalSet.{TerminalSet};
 ghost use Rattle.lalrpop_lr1_theory.specs.Productions.{Next};
-ghost use Rattle.lalrpop_sets.specs.Bits.{Ascends, has};
+ghost use Rattle.lalrpop_sets.specs.AscendingLists.{Ascends, has};
 ghost use Rattle.lalrpop_sets.specs.Tokens.{eof_number};
 ghost use Rattle.lalrpop_lr1_build.specs.Nexts.{IsNextIn};
 
@@ -51,7 +51,7 @@ impl KernelLookahead for Nil {
 
 impl KernelLookahead for TokenSet {
     ghost use Rattle.std.specs.Prelude.{refl};
-    ghost use Rattle.lalrpop_sets.proofs.WordLemmas.{asc_same};
+    ghost use Rattle.lalrpop_sets.proofs.AscendingListLemmas.{asc_same};
     ghost use Rattle.lalrpop_lr1_build.specs.NextLaws.{equal_sets, token_nexts};
 
     ghost in_order = { Ascends };

@@ -5,7 +5,7 @@ ghost use Rattle.lalrpop_lr1_first.specs.ClosureTables.{IsClosureTable};
 ghost use Rattle.lalrpop_lr1_first.specs.FirstNumbers.{table_end};
 ghost use Rattle.lalrpop_lr1_build.specs.Kernels.{HaveOrderedLookaheads, AreKernelItems, IsClosureOf, places_of};
 ghost use Rattle.lalrpop_lr1_build.specs.Merges.{AddsJoined, Merges, TakesBefore};
-ghost use Rattle.lalrpop_sets.specs.Bits.{Ascends};
+ghost use Rattle.lalrpop_sets.specs.AscendingLists.{Ascends};
 
 use crate::states::kernel_lookahead::KernelLookahead;
 use lalrpop_grammar_symbols::List;

@@ -31,7 +31,7 @@ fn name_at(table: &Numbered<'_>, place: usize) -> Option<usize>
 }
 
 /// Lists that a name begins with another, if there is one.
-fn add_name(
+pub(crate) fn add_name(
     from: usize,
     name: Option<usize>,
     begins: &mut Vec<Vec<usize>>,

@@ -1,7 +1,7 @@
 //! Ends of productions in states, with the tokens that come to each.
 
 ghost use Rattle.std.specs.Prelude.{◌≡◌, ◌↔◌, ℕ, [], IfOk, OnOk, Some, slice_get, true};
-ghost use Rattle.lalrpop_sets.specs.Bits.{has};
+ghost use Rattle.lalrpop_sets.specs.AscendingLists.{has};
 ghost use Rattle.lalrpop_lr1_check_lookaheads.specs.Ends.{AreEnds, GainsEndMarks, HasEndMark, end_key, end_table};
 ghost use Rattle.lalrpop_lr1_check_lookaheads.specs.ItemHashes.{end_hash, same_end_hash};
 ghost use Rattle.lalrpop_lr1_check_lookaheads.specs.KeyedSets.{IsMarkIn};

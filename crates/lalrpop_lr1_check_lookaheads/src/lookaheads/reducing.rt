@@ -1,7 +1,7 @@
 //! By what states reduce, and whether they do before all tokens that are carried to ends.
 
 ghost use Rattle.std.specs.Prelude.{◌≡◌, ◌↔◌, ℕ, IfOk, IsTrue, OnOk, Some, true};
-ghost use Rattle.lalrpop_sets.specs.Bits.{has};
+ghost use Rattle.lalrpop_sets.specs.AscendingLists.{has};
 ghost use Rattle.lalrpop_lr1_check_lookaheads.specs.Ends.{
   AreEnds,
   EndKey,

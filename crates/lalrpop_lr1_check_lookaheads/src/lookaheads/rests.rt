@@ -1,7 +1,7 @@
 //! What stands behind a nonterminal, and what can come first there.
 
 ghost use Rattle.std.specs.Prelude.{◌≡◌, ◌↔◌, ◌<◌, ℕ, IfOk, IsTrue, None, map, true};
-ghost use Rattle.lalrpop_sets.specs.Bits.{has};
+ghost use Rattle.lalrpop_sets.specs.AscendingLists.{has};
 ghost use Rattle.lalrpop_sets.specs.Tokens.{eof_number};
 ghost use Rattle.lalrpop_lr1_theory.specs.FirstSets.{First0};
 ghost use Rattle.lalrpop_lr1_core.specs.Views.{next_of_number, production_symbol_view};

@@ -1,7 +1,7 @@
 //! Whether a state has no conflict, found by looking at each reduction and each shift once.
 
 ghost use Rattle.std.specs.Prelude.{◌≡◌, ◌||◌, ◌↔◌, [], IfOk, IsTrue, length, ℕ};
-ghost use Rattle.lalrpop_sets.specs.Bits.{has};
+ghost use Rattle.lalrpop_sets.specs.AscendingLists.{has};
 ghost use Rattle.lalrpop_lr1_core.specs.Conflicts.{token_conflicts};
 ghost use Rattle.lalrpop_lr1_check_lookaheads.specs.ApartSets.{ShareNone, AreReductionsApart, are_free, has_any, is_free};
 

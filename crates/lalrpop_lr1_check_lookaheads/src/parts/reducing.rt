@@ -1,7 +1,7 @@
 //! By what states reduce: finished items alone, without conflicts, and by the start before the end alone.
 
 ghost use Rattle.std.specs.Prelude.{◌≡◌, ◌↔◌, IfOk, IsTrue, Contains, length, map, ℕ, true};
-ghost use Rattle.lalrpop_sets.specs.Bits.{has};
+ghost use Rattle.lalrpop_sets.specs.AscendingLists.{has};
 ghost use Rattle.lalrpop_sets.specs.Tokens.{eof_number};
 ghost use Rattle.lalrpop_lr1_theory.specs.Laws.{HaveNoConflict};
 ghost use Rattle.lalrpop_lr1_core.specs.Conflicts.{token_conflicts};

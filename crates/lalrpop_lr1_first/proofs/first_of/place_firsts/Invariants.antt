@@ -1,5 +1,5 @@
 use Rattle.std.proofs.Common.{◌≡◌, ◌<◌, ℕ, length}
-use Rattle.lalrpop_sets.specs.Bits.{has}
+use Rattle.lalrpop_sets.specs.AscendingLists.{has}
 use Rattle.lalrpop_lr1_first.specs.FirstNumbers.{table_end}
 use Rattle.lalrpop_lr1_first.specs.Numbers.{says, set_of_number}
 use Rattle.lalrpop_lr1_first.specs.Tables.{rest_of}

@@ -1,7 +1,7 @@
 use Rattle.std.proofs.Common.{◌≡◌, ◌∙◌, ℕ, ◌<◌, ◌||◌, arith, ap, drop, get_or, length}
 use Rattle.std.proofs.Common.{slice_get, sym, subst}
 use Rattle.lalrpop_lr1_core.specs.Views.{next_of_number}
-use Rattle.lalrpop_sets.specs.Bits.{has}
+use Rattle.lalrpop_sets.specs.AscendingLists.{has}
 use Rattle.lalrpop_lr1_first.specs.FirstNumbers.{AreSymbolsBelow, name_count, rule_of, symbol_count, table_end, table_rules}
 use Rattle.lalrpop_lr1_first.specs.NumberedGrammars.{IsSeenIn, table_names, table_productions}
 use Rattle.lalrpop_lr1_first.specs.Numbers.{says, set_of_number}

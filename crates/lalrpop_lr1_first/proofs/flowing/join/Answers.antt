@@ -1,6 +1,6 @@
 use Rattle.std.proofs.Common.{refl}
 use Rattle.lalrpop_lr1_first.proofs.ListLemmas.{or_left}
-use Rattle.lalrpop_sets.proofs.WordLemmas.{eqb_self}
+use Rattle.lalrpop_sets.proofs.AscendingListLemmas.{eqb_self}
 use Rattle.lalrpop_lr1_first.proofs.flowing.join.Goals as goal
 
 pub returns-in-None-clause-grown : goal.returns-in-None-clause-grown

@@ -1,32 +1,33 @@
-use Rattle.std.proofs.Common.{◌≤◌, ◌*◌, ◌<◌, ◌∙◌, sym, length, arith}
-use Rattle.lalrpop_sets.proofs.OrderLemmas.{order_all, order_none, parted}
+use Rattle.std.proofs.Common.{◌∙◌, refl}
+use Rattle.lalrpop_sets.specs.RangeWalks.{ranges_behind, ranges_to_come}
+use Rattle.lalrpop_sets.proofs.OrderLemmas.{compared_first, compared_step, heads_none, heads_some, order_ended}
 use Rattle.lalrpop_sets.proofs.order.compare.Goals as goal
 
-pub loop-k-init : goal.loop-k-init
-loop-k-init c =
-    let h : 64 * length c.args.words.now ≤ 64 * c.longer-n.result = omega (arith, c.longer-n.ensures.words) in
-    let g : 64 * length c.args.other.now ≤ 64 * c.longer-n.result = omega (arith, c.longer-n.ensures.other) in
-    order_all c.args.words.now c.args.other.now (64 * c.longer-n.result) h g
+pub loop-range-init : goal.loop-range-init
+loop-range-init c = record { one = c.requires.one; other = c.requires.other; same = refl }
 
-pub returns-in-Some : goal.returns-in-Some
-returns-in-Some c =
-    let h : 64 * length c.args.words.now ≤ 64 * c.longer-n.result = omega (arith, c.longer-n.ensures.words) in
-    let g : 64 * length c.args.other.now ≤ 64 * c.longer-n.result = omega (arith, c.longer-n.ensures.other) in
-    let l : c.loop-k.k < 64 * c.longer-n.result = omega (arith, c.loop-k-test.true, c.loop-k.auto.k-end) in
-    (parted c.args.words.now c.args.other.now (64 * c.longer-n.result) h g c.loop-k.k c.order_at.result l c.order_at.ensures).0
-    c.in-Some.order c.in-Some.is ∙ c.loop-k.invariant
+pub returns-then-range-next : goal.returns-then-range-next
+returns-then-range-next c =
+    c.cmp.ensures
+    ∙ compared_first _ (ranges_to_come c.loop-range.one) (ranges_to_come c.loop-range.other) c.in-Some.range c.in-Some.next _ _
+    c.loop-range.invariant (heads_some c.loop-range.one.head c.loop-range.other.head (ranges_behind c.loop-range.one) (ranges_behind c.loop-range.other) c.in-Some.range c.in-Some.next c.in-Some.ensures).0 (heads_some c.loop-range.one.head c.loop-range.other.head (ranges_behind c.loop-range.one) (ranges_behind c.loop-range.other) c.in-Some.range c.in-Some.next c.in-Some.ensures).1 c.if-range-next.true
 
-pub loop-k-preserved : goal.loop-k-preserved
-loop-k-preserved c =
-    let h : 64 * length c.args.words.now ≤ 64 * c.longer-n.result = omega (arith, c.longer-n.ensures.words) in
-    let g : 64 * length c.args.other.now ≤ 64 * c.longer-n.result = omega (arith, c.longer-n.ensures.other) in
-    let l : c.loop-k.k < 64 * c.longer-n.result = omega (arith, c.loop-k-test.true, c.loop-k.auto.k-end) in
-    (parted c.args.words.now c.args.other.now (64 * c.longer-n.result) h g c.loop-k.k c.order_at.result l c.order_at.ensures).1
-    c.in-None.is ∙ c.loop-k.invariant
+pub loop-range-preserved : goal.loop-range-preserved
+loop-range-preserved c =
+    (compared_step _ (ranges_to_come c.loop-range.one) (ranges_to_come c.loop-range.other) (ranges_to_come c.pass_up_to.new.self)
+    (ranges_to_come c.pass_up_to-in-Some.new.self) c.overlap-last.result.last c.in-Some.range c.in-Some.next (ranges_behind c.loop-range.one)
+    (ranges_behind c.loop-range.other) c.loop-range.invariant (heads_some c.loop-range.one.head c.loop-range.other.head (ranges_behind c.loop-range.one) (ranges_behind c.loop-range.other) c.in-Some.range c.in-Some.next c.in-Some.ensures).0 (heads_some c.loop-range.one.head c.loop-range.other.head (ranges_behind c.loop-range.one) (ranges_behind c.loop-range.other) c.in-Some.range c.in-Some.next c.in-Some.ensures).1 c.if-range-next.false c.overlap-last.ensures.last
+    c.pass_up_to.ensures c.pass_up_to-in-Some.ensures).0
+
+pub loop-range-smaller : goal.loop-range-smaller
+loop-range-smaller c =
+    (compared_step _ (ranges_to_come c.loop-range.one) (ranges_to_come c.loop-range.other) (ranges_to_come c.pass_up_to.new.self)
+    (ranges_to_come c.pass_up_to-in-Some.new.self) c.overlap-last.result.last c.in-Some.range c.in-Some.next (ranges_behind c.loop-range.one)
+    (ranges_behind c.loop-range.other) c.loop-range.invariant (heads_some c.loop-range.one.head c.loop-range.other.head (ranges_behind c.loop-range.one) (ranges_behind c.loop-range.other) c.in-Some.range c.in-Some.next c.in-Some.ensures).0 (heads_some c.loop-range.one.head c.loop-range.other.head (ranges_behind c.loop-range.one) (ranges_behind c.loop-range.other) c.in-Some.range c.in-Some.next c.in-Some.ensures).1 c.if-range-next.false c.overlap-last.ensures.last
+    c.pass_up_to.ensures c.pass_up_to-in-Some.ensures).1
 
 pub returns : goal.returns
 returns c =
-    let h : 64 * length c.args.words.now ≤ 64 * c.longer-n.result = omega (arith, c.longer-n.ensures.words) in
-    let g : 64 * length c.args.other.now ≤ 64 * c.longer-n.result = omega (arith, c.longer-n.ensures.other) in
-    sym (order_none c.args.words.now c.args.other.now (64 * c.longer-n.result) h g c.loop-k.k
-    (omega (arith, c.loop-k-test.false, c.loop-k.auto.k-end))) ∙ c.loop-k.invariant
+    c.end_order.ensures
+    ∙ order_ended c.loop-range.one.head c.loop-range.other.head (ranges_behind c.loop-range.one) (ranges_behind c.loop-range.other) (heads_none c.loop-range.one.head c.loop-range.other.head (ranges_behind c.loop-range.one) (ranges_behind c.loop-range.other) c.in_default.ensures)
+    ∙ c.loop-range.invariant.same

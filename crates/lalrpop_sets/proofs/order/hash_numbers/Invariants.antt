@@ -1,13 +1,13 @@
-use Rattle.std.proofs.Common.{◌≡◌, ◌*◌, ◌-◌, length}
-use Rattle.std.specs.Prelude.{fold}
+use Rattle.std.proofs.Common.{◌≡◌, length}
 use Rattle.std.specs.Hash as fed
-use Rattle.std.specs.List.{flat_map}
-use Rattle.lalrpop_sets.specs.Bits.{bits_from, bit_numbers}
+use Rattle.std.specs.Prelude.{fold}
+use Rattle.lalrpop_sets.specs.RangeWalks.{numbers_to_come}
+use Rattle.lalrpop_sets.proofs.OrderLemmas.{feeds}
 use Rattle.lalrpop_sets.proofs.order.hash_numbers.Given as goal
 
-abbrev pub invariant-loop-k : goal.invariant-loop-k
-invariant-loop-k g l = fold g.H.Hasher.write l.state (flat_map fed.usize (bits_from l.words l.k))
-    ≡ fold g.H.Hasher.write l.fn.state (fed.slice fed.usize (bit_numbers l.words))
+abbrev pub invariant-loop-number : goal.invariant-loop-number
+invariant-loop-number g l =
+    feeds g.H.Hasher.write (numbers_to_come l.left) l.state ≡ fold g.H.Hasher.write l.fn.state (fed.slice fed.usize (numbers_to_come l.fn.walk))
 
-abbrev pub decreases-loop-k : goal.decreases-loop-k
-decreases-loop-k g l = 64 * length l.words - l.k
+abbrev pub decreases-loop-number : goal.decreases-loop-number
+decreases-loop-number g l = length (numbers_to_come l.left)

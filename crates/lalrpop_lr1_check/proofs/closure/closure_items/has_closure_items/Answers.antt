@@ -1,18 +1,8 @@
 use Rattle.std.proofs.Common.{◌≡◌, ◌∙◌, ◌↔◌, subst, sym, true, false}
 use Rattle.lalrpop_lr1_first.specs.NumberedGrammars.{IsSeenIn, table_productions}
-use Rattle.lalrpop_lr1_least_trees.specs.Searches.{number_lists}
-use Rattle.lalrpop_lr1_check.specs.BeginLists.{AreBeginLists}
 use Rattle.lalrpop_lr1_check.specs.ClosureItemTests.{HasStartClosure}
 use Rattle.lalrpop_lr1_check.proofs.BringLemmas.{brings_seen, seen_first, seen_targets}
 use Rattle.lalrpop_lr1_check.proofs.closure.closure_items.has_closure_items.Goals as goal
-
-pub has_start_closure-requires-clause-begins : goal.has_start_closure-requires-clause-begins
-has_start_closure-requires-clause-begins c =
-    subst (λ l. AreBeginLists c.args.table.now (number_lists l)) (sym c.as_slice.ensures.value) c.in_ok-begins.ensures
-
-pub targets_have_own_closure-requires-clause-begins : goal.targets_have_own_closure-requires-clause-begins
-targets_have_own_closure-requires-clause-begins c =
-    subst (λ l. AreBeginLists c.args.table.now (number_lists l)) (sym c.as_slice-then-from_start.ensures.value) c.in_ok-begins.ensures
 
 pub returns-then-from_start : goal.returns-then-from_start
 returns-then-from_start c = λ look.

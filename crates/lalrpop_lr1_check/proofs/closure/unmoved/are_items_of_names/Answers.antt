@@ -1,36 +1,46 @@
-use Rattle.std.proofs.Common.{◌≡◌, ◌∙◌, ◌↔◌, ap, false, length, subst, sym, true}
-use Rattle.lalrpop_lr1_barren.specs.Clauses.{IsMarked}
-use Rattle.lalrpop_lr1_check_lookaheads.specs.ListTests.{HoldsAtEach}
+use Rattle.std.proofs.Common.{◌≡◌, ◌∙◌, false, length, sym, true}
 use Rattle.lalrpop_lr1_check.specs.MarkGains.{IsMarkOfSome}
 use Rattle.lalrpop_lr1_check.specs.UnmovedItems.{IsUnmovedAt}
-use Rattle.lalrpop_lr1_check.proofs.MarkLemmas.{gained_marks}
+use Rattle.lalrpop_lr1_check.proofs.ListedMarkLemmas.{gained_for, listed_gained}
 use Rattle.lalrpop_lr1_check.proofs.UnmovedLemmas.{parts_unmoved, unmoved_alike}
 use Rattle.lalrpop_lr1_check.proofs.closure.unmoved.are_items_of_names.Goals as goal
 
-pub mark_unmoved-requires-clause-count : goal.mark_unmoved-requires-clause-count
-mark_unmoved-requires-clause-count c = c.in_ok-productions.ensures.count ∙ ap length c.productions.ensures
+pub take_back-requires : goal.take_back-requires
+take_back-requires c = c.requires.productions.listed
 
-pub returns-then-mark_unmoved : goal.returns-then-mark_unmoved
-returns-then-mark_unmoved c =
+pub mark_unmoved-requires-clause-count : goal.mark_unmoved-requires-clause-count
+mark_unmoved-requires-clause-count c = c.take_back.ensures.count ∙ c.requires.productions.long
+
+pub are_of_marked_names-are-requires-clause-productions : goal.are_of_marked_names-are-requires-clause-productions
+are_of_marked_names-are-requires-clause-productions c =
+    (c.in_ok-known.ensures.marks c.if-known.true).listed c.take_back.ensures.listed
+
+pub returns-then-known-clause-are : goal.returns-then-known-clause-are
+returns-then-known-clause-are c =
     let t = c.args.table.now in
-    let names = c.args.names.now in
+    let names = c.args.names.now.marks.items in
     let items = c.args.items.now in
-    let own = c.mark_unmoved.new.marks.items in
-    let known = c.mark_unmoved.ensures.known.0 c.if-mark_unmoved.true in
-    let marks = gained_marks c.in_ok-productions.productions.items own (IsMarkOfSome (IsUnmovedAt t) items)
-    c.in_ok-productions.ensures.empty (c.mark_unmoved.ensures.marks c.if-mark_unmoved.true) in
-    let says = subst (λ rs. (c.are_of_marked_names-are.result ≡ true) ↔ HoldsAtEach (λ r rule. IsMarked own r
-    ↔ IsMarked names rule.left) rs) c.rules.ensures
-    (subst (λ ps. (c.are_of_marked_names-are.result ≡ true) ↔ HoldsAtEach (λ r rule. IsMarked ps r ↔ IsMarked names rule.left)
-    c.rules.result.now) c.as_slice.ensures.value c.are_of_marked_names-are.ensures) in (
-      λ e. parts_unmoved t names own items marks known (says.0 e),
-      λ a. says.1 (unmoved_alike t names own items marks a),
+    let own = c.mark_unmoved.new.marks in
+    let known = c.in_ok-known.ensures.known.0 c.if-known.true in
+    let marks = listed_gained c.take_back.new.self own (IsMarkOfSome (IsUnmovedAt t) items) c.take_back.ensures.empty
+    (c.in_ok-known.ensures.marks c.if-known.true) in
+    let says = c.are_of_marked_names-are.ensures in (
+      λ e. parts_unmoved t names own.marks.items items marks known (says.0 e),
+      λ a. says.1 (unmoved_alike t names own.marks.items items marks a),
     )
 
-pub returns : goal.returns
-returns c = (
+pub returns-then-known-clause-productions : goal.returns-then-known-clause-productions
+returns-then-known-clause-productions c = λ are.
+    let t = c.args.table.now in
+    gained_for c.take_back.new.self c.mark_unmoved.new.marks (IsMarkOfSome (IsUnmovedAt t) c.args.items.now)
+    (length t.productions.items)
+    (record { long = c.take_back.ensures.count ∙ c.requires.productions.long; listed = c.take_back.ensures.listed })
+    (c.in_ok-known.ensures.marks c.if-known.true)
+
+pub returns-else-known-clause-are : goal.returns-else-known-clause-are
+returns-else-known-clause-are c = (
   λ e. let w : ⊥ = cc in absurd w,
   λ a.
-      let both : true ≡ false = sym (c.mark_unmoved.ensures.known.1 a.known) ∙ c.if-mark_unmoved.false in
+      let both : true ≡ false = sym (c.in_ok-known.ensures.known.1 a.known) ∙ c.if-known.false in
       let w : ⊥ = cc in absurd w,
 )

@@ -8,26 +8,12 @@ use Rattle.lalrpop_lr1_first.specs.Listings.{lent}
 use Rattle.lalrpop_lr1_first.specs.NumberedGrammars.{table_productions}
 use Rattle.lalrpop_lr1_first.proofs.TableLemmas.{long_map, once}
 use Rattle.lalrpop_lr1_barren.specs.NameMarks.{IsPlaceOfElement}
-use Rattle.lalrpop_lr1_check.proofs.MarkLemmas.{gains_missing, gains_place}
+use Rattle.lalrpop_lr1_check.proofs.ListedMarkLemmas.{listed_missing, listed_place}
 use Rattle.lalrpop_lr1_check.proofs.closure.unmoved.mark_production.Goals as goal
 
 pub place_of_production-requires : goal.place_of_production-requires
 place_of_production-requires c =
     subst (λ l. IsStrictlySortedBy (order.ghosts).cmp (lent l)) (sym c.productions.ensures) c.requires.table.productions
-
-pub set_mark-requires : goal.set_mark-requires
-set_mark-requires c =
-    let t = c.args.table.now in
-    let at : slice_get (table_productions t) c.in-Some.place ≡ Some c.args.production.now =
-    subst (IsPlaceOfElement (table_productions t) c.args.production.now) c.in-Some.is
-    (subst (λ l. IsPlaceOfElement (lent l) c.args.production.now c.place_of_production.result) c.productions.ensures
-    c.place_of_production.ensures) in
-    omega (
-      arith,
-      slice_get_within (table_productions t) c.in-Some.place c.args.production.now at,
-      long_map (λ b. b.now) t.productions.items,
-      c.requires.count,
-    )
 
 pub returns-in-None-clause-known : goal.returns-in-None-clause-known
 returns-in-None-clause-known c =
@@ -36,8 +22,8 @@ returns-in-None-clause-known c =
     (subst (λ l. IsPlaceOfElement (lent l) p c.place_of_production.result) c.productions.ensures c.place_of_production.ensures) in
     (λ e. let w : ⊥ = cc in absurd w, λ d. absurd (missing d))
 
-pub returns-in-Some-clause-known : goal.returns-in-Some-clause-known
-returns-in-Some-clause-known c =
+pub returns-in_ok-mark-in-Some-clause-known : goal.returns-in_ok-mark-in-Some-clause-known
+returns-in_ok-mark-in-Some-clause-known c =
     let p = c.args.production.now in
     let at = subst (IsPlaceOfElement (table_productions c.args.table.now) p) c.in-Some.is
     (subst (λ l. IsPlaceOfElement (lent l) p c.place_of_production.result) c.productions.ensures c.place_of_production.ensures) in
@@ -46,25 +32,25 @@ returns-in-Some-clause-known c =
 pub returns-in-None-clause-marks : goal.returns-in-None-clause-marks
 returns-in-None-clause-marks c =
     let t = c.args.table.now in
-    gains_missing (table_productions t) c.args.production.now c.args.marks.now.items
+    listed_missing (table_productions t) c.args.production.now c.args.marks.now
     (subst (IsPlaceOfElement (table_productions t) c.args.production.now) c.in-None.is
     (subst (λ l. IsPlaceOfElement (lent l) c.args.production.now c.place_of_production.result) c.productions.ensures
     c.place_of_production.ensures))
 
-pub returns-in-Some-clause-marks : goal.returns-in-Some-clause-marks
-returns-in-Some-clause-marks c =
+pub returns-in_ok-mark-in-Some-clause-marks : goal.returns-in_ok-mark-in-Some-clause-marks
+returns-in_ok-mark-in-Some-clause-marks c =
     let t = c.args.table.now in
     let at : slice_get (table_productions t) c.in-Some.place ≡ Some c.args.production.now =
     subst (IsPlaceOfElement (table_productions t) c.args.production.now) c.in-Some.is
     (subst (λ l. IsPlaceOfElement (lent l) c.args.production.now c.place_of_production.result) c.productions.ensures
     c.place_of_production.ensures) in
-    let within : c.in-Some.place < length c.args.marks.now.items =
+    let within : c.in-Some.place < length c.args.marks.now.marks.items =
     omega (
       arith,
       slice_get_within (table_productions t) c.in-Some.place c.args.production.now at,
       long_map (λ b. b.now) t.productions.items,
       c.requires.count,
     ) in
-    gains_place (table_productions t) c.args.production.now c.args.marks.now.items c.set_mark.new.marks.items c.in-Some.place within at
+    listed_place (table_productions t) c.args.production.now c.args.marks.now c.mark.new.self c.in-Some.place within at
     (λ i j. once (order.ghosts).cmp total-law.antisymm (table_productions t) c.requires.table.productions i j c.args.production.now)
-    c.set_mark.ensures
+    c.in_ok-mark-in-Some.ensures

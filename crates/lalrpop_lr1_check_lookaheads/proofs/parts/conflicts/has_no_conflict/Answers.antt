@@ -1,5 +1,5 @@
 use Rattle.std.proofs.Common.{◌≡◌, ◌∙◌, ℕ, ap, sym, subst, true, false}
-use Rattle.lalrpop_sets.specs.Bits.{has}
+use Rattle.lalrpop_sets.specs.AscendingLists.{has}
 use Rattle.lalrpop_lr1_check_lookaheads.specs.ApartSets.{AreReductionsApart, has_any}
 use Rattle.lalrpop_lr1_check_lookaheads.proofs.ApartLemmas.{apart_none, none_apart, none_free}
 use Rattle.lalrpop_lr1_check_lookaheads.proofs.parts.conflicts.has_no_conflict.Goals as goal

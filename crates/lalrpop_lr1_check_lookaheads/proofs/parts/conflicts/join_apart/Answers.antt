@@ -1,5 +1,5 @@
 use Rattle.std.proofs.Common.{◌≡◌, ◌∙◌, ◌&&◌, refl, sym, true, false, ap}
-use Rattle.lalrpop_sets.specs.Bits.{has}
+use Rattle.lalrpop_sets.specs.AscendingLists.{has}
 use Rattle.lalrpop_lr1_check_lookaheads.proofs.parts.conflicts.join_apart.Goals as goal
 
 pub returns-then-not-is_disjoint-clause-apart : goal.returns-then-not-is_disjoint-clause-apart

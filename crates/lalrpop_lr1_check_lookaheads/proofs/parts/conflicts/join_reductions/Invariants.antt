@@ -1,5 +1,5 @@
 use Rattle.std.proofs.Common.{ℕ, ◌≡◌, take}
-use Rattle.lalrpop_sets.specs.Bits.{has}
+use Rattle.lalrpop_sets.specs.AscendingLists.{has}
 use Rattle.lalrpop_lr1_check_lookaheads.specs.ApartSets.{IsApart, has_any}
 use Rattle.lalrpop_lr1_check_lookaheads.specs.ListTests.{HoldsAtFirst}
 use Rattle.lalrpop_lr1_check_lookaheads.proofs.parts.conflicts.join_reductions.Given as goal

@@ -1,6 +1,6 @@
 use Rattle.std.proofs.Common.{◌≡◌, ◌∙◌, ◌&&◌, ℕ, ap, not}
 use Rattle.std.specs.Prelude.{nat_eq}
-use Rattle.lalrpop_sets.specs.Bits.{has}
+use Rattle.lalrpop_sets.specs.AscendingLists.{has}
 use Rattle.lalrpop_sets.specs.Tokens.{eof_number}
 use Rattle.lalrpop_lr1_check_lookaheads.proofs.EndLemmas.{alone_empty, empty_alone}
 use Rattle.lalrpop_lr1_check_lookaheads.proofs.parts.reducing.is_end_alone.Goals as goal

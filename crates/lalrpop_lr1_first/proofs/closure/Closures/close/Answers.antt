@@ -1,6 +1,6 @@
 use Rattle.std.proofs.Common.{◌≡◌, ◌∙◌, ◌+◌, ◌↔◌, ℕ, ap, arith, length, map, slice_get, subst, sym}
 use Rattle.std.proofs.Common.{[], true}
-use Rattle.lalrpop_sets.specs.Bits.{Ascends, has}
+use Rattle.lalrpop_sets.specs.AscendingLists.{Ascends, has}
 use Rattle.lalrpop_lr1_first.specs.ClosureTables.{ClosesSeed, started_items}
 use Rattle.lalrpop_lr1_first.specs.FirstNumbers.{name_count, table_end}
 use Rattle.lalrpop_lr1_first.specs.FlowEdges.{RestsAreWithin, edges_seen}

@@ -1,7 +1,7 @@
 use Rattle.std.proofs.Common.{rules}
 use Rattle.std.specs.BTreeMap.{is_at}
 use Rattle.lalrpop_sets.proofs.EntryLemmas.{map_err, same_eq, same_put_eq}
-use Rattle.lalrpop_sets.proofs.WordLemmas.{if_err}
+use Rattle.lalrpop_sets.proofs.AscendingListLemmas.{if_err}
 use Rattle.lalrpop_sets.proofs.multimap.Multimap.push.Goals as goal
 
 pub returns-in-Some-clause-kept : goal.returns-in-Some-clause-kept

@@ -1,16 +1,23 @@
-use Rattle.std.proofs.Common.{◌∙◌, ap, sym, ◌&&◌}
-use Rattle.lalrpop_sets.specs.Bits.{has, has_bit}
-use Rattle.lalrpop_sets.proofs.WordLemmas.{asc_listed, has_listed}
+use Rattle.std.proofs.Common.{◌≡◌, ◌∙◌, ◌||◌, ◌&&◌, ℕ, List, ap, sym, subst}
+use Rattle.lalrpop_sets.specs.AscendingLists.{has}
+use Rattle.lalrpop_sets.specs.Ranges.{RangesFrom, is_covered}
+use Rattle.lalrpop_sets.specs.RangeWalks.{ranges_to_come}
+use Rattle.lalrpop_sets.proofs.EntryLemmas.{ok_map}
+use Rattle.lalrpop_sets.proofs.TokenSetLemmas.{or_same}
 use Rattle.lalrpop_sets.proofs.token_set.TokenSet.intersection.Goals as goal
 
-pub returns-clause-both : goal.returns-clause-both
-returns-clause-both c = λ k.
-    let p = ap (λ w. has_bit w k) c.as_slice.ensures.value ∙ sym (has_listed c.self.inside.words.items k)
-    ∙ ap (λ s. has s k) c.self.view_is in
-    let q = ap (λ w. has_bit w k) c.as_slice-2.ensures.value ∙ sym (has_listed c.other.inside.words.items k)
-    ∙ ap (λ s. has s k) c.other.view_is in
-    has_listed c.in_ok-words.words.items k ∙ c.in_ok-words.ensures.bits k
-    ∙ ap (λ b. b && has_bit c.as_slice-2.result.now k) p ∙ ap (λ b. has c.args.self.now k && b) q
+pub set_of_both-requires-clause-one : goal.set_of_both-requires-clause-one
+set_of_both-requires-clause-one c = subst (RangesFrom 1 0) (sym (c.new-walk.ensures ∙ c.as_slice.ensures.value)) c.in_ok-ranges.ensures.ordered
 
-pub returns-clause-ordered : goal.returns-clause-ordered
-returns-clause-ordered c = asc_listed _
+pub set_of_both-requires-clause-other : goal.set_of_both-requires-clause-other
+set_of_both-requires-clause-other c = subst (RangesFrom 1 0) (sym (c.new-walk.ensures ∙ c.as_slice.ensures.value)) c.in_ok-ranges.ensures.ordered
+
+pub returns-clause-both : goal.returns-clause-both
+returns-clause-both c =
+    let ps = ranges_to_come c.new-walk.result in
+    let f : (s : List ℕ) → ((k : ℕ) → has s k ≡ (is_covered ps k || is_covered ps k)) → (k : ℕ)
+    → has s k ≡ (has c.args.self.now k && has c.args.other.now k) =
+    λ s h k. h k ∙ or_same (is_covered ps k) ∙ ap (λ l. is_covered l k) (c.new-walk.ensures ∙ c.as_slice.ensures.value)
+    ∙ c.in_ok-ranges.ensures.covered k ∙ ap (λ b. b && is_covered (ranges_to_come c.walk-2.result) k) (c.walk.ensures.covered k)
+    ∙ ap (λ b. has c.args.self.now k && b) (c.walk-2.ensures.covered k) in
+    ok_map _ _ _ f c.set_of_both.ensures.both

@@ -1,23 +1,19 @@
-use Rattle.std.proofs.Common.{sym, ap, ◌∙◌, ◌&&◌}
-use Rattle.lalrpop_sets.specs.Bits.{has, has_bit}
-use Rattle.lalrpop_sets.proofs.WordLemmas.{has_listed, not_false, not_true}
+use Rattle.std.proofs.Common.{◌∙◌, ◌&&◌, ap, not, sym}
+use Rattle.lalrpop_sets.specs.AscendingLists.{has}
+use Rattle.lalrpop_sets.specs.Ranges.{is_covered}
+use Rattle.lalrpop_sets.specs.RangeWalks.{ranges_to_come}
+use Rattle.lalrpop_sets.proofs.CommonLemmas.{meets_no, meets_yes}
 use Rattle.lalrpop_sets.proofs.token_set.TokenSet.is_disjoint.Goals as goal
 
 pub returns-clause-yes : goal.returns-clause-yes
-returns-clause-yes c = λ h k.
-    let p = ap (λ w. has_bit w k) c.as_slice.ensures.value ∙ sym (has_listed c.self.inside.words.items k) ∙ ap
-    (λ s. has s k) c.self.view_is in
-    let q = ap (λ w. has_bit w k) c.as_slice-2.ensures.value ∙ sym (has_listed c.other.inside.words.items k) ∙ ap
-    (λ s. has s k) c.other.view_is in
-    sym (ap (λ b. b && has_bit c.as_slice-2.result.now k) p ∙ ap (λ b. has c.args.self.now k && b) q)
-    ∙ c.meets.ensures.no (not_true _ h) k
+returns-clause-yes c h k =
+    ap (λ b. b && has c.args.other.now k) (sym (c.walk-one.ensures.covered k))
+    ∙ ap (λ b. is_covered (ranges_to_come c.walk-one.result) k && b) (sym (c.walk-another.ensures.covered k))
+    ∙ meets_no (ranges_to_come c.walk-one.result) (ranges_to_come c.walk-another.result) (ranges_to_come c.next_common.new.one)
+    (ranges_to_come c.next_common.new.other) c.next_common.result c.next_common.ensures (c.is_none.ensures ∙ ap not h) k
 
 pub returns-clause-no : goal.returns-clause-no
-returns-clause-no c = λ h.
-    let g = c.meets.ensures.yes (not_false _ h) in
-    let k = g.0 in
-    let p = ap (λ w. has_bit w k) c.as_slice.ensures.value ∙ sym (has_listed c.self.inside.words.items k) ∙ ap
-    (λ s. has s k) c.self.view_is in
-    let q = ap (λ w. has_bit w k) c.as_slice-2.ensures.value ∙ sym (has_listed c.other.inside.words.items k) ∙ ap
-    (λ s. has s k) c.other.view_is in
-    (k, sym p ∙ g.1, sym q ∙ g.2)
+returns-clause-no c h =
+    let g = meets_yes (ranges_to_come c.walk-one.result) (ranges_to_come c.walk-another.result) (ranges_to_come c.next_common.new.one)
+    (ranges_to_come c.next_common.new.other) c.next_common.result c.next_common.ensures (c.is_none.ensures ∙ ap not h) in
+    (g.0, sym (c.walk-one.ensures.covered g.0) ∙ g.1, sym (c.walk-another.ensures.covered g.0) ∙ g.2)

@@ -1,9 +1,7 @@
 use Rattle.std.proofs.Common.{◌∙◌, ap}
-use Rattle.lalrpop_sets.specs.TokensLeft.{left_from, tokens_of}
-use Rattle.lalrpop_sets.proofs.TokenLemmas.{left_all}
+use Rattle.lalrpop_sets.specs.TokensLeft.{known_tokens}
+use Rattle.lalrpop_sets.proofs.TokenLemmas.{known_all}
 use Rattle.lalrpop_sets.proofs.token_set.TokenSet.iter.Goals as goal
 
 pub returns : goal.returns
-returns c =
-    let ts = c.args.terminals.now in
-    ap (λ w. left_from ts w 0) c.as_slice.ensures.value ∙ left_all ts c.self.inside.words.items ∙ ap (tokens_of ts) c.self.view_is
+returns c = ap (known_tokens c.args.terminals.now) c.walk.ensures.numbers ∙ known_all c.args.terminals.now c.args.self.now c.walk.ensures.ascends

@@ -1,7 +1,5 @@
-use Rattle.std.proofs.Common.{subst}
-use Rattle.lalrpop_sets.specs.Bits.{Ascends}
-use Rattle.lalrpop_sets.proofs.WordLemmas.{asc_listed}
+use Rattle.std.proofs.Common.{◌∙◌, ap, length}
 use Rattle.lalrpop_sets.proofs.token_set.TokenSet.len.Goals as goal
 
-pub returns-clause-ordered : goal.returns-clause-ordered
-returns-clause-ordered c = subst Ascends c.self.view_is (asc_listed c.self.inside.words.items)
+pub returns-clause-length : goal.returns-clause-length
+returns-clause-length c = c.count.ensures ∙ ap length c.walk.ensures.numbers

@@ -2,7 +2,7 @@ use Rattle.std.proofs.Common.{◌≡◌, ◌∙◌, ◌↔◌, List, ℕ, [], So
 use Rattle.std.specs.Prelude.{is_some}
 use Rattle.std.specs.List.{list_any}
 use Rattle.std.proofs.lemmas.Result.{IfOk-weaker}
-use Rattle.lalrpop_sets.specs.Bits.{has}
+use Rattle.lalrpop_sets.specs.AscendingLists.{has}
 use Rattle.lalrpop_lr1_check_lookaheads.specs.Ends.{HasEndMark, end_key}
 use Rattle.lalrpop_lr1_check_lookaheads.specs.contracts.lookaheads.ends.EndPartialEq.TheImpl as ends_eq
 use Rattle.lalrpop_lr1_check_lookaheads.proofs.EndKeyLemmas.{found_has, none_has}
