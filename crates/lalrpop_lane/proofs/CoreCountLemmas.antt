@@ -1,5 +1,5 @@
 -- What is said of the number of states for each core holds of states put in order, and where memory ran out: for the builder of states.
-use Rattle.std.proofs.Common.{◌≡◌, ℕ, Err, List, Ok, Contains, length, refl, subst, sym}
+use Rattle.std.proofs.Common.{◌≡◌, ℕ, List, Ok, Contains, length, subst, sym}
 use Rattle.std.specs.Global.{Global}
 use Rattle.std.specs.Prelude.{Vec}
 use Rattle.lalrpop_grammar_symbols.specs.declared.names.NonterminalString.{NonterminalString}
@@ -9,13 +9,7 @@ use Rattle.lalrpop_grammar_repr.specs.declared.methods.Method.TheVariants as met
 use Rattle.lalrpop_lr1_theory.specs.ValidCores.{CountsCoreSets}
 use Rattle.lalrpop_lr1_core.specs.TheoryGrammars.{theory_grammar}
 use Rattle.lalrpop_lr1_core.specs.declared.state.State.{State}
-use Rattle.lalrpop_lr1_core.specs.declared.table_fault.TableFault.TheVariants as faults
 use Rattle.lalrpop_lane.specs.BuilderAnswers.{AreForEachCoreBy}
-
-pub memory_for_cores : (method : Method) (g : Grammar) (start : NonterminalString) →
-    AreForEachCoreBy method g start (Err faults.Memory)
-memory_for_cores (methods.Lane copies) g start = λ is. refl
-memory_for_cores methods.Canonical g start = tt
 
 -- as many other states do as well
 pub as_many_for_cores : (method : Method) (g : Grammar) (start : NonterminalString) (old new : Vec (State (List ℕ)) Global) →

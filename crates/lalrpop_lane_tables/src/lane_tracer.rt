@@ -1,6 +1,6 @@
 //! Traces: from which states the lookaheads of a conflicting action come, put into a lane table.
 
-ghost use Rattle.std.specs.Prelude.{◌≡◌, ◌↔◌, ◌<◌, ◌^◌, ◌∷◌, ℕ, [], Contains, IfSome, IsErr, IsTrue, OnErr, OnOk, false, map, slice_get};
+ghost use Rattle.std.specs.Prelude.{◌≡◌, ◌↔◌, ◌<◌, ◌^◌, ◌∷◌, ℕ, [], Contains, IfSome, IsErr, IsFalse, IsTrue, OnErr, OnOk, false, map, slice_get};
 ghost use Rattle.lalrpop_grammar_symbols.specs.Views.{terminal_view};
 ghost use Rattle.lalrpop_lr1_theory.specs.Productions as theory;
 ghost use Rattle.lalrpop_lr1_theory.specs.States.{LookaheadSet};
@@ -484,7 +484,7 @@ impl<'trace, 'g, L> LaneTracer<'trace, 'g, L> {
         }
     }
 
-    /// Traces the action in the state, and puts what comes of it into the column, one of those that there are.
+    /// Traces the action in the state, and puts what comes of it into the column, one of those that there are; after a refusal any column.
     ///
     /// # Errors
     ///
@@ -495,7 +495,7 @@ impl<'trace, 'g, L> LaneTracer<'trace, 'g, L> {
         conflict: ConflictIndex,
         action: Action<'g>,
     ) -> Result<(), AllocError>
-        requires { conflict.index < self.old.table.conflicts }
+        requires { IsFalse self.old.refused → conflict.index < self.old.table.conflicts }
         ensures traced { OnOk result ((look : L → LookaheadSet) →
             TracesMove look self.old.grammar self.old.start self.old.states state.0 (action_move action.entry) conflict.index self.old.table
             self.new.table) }

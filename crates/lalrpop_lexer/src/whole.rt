@@ -1,10 +1,9 @@
 //! All states of the automaton with their transitions: the subset construction.
 
-ghost use Rattle.std.specs.Prelude.{◌≡◌, ℕ, ◌++◌, ◌∷◌, [], length, IfOk, OnOk, vec_len};
+ghost use Rattle.std.specs.Prelude.{◌≡◌, ℕ, ◌<◌, List, ◌++◌, ◌∷◌, [], length, IfOk, OnOk, vec_len};
 ghost use Rattle.lalrpop_lexer_nfa.specs.Paths.{nfa_view};
-ghost use Rattle.lalrpop_lexer.specs.Explore.{AreClassesOf, edges_view};
+ghost use Rattle.lalrpop_lexer.specs.Explore.{AreClassesOf, edges_view, Explores};
 ghost use Rattle.lalrpop_lexer.specs.Groups.{AreGroups};
-ghost use Rattle.lalrpop_lexer.specs.Simulation.{AreApart};
 ghost use Rattle.lalrpop_lexer.specs.StateViews.{edges_in};
 ghost use Rattle.lalrpop_lexer.specs.States.{AreInside, AreNumbered, IsInterned};
 ghost use Rattle.lalrpop_lexer.specs.Tables.{AreTables};
@@ -32,20 +31,34 @@ pub(crate) struct Whole {
     pub(crate) sets: Slices<usize>,
 }
 
-/// Adds a state's edges, and their row.
-fn push_state(
+/// Explores the state behind those that have their edges, and adds its edges and their row.
+fn push_explored(
     alloc: Global,
-    out: &[DfaEdge],
+    nfa: &Nfa,
+    pieces: &[Test],
+    groups: &Groups,
+    known: &mut States,
+    scratch: &mut NfaStateSet,
     edges: &mut Slices<DfaEdge>,
     rows: &mut Slices<Option<usize>>,
 ) -> Result<(), AllocError>
-    requires apart { AreApart (edges_view out.now) }
+    requires state { length edges.old < length known.old.sets }
+    requires pieces { AreClassesOf (nfa_view nfa.now) pieces.now }
+    requires groups { AreGroups (nfa_view nfa.now) pieces.now groups.now.numbers.items groups.now.firsts.items }
     requires tables { AreTables (length edges.old) edges.old rows.old }
-    ensures edges { OnOk result (edges.new ≡ edges.old ++ out.now ∷ []) }
+    requires bound { vec_len scratch.old.places ≡ vec_len nfa.now.states }
+    requires sets { AreInside (vec_len nfa.now.states) known.old.sets }
+    requires numbered { AreNumbered (nfa_view nfa.now) known.old.sets known.old.numbers }
+    ensures pushed { OnOk result ((out : List DfaEdge) × (edges.new ≡ edges.old ++ out ∷ [])
+        × Explores (nfa_view nfa.now) (length edges.old) known.old.sets known.new.sets (edges_view out)) }
     ensures tables { OnOk result (AreTables (length edges.new) edges.new rows.new) }
+    ensures sets { OnOk result (AreInside (vec_len nfa.now.states) known.new.sets) }
+    ensures numbered { OnOk result (AreNumbered (nfa_view nfa.now) known.new.sets known.new.numbers) }
+    ensures bound { vec_len scratch.new.places ≡ vec_len scratch.old.places }
 {
-    let row = row_of(alloc, out)?;
-    edges.push(out)?;
+    let out = known.explore(alloc, nfa, pieces, groups, edges.len(), scratch)?;
+    let row = row_of(alloc, &out)?;
+    edges.push(&out)?;
     rows.push(&row)?;
     Ok(())
 }
@@ -84,8 +97,16 @@ fn explored_states(
     let mut edges = Slices::new(alloc);
     let mut rows = Slices::new(alloc);
     'states: while edges.len() < known.sets.len() {
-        let out = known.explore(alloc, nfa, pieces, groups, edges.len(), &mut scratch)?;
-        push_state(alloc, &out, &mut edges, &mut rows)?;
+        push_explored(
+            alloc,
+            nfa,
+            pieces,
+            groups,
+            &mut known,
+            &mut scratch,
+            &mut edges,
+            &mut rows,
+        )?;
     }
     Ok(Whole {
         edges,

@@ -6,7 +6,7 @@ abbrev no_look : List ℕ → LookaheadSet
 no_look set = record { nexts = []; error = false }
 
 pub start_trace-requires : goal.start_trace-requires
-start_trace-requires c =
+start_trace-requires c unrefused =
     let count = c.loop-column.invariant in
     omega (arith, count, c.loop-column-test.true)
 

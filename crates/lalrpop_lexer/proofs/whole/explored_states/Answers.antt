@@ -2,7 +2,6 @@ use Rattle.std.proofs.Common.{◌≡◌, ◌<◌, ◌∙◌, ℕ, arith, ap, ref
 use Rattle.std.proofs.lemmas.List.{length_push}
 use Rattle.lalrpop_lexer_nfa.specs.declared.automaton.TheConstants.{START}
 use Rattle.lalrpop_lexer_nfa.specs.Paths.{nfa_view}
-use Rattle.lalrpop_lexer.specs.Explore.{edges_view, Explores}
 use Rattle.lalrpop_lexer.specs.StateViews.{edges_in}
 use Rattle.lalrpop_lexer.specs.Tables.{AreTables}
 use Rattle.lalrpop_lexer.proofs.WholeLemmas.{explored_start, explored_end}
@@ -24,20 +23,20 @@ pub states-preserved : goal.states-preserved
 states-preserved c =
     let t = nfa_view c.args.nfa.now in
     let table = c.states.edges in
-    let out = c.in_ok-out.out.items in
     let old = c.states.known.sets in
-    let new = c.explore.new.self.sets in
-    let P : ℕ → Type 0 = λ k. Explores t k old new (edges_view out) in
+    let pushed = c.in_ok-push_explored.ensures.pushed in
     let less : length table < length old = omega (arith, c.states-test.true, c.len.ensures, c.len-in-states.ensures) in
     record {
-      explored = rw (c.in_ok-push_state.ensures.edges, c.deref.ensures.value)
-          (explored_push t START.0 table out old new less c.states.invariant.explored
-          (subst P c.len-in-states-2.ensures c.in_ok-out.ensures.explored));
-      tables = c.in_ok-push_state.ensures.tables;
-      sets = c.in_ok-out.ensures.sets;
-      numbered = c.in_ok-out.ensures.numbered;
-      bound = c.explore.ensures.bound ∙ c.states.invariant.bound;
+      explored = rw pushed.1
+          (explored_push t START.0 table pushed.0 old c.push_explored.new.known.sets less c.states.invariant.explored pushed.2);
+      tables = c.in_ok-push_explored.ensures.tables;
+      sets = c.in_ok-push_explored.ensures.sets;
+      numbered = c.in_ok-push_explored.ensures.numbered;
+      bound = c.push_explored.ensures.bound ∙ c.states.invariant.bound;
     }
+
+pub push_explored-requires-clause-state : goal.push_explored-requires-clause-state
+push_explored-requires-clause-state c = omega (arith, c.states-test.true, c.len.ensures, c.len-in-states.ensures)
 
 pub returns-clause-states : goal.returns-clause-states
 returns-clause-states c =
@@ -60,6 +59,6 @@ states-smaller c =
       c.states-test.true,
       c.len.ensures,
       c.len-in-states.ensures,
-      ap length c.in_ok-push_state.ensures.edges,
-      length_push c.states.edges c.deref.result.now,
+      ap length c.in_ok-push_explored.ensures.pushed.1,
+      length_push c.states.edges c.in_ok-push_explored.ensures.pushed.0,
     )
