@@ -2,9 +2,9 @@
 //! certificates that hold.
 
 mod case;
-mod certified;
+pub(crate) mod certified;
 mod count;
-mod difference;
+pub(crate) mod difference;
 mod given;
 mod witnessed;
 

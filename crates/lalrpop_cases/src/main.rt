@@ -3,7 +3,8 @@
 //! The words name kinds of cases and files: a file's cases are of the kind that is named last before it. Behind the word `tokens`
 //! stand a start and a file, behind `parse` a limit of moves, too: the program answers as `lalrpop_run` does, whose text is a word
 //! and so no longer than a word may be. Behind `productions` stand a start, what is asked (`counts`, `check`, `lanes`, `tokens` or
-//! `sentence`), and of what: how many copies lanes may make, tokens, the file of a sentence, or nothing.
+//! `sentence`), and of what: how many copies lanes may make, tokens, the file of a sentence, or nothing. Behind `twice` stand a start, a
+//! file and a text: each question is asked twice.
 #![tactic(auto)]
 
 mod case;
@@ -14,19 +15,25 @@ mod outcome;
 mod productions;
 mod runs;
 mod timing;
+mod twice;
 
 use crate::kind::Kind;
 use crate::productions::answer_productions;
 use crate::timing::{answer_parse, answer_tokens};
+use crate::twice::answer_twice;
 use anyhow::{Result, bail};
 use lalrpop_case_kinds::files::Tally;
 use std::alloc::Global;
-use std::env;
+use std::io::ErrorKind;
 use std::process::ExitCode;
 use std::rt::{Clock, Env, Files};
+use std::{env, io};
 
 /// The status where a case differs.
 const DIFFERS: u8 = 1;
+
+/// The status where there was no memory for the words.
+const OUT_OF_MEMORY: u8 = 5;
 
 fn main(rt: HostRuntime) -> Result<ExitCode> {
     Ok(ExitCode::from(respond(&rt)?))
@@ -36,8 +43,20 @@ fn main(rt: HostRuntime) -> Result<ExitCode> {
 fn respond<R: Alloc<A = Global> + Clock + Env + Eprint + Files + Input + Print>(
     rt: &R,
 ) -> Result<u8> {
+    match words_of(rt) {
+        Ok(words) => respond_to(rt, words.as_slice()),
+        Err(error) if error.kind() == ErrorKind::OutOfMemory => {
+            println!(rt; "out of memory")?;
+            Ok(OUT_OF_MEMORY)
+        }
+        Err(error) => Err(error.into()),
+    }
+}
+
+/// The words, the first of which names the program.
+fn words_of<R: Alloc<A = Global> + Env>(rt: &R) -> io::Result<Vec<String>> {
     let words: Vec<String> = env::args(rt)?.collect(rt.alloc())?;
-    respond_to(rt, words.as_slice())
+    Ok(words)
 }
 
 /// What the words ask for.
@@ -60,6 +79,12 @@ enum Task<'w> {
         word: &'w str,
         of: &'w str,
     },
+    /// What a parser of the grammar in the file answers to the text, asked twice.
+    Twice {
+        start: &'w str,
+        file: &'w str,
+        text: &'w str,
+    },
     /// The cases of files.
     Cases,
 }
@@ -81,6 +106,11 @@ fn task_of(words: &[String]) -> Task<'_> {
             word: word.as_str(),
             of: of.as_str(),
         },
+        [_, first, start, file, text] if first.as_str() == "twice" => Task::Twice {
+            start: start.as_str(),
+            file: file.as_str(),
+            text: text.as_str(),
+        },
         _ => Task::Cases,
     }
 }
@@ -94,6 +124,7 @@ fn respond_to<R: Alloc<A = Global> + Clock + Eprint + Files + Input + Print>(
         Task::Tokens { start, file } => answer_tokens(rt, start, file),
         Task::Parse { start, file, limit } => answer_parse(rt, start, file, limit),
         Task::Productions { start, word, of } => answer_productions(rt, start, word, of),
+        Task::Twice { start, file, text } => answer_twice(rt, start, file, text),
         Task::Cases => run_tables(rt, words),
     }
 }

@@ -25,7 +25,12 @@ const FIRST: ConflictIndex = ConflictIndex { index: 0 };
 const SECOND: ConflictIndex = ConflictIndex { index: 1 };
 
 /// The set of the terminal alone.
-fn set_of(rt: &impl Abort, alloc: Global, letter: &str, terminals: &TerminalSet) -> TokenSet {
+pub(crate) fn set_of(
+    rt: &impl Abort,
+    alloc: Global,
+    letter: &str,
+    terminals: &TerminalSet,
+) -> TokenSet {
     let token = token_of(rt, alloc, letter);
     TokenSet::from_token(alloc, &token, terminals).expect(rt, "memory")
 }

@@ -3,6 +3,8 @@
 #![tactic(auto)]
 
 #[cfg(test)]
+mod applied_sets;
+#[cfg(test)]
 mod builds;
 #[cfg(test)]
 mod check;

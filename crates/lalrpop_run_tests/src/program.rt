@@ -5,6 +5,10 @@ mod ends;
 #[cfg(test)]
 mod grammars;
 #[cfg(test)]
+mod places;
+#[cfg(test)]
+mod reports;
+#[cfg(test)]
 mod streams;
 #[cfg(test)]
 mod words;

@@ -1,9 +1,9 @@
-//! Readers and writers that fail or are interrupted, and the bounds on them.
+//! Readers and writers that fail or are interrupted, and the bounds on them, by runs over lists.
 
 use crate::check::check;
 use crate::program::grammars::{LISTS, MISSHAPEN, ONE_STEP, REFUSED};
 use crate::program::streams::{Blanks, Pieces, Room};
-use lalrpop_grammar_streams::Watched;
+use lalrpop_grammar_streams::{Source, Watched};
 use lalrpop_run::{options, run};
 use std::alloc::Global;
 use std::io::Read;
@@ -25,7 +25,7 @@ static PARSE: [&str; 4] = ["lalrpop_run", "parse", "--start", "S"];
 const TREE: &str = "S#0(\"a\", S#1(\"b\"))\n";
 
 /// That a run over these readers and this writer ends so.
-fn ends<R1: Read + Drop, R2: Read + Drop>(
+pub(crate) fn ends<R1: Read + Drop, R2: Read + Drop>(
     rt: &impl Abort,
     words: &[&str],
     readers: (R1, R2),
@@ -57,7 +57,7 @@ fn lists() -> &'static [u8] {
 }
 
 /// A writer that takes all.
-fn all_room(alloc: Global) -> Room {
+pub(crate) fn all_room(alloc: Global) -> Room {
     Room::new(alloc, usize::MAX, 0)
 }
 
@@ -92,12 +92,30 @@ fn a_failing_write_leaves_a_front(rt: HostRuntime) {
     judge_ends(&rt, Pieces::failing(lists(), 0), out, "read", 6);
 }
 
+/// That `judge` ends so where its reader gives so many blanks, at most so many a call.
+fn blanks_end(rt: &impl Abort, alloc: Global, blanks: Blanks, text: &str, status: u8) {
+    judge_ends(rt, blanks, all_room(alloc), text, status);
+}
+
+/// So many blanks, at most so many a call.
+fn blanks(left: usize, piece: usize) -> Blanks {
+    Blanks { left, piece }
+}
+
 #[test]
 fn bytes_beyond_the_bound_are_a_read_fault(rt: HostRuntime) {
-    let out = all_room(rt.alloc());
-    judge_ends(&rt, Blanks(16_777_216), out, "not JSON\n", 4);
-    let out = all_room(rt.alloc());
-    judge_ends(&rt, Blanks(16_777_217), out, "read fault\n", 6);
+    let few = blanks(16_777_216, usize::MAX);
+    blanks_end(&rt, rt.alloc(), few, "not JSON\n", 4);
+    let many = blanks(16_777_217, usize::MAX);
+    blanks_end(&rt, rt.alloc(), many, "read fault\n", 6);
+}
+
+#[test]
+fn a_reader_without_an_end_is_a_read_fault(rt: HostRuntime) {
+    let endless = blanks(usize::MAX, usize::MAX);
+    blanks_end(&rt, rt.alloc(), endless, "read fault\n", 6);
+    let slow = blanks(usize::MAX, 1);
+    blanks_end(&rt, rt.alloc(), slow, "read fault\n", 6);
 }
 
 /// That `judge` ends so where so many calls of its reader are interrupted.
@@ -136,6 +154,35 @@ fn a_failing_read_of_the_text_is_a_read_fault(rt: HostRuntime) {
             6,
         );
     }
+}
+
+#[test]
+fn a_text_that_is_only_interrupted_is_a_read_fault(rt: HostRuntime) {
+    let text = Pieces::with_interruptions(b"a", u64::MAX);
+    let out = all_room(rt.alloc());
+    ends(&rt, &TOKENS, (lists(), text), out, "read fault\n", 6);
+}
+
+/// That `parse` over the lists answers the tree of `a b` by this reader of the text.
+fn parses<R: Read + Drop>(rt: &impl Abort, alloc: Global, text: &mut Watched<R>) {
+    let options = options(alloc, &PARSE).expect(rt, "options");
+    let options = Box::new(alloc, options).expect(rt, "memory");
+    let mut grammar = Watched::new(lists());
+    let mut out = all_room(alloc);
+    let found = {
+        let mut writer = Watched::new(&mut out);
+        run(alloc, &options, &mut grammar, text, &mut writer)
+    };
+    check(rt, found == 0);
+    check(rt, out.taken.as_slice() == TREE.as_bytes());
+}
+
+// It is asked for nothing before the run.
+#[test]
+fn an_empty_buffer_ends_no_text(rt: HostRuntime) {
+    let mut text = Watched::new(Pieces::failing(b"a b", 5));
+    check(&rt, text.read(&mut []).expect(&rt, "nothing") == 0);
+    parses(&rt, rt.alloc(), &mut text);
 }
 
 /// That `tokens` ends so over this grammar, and reads no text.

@@ -9,8 +9,10 @@ pub(crate) struct Pieces<'a> {
     rest: &'a [u8],
     /// How many bytes a call gives at most.
     piece: usize,
-    /// How many calls are interrupted before the first that isn't.
+    /// How many calls are interrupted before the next that isn't.
     interruptions: u64,
+    /// How many calls are interrupted between two that aren't.
+    pauses: u64,
     /// How many calls go well before one fails.
     calls: u64,
 }
@@ -22,6 +24,18 @@ impl<'a> Pieces<'a> {
             rest,
             piece: usize::MAX,
             interruptions,
+            pauses: 0,
+            calls: u64::MAX,
+        }
+    }
+
+    /// One byte at a time, with so many interrupted calls between every two.
+    pub(crate) fn with_pauses(rest: &'a [u8], pauses: u64) -> Pieces<'a> {
+        Pieces {
+            rest,
+            piece: 1,
+            interruptions: pauses,
+            pauses,
             calls: u64::MAX,
         }
     }
@@ -32,6 +46,7 @@ impl<'a> Pieces<'a> {
             rest,
             piece: 1,
             interruptions: 0,
+            pauses: 0,
             calls,
         }
     }
@@ -46,6 +61,7 @@ impl Read for Pieces<'_> {
         if self.calls == 0 {
             return Err(Error::other("the reader failed"));
         }
+        self.interruptions = self.pauses;
         self.calls -= 1;
         let count = self.rest.len().min(buf.len()).min(self.piece);
         let (front, rest) = self.rest.split_at(count);
@@ -55,15 +71,20 @@ impl Read for Pieces<'_> {
     }
 }
 
-/// A reader of so many blanks.
+/// A reader of so many blanks, a piece at a time.
 #[derive(Drop)]
-pub(crate) struct Blanks(pub(crate) usize);
+pub(crate) struct Blanks {
+    /// How many are left.
+    pub(crate) left: usize,
+    /// How many a call gives at most.
+    pub(crate) piece: usize,
+}
 
 impl Read for Blanks {
     fn read(&mut self, buf: &mut [u8]) -> io::Result<usize> {
-        let count = self.0.min(buf.len());
+        let count = self.left.min(buf.len()).min(self.piece);
         buf[..count].fill(b' ');
-        self.0 -= count;
+        self.left -= count;
         Ok(count)
     }
 }
@@ -73,7 +94,10 @@ impl Read for Blanks {
 pub(crate) struct Room {
     pub(crate) taken: Vec<u8>,
     room: usize,
+    /// How many calls are interrupted before the next that isn't.
     interruptions: u64,
+    /// How many calls are interrupted between two that aren't.
+    pauses: u64,
 }
 
 impl Room {
@@ -83,6 +107,17 @@ impl Room {
             taken: Vec::new(alloc),
             room,
             interruptions,
+            pauses: 0,
+        }
+    }
+
+    /// A writer that takes all, with so many interrupted calls between every two bytes.
+    pub(crate) fn with_pauses(alloc: Global, pauses: u64) -> Room {
+        Room {
+            taken: Vec::new(alloc),
+            room: usize::MAX,
+            interruptions: pauses,
+            pauses,
         }
     }
 }
@@ -100,6 +135,7 @@ impl Write for Room {
             [] => Ok(0),
             [first, ..] => {
                 self.taken.push(*first)?;
+                self.interruptions = self.pauses;
                 self.room -= 1;
                 Ok(1)
             }
