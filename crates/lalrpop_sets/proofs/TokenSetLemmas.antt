@@ -6,6 +6,7 @@ use Rattle.std.specs.List.{range_with_len}
 use Rattle.std.specs.Option.{MatchOption, is_some}
 use Rattle.lalrpop_sets.specs.AscendingLists.{has, Ascends}
 use Rattle.lalrpop_sets.specs.Ranges.{AreRanges, RangesFrom, covers, covers_end, is_covered, numbers_in_ranges, most_ranges, range_of, token_numbers, with_end}
+use Rattle.lalrpop_sets.specs.RangeWalks.{from_head}
 use Rattle.lalrpop_sets.specs.Tokens.{is_number}
 use Rattle.lalrpop_sets.specs.declared.token_range.TokenRange.{TokenRange}
 use Rattle.lalrpop_sets.proofs.RangeLemmas.{and_false, asc_tokens, covered_end, has_of_range, has_tokens, neither, or_false, or_swap, ranges_end}
@@ -168,6 +169,11 @@ some_found (Some k) A B m e = (k, m)
 pub none_found : (o : Option ℕ) (A : Type 0) (B : ℕ → Type 0) → MatchOption o A B → is_some o ≡ false → A
 none_found None A B m e = m
 none_found (Some k) A B m e = let z : ⊥ = cc in absurd z
+
+-- a walk that is at no range has nothing to come
+pub head_gone : (h : Option TokenRange) (rs : List TokenRange) → is_some h ≡ false → (k : ℕ) → is_covered (from_head h rs) k ≡ false
+head_gone None rs e k = refl
+head_gone (Some r) rs e k = let z : ⊥ = cc in absurd z
 
 -- what has all of the other is the union
 pub union_all : (x y : Bool) → (y ≡ true → x ≡ true) → x ≡ (x || y)

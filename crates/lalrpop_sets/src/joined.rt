@@ -80,6 +80,19 @@ fn next_joined(one: &mut RangeWalk<'_>, other: &mut RangeWalk<'_>) -> Option<Tok
     Some(range)
 }
 
+/// How much room the ranges of the numbers that one of the walks has may need.
+fn joined_room(mut one: RangeWalk<'_>, mut other: RangeWalk<'_>) -> usize
+    requires one { RangesFrom 1 0 (ranges_to_come one) }
+    requires other { RangesFrom 1 0 (ranges_to_come other) }
+{
+    let mut room: usize = 0;
+    while let Some(range) = next_joined(&mut one, &mut other) {
+        let more = room_of(range);
+        room = room.saturating_add(more);
+    }
+    room
+}
+
 /// The ranges of the numbers that one of the walks has, with all the room that they may need.
 pub(crate) fn joined_ranges(
     alloc: Global,
@@ -93,7 +106,8 @@ pub(crate) fn joined_ranges(
     ensures apart { IfOk result (λ list. RangesFrom 2 0 list.items) }
     ensures room { IfOk result (λ list. most_ranges list.items ≤ vec_capacity list) }
 {
-    let mut list = Vec::new(alloc);
+    // all the room at once: walking twice costs less than growing
+    let mut list = Vec::with_capacity(alloc, joined_room(one, other))?;
     let mut room = 0;
     while let Some(range) = next_joined(&mut one, &mut other) {
         list.push(range)?;

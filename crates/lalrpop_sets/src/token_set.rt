@@ -197,8 +197,14 @@ impl TokenSet {
         ensures joined { IfOk result (λ set. (k : ℕ) → has set k ≡ (has self.now k || has other.now k)) }
         ensures ordered { IfOk result (λ set. Ascends set) }
     {
+        let one = self.walk();
+        let another = other.walk();
+        // what comes to nothing is copied: that is one step, where joining takes two walks
+        if one.head.is_none() {
+            return other.try_clone();
+        }
         let alloc = *self.ranges.allocator();
-        set_of_both(alloc, self.walk(), other.walk(), self.end.or(other.end))
+        set_of_both(alloc, one, another, self.end.or(other.end))
     }
 
     /// Whether the token is in the set.

@@ -8,7 +8,7 @@ pub loop-range-init : goal.loop-range-init
 loop-range-init c =
     let ps = ranges_to_come c.args.one in
     let qs = ranges_to_come c.args.other in
-    subst (λ l. JoinedTo ps qs l ps qs 0) (sym c.new-list.ensures.items) (joined_start ps qs c.requires.one c.requires.other)
+    subst (λ l. JoinedTo ps qs l ps qs 0) (sym c.in_ok-list.ensures.items) (joined_start ps qs c.requires.one c.requires.other)
 
 pub next_joined-requires-clause-one : goal.next_joined-requires-clause-one
 next_joined-requires-clause-one c = joined_one _ _ _ _ _ _ c.loop-range.invariant
