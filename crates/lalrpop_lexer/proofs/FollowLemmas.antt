@@ -1,20 +1,12 @@
--- The automaton along a text, a character at a time. For the function that answers a text.
-use Rattle.std.proofs.Common.{◌≡◌, ℕ, ◌+◌, ◌<◌, ◌≤◌, List, [], ◌∷◌, ◌++◌, length, Option, Some, None}
-use Rattle.std.proofs.Common.{MatchOption, IfSome, get_or, ⊎_elim, sym, ap, ◌∙◌, refl, arith}
-use Rattle.std.specs.Prelude.{slice_get, encode_utf8}
-use Rattle.std.specs.Str.{chars, IsUtf8}
+-- The edge of a state that reads a number. For the function that looks it up.
+use Rattle.std.proofs.Common.{◌≡◌, ℕ, ◌+◌, ◌<◌, ◌≤◌, List, length, Option, Some, None}
+use Rattle.std.proofs.Common.{get_or, ⊎_elim, sym, ap, ◌∙◌, refl, arith}
 use Rattle.std.proofs.lemmas.Bool.{cases_lt}
-use Rattle.std.proofs.lemmas.List.{append_cancel_right, nil_from_length, length_push, length-map, get_or-map}
-use Rattle.std.proofs.lemmas.Option.{slice_get_past}
-use Rattle.std.proofs.lemmas.Str.{chars-nil, chars_past_char}
-use denote.Ref.{Bor}
-use Rattle.lalrpop_lexer_nfa.proofs.TextLemmas.{IsRead, read_start, read_char}
-use Rattle.lalrpop_lexer.specs.declared.kind.NfaIndex.{NfaIndex}
+use Rattle.std.proofs.lemmas.List.{length-map, get_or-map}
 use Rattle.lalrpop_lexer.specs.declared.edge.DfaEdge.{DfaEdge}
 use Rattle.lalrpop_lexer.specs.Numbering.{EdgeView, edge_at}
 use Rattle.lalrpop_lexer.specs.Explore.{edge_view, edges_view}
-use Rattle.lalrpop_lexer.specs.Simulation.{StateView, AreApart, target_of, next_state_view, better_answer, simulate, answer_of}
-use Rattle.lalrpop_lexer.specs.Answer.{IsAnswerFront}
+use Rattle.lalrpop_lexer.specs.Simulation.{AreApart, target_of}
 use Rattle.lalrpop_lexer.proofs.StepLemmas.{step_some, step_none}
 
 -- the edge that was looked for
@@ -73,105 +65,3 @@ pub narrow_high : (es : List DfaEdge) (c m : ℕ) (e : DfaEdge) → AreApart (ed
 narrow_high es c m e h l is more j order within =
     let at = ap (λ (x : EdgeView). x.1) (edge_is es m e l is) in
     omega (arith, ends_rise (edges_view es) m j h order (omega (arith, length-map es edge_view)), at)
-
--- the answer so far, its characters counted
-abbrev pub count_of : Option (NfaIndex × Bor (List ℕ)) → Option (ℕ × ℕ)
-count_of None = None
-count_of (Some x) = Some (x.0.0, length (chars x.1.now))
-
--- the characters of the word were read, which led to the node
-pub record IsFollowing (nodes : List StateView) (text rest word : List ℕ) (node : StateView)
-    (found : Option (NfaIndex × Bor (List ℕ))) : Type 0 where
-  pub read : IsRead text rest word
-  pub same : answer_of nodes (chars text) ≡ simulate nodes (chars rest) (Some node) (length word) (count_of found)
-  pub front : IfSome found (λ x. (left : List ℕ) × (text ≡ x.1.now ++ left))
-
--- before the first character, the first state is reached and nothing is found
-pub follow_start : (nodes : List StateView) (text : List ℕ) (node : StateView) → IsUtf8 text → slice_get nodes 0 ≡ Some node
-    → IsFollowing nodes text text [] node None
-follow_start nodes text node u first = record {
-  read = read_start text u;
-  same = ap (λ (s : Option StateView). simulate nodes (chars text) s 0 None) first;
-  front = tt;
-}
-
-walked_none : (nodes : List StateView) (v : List ℕ) (n : ℕ) (best : Option (ℕ × ℕ)) → simulate nodes v None n best ≡ best
-walked_none nodes [] n best = refl
-walked_none nodes (c ∷ v) n best = refl
-
--- an automaton of no states finds nothing
-pub follow_nothing : (nodes : List StateView) (text : List ℕ) → length nodes ≡ 0 → answer_of nodes text ≡ None
-follow_nothing nodes text none =
-    ap (λ (s : Option StateView). simulate nodes text s 0 None) (slice_get_past nodes 0 (omega (arith, none)))
-    ∙ walked_none nodes text 0 None
-
-module _ (nodes : List StateView) (text whole rest word : List ℕ) (c : ℕ) (node : StateView)
-    (found : Option (NfaIndex × Bor (List ℕ))) (is : whole ≡ encode_utf8 c ++ rest)
-    (h : IsFollowing nodes text whole word node found) where
-  split : chars whole ≡ c ∷ chars rest
-  split = chars_past_char whole rest c h.read.rest_utf8 is
-
-  stepped : (next : Option StateView) → next_state_view nodes node c ≡ next
-      → answer_of nodes (chars text)
-      ≡ simulate nodes (chars rest) next (length word + 1) (better_answer next (length word + 1) (count_of found))
-  stepped next e =
-      h.same ∙ ap (λ (v : List ℕ). simulate nodes v (Some node) (length word) (count_of found)) split
-      ∙ ap (λ (s : Option StateView). simulate nodes (chars rest) s (length word + 1)
-      (better_answer s (length word + 1) (count_of found))) e
-
-  -- where no transition reads the next character, what was found is the answer
-  pub follow_dead : next_state_view nodes node c ≡ None → answer_of nodes (chars text) ≡ count_of found
-  follow_dead none = stepped None none ∙ walked_none nodes (chars rest) (length word + 1) (count_of found)
-
-  longer : length (word ++ c ∷ []) ≡ length word + 1
-  longer = length_push word c
-
-  -- a character that leads to a state which accepts nothing: what was found stays
-  pub follow_on : (next : StateView) → next_state_view nodes node c ≡ Some next → next.0 ≡ None
-      → IsFollowing nodes text rest (word ++ c ∷ []) next found
-  follow_on next e none = record {
-    read = read_char text whole rest word c is h.read;
-    same =
-        stepped (Some next) e
-        ∙ ap (λ (o : Option ℕ). simulate nodes (chars rest) (Some next) (length word + 1)
-        (better_answer (Some (o, next.1)) (length word + 1) (count_of found))) none
-        ∙ ap (λ (n : ℕ). simulate nodes (chars rest) (Some next) n (count_of found)) (sym longer);
-    front = h.front;
-  }
-
-  -- a character that leads to a state which accepts a pattern: what was read so far is found
-  pub follow_accepted : (next : StateView) (p : NfaIndex) (front : Bor (List ℕ)) → next_state_view nodes node c ≡ Some next
-      → next.0 ≡ Some p.0 → text ≡ front.now ++ rest →
-      IsFollowing nodes text rest (word ++ c ∷ []) next (Some (p, front))
-  follow_accepted next p front e some cut =
-      let read = read_char text whole rest word c is h.read in
-      let same_front : front.now ≡ read.front = append_cancel_right front.now read.front rest (sym cut ∙ read.is) in
-      let size : length (chars front.now) ≡ length word + 1 =
-      ap (λ (f : List ℕ). length (chars f)) same_front ∙ ap length read.says ∙ longer in
-      record {
-        read = read;
-        same =
-            stepped (Some next) e
-            ∙ ap (λ (o : Option ℕ). simulate nodes (chars rest) (Some next) (length word + 1)
-            (better_answer (Some (o, next.1)) (length word + 1) (count_of found))) some
-            ∙ ap (λ (n : ℕ). simulate nodes (chars rest) (Some next) n (Some (p.0, n))) (sym longer)
-            ∙ ap (λ (n : ℕ). simulate nodes (chars rest) (Some next) (length (word ++ c ∷ [])) (Some (p.0, n)))
-            (longer ∙ sym size);
-        front = (rest, cut);
-      }
-
--- at the end of the text, what was found is the answer
-pub follow_end : (nodes : List StateView) (text rest word : List ℕ) (node : StateView) (found : Option (NfaIndex × Bor (List ℕ)))
-    → IsFollowing nodes text rest word node found → length rest ≡ 0 →
-    answer_of nodes (chars text) ≡ count_of found
-follow_end nodes text rest word node found h end =
-    let none : chars rest ≡ [] = ap chars (nil_from_length rest end) ∙ chars-nil in
-    h.same ∙ ap (λ (v : List ℕ). simulate nodes v (Some node) (length word) (count_of found)) none
-
--- what was found is the answer
-pub follow_answer : (nodes : List StateView) (text : List ℕ) (found : Option (NfaIndex × Bor (List ℕ)))
-    → answer_of nodes (chars text) ≡ count_of found →
-    IfSome found (λ x. (left : List ℕ) × (text ≡ x.1.now ++ left))
-    → MatchOption found (answer_of nodes (chars text) ≡ None) (λ x. IsAnswerFront nodes text x.0.0 x.1.now)
-follow_answer nodes text None same front = same
-follow_answer nodes text (Some x) same front = record { rest = front.0; is = front.1; answer = same }

@@ -18,6 +18,9 @@ pub mod DecideLemmas
 pub mod StateViewLemmas
 pub mod ReadLemmas
 pub mod FollowLemmas
+pub mod DeadEndLemmas
+pub mod WalkLemmas
+mod ExamplesOfWalks
 pub mod RowLemmas
 pub mod BuildLemmas
 pub mod KernelLemmas

@@ -1,5 +1,6 @@
 pub mod Numbering
 pub mod Simulation
+pub mod Walks
 pub mod Subsets
 pub mod Targets
 pub mod States

@@ -2,6 +2,7 @@
 
 pub use crate::automaton::Dfa;
 pub use crate::build::build_dfa;
+pub use crate::dead_ends::DeadEnds;
 pub use crate::error::DfaConstructionError;
 pub use crate::interpreter::interpret;
 pub use crate::kind::{DfaStateIndex, Kind, NfaIndex};

@@ -1,6 +1,6 @@
 //! The longest match at the front of a text.
 
-ghost use Rattle.std.specs.Prelude.{◌≡◌, ◌<◌, ℕ, List, [], ◌++◌, None, length, slice_get, slice_index_or, IfSome, MatchOption};
+ghost use Rattle.std.specs.Prelude.{◌≡◌, ◌<◌, [], None, length, slice_get, slice_index_or, IfSome, MatchOption};
 ghost use Rattle.std.specs.Prelude.{option_and_then, option_map};
 ghost use Rattle.std.specs.Str.{chars};
 ghost use Rattle.lalrpop_lexer.specs.Simulation.{target_of, next_state_view, answer_of};
@@ -9,6 +9,7 @@ ghost use Rattle.lalrpop_lexer.specs.Answer.{IsAnswerFront};
 use crate::automaton::Dfa;
 use crate::kind::NfaIndex;
 use crate::row::target_in;
+use crate::walk::walk_along;
 
 impl Dfa {
     /// The number of the state that the edge of one of the states leads to which reads the character, if there is one.
@@ -27,7 +28,7 @@ impl Dfa {
     }
 
     /// The pattern that one of the states accepts, if any.
-    fn pattern_at(&self, state: usize) -> Option<NfaIndex>
+    pub(crate) fn pattern_at(&self, state: usize) -> Option<NfaIndex>
         requires { state < length self.now }
         ensures { option_map (λ i. i.0) result ≡ (slice_index_or self.now state (None, [])).0 }
     {
@@ -35,7 +36,7 @@ impl Dfa {
     }
 
     /// The state that the character leads to from one of the states, if there is one.
-    fn next_state(&self, state: usize, character: u32) -> Option<usize>
+    pub(crate) fn next_state(&self, state: usize, character: u32) -> Option<usize>
         requires { state < length self.now }
         ensures leads { option_and_then (slice_get self.now) result ≡ next_state_view self.now (slice_index_or self.now state (None, [])) character }
         ensures inside { IfSome result (λ n. n < length self.now) }
@@ -49,34 +50,14 @@ impl Dfa {
     }
 }
 
-/// The text without what is left of it.
-fn before<'t>(text: &'t str, rest: &str) -> &'t str
-    requires { (front : List ℕ) × (text.now ≡ front ++ rest.now) }
-    ensures { text.now ≡ result.now ++ rest.now }
-{
-    &text[..text.len() - rest.len()]
-}
-
 /// The longest nonempty part at the text's front that some pattern of the automaton matches, with the pattern that it
 /// belongs to.
 pub fn interpret<'t>(dfa: &Dfa, text: &'t str) -> Option<(NfaIndex, &'t str)>
     ensures { MatchOption result (answer_of dfa.now (chars text.now) ≡ None) (λ found. IsAnswerFront dfa.now text.now found.0.0 found.1.now) }
 {
-    let count = dfa.state_count();
-    if count == 0 {
+    if dfa.state_count() == 0 {
         return None;
     }
-    let mut state = 0;
-    let mut found = None;
-    let mut left = text.chars();
-    while let Some(c) = left.next() {
-        let Some(next) = dfa.next_state(state, c as u32) else {
-            return found;
-        };
-        state = next;
-        if let Some(pattern) = dfa.pattern_at(state) {
-            found = Some((pattern, before(text, left.as_str())));
-        }
-    }
-    found
+    let (walk, _) = walk_along(dfa, text, None);
+    walk.answer(text)
 }

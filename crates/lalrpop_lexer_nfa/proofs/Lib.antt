@@ -10,6 +10,8 @@ pub mod FrontLemmas
 pub mod GrowthLemmas
 pub mod FragmentLemmas
 pub mod LanguageLemmas
+pub mod RepeatLemmas
+mod ExamplesOfRepeats
 pub mod GraphLemmas
 pub mod NfaLemmas
 pub mod WholeLemmas

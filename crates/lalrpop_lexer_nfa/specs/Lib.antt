@@ -7,6 +7,7 @@ pub mod Lending
 pub mod Paths
 pub mod Growth
 pub mod Fragments
+pub mod Repeating
 pub mod Refusals
 pub mod Sets
 pub mod Taken

@@ -7,6 +7,7 @@ ghost use Rattle.lalrpop_lexer_nfa.specs.Paths.{nfa_view};
 ghost use Rattle.lalrpop_lexer_nfa.specs.Fragments.{IsFragment, UpTo, AtLeast};
 
 use crate::automaton::Nfa;
+use crate::repeats::{copies, is_empty_word, merged};
 use lalrpop_lexer_pattern::{Hir, Range, Repeats};
 use std::alloc::AllocError;
 
@@ -23,7 +24,10 @@ impl Nfa {
             Hir::Class(class) => self.class(&class.ranges, accept),
             Hir::Look(_) => self.dead(accept),
             Hir::Capture { name: _, sub } => self.expr(sub, accept),
-            Hir::Repetition { repeats, sub } => self.repetition(*repeats, sub, accept),
+            Hir::Repetition { repeats, sub } => {
+                let (whole, piece) = merged(*repeats, sub);
+                self.repetition(whole, piece, accept)
+            }
             Hir::Concat(subs) => self.concat(subs, accept),
             Hir::Alternation(subs) => self.alternation(subs, accept),
         }
@@ -90,7 +94,8 @@ impl Nfa {
         Ok(state)
     }
 
-    /// Adds `min` copies, and behind them what reads the other times.
+    /// Adds what reads a pattern some number of times. The empty word is the same however often it is repeated. Room for all
+    /// copies is asked for first, so that memory runs out before it is filled.
     #[cycle(build)]
     fn repetition(
         &mut self,
@@ -98,6 +103,19 @@ impl Nfa {
         sub: &Hir,
         accept: usize,
     ) -> Result<usize, AllocError>
+        requires { accept < vec_len self.old.states }
+        ensures { IfOk result (λ s. IsFragment (nfa_view self.old) (nfa_view self.new) (Matches (Pattern.repetition repeats.min repeats.max repeats.greedy (meaning sub.now))) s accept) }
+    {
+        if is_empty_word(sub) {
+            return Ok(accept);
+        }
+        self.make_room(copies(repeats, sub))?;
+        self.times(repeats, sub, accept)
+    }
+
+    /// Adds `min` copies, and behind them what reads the other times.
+    #[cycle(build)]
+    fn times(&mut self, repeats: Repeats, sub: &Hir, accept: usize) -> Result<usize, AllocError>
         requires { accept < vec_len self.old.states }
         ensures { IfOk result (λ s. IsFragment (nfa_view self.old) (nfa_view self.new) (Matches (Pattern.repetition repeats.min repeats.max repeats.greedy (meaning sub.now))) s accept) }
     {

@@ -54,6 +54,14 @@ impl Nfa {
         Ok(state)
     }
 
+    /// Makes room for so many more states.
+    pub(crate) fn make_room(&mut self, more: usize) -> Result<(), AllocError>
+        ensures same { nfa_view self.new ≡ nfa_view self.old }
+        ensures count { vec_len self.new.states ≡ vec_len self.old.states }
+    {
+        self.states.reserve(more)
+    }
+
     /// Adds an epsilon edge from a state of which others, if it has any, stand last in their list.
     fn push_noop(&mut self, from: usize, to: usize) -> Result<(), AllocError>
         requires from { from < vec_len self.old.states }

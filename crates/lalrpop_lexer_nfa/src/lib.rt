@@ -15,6 +15,7 @@ mod label;
 mod laws;
 mod overlap;
 mod reach;
+mod repeats;
 mod state;
 mod state_set;
 mod test;

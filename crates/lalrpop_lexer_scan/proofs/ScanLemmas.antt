@@ -5,10 +5,14 @@ use Rattle.std.proofs.Common.{append_assoc, append-nil}
 use Rattle.std.specs.List.{AllByRecursion}
 use Rattle.std.specs.Str.{chars, IsUtf8, IsCharBoundary}
 use Rattle.std.proofs.lemmas.Str.{chars-nil, encodes-chars, length-le-encodes}
-use Rattle.std.proofs.lemmas.List.{length-take-le, nil_from_length}
+use Rattle.std.proofs.lemmas.List.{take-append-drop, length-take-le, nil_from_length}
 use Rattle.std.proofs.lemmas.Grind.{flat_map-append}
 use Rattle.lalrpop_grammar_symbols.specs.Symbols.{Text, Terminal}
 use Rattle.lalrpop_grammar.specs.Trees.{Token}
+use Rattle.lalrpop_lexer.specs.declared.dead_ends.DeadEnds.{DeadEnds}
+use Rattle.lalrpop_lexer.specs.Simulation.{StateView}
+use Rattle.lalrpop_lexer.specs.Walks.{AreDeadEnds}
+use Rattle.lalrpop_lexer.proofs.DeadEndLemmas.{ends_of_rest}
 use Rattle.lalrpop_lexer_scan.specs.declared.scanner.Scanner.{Scanner}
 use Rattle.lalrpop_lexer_scan.specs.Entries.{ScanEntry}
 use Rattle.lalrpop_lexer_scan.specs.Pieces.{Piece, piece_size, IsPieceAt, IsCut}
@@ -207,3 +211,11 @@ module _ (s : Scanner) (text rest : Text) (tokens : List Token) (h : IsScanned s
           no_blank = (none es k).1;
         };
       }
+
+-- dead ends of a text are dead ends of what is left of it behind a front
+pub ends_left : (nodes : List StateView) (text front rest : Text) (ends : DeadEnds) → rest ≡ drop (length front) text
+    → AreDeadEnds nodes text ends → AreDeadEnds nodes rest ends
+ends_left nodes text front rest ends is all =
+    let cut : text ≡ take (length front) text ++ rest =
+    sym (take-append-drop (length front) text) ∙ ap (λ (t : Text). take (length front) text ++ t) (sym is) in
+    ends_of_rest nodes text (take (length front) text) rest ends cut all

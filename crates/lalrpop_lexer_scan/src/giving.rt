@@ -14,6 +14,7 @@ use crate::fault::ScanError;
 use crate::receiver::TokenReceiver;
 use crate::scanner::Scanner;
 use lalrpop_grammar_symbols::Span;
+use lalrpop_lexer::dfa::DeadEnds;
 use std::alloc::AllocError;
 
 impl Scanner {
@@ -27,10 +28,11 @@ impl Scanner {
         ensures no_token { IfErr result (λ error. (entries : List ScanEntry) → IsScannerOf self.now entries
             → TellsNoToken entries (chars text.now) error) }
     {
+        let mut ends = DeadEnds::new(*self.terminals.allocator());
         let mut rest = text;
         while !rest.is_empty() {
             let at = text.len() - rest.len();
-            let Some((piece, of)) = self.piece(rest) else {
+            let Some((piece, of)) = self.piece(rest, &mut ends) else {
                 return Err(ScanError::NoToken(at));
             };
             rest = &rest[piece.len()..];

@@ -4,21 +4,29 @@ ghost use Rattle.std.specs.Prelude.{◌≡◌, ◌≤◌, IfSome, None, MatchOpt
 ghost use Rattle.std.specs.Str.{chars};
 ghost use Rattle.lalrpop_lexer.specs.Simulation.{answer_of};
 ghost use Rattle.lalrpop_lexer.specs.Answer.{IsAnswerFront};
+ghost use Rattle.lalrpop_lexer.specs.Walks.{AreDeadEnds};
 ghost use Rattle.lalrpop_lexer_scan.specs.Scanning.{HasNoPiece, IsFoundPiece, IsItsTerminal, found_terminal_view, skip_count};
 
 use crate::blank::blank_front;
 use crate::entry_terminal::{EntryTerminal, with_number};
 use crate::scanner::Scanner;
-use lalrpop_lexer::dfa::interpret;
+use lalrpop_lexer::dfa::DeadEnds;
 
 impl Scanner {
     /// The piece at the front of the text, and its entry with the terminal where it isn't skipped.
-    pub(crate) fn piece<'t>(&self, text: &'t str) -> Option<(&'t str, Option<EntryTerminal<'_>>)>
+    /// `ends` are dead ends of the text, and get those that are found.
+    pub(crate) fn piece<'t>(
+        &self,
+        text: &'t str,
+        ends: &mut DeadEnds,
+    ) -> Option<(&'t str, Option<EntryTerminal<'_>>)>
+        requires { AreDeadEnds self.now.dfa text.now ends.old }
+        ensures ends { AreDeadEnds self.now.dfa text.now ends.new }
         ensures piece { MatchOption result (HasNoPiece self.now text.now)
             (λ found. IsFoundPiece self.now text.now found.0.now (found_terminal_view found.1)) }
         ensures entry { IfSome result (λ found. IsItsTerminal self.now found.1) }
     {
-        match interpret(&self.dfa, text) {
+        match ends.interpret(&self.dfa, text) {
             Some((entry, word)) => self.longer(text, entry.index(), word),
             None => self.blank_piece(text),
         }

@@ -13,6 +13,7 @@ use crate::fault::ScanError;
 use crate::scanner::Scanner;
 use lalrpop_grammar::ScanToken;
 use lalrpop_grammar_symbols::Span;
+use lalrpop_lexer::dfa::DeadEnds;
 use std::alloc::Global;
 
 impl Scanner {
@@ -50,10 +51,11 @@ impl Scanner {
             → TellsNoToken entries (chars text.now) error) }
     {
         let mut found = EntryTokens::new(alloc);
+        let mut ends = DeadEnds::new(alloc);
         let mut rest = text;
         while !rest.is_empty() {
             let at = text.len() - rest.len();
-            let Some((piece, of)) = self.piece(rest) else {
+            let Some((piece, of)) = self.piece(rest, &mut ends) else {
                 return Err(ScanError::NoToken(at));
             };
             rest = &rest[piece.len()..];

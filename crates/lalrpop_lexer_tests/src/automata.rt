@@ -1,7 +1,7 @@
 //! Automata, asked state by state.
 
 use crate::check::check;
-use lalrpop_lexer::dfa::{DfaStateIndex, Kind, NfaIndex, Precedence, build_dfa};
+use lalrpop_lexer::dfa::{DeadEnds, DfaStateIndex, Kind, NfaIndex, Precedence, build_dfa};
 use lalrpop_lexer::nfa::{
     ACCEPT, Edge, EdgeLabel, Edges, Nfa, NfaConstructionError, Noop, Other, REJECT, START, State,
     StateKind, Test,
@@ -92,11 +92,11 @@ fn enters_the_next_copy(rt: &impl Abort, alloc: Global, counted: &Nfa) {
     check(rt, next.members().len() == 3);
 }
 
-/// Plus signs share one automaton, and copies that may be left out stand in a row.
+/// Plus signs behind one another are one, and copies that may be left out stand in a row.
 #[test]
 fn repetitions_stay_small(rt: HostRuntime) {
     let alloc = rt.alloc();
-    check(&rt, count_of(&rt, alloc, "a++++++++++++++++") == 20);
+    check(&rt, count_of(&rt, alloc, "a++++++++++++++++") == 5);
     let counted = Nfa::from_re(alloc, &regex(&rt, alloc, "a{0,1000}")).expect(&rt, "an automaton");
     enters_the_next_copy(&rt, alloc, &counted);
 }
@@ -172,4 +172,22 @@ fn no_pattern_is_rejected_at_once(rt: HostRuntime) {
         &rt,
         (DfaStateIndex(4).index(), NfaIndex(5).index()) == (4, 5),
     );
+}
+
+/// So many letters that what is read behind the first in vain is counted, and noted the second time.
+const LETTERS: &str = "aaaaaaaaaaaaaaaaaaaaaaaaaaaaaaaaaaaaaaaaaaaaaaaaaaaaaaaaaaaa";
+
+/// What was noted changes no answer.
+#[test]
+fn dead_ends_are_noted(rt: HostRuntime) {
+    let alloc = rt.alloc();
+    let patterns = [literal(&rt, alloc, "a"), regex(&rt, alloc, "a*b")];
+    let precedences = [Precedence(0), Precedence(0)];
+    let dfa = build_dfa(alloc, &patterns, &precedences).expect(&rt, "an automaton");
+    let mut ends = DeadEnds::new(alloc);
+    let first = ends.interpret(&dfa, LETTERS);
+    let second = ends.interpret(&dfa, LETTERS);
+    let third = ends.interpret(&dfa, LETTERS);
+    check(&rt, first == Some((NfaIndex(0), "a")));
+    check(&rt, (second == first) & (third == first));
 }

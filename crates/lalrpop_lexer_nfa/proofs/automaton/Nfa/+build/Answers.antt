@@ -1,4 +1,4 @@
-use Rattle.std.proofs.Common.{ℕ, ◌+◌, ◌≡◌, map, drop, get_or, length, ap, ◌∙◌, sym, subst, arith, drop_of_length-le}
+use Rattle.std.proofs.Common.{ℕ, List, ◌+◌, ◌≡◌, map, drop, get_or, length, ap, ◌∙◌, sym, subst, arith, drop_of_length-le}
 use Rattle.std.proofs.Common.{Some, Result, IfOk}
 use Rattle.std.specs.Prelude.{option_map, string_bytes}
 use Rattle.std.proofs.lemmas.Result.{IfOk-weaker}
@@ -16,6 +16,8 @@ use Rattle.lalrpop_lexer_nfa.proofs.GraphLemmas.{IsFragment-at_least}
 use Rattle.lalrpop_lexer_nfa.proofs.GraphLemmas.{IsFragment-between, IsFragment-no_repeat, AreFragments-push, IsNewState-no_leads}
 use Rattle.lalrpop_lexer_nfa.proofs.NfaLemmas.{inside_of}
 use Rattle.lalrpop_lexer_nfa.proofs.LanguageLemmas.{pieces_to, pieces_from, up_to_none, drop_less, meaning_at}
+use Rattle.lalrpop_lexer_pattern.specs.declared.tree.Hir.{size-Hir}
+use Rattle.lalrpop_lexer_nfa.proofs.RepeatLemmas.{empty_repeated, size-repeated}
 use Rattle.lalrpop_lexer_nfa.proofs.automaton.Nfa.+build.Goals as goal
 
 pub copies-loop-done-init : goal.copies-loop-done-init
@@ -77,20 +79,37 @@ star-returns t c =
     c.in_ok-state.state c.in_ok-round.round c.args.accept (inside_of c.args.self.now) c.in_ok-state.ensures.state c.in_ok-round.ensures
     c.in_ok-push_noops.ensures
 
-pub repetition-returns-in-Some-eq0 : goal.repetition-returns-in-Some-eq0
-repetition-returns-in-Some-eq0 t c =
+pub repetition-returns-then-is_empty_word : goal.repetition-returns-then-is_empty_word
+repetition-returns-then-is_empty_word t c =
+    let r = c.args.repeats in
+    let alone = empty_repeated (meaning c.args.sub.now) r.min r.max r.greedy r.ordered (c.is_empty_word.ensures c.if-is_empty_word.true) in
+    IsFragment-along (Matches (Pattern.repetition r.min r.max r.greedy (meaning c.args.sub.now))) (λ w e. (alone w).1 e)
+    (λ w m. (alone w).0 m) (IsFragment-nothing _ _)
+
+pub repetition-returns : goal.repetition-returns
+repetition-returns t c =
+    let r = c.args.repeats in
+    let L : List ℕ → Type 0 = Matches (Pattern.repetition r.min r.max r.greedy (meaning c.args.sub.now)) in
+    IfOk-weaker c.times.result
+    (λ s. IsFragment (nfa_view c.make_room.new.self) (nfa_view c.times.new.self) L s c.args.accept) _
+    (λ s h.
+    let P : Graph → Type 0 = λ g. IsFragment g (nfa_view c.times.new.self) L s c.args.accept in
+    subst P c.make_room.ensures.same h) c.times.ensures
+
+pub times-returns-in-Some-eq0 : goal.times-returns-in-Some-eq0
+times-returns-in-Some-eq0 t c =
     let zero : c.in-Some-eq0.field-0 ≡ 0 = cc in
     IsFragment-no_repeat (meaning c.args.sub.now) c.args.repeats.min c.args.repeats.greedy _ c.args.repeats.max c.args.accept
     (c.in-Some-eq0.is ∙ ap Some zero) c.args.repeats.ordered
 
-pub repetition-returns-in_ok-state-in-Some : goal.repetition-returns-in_ok-state-in-Some
-repetition-returns-in_ok-state-in-Some t c =
+pub times-returns-in_ok-state-in-Some : goal.times-returns-in_ok-state-in-Some
+times-returns-in_ok-state-in-Some t c =
     IsFragment-between (meaning c.args.sub.now) c.args.repeats.min c.args.repeats.greedy _ (nfa_view c.up_to.new.self) _
     c.args.repeats.max c.in-Some.max _ c.in_ok-rest-in-Some.rest _ c.in-Some.is c.args.repeats.ordered
     c.in_ok-rest-in-Some.ensures c.in_ok-state-in-Some.ensures
 
-pub repetition-returns-in-None : goal.repetition-returns-in-None
-repetition-returns-in-None t c =
+pub times-returns-in-None : goal.times-returns-in-None
+times-returns-in-None t c =
     IfOk-weaker c.at_least.result
     (λ s. IsFragment (nfa_view c.args.self.now) (nfa_view c.at_least.new.self)
     (AtLeast (Matches (meaning c.args.sub.now)) c.args.repeats.min) s c.args.accept) _
@@ -122,12 +141,35 @@ expr-returns-in-Capture t c =
     (ap meaning c.in-Capture.is ∙ meaning-Capture _ _
     ∙ ap (λ h. Pattern.capture (option_map string_bytes c.in-Capture.name) (meaning h)) (sym c.deref-in-Capture.ensures)) c.expr.ensures
 
+pub expr-repetition-requires : goal.expr-repetition-requires
+expr-repetition-requires t c = (
+  omega (
+    arith,
+    c.decreases,
+    c.merged.ensures.inside,
+    ap size-Hir c.deref-in-Repetition.ensures,
+    size-repeated c.in-Repetition.repeats c.in-Repetition.sub,
+    ap size-Hir c.in-Repetition.is,
+  ),
+  c.requires,
+)
+
 pub expr-returns-in-Repetition : goal.expr-returns-in-Repetition
 expr-returns-in-Repetition t c =
     let r = c.in-Repetition.repeats in
-    told _ _ _ _ (Pattern.repetition r.min r.max r.greedy (meaning c.deref-in-Repetition.result.now)) _
+    let sub = c.deref-in-Repetition.result.now in
+    let whole = c.merged.result.0 in
+    let piece = c.merged.result.1.now in
+    told _ _ _ _ (Pattern.repetition r.min r.max r.greedy (meaning sub)) _
     (ap meaning c.in-Repetition.is ∙ meaning-Repetition _ _
-    ∙ ap (λ h. Pattern.repetition r.min r.max r.greedy (meaning h)) (sym c.deref-in-Repetition.ensures)) c.repetition.ensures
+    ∙ ap (λ h. Pattern.repetition r.min r.max r.greedy (meaning h)) (sym c.deref-in-Repetition.ensures))
+    (IfOk-weaker c.repetition.result
+    (λ s. IsFragment (nfa_view c.args.self.now) (nfa_view c.repetition.new.self)
+    (Matches (Pattern.repetition whole.min whole.max whole.greedy (meaning piece))) s c.args.accept)
+    (λ s. IsFragment (nfa_view c.args.self.now) (nfa_view c.repetition.new.self)
+    (Matches (Pattern.repetition r.min r.max r.greedy (meaning sub))) s c.args.accept)
+    (λ s h. IsFragment-along (Matches (Pattern.repetition r.min r.max r.greedy (meaning sub)))
+    (λ w m. (c.merged.ensures.same w).0 m) (λ w m. (c.merged.ensures.same w).1 m) h) c.repetition.ensures)
 
 pub expr-returns-in-Concat : goal.expr-returns-in-Concat
 expr-returns-in-Concat t c =

@@ -2,7 +2,7 @@ use Rattle.std.proofs.Common.{◌≡◌, ◌<◌, sym, length, map, eqb-true, ar
 use Rattle.std.proofs.lemmas.Bool.{eqb-false}
 use Rattle.lalrpop_grammar.specs.Views.{token_view}
 use Rattle.lalrpop_lexer_scan.specs.Scanning.{found_terminal_view}
-use Rattle.lalrpop_lexer_scan.proofs.ScanLemmas.{scan_step, scan_tokens, scan_stuck, piece_boundary, piece_some}
+use Rattle.lalrpop_lexer_scan.proofs.ScanLemmas.{ends_left, scan_step, scan_tokens, scan_stuck, piece_boundary, piece_some}
 use Rattle.lalrpop_lexer_scan.proofs.scanner.Scanner.scan_entries.Goals as goal
 
 pub returns-in_default-clause-no_token : goal.returns-in_default-clause-no_token
@@ -27,6 +27,8 @@ loop-rest-smaller c =
 pub loop-rest-preserved : goal.loop-rest-preserved
 loop-rest-preserved c = record {
   utf8 = c.range_from-rest.utf8;
+  ends = ends_left c.args.self.now.dfa c.loop-rest.rest.now c.in-Some.piece.now c.range_from-rest.result.now c.piece.new.ends
+      c.range_from-rest.ensures.value c.piece.ensures.ends;
   scanned =
       scan_step c.args.self.now c.args.text.now c.loop-rest.rest.now (map token_view c.loop-rest.found.tokens.items)
       c.loop-rest.invariant.scanned c.in-Some.piece.now c.range_from-rest.result.now (found_terminal_view c.in-Some.of)

@@ -1,6 +1,6 @@
 use Rattle.std.proofs.Common.{arith, ap, length, ◌-◌, ◌≡◌, length-append}
 use Rattle.std.proofs.lemmas.Str.{IsCharBoundary-at_seam}
-use Rattle.lalrpop_lexer.proofs.interpreter.before.Goals as goal
+use Rattle.lalrpop_lexer.proofs.walk.before.Goals as goal
 
 pub range-requires-clause-end_boundary : goal.range-requires-clause-end_boundary
 range-requires-clause-end_boundary c =
