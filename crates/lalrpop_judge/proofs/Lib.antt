@@ -8,9 +8,10 @@ pub mod LeafLemmas
 pub mod WalkLemmas
 pub mod CompiledLemmas
 pub mod MoveLemmas
-pub mod CheckLemmas
+pub mod EntryLemmas
+pub mod FrontLemmas
 pub mod MembershipLemmas
+pub mod RootEntryLemmas
 pub mod RootLemmas
-pub mod StepLemmas
-pub mod CertificateWalkLemmas
 mod ExamplesOfCertificates
+mod ExamplesOfEntryMoves

@@ -1,12 +1,12 @@
 pub mod Admitted
 pub mod Compiled
 pub mod Ends
+pub mod EntryMoves
 pub mod Faults
 pub mod Placed
 pub mod Certificates
 pub mod CertificateViews
 pub mod Laws
-pub mod LentTrees
 pub mod MoveLists
 pub mod MoveViews
-pub mod Steps
+pub mod TreeRoots

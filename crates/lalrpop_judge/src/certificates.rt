@@ -5,10 +5,11 @@
 
 mod certificate;
 mod check;
+mod entries;
 mod laws;
 mod membership;
 mod moves;
-mod step;
+mod root;
 mod walk;
 
 pub use certificate::Certificate;

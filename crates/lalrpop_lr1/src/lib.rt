@@ -16,7 +16,8 @@ pub use lalrpop_lr1_core::{
 pub use lalrpop_lr1_first::FirstSets;
 pub use lalrpop_lr1_inline::{InlineFault, inline, inline_order};
 pub use lalrpop_lr1_interpret::parse::{
-    ActionTable, Columns, ExpandedTree, NoTrees, Stop, TreeRef, TreeStack, parse_limited,
+    ActionTable, Columns, ExpandedTree, NoTrees, Stop, TreeEntry, TreeLabel, TreeRef, TreeRefs,
+    TreeStack, parse_limited,
 };
 pub use lalrpop_lr1_interpret::parse_trees::ParseTree;
 pub use lalrpop_lr1_interpret::{InterpretError, InterpretFault, interpret, interpret_partial};

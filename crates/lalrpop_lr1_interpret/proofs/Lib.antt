@@ -1,12 +1,15 @@
 pub mod NamedLemmas
 pub mod ColumnLemmas
-pub mod DropLemmas
 pub mod NumberLemmas
 pub mod StackLemmas
 pub mod ExamplesOfLimits
+pub mod ExamplesOfMoveOrders
 pub mod ExamplesOfParses
 pub mod ExamplesOfStacks
 pub mod ExpandedLemmas
+pub mod LentLemmas
+pub mod MoveOrderLemmas
+pub mod TreeListLemmas
 pub mod LimitLemmas
 pub mod MadeTableLemmas
 pub mod MoveCountLemmas

@@ -1,5 +1,5 @@
 -- A table that is made of the entries of states is one of these states: for the table of actions.
-use Rattle.std.proofs.Common.{◌≡◌, ◌∙◌, ℕ, zero, suc, ◌+◌, ◌-◌, ◌<◌, ◌≤◌, ◌⊎◌}
+use Rattle.std.proofs.Common.{◌≡◌, ◌∙◌, ℕ, zero, suc, ◌+◌, ◌-◌, ◌<◌, ◌≤◌}
 use Rattle.std.proofs.Common.{⊎_elim, Bool, true, false, List, []}
 use Rattle.std.proofs.Common.{◌∷◌, ◌++◌, length, map, filter, take, drop, get_or, Option, Some, None, Contains, ap, sym}
 use Rattle.std.proofs.Common.{refl, subst}

@@ -1,40 +1,41 @@
 -- Expanded trees as the theory of tables sees them, and what is seen from a root: for the contracts of trees and of parsing.
-use Rattle.std.specs.Prelude.{ℕ, zero, suc, List, [], ◌∷◌, map, Option, Some, None}
+use Rattle.std.specs.Prelude.{ℕ, zero, suc, List, [], ◌∷◌, Option, Some, None}
 use Rattle.lalrpop_grammar_symbols.specs.Symbols.{Terminal, TextSpan}
-use Rattle.lalrpop_grammar_symbols.specs.Views.{span_view, terminal_view}
 use Rattle.lalrpop_lr1_theory.specs.Productions.{Production}
 use Rattle.lalrpop_lr1_theory.specs.Spans.{SpannedForest, leaf_at, node_at, none_at}
-use Rattle.lalrpop_lr1_core.specs.Views.{production_view}
+use Rattle.lalrpop_lr1_interpret.specs.MoveOrders.{EntryLabel, leaf_label, node_label, trees_of}
+use Rattle.lalrpop_lr1_interpret.specs.Stacks.{◌beside◌}
+use Rattle.lalrpop_lr1_interpret.specs.TreeEntries.{tree_entry_views}
+use Rattle.lalrpop_lr1_interpret.specs.declared.parse.tree_list.TreeList.{TreeList}
 use Rattle.lalrpop_lr1_interpret.specs.declared.parse.expanded_tree.ExpandedTree.{ExpandedTree}
-use Rattle.lalrpop_lr1_interpret.specs.declared.parse.expanded_tree.ExpandedTree.TheOpen.{ExpandedTree-F}
-use Rattle.lalrpop_lr1_interpret.specs.declared.parse.expanded_tree.ExpandedTree.TheFolds.{fold-ExpandedTree}
-use Rattle.lalrpop_lr1_interpret.specs.declared.parse.expanded_tree.TreeLabel.{TreeLabel}
-use Rattle.lalrpop_lr1_interpret.specs.declared.parse.expanded_tree.TreeLabel.TheVariants as labels
+use Rattle.lalrpop_lr1_interpret.specs.declared.parse.tree_ref.TreeRef.{TreeRef}
+use Rattle.lalrpop_lr1_interpret.specs.declared.parse.tree_ref.TreeRefs.{TreeRefs}
 
--- trees, each in front of those that follow
-abbrev pub spanned_row : List (SpannedForest → SpannedForest) → SpannedForest
-spanned_row [] = none_at
-spanned_row (f ∷ fs) = f (spanned_row fs)
-
--- a tree with this label, over what its children give, in front of others
-abbrev pub labelled_tree : TreeLabel → SpannedForest → SpannedForest → SpannedForest
-labelled_tree (labels.Leaf t span) children rest = leaf_at (terminal_view t) (span_view span) rest
-labelled_tree (labels.Node p) children rest = node_at (production_view p.now) children rest
-
-abbrev pub expanded_step : ExpandedTree-F (SpannedForest → SpannedForest) → SpannedForest → SpannedForest
-expanded_step tree rest = labelled_tree tree.label (spanned_row tree.children.items) rest
-
--- a tree in front of others
-abbrev pub expanded_before : ExpandedTree → SpannedForest → SpannedForest
-expanded_before = fold-ExpandedTree (SpannedForest → SpannedForest) expanded_step
-
--- a tree
+-- a tree: the one whose moves its list has
 abbrev pub expanded_view : ExpandedTree → SpannedForest
-expanded_view tree = expanded_before tree none_at
+expanded_view tree = trees_of (tree_entry_views tree.entries.items)
 
 -- trees, in order
 abbrev pub expanded_views : List ExpandedTree → SpannedForest
-expanded_views trees = spanned_row (map expanded_before trees)
+expanded_views [] = none_at
+expanded_views (t ∷ ts) = expanded_view t beside expanded_views ts
+
+-- a tree that is lent, and trees that are
+abbrev pub lent_view : TreeRef → SpannedForest
+lent_view tree = trees_of (tree_entry_views tree.entries.now)
+
+abbrev pub lent_views : TreeRefs → SpannedForest
+lent_views trees = trees_of (tree_entry_views trees.entries.now)
+
+-- trees in one list
+abbrev pub listed_views : TreeList → SpannedForest
+listed_views list = trees_of (tree_entry_views list.entries.items)
+
+-- of the first of the trees: what stands at its root
+abbrev pub root_label : SpannedForest → Option EntryLabel
+root_label none_at = None
+root_label (leaf_at t span ts) = Some (leaf_label t span)
+root_label (node_at p cs ts) = Some (node_label p)
 
 -- of the first of the trees: its production, its terminal and span, its children
 abbrev pub root_production : SpannedForest → Option Production

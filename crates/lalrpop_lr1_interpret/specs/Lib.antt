@@ -3,11 +3,15 @@ pub mod ParseTreeTexts
 pub mod Columns
 pub mod Ends
 pub mod ExpandedViews
+pub mod ListParts
 pub mod MadeTables
+pub mod MoveOrderLaws
+pub mod MoveOrders
 pub mod Numbers
 pub mod Outcomes
 pub mod Parses
 pub mod Rows
 pub mod Stacks
 pub mod Tables
+pub mod TreeEntries
 pub mod Interpretations

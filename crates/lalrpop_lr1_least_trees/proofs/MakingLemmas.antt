@@ -8,10 +8,11 @@ use Rattle.lalrpop_lr1_theory.specs.Trees.{AreOver, Forest, Move, MovesLead, lea
 use Rattle.lalrpop_lr1_theory.specs.Trees.{roots, shift, ◌and◌}
 use Rattle.lalrpop_lr1_theory.proofs.TreeLemmas.{leads-moves}
 use Rattle.lalrpop_lr1_interpret.specs.Stacks.{◌beside◌}
+use Rattle.lalrpop_lr1_interpret.proofs.ExpandedLemmas.{roots-beside}
 use Rattle.lalrpop_lr1_interpret.proofs.StackLemmas.{spans-beside, without-beside}
 use Rattle.lalrpop_lr1_least_trees.specs.declared.tree_move.TreeMove.{TreeMove}
 use Rattle.lalrpop_lr1_least_trees.specs.MoveViews.{tree_move_view}
-use Rattle.lalrpop_lr1_least_trees.specs.SpanNumbers.{AreMade, AreMaking, AreNumberedFrom, CanMove, HasLastTrees, IsMoved, numbered_spans}
+use Rattle.lalrpop_lr1_least_trees.specs.SpanNumbers.{AreMade, AreMaking, AreNumberedFrom, CanMove, IsMoved, numbered_spans}
 
 -- trees with spans, taken apart as they are without
 pub record IsSpannedSplit (ts : SpannedForest) (a b : Forest) : Type 0 where
@@ -51,6 +52,13 @@ spanned_split (node_at q ds ts) (node p cs a) b e =
           one ∙ ap (node p cs) r.front_is;
       back_is = r.back_is;
     }
+
+-- among trees with spans the last ones have these roots
+pub record HasLastTrees (p : Production) (ts : SpannedForest) : Type 0 where
+  pub kept : SpannedForest
+  pub children : SpannedForest
+  pub parts : ts ≡ kept beside children
+  pub roots_are : roots (without_spans children) ≡ p.right
 
 -- a reduction that can be made has its trees
 pub last_trees : (p : Production) (ts : SpannedForest) → CanMove (reduce p) (without_spans ts) → HasLastTrees p ts
@@ -167,3 +175,15 @@ none_left (x ∷ moves) (suc i) h = none_left moves i (omega arith)
 -- the moves of a tree lead to it
 pub moves_lead : (G : Production → Type 0) (ts : Forest) → AreOver G ts → MovesLead (moves ts) none ts
 moves_lead G ts over = subst (λ ms. MovesLead ms none ts) (append-nil (moves ts)) (leads-moves G ts over [] none ts refl)
+
+-- and there are enough of them
+pub enough_last : (p : Production) (ts : SpannedForest) → CanMove (reduce p) (without_spans ts) →
+    length p.right ≤ length (roots (without_spans ts))
+enough_last p ts c =
+    let l = last_trees p ts c in
+    omega (
+      arith,
+      ap (λ f. length (roots (without_spans f))) l.parts,
+      roots-beside l.kept l.children,
+      ap length l.roots_are,
+    )

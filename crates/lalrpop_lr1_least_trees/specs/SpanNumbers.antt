@@ -31,13 +31,6 @@ abbrev pub CanMove : Move → Forest → Type 0
 CanMove (shift t) f = Unit {0}
 CanMove (reduce p) f = LeadsByNode p (λ h. Unit {0}) f
 
--- among trees with spans the last ones have these roots
-pub record HasLastTrees (p : Production) (ts : SpannedForest) : Type 0 where
-  pub kept : SpannedForest
-  pub children : SpannedForest
-  pub parts : ts ≡ kept beside children
-  pub roots_are : roots (without_spans children) ≡ p.right
-
 -- a node was put over the last trees
 abbrev pub PutsNode : Production → SpannedForest → SpannedForest → Type 0
 PutsNode p old new = (kept children : SpannedForest) → old ≡ kept beside children → roots (without_spans children) ≡ p.right →

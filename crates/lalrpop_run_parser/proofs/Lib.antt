@@ -16,7 +16,6 @@ pub mod MeasureLemmas
 pub mod SearchLemmas
 pub mod NamedProductionLemmas
 pub mod UnfoldLemmas
-pub mod PostOrderLemmas
 pub mod BuildingLemmas
 pub mod WholeFoldLemmas
 pub mod WitnessLemmas

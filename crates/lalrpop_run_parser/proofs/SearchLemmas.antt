@@ -1,8 +1,9 @@
 -- What one production, all of a nonterminal, and one part after the other say of the trees to which a part is folded; for the search.
-use Rattle.std.proofs.Common.{◌≡◌, ◌∙◌, ◌+◌, ◌-◌, ◌≤◌, ◌⊎◌, ℕ, zero, suc, List, []}
-use Rattle.std.proofs.Common.{◌∷◌, ◌++◌, false, length, ap, sym, arith}
+use Rattle.std.proofs.Common.{◌≡◌, ◌∙◌, ◌+◌, ◌≤◌, ◌⊎◌, ℕ, zero, suc, List, []}
+use Rattle.std.proofs.Common.{◌∷◌, ◌++◌, Bool, true, false, length, ap, refl, sym, arith}
 use Rattle.std.proofs.Common.{subst, inl, inr, map, take, drop, Contains}
-use Rattle.std.specs.Prelude.{None, Option, Some}
+use Rattle.std.specs.Prelude.{None, Option, Some, Vec}
+use Rattle.std.specs.declared.alloc.Global.{Global}
 use Rattle.std.proofs.lemmas.Bool.{true≢false}
 use Rattle.std.proofs.lemmas.List.{length-map, map-append, take-append-drop}
 use Rattle.std.proofs.lemmas.List.Elements.{Contains-append_cases, Contains-append_left, Contains-append_right}
@@ -17,22 +18,30 @@ use Rattle.lalrpop_grammar_symbols.specs.declared.names.NonterminalString.{Nonte
 use Rattle.lalrpop_lr1_core.specs.TheoryGrammars.{theory_grammar}
 use Rattle.lalrpop_lr1_core.specs.Views.{production_symbol_view, production_view}
 use Rattle.lalrpop_lr1_core.proofs.MemberLemmas.{in_map, map_has}
-use Rattle.lalrpop_lr1_interpret.specs.ExpandedViews.{expanded_view, expanded_views}
-use Rattle.lalrpop_lr1_interpret.specs.declared.parse.expanded_tree.ExpandedTree.{ExpandedTree}
-use Rattle.lalrpop_lr1_interpret.proofs.ExpandedLemmas.{views_more}
+use Rattle.lalrpop_lr1_interpret.specs.Stacks.{◌beside◌}
+use Rattle.lalrpop_lr1_interpret.proofs.ExpandedLemmas.{roots-beside}
+use Rattle.lalrpop_lr1_interpret.proofs.StackLemmas.{beside-beside}
 use Rattle.lalrpop_lr1_theory.specs.Productions as theory
-use Rattle.lalrpop_lr1_theory.specs.Spans.{SpannedForest, leaf_at, node_at, none_at}
+use Rattle.lalrpop_lr1_theory.specs.Spans.{SpannedForest, leaf_at, node_at, none_at, without_spans}
+use Rattle.lalrpop_lr1_theory.specs.Trees.{roots}
 use Rattle.lalrpop_run_trees.specs.ActionLabels.{ChoiceLabel, TellsLabel}
 use Rattle.lalrpop_run_trees.specs.KeptTrees.{AreKeptBy}
-use Rattle.lalrpop_run_trees.specs.PartViews.{AllWithin, shown_part}
+use Rattle.lalrpop_run_trees.specs.PartViews.{AllWithin, TellsKept, shown_part}
 use Rattle.lalrpop_run_trees.specs.declared.tree_parts.tree_part.TreePart.{TreePart}
 use Rattle.lalrpop_run_trees.proofs.KeptLemmas.{kept_once}
 use Rattle.lalrpop_run_parser.specs.Folds.{AreFoldedTo, AreRankedUnder, IsRankedWithin}
-use Rattle.lalrpop_run_parser.specs.FoldedTrees.{AreFoldable, AreOfGrammar, TellsFolded, TellsFoldedBy, TellsFoldedByAny, TellsPartFolded}
+use Rattle.lalrpop_run_parser.specs.FoldedTrees.{AreFoldable, AreOfGrammar, PutsBeside, StandBeside, TellsFolded, TellsFoldedBy}
+use Rattle.lalrpop_run_parser.specs.FoldedTrees.{TellsFoldedByAny, TellsPartFolded}
 use Rattle.lalrpop_run_parser.specs.PassingRanks.{label_rank}
 use Rattle.lalrpop_run_parser.proofs.FoldLemmas.{folded_more, node_folded, node_only}
 use Rattle.lalrpop_run_parser.proofs.FoldLemmas.{node_parts, ranked_under}
 use Rattle.lalrpop_run_parser.proofs.RankLemmas.{label_bound}
+
+-- no trees are kept, where they aren't some
+pub none_kept : (label : ChoiceLabel) (whole : TreePart) (kept : Option (Vec TreePart Global)) → TellsKept label whole kept →
+    ((parts : Vec TreePart Global) → kept ≡ Some parts → ⊥) → TellsKept label whole None
+none_kept label whole None told none = told
+none_kept label whole (Some parts) told none = absurd (none parts refl)
 
 -- what stands in front of a place, or from it on, is there; and nothing else is
 pub in_front : (ps : List Production) (k : ℕ) (p : Production) → Contains (take k ps) p → Contains ps p
@@ -70,7 +79,7 @@ module _ (g : Grammar) (origins : List choices.Origin) (label_of : ℕ → Choic
 
   -- none, where the part is no tree by its label
   pub none_by_label : (p : theory.Production) (q whole : TreePart) (most : ℕ) → shown_part whole ≡ shown_part q →
-      ((us : List Tree) → AreKeptBy (label_of p.action) (shown_part whole) us → ⊥) → TellsFoldedBy G label_of p q most None
+      ((us : List Tree) → AreKeptBy (label_of p.action) (shown_part whole) us → ⊥) → TellsFoldedBy p q most G label_of None
   none_by_label p q whole most same none = λ cs h low.
       let n = node_parts G label_of p (shown_part q) cs h in
       none n.kept (subst (λ t. AreKeptBy (label_of p.action) t n.kept) (sym same) n.are_kept)
@@ -81,7 +90,7 @@ module _ (g : Grammar) (origins : List choices.Origin) (label_of : ℕ → Choic
       AreKeptBy (label_of p.action) (shown_part whole) (map shown_part parts) →
       ((ts : SpannedForest) → AreFoldedTo G label_of p.right (map shown_part parts) ts →
       AreRankedUnder label_of most parts ts → ⊥) →
-      TellsFoldedBy G label_of p q most None
+      TellsFoldedBy p q most G label_of None
   none_by_parts p q whole parts most same outside within are none = λ cs h low.
       let n = node_parts G label_of p (shown_part q) cs h in
       let kept : n.kept ≡ map shown_part parts =
@@ -95,8 +104,8 @@ module _ (g : Grammar) (origins : List choices.Origin) (label_of : ℕ → Choic
   -- of a nonterminal: none, where none of its productions has one
   pub none_of_name : (name : NonterminalString) (q : TreePart) (most : ℕ) (ps : List Production) →
       ps ≡ productions_of g.nonterminals name →
-      ((p : Production) → Contains ps p → TellsFoldedBy G label_of (production_view p) q most None) →
-      TellsFolded G label_of (theory.nonterminal name.0) q most None
+      ((p : Production) → Contains ps p → TellsFoldedBy (production_view p) q most G label_of None) →
+      TellsFolded (theory.nonterminal name.0) q most G label_of None
   none_of_name name q most ps ps_are none = λ ts h low.
       let n = node_only G label_of name.0 (shown_part q) ts h in
       let there = (f.named name n.production).1 (n.belongs, n.left_is) in
@@ -121,21 +130,21 @@ module _ (g : Grammar) (origins : List choices.Origin) (label_of : ℕ → Choic
   of_names name ps own = λ p c. (of_name name p (own p c)).0
 
   -- a tree by one of some of its productions
-  pub found_of_name : (name : NonterminalString) (q : TreePart) (most : ℕ) (ps : List Production) (tree : ExpandedTree) →
+  pub found_of_name : (name : NonterminalString) (q : TreePart) (most : ℕ) (ps : List Production) (tree : SpannedForest) →
       ((p : Production) → Contains ps p → Contains (productions_of g.nonterminals name) p) →
-      TellsFoldedByAny G label_of ps q most (Some tree) → TellsFolded G label_of (theory.nonterminal name.0) q most (Some tree)
+      TellsFoldedByAny ps q most G label_of (Some tree) → TellsFolded (theory.nonterminal name.0) q most G label_of (Some tree)
   found_of_name name q most ps tree own h =
-      subst (λ n. AreFoldedTo G label_of (theory.nonterminal n ∷ []) (shown_part q ∷ []) (expanded_view tree))
+      subst (λ n. AreFoldedTo G label_of (theory.nonterminal n ∷ []) (shown_part q ∷ []) tree)
       (of_name name h.0 (own h.0 h.1)).1 h.2
 
   -- none by those from a place on: what those in front of it tell
   pub told_in_front : (name : NonterminalString) (q : TreePart) (most : ℕ) (ps : List Production) (k : ℕ) →
-      ps ≡ productions_of g.nonterminals name → TellsFoldedByAny G label_of (drop k ps) q most None → (r : Option ExpandedTree) →
-      TellsFoldedByAny G label_of (take k ps) q most r → TellsFolded G label_of (theory.nonterminal name.0) q most r
+      ps ≡ productions_of g.nonterminals name → TellsFoldedByAny (drop k ps) q most G label_of None → (r : Option SpannedForest) →
+      TellsFoldedByAny (take k ps) q most G label_of r → TellsFolded (theory.nonterminal name.0) q most G label_of r
   told_in_front name q most ps k ps_are back None front =
       none_of_name name q most ps ps_are (λ p c. go p (in_two ps k p c))
     where
-      go : (p : Production) → Contains (take k ps) p ⊎ Contains (drop k ps) p → TellsFoldedBy G label_of (production_view p) q most None
+      go : (p : Production) → Contains (take k ps) p ⊎ Contains (drop k ps) p → TellsFoldedBy (production_view p) q most G label_of None
       go p (inl c) = front p c
       go p (inr c) = back p c
   told_in_front name q most ps k ps_are back (Some tree) front =
@@ -149,8 +158,8 @@ ranked_any label_of (node_at p cs ts) = label_bound (label_of p.action)
 
 module _ (G : theory.Production → Type 0) (label_of : ℕ → ChoiceLabel) (s : theory.Symbol) (q : TreePart) where
   -- of one part: inside the whole any tree of the symbol will do
-  pub part_inside : (most : ℕ) (r : Option ExpandedTree) → TellsFolded G label_of s q 4294967298 r →
-      TellsPartFolded G label_of s q most r
+  pub part_inside : (most : ℕ) (r : Option SpannedForest) → TellsFolded s q 4294967298 G label_of r →
+      TellsPartFolded s q most G label_of r
   part_inside most None h = λ ts folded low. h ts folded (ranked_any label_of ts)
   part_inside most (Some tree) h = h
 
@@ -160,13 +169,13 @@ module _ (G : theory.Production → Type 0) (label_of : ℕ → ChoiceLabel) (s 
   ranked_less (leaf_at t span ts) most less out le h = tt
   ranked_less (node_at p cs ts) most less out le h = let under = h.0 out in omega (arith, under, le)
 
-  pub part_whole : (most less : ℕ) (r : Option ExpandedTree) → q.is_inside ≡ false → most ≤ less + 1 →
-      TellsFolded G label_of s q less r → TellsPartFolded G label_of s q most r
+  pub part_whole : (most less : ℕ) (r : Option SpannedForest) → q.is_inside ≡ false → most ≤ less + 1 →
+      TellsFolded s q less G label_of r → TellsPartFolded s q most G label_of r
   part_whole most less None out le h = λ ts folded low. h ts folded (ranked_less ts most less out le low)
   part_whole most less (Some tree) out le h = h
 
   -- where it may be passed down no more, there is none
-  pub part_spent : (most : ℕ) → q.is_inside ≡ false → most ≡ 0 → TellsPartFolded G label_of s q most None
+  pub part_spent : (most : ℕ) → q.is_inside ≡ false → most ≡ 0 → TellsPartFolded s q most G label_of None
   part_spent most out e = λ ts folded low. go ts folded low
     where
       go : (ts : SpannedForest) → AreFoldedTo G label_of (s ∷ []) (shown_part q ∷ []) ts →
@@ -195,28 +204,65 @@ one_or_more ps i q p next c = go (Contains-append_cases (take i ps) (q ∷ []) p
 -- none has a tree, and one more has none
 pub one_more_none : (G : theory.Production → Type 0) (label_of : ℕ → ChoiceLabel) (ps : List Production) (i : ℕ) (q : Production)
     (part : TreePart) (most : ℕ) → take (i + 1) ps ≡ take i ps ++ q ∷ [] →
-    ((p : Production) → Contains (take i ps) p → TellsFoldedBy G label_of (production_view p) part most None) →
-    TellsFoldedBy G label_of (production_view q) part most None → (p : Production) → Contains (take (i + 1) ps) p →
-    TellsFoldedBy G label_of (production_view p) part most None
+    ((p : Production) → Contains (take i ps) p → TellsFoldedBy (production_view p) part most G label_of None) →
+    TellsFoldedBy (production_view q) part most G label_of None → (p : Production) → Contains (take (i + 1) ps) p →
+    TellsFoldedBy (production_view p) part most G label_of None
 one_more_none G label_of ps i q part most next before one p c = go (one_or_more ps i q p next c)
   where
-    go : Contains (take i ps) p ⊎ (q ≡ p) → TellsFoldedBy G label_of (production_view p) part most None
+    go : Contains (take i ps) p ⊎ (q ≡ p) → TellsFoldedBy (production_view p) part most G label_of None
     go (inl d) = before p d
-    go (inr same) = subst (λ x. TellsFoldedBy G label_of (production_view x) part most None) same one
+    go (inr same) = subst (λ x. TellsFoldedBy (production_view x) part most G label_of None) same one
 
 -- one more of the parts
 module _ (G : theory.Production → Type 0) (label_of : ℕ → ChoiceLabel) where
   pub parts_more : (side : List theory.Symbol) (qs : List TreePart) (i : ℕ) (s : theory.Symbol) (q : TreePart)
-      (made new : List ExpandedTree)
-      (tree : ExpandedTree) → take (i + 1) side ≡ take i side ++ s ∷ [] → take (i + 1) qs ≡ take i qs ++ q ∷ [] →
-      new ≡ made ++ tree ∷ [] → AreFoldedTo G label_of (take i side) (map shown_part (take i qs)) (expanded_views made) →
-      AreFoldedTo G label_of (s ∷ []) (shown_part q ∷ []) (expanded_view tree) →
-      AreFoldedTo G label_of (take (i + 1) side) (map shown_part (take (i + 1) qs)) (expanded_views new)
-  parts_more side qs i s q made new tree more_side more_qs more before one =
-      subst (λ l. AreFoldedTo G label_of l (map shown_part (take (i + 1) qs)) (expanded_views new)) (sym more_side)
-      (subst (λ l. AreFoldedTo G label_of (take i side ++ s ∷ []) l (expanded_views new))
+      (made tree new : SpannedForest) → take (i + 1) side ≡ take i side ++ s ∷ [] → take (i + 1) qs ≡ take i qs ++ q ∷ [] →
+      new ≡ made beside tree → AreFoldedTo G label_of (take i side) (map shown_part (take i qs)) made →
+      AreFoldedTo G label_of (s ∷ []) (shown_part q ∷ []) tree →
+      AreFoldedTo G label_of (take (i + 1) side) (map shown_part (take (i + 1) qs)) new
+  parts_more side qs i s q made tree new more_side more_qs more before one =
+      subst (λ l. AreFoldedTo G label_of l (map shown_part (take (i + 1) qs)) new) (sym more_side)
+      (subst (λ l. AreFoldedTo G label_of (take i side ++ s ∷ []) l new)
       (sym (ap (λ l. map shown_part l) more_qs ∙ map-append shown_part (take i qs) (q ∷ [])))
-      (subst (λ x. AreFoldedTo G label_of (take i side ++ s ∷ []) (map shown_part (take i qs) ++ shown_part q ∷ []) x)
-      (sym (ap expanded_views more ∙ views_more made (tree ∷ [])))
-      (folded_more G label_of (take i side) (map shown_part (take i qs)) (expanded_views made) s (shown_part q) (expanded_view tree)
-      before one)))
+      (subst (λ x. AreFoldedTo G label_of (take i side ++ s ∷ []) (map shown_part (take i qs) ++ shown_part q ∷ []) x) (sym more)
+      (folded_more G label_of (take i side) (map shown_part (take i qs)) made s (shown_part q) tree before one)))
+
+-- what is told of trees that were put beside others tells more of them
+pub stand_more : (count : ℕ) (Tells More : Option SpannedForest → Type 0) (old new : SpannedForest) →
+    ((ts : SpannedForest) → Tells (Some ts) → More (Some ts)) → StandBeside count Tells old new → StandBeside count More old new
+stand_more count Tells More old new f h =
+    record { trees = h.trees; beside_old = h.beside_old; count_is = h.count_is; told = f h.trees h.told }
+
+pub puts_more : (count : ℕ) (Tells More : Option SpannedForest → Type 0) (old new : SpannedForest) (found : Bool) →
+    ((r : Option SpannedForest) → Tells r → More r) → PutsBeside count Tells old new found → PutsBeside count More old new found
+puts_more count Tells More old new true f h = stand_more count Tells More old new (λ ts. f (Some ts)) h
+puts_more count Tells More old new false f h = (f None h.0, h.1)
+
+-- one tree more beside those of the parts up to here
+pub stand_one_more : (i : ℕ) (Tells One More : Option SpannedForest → Type 0) (old middle new : SpannedForest) →
+    StandBeside i Tells old middle → StandBeside 1 One middle new →
+    ((ts one all : SpannedForest) → all ≡ ts beside one → Tells (Some ts) → One (Some one) → More (Some all)) →
+    StandBeside (i + 1) More old new
+stand_one_more i Tells One More old middle new h k f = record {
+  trees = h.trees beside k.trees;
+  beside_old = k.beside_old ∙ ap (λ x. x beside k.trees) h.beside_old ∙ beside-beside old h.trees k.trees;
+  count_is = roots-beside h.trees k.trees ∙ omega (arith, h.count_is, k.count_is);
+  told = f h.trees k.trees (h.trees beside k.trees) refl h.told k.told;
+}
+
+-- a node over trees that stand beside others
+pub node_beside : (p : theory.Production) (More : Option SpannedForest → Type 0) (old new trees : SpannedForest) →
+    new ≡ old beside node_at p trees none_at → More (Some (node_at p trees none_at)) → StandBeside 1 More old new
+node_beside p More old new trees e told = record { trees = node_at p trees none_at; beside_old = e; count_is = refl; told = told }
+
+-- trees that stand beside others are enough for a node of as many symbols
+pub enough_beside : (count : ℕ) (Tells : Option SpannedForest → Type 0) (old new : SpannedForest) (p : theory.Production) →
+    count ≡ length p.right → StandBeside count Tells old new → length p.right ≤ length (roots (without_spans new))
+enough_beside count Tells old new p many h =
+    omega (
+      arith,
+      many,
+      ap (λ f. length (roots (without_spans f))) h.beside_old,
+      roots-beside old h.trees,
+      h.count_is,
+    )

@@ -23,8 +23,6 @@ use Rattle.lalrpop_grammar_language.proofs.PlaceLemmas.{places_told}
 use Rattle.lalrpop_grammar_symbols.specs.Symbols.{Closed, Closeds}
 use Rattle.lalrpop_grammar_rules.specs.Search.{finds, is_too_deep}
 use Rattle.lalrpop_lr1_core.specs.TheoryGrammars.{theory_grammar}
-use Rattle.lalrpop_lr1_interpret.specs.ExpandedViews.{expanded_view}
-use Rattle.lalrpop_lr1_interpret.specs.declared.parse.expanded_tree.ExpandedTree.{ExpandedTree}
 use Rattle.lalrpop_lr1_theory.specs.Productions as theory
 use Rattle.lalrpop_lr1_theory.specs.Spans.{SpannedForest, without_spans}
 use Rattle.lalrpop_lr1_theory.specs.Trees.{AreOver, Forest, IsTreeOf, leaf, node, none, roots}
@@ -203,12 +201,12 @@ module _ (forests : ForestsAreAdmitted) (v : PreparedGrammar) (read : IsReadGram
       }
 
   -- what the search tells, over the grammar, the choices and the name that were lent
-  abbrev TellsSearch : repr.Grammar → List choices.Origin → NonterminalString → TreePart → Option ExpandedTree → Type 0
+  abbrev TellsSearch : repr.Grammar → List choices.Origin → NonterminalString → TreePart → Option SpannedForest → Type 0
   TellsSearch g origins name q r =
       (labels : ℕ → ChoiceLabel) → AreFoldable g origins labels
-      → TellsFolded (Contains (theory_grammar g)) labels (theory.nonterminal name.0) q 4294967298 r
+      → TellsFolded (theory.nonterminal name.0) q 4294967298 (Contains (theory_grammar g)) labels r
 
-  told_own : (g : repr.Grammar) (origins : List choices.Origin) (name : NonterminalString) (q : TreePart) (r : Option ExpandedTree) →
+  told_own : (g : repr.Grammar) (origins : List choices.Origin) (name : NonterminalString) (q : TreePart) (r : Option SpannedForest) →
       g ≡ v.expansion → origins ≡ v.origins → name ≡ v.start_name → TellsSearch g origins name q r →
       TellsSearch v.expansion v.origins v.start_name q r
   told_own g origins name q r grammar_is origins_are name_is h =
@@ -217,14 +215,14 @@ module _ (forests : ForestsAreAdmitted) (v : PreparedGrammar) (read : IsReadGram
       (subst (λ x. TellsSearch x origins name q r) grammar_is h))
 
   -- a tree that was found
-  pub some_told : (g : repr.Grammar) (origins : List choices.Origin) (name : NonterminalString) (q : TreePart) (tree : ExpandedTree)
+  pub some_told : (g : repr.Grammar) (origins : List choices.Origin) (name : NonterminalString) (q : TreePart) (tree : SpannedForest)
       (t : Tree) → g ≡ v.expansion → origins ≡ v.origins → name ≡ v.start_name → TellsSearch g origins name q (Some tree) →
       shown_part q ≡ with_shown t → v.start_name.0 ≡ v.written.prefix ++ v.start → HasNamedProductions v.expansion →
-      IsWrittenOf finds features w v.start label_of grammar (leaves t) (expanded_view tree) t
+      IsWrittenOf finds features w v.start label_of grammar (leaves t) tree t
   some_told g origins name q tree t grammar_is origins_are name_is h shown prefixed named =
       let own = told_own g origins name q (Some tree) grammar_is origins_are name_is h label_of (foldable named) in
-      let found = found_expanded t (expanded_view tree) prefixed
-      (subst (λ u. AreFoldedTo (Contains grammar) label_of (theory.nonterminal v.start_name.0 ∷ []) (u ∷ []) (expanded_view tree))
+      let found = found_expanded t tree prefixed
+      (subst (λ u. AreFoldedTo (Contains grammar) label_of (theory.nonterminal v.start_name.0 ∷ []) (u ∷ []) tree)
       shown own) in
       record { admitted = found.0; is_forest = found.1 }
 

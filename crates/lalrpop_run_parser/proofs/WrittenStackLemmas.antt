@@ -25,7 +25,8 @@ use Rattle.lalrpop_run_trees.proofs.ShownTreeLemmas.{shown_tree}
 use Rattle.lalrpop_run_trees.proofs.TakenLemmas.{shown_count}
 use Rattle.lalrpop_run_trees.proofs.ToldLemmas.{told_count}
 
-shown_beside : (label_of : ℕ → ChoiceLabel) (ts us : SpannedForest) →
+-- what is shown of trees beside others
+pub shown_beside : (label_of : ℕ → ChoiceLabel) (ts us : SpannedForest) →
     shown_trees label_of (ts beside us) ≡ shown_trees label_of ts ++ shown_trees label_of us
 shown_beside label_of none_at us = refl
 shown_beside label_of (leaf_at t span ts) us = ap (λ l. Tree.terminal (leaf_token t span) ∷ l) (shown_beside label_of ts us)

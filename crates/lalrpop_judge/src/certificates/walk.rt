@@ -1,42 +1,28 @@
-//! The walk over trees: their moves, and whether they are over a grammar's productions.
+//! The walk over a tree's list: whether the tree is over a grammar's productions.
 
-ghost use Rattle.std.specs.Prelude.{◌≡◌, ◌↔◌, ◌∷◌, [], IsTrue, IfOk, OnOk, Some, map, option_map, slice_get};
+ghost use Rattle.std.specs.Prelude.{ℕ, ◌≡◌, ◌↔◌, ◌∷◌, [], IsTrue, IfOk, MatchOption, map, suc};
+ghost use Rattle.std.specs.List.{sum_by};
 ghost use Rattle.lalrpop_lr1_theory.specs.Productions.{nonterminal};
-ghost use Rattle.lalrpop_lr1_theory.specs.Trees.{roots};
 ghost use Rattle.lalrpop_lr1_theory.specs.Spans.{without_spans};
-ghost use Rattle.lalrpop_lr1_core.specs.Views.{production_symbol_view};
+ghost use Rattle.lalrpop_lr1_theory.specs.Trees.{AreOver, roots};
+ghost use Rattle.lalrpop_lr1_core.specs.Views.{production_symbol_view, production_view};
 ghost use Rattle.lalrpop_lr1_first.specs.FirstSetsOf.{IsProductionOf};
-ghost use Rattle.lalrpop_lr1_interpret.specs.ExpandedViews.{expanded_view, expanded_views, root_children};
-ghost use Rattle.lalrpop_lr1_interpret.specs.Stacks.{◌beside◌};
-ghost use Rattle.lalrpop_judge.specs.LentTrees.{tree_views};
-ghost use Rattle.lalrpop_judge.specs.Steps.{IsRootOver, IsStepOf, IsWalkOf};
+ghost use Rattle.lalrpop_lr1_interpret.specs.ExpandedViews.{lent_view};
+ghost use Rattle.lalrpop_lr1_interpret.specs.MoveOrders.{HasTreeSizes, trees_of};
+ghost use Rattle.lalrpop_lr1_interpret.specs.TreeEntries.{tree_entry_views, tree_label_view};
+ghost use Rattle.lalrpop_judge.specs.EntryMoves.{IsKeptBeside, IsOverLast};
+ghost use Rattle.lalrpop_judge.specs.TreeRoots.{tree_root_views};
 
 use crate::certificates::membership::has_production;
-use crate::certificates::step::WalkStep;
-use lalrpop_grammar_repr::{Grammar, Symbol};
+use crate::certificates::root::TreeRoot;
+use lalrpop_grammar_repr::{Grammar, Production, Symbol};
 use lalrpop_grammar_symbols::NonterminalString;
-use lalrpop_lr1_interpret::parse::{ExpandedTree, TreeRef};
+use lalrpop_lr1_interpret::parse::{TreeEntry, TreeLabel, TreeRef};
 use std::alloc::{AllocError, Global};
-
-/// The last move of the tree.
-pub(crate) fn step_of<'t, 'g>(tree: TreeRef<'t, 'g>) -> WalkStep<'t, 'g>
-    ensures { IsStepOf (expanded_view tree.entry.tree.now) result }
-{
-    match tree.production() {
-        Some(production) => WalkStep::Reduce(production),
-        None => match tree.terminal() {
-            Some(terminal) => match tree.span() {
-                Some(span) => WalkStep::Shift(terminal, span),
-                None => unreachable!(),
-            },
-            None => unreachable!(),
-        },
-    }
-}
 
 /// Whether the tree has the nonterminal at its root.
 pub(crate) fn is_rooted(tree: TreeRef<'_, '_>, name: &NonterminalString) -> bool
-    ensures { IsTrue result ↔ (roots (without_spans (expanded_view tree.entry.tree.now)) ≡ nonterminal name.now.0 ∷ []) }
+    ensures { IsTrue result ↔ (roots (without_spans (lent_view tree.entry)) ≡ nonterminal name.now.0 ∷ []) }
 {
     match tree.production() {
         None => false,
@@ -44,120 +30,101 @@ pub(crate) fn is_rooted(tree: TreeRef<'_, '_>, name: &NonterminalString) -> bool
     }
 }
 
-/// Whether the tree has the symbol at its root.
-fn has_root(tree: TreeRef<'_, '_>, symbol: &Symbol) -> bool
-    ensures { IsTrue result
-        ↔ (roots (without_spans (expanded_view tree.entry.tree.now)) ≡ production_symbol_view symbol.now ∷ []) }
+/// Whether the roots are of these symbols.
+fn have_symbols(roots: &[TreeRoot<'_, '_>], symbols: &[Symbol]) -> bool
+    ensures { IsTrue result ↔ (map (λ r. r.symbol) (tree_root_views roots.now) ≡ map production_symbol_view symbols.now) }
 {
-    match symbol {
-        Symbol::Nonterminal(name) => is_rooted(tree, name),
-        Symbol::Terminal(terminal) => match tree.terminal() {
-            None => false,
-            Some(other) => *other == *terminal,
-        },
-    }
-}
-
-/// Whether the child at the place is there and has the symbol at its root.
-fn has_child(tree: TreeRef<'_, '_>, place: usize, symbol: &Symbol) -> bool
-    ensures { IsTrue result ↔ (slice_get (roots (without_spans (root_children (expanded_view tree.entry.tree.now)))) place
-        ≡ Some (production_symbol_view symbol.now)) }
-{
-    match tree.child(place) {
-        None => false,
-        Some(child) => has_root(child, symbol),
-    }
-}
-
-/// Whether the children have these symbols at their roots.
-fn has_children(tree: TreeRef<'_, '_>, symbols: &[Symbol]) -> bool
-    ensures { IsTrue result
-        ↔ (roots (without_spans (root_children (expanded_view tree.entry.tree.now))) ≡ map production_symbol_view symbols.now) }
-{
-    if tree.len() != symbols.len() {
+    if roots.len() != symbols.len() {
         return false;
     }
     for (place, symbol) in symbols.iter().enumerate() {
-        if !has_child(tree, place, symbol) {
+        if !roots[place].has_symbol(symbol) {
             return false;
         }
     }
     true
 }
 
-/// Whether the tree is a leaf, or has a production of the grammar over children with the roots that it names.
-fn is_root_over(grammar: &Grammar, tree: TreeRef<'_, '_>) -> bool
-    ensures { IsTrue result ↔ IsRootOver (IsProductionOf grammar.now) (expanded_view tree.entry.tree.now) }
+/// Whether a node over the roots has so many entries, itself included.
+fn is_size_over(roots: &[TreeRoot<'_, '_>], size: usize) -> bool
+    ensures { IsTrue result ↔ (size ≡ suc (sum_by (λ r. r.size) (tree_root_views roots.now))) }
 {
-    match tree.production() {
-        None => true,
-        Some(production) => {
-            has_production(grammar, production) && has_children(tree, production.symbols.as_slice())
+    let mut left = size;
+    for root in roots {
+        let own = root.size();
+        if left <= own {
+            return false;
         }
+        left -= own;
+    }
+    left == 1
+}
+
+/// How many of the roots stay beside a node by the production, of so many entries: those before its children. None where the last of
+/// them aren't its children, or the production isn't the grammar's.
+fn kept_beside_node(
+    grammar: &Grammar,
+    roots: &[TreeRoot<'_, '_>],
+    production: &Production,
+    size: usize,
+) -> Option<usize>
+    ensures { MatchOption result
+        ((kept : ℕ) → IsOverLast (IsProductionOf grammar.now) (tree_root_views roots.now) (production_view production.now) size kept → ⊥)
+        (λ kept. IsOverLast (IsProductionOf grammar.now) (tree_root_views roots.now) (production_view production.now) size kept) }
+{
+    let symbols = production.symbols.as_slice();
+    if roots.len() < symbols.len() {
+        return None;
+    }
+    let kept = roots.len() - symbols.len();
+    let (_, children) = roots.split_at(kept);
+    if !have_symbols(children, symbols) {
+        return None;
+    }
+    if !is_size_over(children, size) {
+        return None;
+    }
+    if !has_production(grammar, production) {
+        return None;
+    }
+    Some(kept)
+}
+
+/// How many of the roots stay beside the entry's tree; none where that isn't over the grammar.
+fn kept_beside(
+    grammar: &Grammar,
+    roots: &[TreeRoot<'_, '_>],
+    entry: &TreeEntry<'_>,
+) -> Option<usize>
+    ensures { MatchOption result
+        ((kept : ℕ) → IsKeptBeside (IsProductionOf grammar.now) (tree_root_views roots.now) (tree_label_view entry.now.label)
+        entry.now.size kept → ⊥)
+        (λ kept. IsKeptBeside (IsProductionOf grammar.now) (tree_root_views roots.now) (tree_label_view entry.now.label)
+        entry.now.size kept) }
+{
+    match &entry.label {
+        TreeLabel::Leaf(..) => Some(roots.len()),
+        TreeLabel::Node(production) => kept_beside_node(grammar, roots, *production, entry.size),
     }
 }
 
-/// Adds the children to the trees.
-fn add_children<'t, 'g>(
-    trees: &mut Vec<TreeRef<'t, 'g>>,
-    tree: TreeRef<'t, 'g>,
-) -> Result<(), AllocError>
-    ensures { OnOk result (tree_views trees.new.items
-        ≡ tree_views trees.old.items beside root_children (expanded_view tree.entry.tree.now)) }
-{
-    for place in 0..tree.len() {
-        match tree.child(place) {
-            None => unreachable!(),
-            Some(child) => trees.push(child)?,
-        }
-    }
-    Ok(())
-}
-
-/// The moves of the trees, in order; none where the trees aren't over the grammar.
-pub(crate) fn steps_of<'t, 'g>(
+/// Whether the trees of the list are over the grammar's productions. The roots of those that it has come past stand on a stack.
+pub(crate) fn are_over(
     alloc: Global,
     grammar: &Grammar,
-    trees: Vec<TreeRef<'t, 'g>>,
-) -> Result<Option<Vec<WalkStep<'t, 'g>>>, AllocError>
-    ensures { IfOk result (λ found. IsWalkOf (IsProductionOf grammar.now) (tree_views trees.entry.items)
-        (option_map (λ all. all.items) found)) }
+    entries: &[TreeEntry<'_>],
+) -> Result<bool, AllocError>
+    requires { HasTreeSizes (tree_entry_views entries.now) }
+    ensures { IfOk result (λ yes. IsTrue yes
+        ↔ AreOver (IsProductionOf grammar.now) (without_spans (trees_of (tree_entry_views entries.now)))) }
 {
-    let mut steps = Vec::new(alloc);
-    let mut open = trees;
-    while let Some(tree) = open.pop() {
-        if !is_root_over(grammar, tree) {
-            return Ok(None);
+    let mut roots = Vec::new(alloc);
+    for entry in entries {
+        match kept_beside(grammar, roots.as_slice(), entry) {
+            None => return Ok(false),
+            Some(kept) => roots.truncate(kept),
         }
-        steps.push(step_of(tree))?;
-        add_children(&mut open, tree)?;
+        roots.push(TreeRoot::new(entry))?;
     }
-    steps.reverse();
-    Ok(Some(steps))
-}
-
-/// The trees, lent.
-pub(crate) fn roots_of<'t, 'g>(
-    alloc: Global,
-    trees: &'t [ExpandedTree<'g>],
-) -> Result<Vec<TreeRef<'t, 'g>>, AllocError>
-    ensures { IfOk result (λ lent. tree_views lent.items ≡ expanded_views trees.now) }
-{
-    let mut lent = Vec::new(alloc);
-    for tree in trees {
-        lent.push(tree.root())?;
-    }
-    Ok(lent)
-}
-
-/// One tree, lent.
-pub(crate) fn root_of<'t, 'g>(
-    alloc: Global,
-    tree: &'t ExpandedTree<'g>,
-) -> Result<Vec<TreeRef<'t, 'g>>, AllocError>
-    ensures { IfOk result (λ lent. tree_views lent.items ≡ expanded_view tree.now) }
-{
-    let mut lent = Vec::new(alloc);
-    lent.push(tree.root())?;
-    Ok(lent)
+    Ok(true)
 }

@@ -1,5 +1,5 @@
-//! The room for the moves of all certificates, which is asked for before the first is made: so none is made in vain where memory
-//! lacks for the moves of all.
+//! The room for the leaves and nodes of all certificates, which is asked for before the first is made: so none is made in vain where
+//! memory lacks for those of all.
 
 ghost use Rattle.std.specs.Prelude.{◌≡◌, ◌+◌, ◌<◌, ◌≤◌, ◌^◌, IfOk, MatchResult, length};
 ghost use Rattle.lalrpop_lr1_paths.specs.CompletionSearches.{IsAnyCompletion};
@@ -15,7 +15,7 @@ use crate::shown_laws::{
 use lalrpop_grammar_repr::Production;
 use lalrpop_grammar_symbols::TerminalString;
 use lalrpop_lr1_core::{Action, State};
-use lalrpop_lr1_least_trees::TreeMove;
+use lalrpop_lr1_interpret::parse::TreeEntry;
 use lalrpop_sets::{TokenRef, TokenSet};
 use std::alloc::{AllocError, Global};
 
@@ -220,7 +220,7 @@ fn count_all(
     Ok(count)
 }
 
-/// Asks for the room for the moves that show the conflicts, and gives it back.
+/// Asks for the room for the leaves and nodes that the moves which show the conflicts build, and gives it back.
 ///
 /// # Errors
 ///
@@ -236,6 +236,6 @@ pub(crate) fn ask_for_room(
     requires tokens { length tokens.now ≡ length shown.now.conflicts.now }
 {
     let count = count_all(alloc, shown, any, tokens)?;
-    let _room: Vec<TreeMove<'_>> = Vec::with_capacity(alloc, count as usize)?;
+    let _room: Vec<TreeEntry<'_>> = Vec::with_capacity(alloc, count as usize)?;
     Ok(())
 }

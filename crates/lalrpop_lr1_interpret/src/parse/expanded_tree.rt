@@ -1,73 +1,31 @@
 //! Trees over productions, with spans at their leaves.
 
-ghost use Rattle.std.specs.Prelude.{◌≡◌, IfOk, map, min};
-ghost use Rattle.lalrpop_grammar_symbols.specs.Views.{span_view, terminal_view};
-ghost use Rattle.lalrpop_lr1_theory.specs.Spans.{leaf_at, node_at, none_at, without_spans};
-ghost use Rattle.lalrpop_lr1_theory.specs.Trees.{nodes};
-ghost use Rattle.lalrpop_lr1_core.specs.Views.{production_view};
-ghost use Rattle.lalrpop_lr1_interpret.specs.ExpandedViews.{expanded_view, expanded_views};
+ghost use Rattle.lalrpop_lr1_interpret.specs.MoveOrders.{IsMoveOrder};
+ghost use Rattle.lalrpop_lr1_interpret.specs.TreeEntries.{tree_entry_views};
 
+use crate::parse::tree_entry::{TreeEntry, TreeLabel};
 use lalrpop_grammar_repr::Production;
 use lalrpop_grammar_symbols::{Span, TerminalString};
 use std::alloc::{AllocError, Global};
-use std::mem;
-
-/// What stands at the root of a tree.
-#[derive(Drop)]
-pub(crate) enum TreeLabel<'g> {
-    /// A terminal, and where its token stands.
-    Leaf(TerminalString, Span),
-    /// A production.
-    Node(&'g Production),
-}
-
-/// Lets a label go.
-fn drop_label(_label: TreeLabel<'_>) {}
 
 /// A tree over productions. Contracts see it as a tree of the tables' theory, with spans at its leaves.
+#[derive(Drop)]
 pub struct ExpandedTree<'g> {
-    pub(crate) label: TreeLabel<'g>,
-    // Those of a node; a leaf has none.
-    pub(crate) children: Vec<ExpandedTree<'g>>,
-}
-
-impl<'g> Drop for ExpandedTree<'g> {
-    /// Takes the tree apart by a loop, without memory of its own: a tree may be deeper than the stack has room for. What is
-    /// still to be dropped is kept in the place of the first tree below.
-    fn drop(mut self) {
-        let mut kept = Vec::new(*self.children.allocator());
-        loop {
-            let ExpandedTree { label, children } = self;
-            let mut trees = children;
-            if trees.is_empty() {
-                drop_label(label);
-                trees.destroy_empty();
-            } else if kept.is_empty() {
-                drop_label(label);
-                // else what is kept would be a chain of such lists, turned round for each of them
-                kept.destroy_empty();
-                kept = trees;
-            } else {
-                let others = ExpandedTree {
-                    label,
-                    children: kept,
-                };
-                self = mem::replace(&mut trees[0], others);
-                kept = trees;
-                continue;
-            }
-            match kept.pop() {
-                Some(next) => self = next,
-                None => {
-                    kept.destroy_empty();
-                    return;
-                }
-            }
-        }
-    }
+    // Its leaves and nodes in the order of its moves: children before their node, the first child first, the root last.
+    pub(crate) entries: Vec<TreeEntry<'g>>,
+    ghost in_order: { IsMoveOrder (tree_entry_views entries.items) },
 }
 
 impl<'g> ExpandedTree<'g> {
+    ghost use Rattle.std.specs.Prelude.{◌≡◌, ◌++◌, IfOk, min};
+    ghost use Rattle.lalrpop_grammar_symbols.specs.Views.{span_view, terminal_view};
+    ghost use Rattle.lalrpop_lr1_theory.specs.Spans.{leaf_at, node_at, none_at, without_spans};
+    ghost use Rattle.lalrpop_lr1_theory.specs.Trees.{nodes};
+    ghost use Rattle.lalrpop_lr1_core.specs.Views.{production_view};
+    ghost use Rattle.lalrpop_lr1_interpret.specs.ExpandedViews.{expanded_view, expanded_views};
+    ghost use Rattle.lalrpop_lr1_interpret.specs.MoveOrders.{HasTreeSizes, tree_entries, trees_of};
+    ghost use Rattle.lalrpop_lr1_interpret.specs.TreeEntries.{tree_entry_views};
+
     /// A leaf.
     pub fn leaf(
         alloc: Global,
@@ -76,10 +34,10 @@ impl<'g> ExpandedTree<'g> {
     ) -> Result<ExpandedTree<'g>, AllocError>
         ensures { IfOk result (λ tree. expanded_view tree ≡ leaf_at (terminal_view terminal) (span_view span) none_at) }
     {
-        Ok(ExpandedTree {
-            label: TreeLabel::Leaf(terminal, span),
-            children: Vec::new(alloc),
-        })
+        let mut entries = Vec::with_capacity(alloc, 1)?;
+        let label = TreeLabel::Leaf(terminal, span);
+        entries.push(TreeEntry { label, size: 1 })?;
+        Ok(ExpandedTree { entries })
     }
 
     /// A node by the production over these children.
@@ -90,32 +48,52 @@ impl<'g> ExpandedTree<'g> {
         ensures { IfOk result (λ tree. expanded_view tree
             ≡ node_at (production_view production.now) (expanded_views children.entry.items) none_at) }
     {
-        Ok(ExpandedTree {
-            label: TreeLabel::Node(production),
-            children,
-        })
+        let mut entries = ExpandedTree::join(children)?;
+        let label = TreeLabel::Node(production);
+        let size = entries.len() + 1;
+        entries.push(TreeEntry { label, size })?;
+        Ok(ExpandedTree { entries })
+    }
+
+    /// The entries of the trees, in the list of the first of them; without trees, in a list of the same memory.
+    fn join(trees: Vec<ExpandedTree<'g>>) -> Result<Vec<TreeEntry<'g>>, AllocError>
+        ensures in_order { IfOk result (λ entries. HasTreeSizes (tree_entry_views entries.items)) }
+        ensures trees_are { IfOk result (λ entries. trees_of (tree_entry_views entries.items) ≡ expanded_views trees.entry.items) }
+    {
+        let mut entries = Vec::new(*trees.allocator());
+        for tree in trees {
+            entries = ExpandedTree::with_entries(entries, tree.entries)?;
+        }
+        Ok(entries)
+    }
+
+    /// The entries, the others behind them; the list of the others where there are no entries.
+    fn with_entries(
+        entries: Vec<TreeEntry<'g>>,
+        others: Vec<TreeEntry<'g>>,
+    ) -> Result<Vec<TreeEntry<'g>>, AllocError>
+        ensures { IfOk result (λ all. all.items ≡ entries.entry.items ++ others.entry.items) }
+    {
+        if entries.is_empty() {
+            return Ok(others);
+        }
+        let mut all = entries;
+        let mut more = others;
+        all.append(&mut more)?;
+        Ok(all)
+    }
+
+    /// Its leaves and nodes in the order of its moves: children before their node, the first child first, the root last.
+    pub fn entries(&self) -> &[TreeEntry<'g>]
+        ensures { tree_entry_views result.now ≡ tree_entries (expanded_view self.now) }
+    {
+        self.entries.as_slice()
     }
 
     /// How many leaves and nodes it has; the greatest number where they are more.
-    #[cycle(node_count)]
     pub fn node_count(&self) -> usize
         ensures { result ≡ min (nodes (without_spans (expanded_view self.now))) usize.MAX }
     {
-        match self.label {
-            TreeLabel::Leaf(..) => 1,
-            TreeLabel::Node(_) => count_all(self.children.as_slice()).saturating_add(1),
-        }
+        self.entries.len()
     }
-}
-
-/// How many leaves and nodes the trees have; the greatest number where they are more.
-#[cycle(node_count)]
-fn count_all(trees: &[ExpandedTree<'_>]) -> usize
-    ensures { result ≡ min (nodes (without_spans (expanded_views trees.now))) usize.MAX }
-{
-    let mut count = 0usize;
-    for tree in trees {
-        count = count.saturating_add(tree.node_count());
-    }
-    count
 }

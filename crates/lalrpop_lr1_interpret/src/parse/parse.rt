@@ -15,11 +15,11 @@ ghost use Rattle.lalrpop_lr1_interpret.specs.declared.parse.stop.Stop.TheVariant
 
 use crate::parse::action_table::ActionTable;
 use crate::parse::columns::Columns;
-use crate::parse::expanded_stack::ExpandedTrees;
 use crate::parse::expanded_tree::ExpandedTree;
 use crate::parse::machine::{Halt, run};
 use crate::parse::stop::Stop;
 use crate::parse::token_numbers::TokenNumbers;
+use crate::parse::tree_list::TreeList;
 use crate::parse::tree_stack::TreeStack;
 use lalrpop_grammar::ScanToken;
 use lalrpop_grammar_repr::TerminalSet;
@@ -145,12 +145,9 @@ impl<'g> ActionTable<'g> {
             → AreCheckedStates grammar s states → IsTableOf self.now states → IsRightParse grammar s tokens.now limit result }
         ensures limit { (states : List State) → IsTableOf self.now states → TellsLimit states tokens.now limit result }
     {
-        let mut stack = ExpandedTrees::new(alloc);
+        let mut stack = TreeList::new(alloc);
         self.parse_onto(alloc, tokens, limit, &mut stack)?;
-        match stack.into_last() {
-            Some(tree) => Ok(tree),
-            None => unreachable!(),
-        }
+        Ok(stack.into_tree())
     }
 }
 

@@ -13,7 +13,7 @@ ghost use Rattle.lalrpop_lr1_least_trees.specs.LeastExpanded.{HasLeastNumbered, 
 ghost use Rattle.lalrpop_lr1_least_trees.specs.SpanNumbers.{AreMade, LeadToOne};
 ghost use Rattle.lalrpop_grammar_repr.specs.declared.grammar.Grammar.{Grammar};
 
-use crate::made_trees::making::made_trees;
+use crate::made_trees::making::listed_trees;
 use crate::{LeastTrees, TreeMove};
 use lalrpop_grammar_symbols::NonterminalString;
 use lalrpop_lr1_interpret::parse::ExpandedTree;
@@ -35,11 +35,7 @@ pub fn only_tree<'g>(
     if from.checked_add(moves.len()).is_none() {
         return Err(AllocError);
     }
-    let mut trees = made_trees(alloc, moves, from)?;
-    match trees.pop() {
-        Some(tree) => Ok(tree),
-        None => unreachable!(),
-    }
+    Ok(listed_trees(alloc, moves, from)?.into_tree())
 }
 
 /// The nonterminal's least tree, whose leaves are numbered from a number on: the leaf with the number n has the span n..n+1. None

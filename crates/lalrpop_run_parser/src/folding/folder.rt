@@ -1,22 +1,22 @@
 //! The search for the tree over productions to which a written tree is folded.
 
-ghost use Rattle.std.specs.Prelude.{◌≡◌, ◌↔◌, ℕ, Contains, IfNone, IfOk, IfSome, IsTrue, List, map};
+ghost use Rattle.std.specs.Prelude.{◌≡◌, ◌↔◌, ℕ, Contains, IfNone, IfOk, IfSome, IsTrue, List, length, map};
 ghost use Rattle.lalrpop_grammar_symbols.specs.Symbols.{TextSpan};
 ghost use Rattle.lalrpop_grammar_symbols.specs.Views.{span_view, terminal_view};
 ghost use Rattle.lalrpop_grammar.specs.Trees.{Tree};
 ghost use Rattle.lalrpop_grammar_language.specs.Derivations.{leaf_token};
-ghost use Rattle.lalrpop_lr1_core.specs.TheoryGrammars.{theory_grammar};
 ghost use Rattle.lalrpop_lr1_core.specs.Views.{production_symbol_view, production_view};
+ghost use Rattle.lalrpop_lr1_interpret.specs.ExpandedViews.{listed_views};
 ghost use Rattle.lalrpop_lr1_theory.specs.Productions as theory;
 ghost use Rattle.lalrpop_run_trees.specs.ActionLabels.{ChoiceLabel};
-ghost use Rattle.lalrpop_run_parser.specs.FoldedTrees.{AreFoldable, AreOfGrammar, TellsAllFolded, TellsFolded, TellsFoldedBy};
-ghost use Rattle.lalrpop_run_parser.specs.FoldedTrees.{TellsFoldedByAny, TellsPartFolded};
+ghost use Rattle.lalrpop_run_parser.specs.FoldedTrees.{AreOfGrammar, PutsBeside, TellsAllFolded, TellsFolded, TellsFoldedBy};
+ghost use Rattle.lalrpop_run_parser.specs.FoldedTrees.{TellsFoldedByAny, TellsOfGrammar, TellsPartFolded};
 ghost use Rattle.lalrpop_run_trees.specs.PartViews.{shown_part};
 
 use lalrpop_grammar::{Origin, WrittenTree};
 use lalrpop_grammar_repr::{Grammar, Production, Symbol};
 use lalrpop_grammar_symbols::{NonterminalString, Span, TerminalString};
-use lalrpop_lr1_interpret::parse::ExpandedTree;
+use lalrpop_lr1_interpret::parse::TreeList;
 use lalrpop_run_trees::flat_labels::LabelTable;
 use lalrpop_run_trees::tree_parts::{Piece, TreePart, parts_by_action};
 use std::alloc::{AllocError, Global};
@@ -37,18 +37,22 @@ pub(crate) struct Folder<'g, 'l> {
     pub(crate) labels: &'l LabelTable,
 }
 
-/// The leaf to which the part is folded.
-fn leaf_of_part<'g>(
-    alloc: Global,
+/// Puts the leaf to which the part is folded beside the trees, and tells whether there is one.
+fn fold_leaf(
     terminal: &TerminalString,
     part: TreePart<'_>,
-) -> Result<Option<ExpandedTree<'g>>, AllocError>
-    ensures { (grammar : List theory.Production) (label_of : ℕ → ChoiceLabel) (most : ℕ) → IfOk result (TellsFolded (Contains grammar) label_of
-        (theory.terminal (terminal_view terminal.now)) part.entry most) }
+    trees: &mut TreeList<'_>,
+) -> Result<bool, AllocError>
+    ensures { IfOk result (PutsBeside 1 (λ found. (grammar : List theory.Production) (label_of : ℕ → ChoiceLabel) (most : ℕ)
+        → TellsFolded (theory.terminal (terminal_view terminal.now)) part.entry most (Contains grammar) label_of found)
+        (listed_views trees.old) (listed_views trees.new)) }
 {
     match span_of_leaf(terminal, part) {
-        Some(span) => Ok(Some(ExpandedTree::leaf(alloc, terminal.try_clone()?, span)?)),
-        None => Ok(None),
+        Some(span) => {
+            trees.push_leaf(terminal.try_clone()?, span)?;
+            Ok(true)
+        }
+        None => Ok(false),
     }
 }
 
@@ -79,78 +83,81 @@ fn is_same_terminal(a: &TerminalString, b: &TerminalString) -> bool
     *a == *b
 }
 
+// Each call puts the tree or the trees that it finds beside those that stand in the list, and tells whether there are some. Where there
+// are none, the list is what it was.
 impl<'g> Folder<'g, '_> {
-    /// The tree of the symbol to which the part is folded, by at most so many productions that pass it down.
+    /// Looks for the tree of the symbol to which the part is folded, by at most so many productions that pass it down.
     #[cycle(folding)]
-    fn tree_of_symbol(
+    fn fold_symbol(
         self,
         symbol: &Symbol,
         part: TreePart<'_>,
         passes: usize,
-    ) -> Result<Option<ExpandedTree<'g>>, AllocError>
-        ensures { (label_of : ℕ → ChoiceLabel) → AreFoldable self.entry.grammar.now self.entry.origins.now label_of
-            → IfOk result (TellsFolded (Contains (theory_grammar self.entry.grammar.now)) label_of
-            (production_symbol_view symbol.now) part.entry passes) }
+        trees: &mut TreeList<'g>,
+    ) -> Result<bool, AllocError>
+        ensures { IfOk result (PutsBeside 1 (TellsOfGrammar self.entry.grammar.now self.entry.origins.now
+            (TellsFolded (production_symbol_view symbol.now) part.entry passes)) (listed_views trees.old) (listed_views trees.new)) }
     {
         match symbol {
-            Symbol::Terminal(terminal) => leaf_of_part(self.alloc, terminal, part),
-            Symbol::Nonterminal(name) => self.tree_of_nonterminal(name, part, passes),
+            Symbol::Terminal(terminal) => fold_leaf(terminal, part, trees),
+            Symbol::Nonterminal(name) => self.fold_nonterminal(name, part, passes, trees),
         }
     }
 
     /// The same of a nonterminal. What the part's choices look like says which production is tried first.
     #[cycle(folding)]
-    pub(crate) fn tree_of_nonterminal(
+    pub(crate) fn fold_nonterminal(
         self,
         name: &NonterminalString,
         part: TreePart<'_>,
         passes: usize,
-    ) -> Result<Option<ExpandedTree<'g>>, AllocError>
-        ensures { (label_of : ℕ → ChoiceLabel) → AreFoldable self.entry.grammar.now self.entry.origins.now label_of
-            → IfOk result (TellsFolded (Contains (theory_grammar self.entry.grammar.now)) label_of
-            (theory.nonterminal name.now.0) part.entry passes) }
+        trees: &mut TreeList<'g>,
+    ) -> Result<bool, AllocError>
+        ensures { IfOk result (PutsBeside 1 (TellsOfGrammar self.entry.grammar.now self.entry.origins.now
+            (TellsFolded (theory.nonterminal name.now.0) part.entry passes)) (listed_views trees.old) (listed_views trees.new)) }
     {
         let productions = self.grammar.productions_for(name);
         let likely = self.likely_place(name, part)?;
         let (before, from_likely) = productions.split_at(likely.min(productions.len()));
-        match self.tree_by_any(from_likely, part, passes)? {
-            Some(tree) => Ok(Some(tree)),
-            None => self.tree_by_any(before, part, passes),
+        if self.fold_by_any(from_likely, part, passes, trees)? {
+            return Ok(true);
         }
+        self.fold_by_any(before, part, passes, trees)
     }
 
     /// The same by the first of the productions that has one.
     #[cycle(folding)]
-    fn tree_by_any(
+    fn fold_by_any(
         self,
         productions: &'g [Production],
         part: TreePart<'_>,
         passes: usize,
-    ) -> Result<Option<ExpandedTree<'g>>, AllocError>
-        ensures { (label_of : ℕ → ChoiceLabel) → AreFoldable self.entry.grammar.now self.entry.origins.now label_of
-            → AreOfGrammar self.entry.grammar.now productions.now
-            → IfOk result (TellsFoldedByAny (Contains (theory_grammar self.entry.grammar.now)) label_of productions.now part.entry passes) }
+        trees: &mut TreeList<'g>,
+    ) -> Result<bool, AllocError>
+        ensures { IfOk result (PutsBeside 1 (TellsOfGrammar self.entry.grammar.now self.entry.origins.now
+            (λ G label_of found. AreOfGrammar self.entry.grammar.now productions.now
+            → TellsFoldedByAny productions.now part.entry passes G label_of found)) (listed_views trees.old) (listed_views trees.new)) }
     {
         for production in productions {
-            if let Some(tree) = self.tree_by_production(production, part, passes)? {
-                return Ok(Some(tree));
+            if self.fold_by_production(production, part, passes, trees)? {
+                return Ok(true);
             }
         }
-        Ok(None)
+        Ok(false)
     }
 
     /// The same by one production.
     #[cycle(folding)]
-    fn tree_by_production(
+    fn fold_by_production(
         self,
         production: &'g Production,
         part: TreePart<'_>,
         passes: usize,
-    ) -> Result<Option<ExpandedTree<'g>>, AllocError>
-        ensures { (label_of : ℕ → ChoiceLabel) → AreFoldable self.entry.grammar.now self.entry.origins.now label_of
-            → Contains (theory_grammar self.entry.grammar.now) (production_view production.now)
-            → IfOk result (TellsFoldedBy (Contains (theory_grammar self.entry.grammar.now)) label_of
-            (production_view production.now) part.entry passes) }
+        trees: &mut TreeList<'g>,
+    ) -> Result<bool, AllocError>
+        ensures { IfOk result (PutsBeside 1 (TellsOfGrammar self.entry.grammar.now self.entry.origins.now
+            (λ G label_of found. G (production_view production.now)
+            → TellsFoldedBy (production_view production.now) part.entry passes G label_of found)) (listed_views trees.old) (listed_views trees.new)) }
     {
         let whole = TreePart {
             piece: part.piece,
@@ -167,58 +174,58 @@ impl<'g> Folder<'g, '_> {
             whole,
         )?;
         let Some(parts) = kept else {
-            return Ok(None);
+            return Ok(false);
         };
-        match self.trees_of_parts(symbols, parts.as_slice(), passes)? {
-            Some(children) => Ok(Some(ExpandedTree::node(production, children)?)),
-            None => Ok(None),
+        if !self.fold_parts(symbols, parts.as_slice(), passes, trees)? {
+            return Ok(false);
         }
+        trees.push_node(production)?;
+        Ok(true)
     }
 
-    /// Trees of the symbols, one for each part.
+    /// The same of trees of the symbols, one for each part.
     #[cycle(folding)]
-    fn trees_of_parts(
+    fn fold_parts(
         self,
         symbols: &[Symbol],
         parts: &[TreePart<'_>],
         passes: usize,
-    ) -> Result<Option<Vec<ExpandedTree<'g>>>, AllocError>
-        ensures { (label_of : ℕ → ChoiceLabel) → AreFoldable self.entry.grammar.now self.entry.origins.now label_of
-            → IfOk result (TellsAllFolded (Contains (theory_grammar self.entry.grammar.now)) label_of
-            (map production_symbol_view symbols.now) parts.now passes) }
+        trees: &mut TreeList<'g>,
+    ) -> Result<bool, AllocError>
+        ensures { IfOk result (PutsBeside (length symbols.now) (TellsOfGrammar self.entry.grammar.now self.entry.origins.now
+            (TellsAllFolded (map production_symbol_view symbols.now) parts.now passes)) (listed_views trees.old) (listed_views trees.new)) }
     {
         if symbols.len() != parts.len() {
-            return Ok(None);
+            return Ok(false);
         }
-        let mut trees = Vec::new(self.alloc);
+        let before = trees.len();
         for (place, symbol) in symbols.iter().enumerate() {
-            let part = parts[place];
-            match self.tree_of_part(symbol, part, passes)? {
-                Some(tree) => trees.push(tree)?,
-                None => return Ok(None),
+            if !self.fold_part(symbol, parts[place], passes, trees)? {
+                trees.truncate(before);
+                return Ok(false);
             }
         }
-        Ok(Some(trees))
+        Ok(true)
     }
 
-    /// The tree of the symbol to which the part is folded; where it is the whole, by one production less that passes it down.
+    /// The same of one part; where it is the whole, by one production less that passes it down.
     #[cycle(folding)]
-    fn tree_of_part(
+    fn fold_part(
         self,
         symbol: &Symbol,
         part: TreePart<'_>,
         passes: usize,
-    ) -> Result<Option<ExpandedTree<'g>>, AllocError>
-        ensures { (label_of : ℕ → ChoiceLabel) → AreFoldable self.entry.grammar.now self.entry.origins.now label_of
-            → IfOk result (TellsPartFolded (Contains (theory_grammar self.entry.grammar.now)) label_of
-            (production_symbol_view symbol.now) part.entry passes) }
+        trees: &mut TreeList<'g>,
+    ) -> Result<bool, AllocError>
+        ensures { IfOk result (PutsBeside 1 (TellsOfGrammar self.entry.grammar.now self.entry.origins.now
+            (TellsPartFolded (production_symbol_view symbol.now) part.entry passes)) (listed_views trees.old) (listed_views trees.new)) }
     {
         if part.is_inside {
-            self.tree_of_symbol(symbol, part, MOST_PASSES)
+            self.fold_symbol(symbol, part, MOST_PASSES, trees)
         } else if passes == 0 {
-            Ok(None)
+            Ok(false)
         } else {
-            self.tree_of_symbol(symbol, part, passes - 1)
+            self.fold_symbol(symbol, part, passes - 1, trees)
         }
     }
 }

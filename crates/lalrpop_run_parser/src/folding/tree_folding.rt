@@ -7,7 +7,7 @@ ghost use Rattle.lalrpop_run_parser.specs.Foldings.{TellsFold};
 use crate::folding::fold_error::FoldError;
 use crate::folding::folder::{Folder, MOST_PASSES};
 use lalrpop_grammar::WrittenTree;
-use lalrpop_lr1_interpret::parse::ExpandedTree;
+use lalrpop_lr1_interpret::parse::{ExpandedTree, TreeList};
 use lalrpop_run_prepare::Prepared;
 use lalrpop_run_theory::answers::forests_correspond;
 use lalrpop_run_trees::tree_parts::{Piece, TreePart};
@@ -44,8 +44,10 @@ pub fn fold<'p>(
         piece: Piece::Whole(tree),
         is_inside: false,
     };
-    match folder.tree_of_nonterminal(prepared.start_name(), whole, MOST_PASSES)? {
-        Some(folded) => Ok(folded),
-        None => Err(FoldError::NotAdmitted),
+    let mut trees = TreeList::new(alloc);
+    if folder.fold_nonterminal(prepared.start_name(), whole, MOST_PASSES, &mut trees)? {
+        Ok(trees.into_tree())
+    } else {
+        Err(FoldError::NotAdmitted)
     }
 }

@@ -1,46 +1,17 @@
-use Rattle.std.proofs.Common.{◌+◌, arith, drop, map, subst}
-use Rattle.lalrpop_lr1_theory.specs.Spans.{without_spans}
-use Rattle.lalrpop_lr1_theory.specs.Trees.{MovesLead}
+use Rattle.std.proofs.Common.{◌≡◌, map, subst, sym}
+use Rattle.std.proofs.lemmas.Result.{IfOk-weaker}
+use Rattle.std.specs.Prelude.{Vec}
+use Rattle.std.specs.declared.alloc.Global.{Global}
 use Rattle.lalrpop_lr1_least_trees.specs.MoveViews.{tree_move_view}
-use Rattle.lalrpop_lr1_interpret.specs.ExpandedViews.{expanded_views}
-use Rattle.lalrpop_lr1_least_trees.proofs.MakingLemmas.{can_move, left_moves, making_ends, making_more, moved_bound, none_left}
+use Rattle.lalrpop_lr1_interpret.specs.ExpandedViews.{expanded_views, listed_views}
+use Rattle.lalrpop_lr1_interpret.specs.declared.parse.expanded_tree.ExpandedTree.{ExpandedTree}
+use Rattle.lalrpop_lr1_least_trees.specs.SpanNumbers.{AreMade}
 use Rattle.lalrpop_lr1_least_trees.proofs.made_trees.making.made_trees.Goals as goal
-
-pub make_move-requires-clause-can : goal.make_move-requires-clause-can
-make_move-requires-clause-can c =
-    let i = c.loop-tree_move.tree_move-index in
-    let moves = c.args.moves.now in
-    let m = c.tree_move-item.result in
-    let trees = without_spans (expanded_views c.loop-tree_move.trees.items) in
-    can_move (tree_move_view m) (map tree_move_view (drop (i + 1) moves)) trees c.requires.moves.trees
-    (subst (λ x. MovesLead x trees c.requires.moves.trees) (left_moves moves i m c.loop-tree_move-test.true c.tree_move-item.is)
-    (c.loop-tree_move.invariant.making.lead c.requires.moves.trees c.requires.moves.lead))
-
-pub loop-tree_move-preserved : goal.loop-tree_move-preserved
-loop-tree_move-preserved c =
-    let i = c.loop-tree_move.tree_move-index in
-    let moves = c.args.moves.now in
-    let m = c.tree_move-item.result in
-    let old = expanded_views c.loop-tree_move.trees.items in
-    let new = expanded_views c.make_move.new.trees.items in
-    let rest = map tree_move_view (drop (i + 1) moves) in
-    let first = left_moves moves i m c.loop-tree_move-test.true c.tree_move-item.is in
-    let can = can_move (tree_move_view m) rest (without_spans old) c.requires.moves.trees
-    (subst (λ x. MovesLead x (without_spans old) c.requires.moves.trees) first
-    (c.loop-tree_move.invariant.making.lead c.requires.moves.trees c.requires.moves.lead)) in
-    record {
-      making = making_more (map tree_move_view moves) c.args.from (tree_move_view m) (map tree_move_view (drop i moves)) rest
-          c.loop-tree_move.number c.in_ok-number.number old new first c.loop-tree_move.invariant.making can c.in_ok-number.ensures;
-      bound = omega (
-        arith,
-        moved_bound (tree_move_view m) c.loop-tree_move.number c.in_ok-number.number old new c.in_ok-number.ensures,
-        c.loop-tree_move.invariant.bound,
-      );
-    }
 
 pub returns : goal.returns
 returns c =
-    let i = c.loop-tree_move.tree_move-index in
-    making_ends (map tree_move_view c.args.moves.now) c.args.from (map tree_move_view (drop i c.args.moves.now)) c.loop-tree_move.number
-    (expanded_views c.loop-tree_move.trees.items) (none_left c.args.moves.now i c.loop-tree_move-test.false)
-    c.loop-tree_move.invariant.making
+    let listed = listed_views c.in_ok-listed_trees.field-0 in
+    let Made = AreMade (map tree_move_view c.args.moves.now) c.args.from in
+    IfOk-weaker c.into_trees.result (λ (trees : Vec ExpandedTree Global). expanded_views trees.items ≡ listed)
+    (λ (trees : Vec ExpandedTree Global). Made (expanded_views trees.items))
+    (λ trees e. subst Made (sym e) c.in_ok-listed_trees.ensures) c.into_trees.ensures

@@ -1,61 +1,56 @@
-use Rattle.std.proofs.Common.{◌∙◌, ◌+◌, ◌-◌, ap, arith, drop, subst, sym}
-use Rattle.std.proofs.lemmas.List.{drop_all}
+use Rattle.std.proofs.Common.{◌≡◌, ◌∙◌, ◌+◌, ap, arith, length, map, subst, sym, take}
+use Rattle.lalrpop_grammar.specs.Views.{tree_view}
 use Rattle.lalrpop_lr1_interpret.specs.ExpandedViews.{expanded_view}
-use Rattle.lalrpop_run_parser.specs.PostOrders.{lent_views}
-use Rattle.lalrpop_run_parser.proofs.BuildingLemmas.{AreBuilt, built_all, built_children, built_more, built_none, built_one, first_coming}
-use Rattle.lalrpop_run_parser.proofs.UnfoldLemmas.{alone}
+use Rattle.lalrpop_lr1_interpret.specs.MoveOrders.{trees_of, with_label}
+use Rattle.lalrpop_lr1_interpret.specs.TreeEntries.{tree_entry_views, tree_label_view}
+use Rattle.lalrpop_lr1_theory.specs.Productions.{Production}
+use Rattle.lalrpop_lr1_theory.specs.Spans.{without_spans}
+use Rattle.lalrpop_lr1_theory.specs.Trees.{AreOver}
+use Rattle.lalrpop_run_trees.specs.ActionLabels.{TellsLabel}
+use Rattle.lalrpop_run_trees.specs.LabelledTrees.{shown_trees}
+use Rattle.lalrpop_run_parser.proofs.BuildingLemmas.{only_written, over_first, some_entries, trees_next, whole_list, whole_trees}
 use Rattle.lalrpop_run_parser.proofs.folding.tree_unfolding.written_tree.Goals as goal
 
-pub loop-next-init : goal.loop-next-init
-loop-next-init c =
-    let whole = expanded_view c.args.tree.tree.now in
-    let order = lent_views c.deref-next-items.result.now in
-    subst (AreBuilt c.args.actions.now c.args.origins.now whole order) (sym c.new-made.ensures.items)
-    (built_none c.args.actions.now c.args.origins.now whole order
-    (ap lent_views c.deref-next-items.ensures.value ∙ c.in_ok-order.ensures))
+pub loop-entry-init : goal.loop-entry-init
+loop-entry-init c = (λ h. absurd (omega (arith, h)), λ label_of over. ap (λ l. map tree_view l) c.new-made.ensures.items)
 
-pub overflow_sub-len : goal.overflow_sub-len
-overflow_sub-len c =
-    let whole = expanded_view c.args.tree.tree.now in
-    let items = c.deref-next-items.result.now in
-    let made = c.loop-next.made.items in
-    let b = subst (λ l. AreBuilt c.args.actions.now c.args.origins.now whole l made)
-    (first_coming items c.loop-next.next-index c.next-item.result c.loop-next-test.true c.next-item.is) c.loop-next.invariant in
-    omega (
-      arith,
-      built_children c.args.actions.now c.args.origins.now whole (expanded_view c.next-item.result.tree.now)
-          (lent_views (drop (c.loop-next.next-index + 1) items)) made b,
-      c.len.ensures,
-      c.len-in-loop-next.ensures,
-    )
-
-pub loop-next-preserved : goal.loop-next-preserved
-loop-next-preserved c =
-    let whole = expanded_view c.args.tree.tree.now in
-    let items = c.deref-next-items.result.now in
-    let made = c.loop-next.made.items in
-    let b = subst (λ l. AreBuilt c.args.actions.now c.args.origins.now whole l made)
-    (first_coming items c.loop-next.next-index c.next-item.result c.loop-next-test.true c.next-item.is) c.loop-next.invariant in
-    built_more c.args.actions.now c.args.origins.now whole (expanded_view c.next-item.result.tree.now)
-    (lent_views (drop (c.loop-next.next-index + 1) items)) made c.split_off.new.self.items c.in_ok-children.children.items
-    c.push.new.self.items c.in_ok-written.written (c.len.result - c.len-in-loop-next.result)
-    (omega (arith, c.len.ensures, c.len-in-loop-next.ensures)) c.in_ok-children.ensures.items c.in_ok-children.ensures.tail
-    c.in_ok-push.ensures.items c.in_ok-written.ensures b
+pub loop-entry-preserved : goal.loop-entry-preserved
+loop-entry-preserved c = (
+  λ h. c.in_ok-push_entry.ensures.some,
+  λ label_of over.
+      let es = c.entries-entries.result.now in
+      let i = c.loop-entry.entry-index in
+      let e = c.entry-item.result in
+      let T = λ (q : Production). TellsLabel c.args.actions.now c.args.origins.now q.action (length q.right) (label_of q.action) in
+      let whole : trees_of (tree_entry_views es) ≡ expanded_view c.args.tree.now =
+      whole_trees es (expanded_view c.args.tree.now) c.entries-entries.ensures in
+      let next = trees_next es i e c.loop-entry-test.true c.entry-item.is in
+      let here : AreOver T (without_spans (with_label (trees_of (tree_entry_views (take i es))) (tree_label_view e.label) e.size)) =
+      subst (λ f. AreOver T (without_spans f)) next
+      (over_first T es (i + 1) (subst (λ f. AreOver T (without_spans f)) (sym whole) over)) in
+      c.in_ok-push_entry.ensures.shown label_of (trees_of (tree_entry_views (take i es))) here (c.loop-entry.invariant.1 label_of over)
+      ∙ ap (λ f. shown_trees label_of f) (sym next),
+)
 
 pub unreachable-requires : goal.unreachable-requires
 unreachable-requires c =
-    let whole = expanded_view c.args.tree.tree.now in
-    let items = c.deref-next-items.result.now in
-    let b = subst (λ l. AreBuilt c.args.actions.now c.args.origins.now whole (lent_views l) c.loop-next.made.items)
-    (drop_all c.loop-next.next-index items c.loop-next-test.false) c.loop-next.invariant in
-    built_one c.args.actions.now c.args.origins.now whole c.loop-next.made.items (omega (arith, c.in-None.ensures.cases.0)) b
-    (alone c.args.tree.tree.now)
+    omega (
+      arith,
+      c.in-None.ensures.cases.0,
+      c.loop-entry.invariant.0
+          (omega (
+            arith,
+            c.loop-entry-test.false,
+            some_entries c.entries-entries.result.now (expanded_view c.args.tree.now) c.entries-entries.ensures c.args.tree.now.in_order.1,
+          )),
+    )
 
 pub returns : goal.returns
-returns c = λ label_of told.
-    let whole = expanded_view c.args.tree.tree.now in
-    let items = c.deref-next-items.result.now in
-    let b = subst (λ l. AreBuilt c.args.actions.now c.args.origins.now whole (lent_views l) c.loop-next.made.items)
-    (drop_all c.loop-next.next-index items c.loop-next-test.false) c.loop-next.invariant in
-    built_all c.args.actions.now c.args.origins.now whole c.loop-next.made.items c.pop.new.self.items c.in-Some.written
-    c.in-Some.ensures.items b (alone c.args.tree.tree.now) label_of told
+returns c = λ label_of over.
+    let v = expanded_view c.args.tree.now in
+    let es = c.entries-entries.result.now in
+    let i = c.loop-entry.entry-index in
+    only_written label_of v c.loop-entry.made.items c.pop.new.self.items c.in-Some.written c.args.tree.now.in_order.1
+    c.in-Some.ensures.items
+    (c.loop-entry.invariant.1 label_of over
+    ∙ ap (λ f. shown_trees label_of f) (whole_list es i v c.entries-entries.ensures (omega (arith, c.loop-entry-test.false))))
