@@ -17,6 +17,7 @@ use lalrpop_lr1_core::Lr1State;
 use lalrpop_lr1_first::Numbered;
 use lalrpop_sets::TokenSet;
 use std::alloc::{AllocError, Global};
+use std::mem;
 
 /// The reductions, each before the set at its place.
 fn put_reductions_before<'g>(
@@ -39,38 +40,32 @@ fn put_reductions_before<'g>(
 fn put_state_before<'g>(
     alloc: Global,
     sets: &[TokenSet],
-    state: &Lr1State<'g>,
+    mut state: Lr1State<'g>,
 ) -> Result<Lr1State<'g>, AllocError>
-    requires { length sets.now ≡ length state.now.reductions }
-    ensures sets { IfOk result (λ new. AreBeforeSets sets.now state.now.reductions new.reductions) }
-    ensures rest { IfOk result (λ new. new ≡ record state.now { reductions = new.reductions }) }
+    requires { length sets.now ≡ length state.reductions }
+    ensures sets { IfOk result (λ new. AreBeforeSets sets.now state.entry.reductions new.reductions) }
+    ensures rest { IfOk result (λ new. new ≡ record state.entry { reductions = new.reductions }) }
 {
-    let items = state.items.try_clone(alloc)?;
-    let shifts = state.shifts.try_clone(alloc)?;
-    let gotos = state.gotos.try_clone(alloc)?;
     let reductions = put_reductions_before(alloc, sets, state.reductions.as_slice())?;
-    Ok(Lr1State {
-        index: state.index,
-        items,
-        shifts,
-        reductions,
-        gotos,
-    })
+    let _before = mem::replace(&mut state.reductions, reductions);
+    Ok(state)
 }
 
 /// The states, each with its reductions before the sets at its place.
 fn put_states_before<'g>(
     alloc: Global,
     sets: &[Vec<TokenSet>],
-    states: &[Lr1State<'g>],
+    states: Vec<Lr1State<'g>>,
 ) -> Result<Vec<Lr1State<'g>>, AllocError>
-    requires { HaveSetEach states.now (map (λ own. own.items) sets.now) }
-    ensures { IfOk result (λ new. AreStatesBeforeSets (map (λ own. own.items) sets.now) states.now new.items) }
+    requires { HaveSetEach states.items (map (λ own. own.items) sets.now) }
+    ensures { IfOk result (λ new. AreStatesBeforeSets (map (λ own. own.items) sets.now) states.entry.items new.items) }
 {
     let mut new = Vec::new(alloc);
-    for place in 0..states.len() {
-        let own = sets[place].as_slice();
-        new.push(put_state_before(alloc, own, &states[place])?)?;
+    // each state is taken over, since its items may be long
+    let mut rest = states.into_iter();
+    while let Some(state) = rest.next() {
+        let own = sets[new.len()].as_slice();
+        new.push(put_state_before(alloc, own, state)?)?;
     }
     Ok(new)
 }
@@ -82,13 +77,13 @@ pub(crate) fn reduce_before_carried<'g>(
     grammar: &'g Grammar,
     table: &Numbered<'g>,
     start: &NonterminalString,
-    states: &[Lr1State<'g>],
+    states: Vec<Lr1State<'g>>,
 ) -> Result<Vec<Lr1State<'g>>, AllocError>
     requires grammar { HasItsTerminals grammar.now }
     requires table { IsNumberTableOf grammar.now table.now }
-    requires known { HaveKnownItems grammar.now.terminals states.now }
-    ensures { IfOk result (λ new. ReduceBeforeCarried grammar.now start.now.0 states.now new.items) }
+    requires known { HaveKnownItems grammar.now.terminals states.items }
+    ensures { IfOk result (λ new. ReduceBeforeCarried grammar.now start.now.0 states.entry.items new.items) }
 {
-    let sets = carried_lookaheads(alloc, grammar, &*table, start, &*states)?;
+    let sets = carried_lookaheads(alloc, grammar, &*table, start, states.as_slice())?;
     put_states_before(alloc, sets.as_slice(), states)
 }

@@ -28,7 +28,7 @@ fn carried_lr0_states<'g>(
     ensures { IfOk result (λ states. AreReducedStates grammar.now start.now.0 0 states.items) }
 {
     let lr0 = lr0_states(alloc, grammar, start)?;
-    reduce_before_carried(alloc, grammar, table, start, lr0.as_slice())
+    reduce_before_carried(alloc, grammar, table, start, lr0)
 }
 
 /// What is known of states: no two edges of one are by one symbol. A law for proofs.
@@ -98,7 +98,7 @@ fn next_round<'g>(
     let found = copied_states(alloc, grammar, start, states, left)?;
     match found {
         Some((copied, now)) => {
-            let reduced = reduce_before_carried(alloc, grammar, table, start, copied.as_slice())?;
+            let reduced = reduce_before_carried(alloc, grammar, table, start, copied)?;
             Ok(Some((reduced, now)))
         }
         None => Ok(None),

@@ -1,17 +1,15 @@
-use Rattle.std.proofs.Common.{List, subst, sym, ℕ}
+use Rattle.std.proofs.Common.{List, ℕ}
 use Rattle.std.specs.Global.{Global}
 use Rattle.std.specs.Prelude.{Vec}
 use Rattle.std.proofs.lemmas.Result.{IfOk-weaker}
 use Rattle.lalrpop_lr1_core.specs.declared.state.State.{State}
-use Rattle.lalrpop_lr1_check_lookaheads.specs.LookaheadFlows.{HaveKnownItems}
 use Rattle.lalrpop_lane.specs.LaneStates.{AreReducedStates, ReduceBeforeCarried}
 use Rattle.lalrpop_lane.proofs.LaneStateLemmas.{lr0_reduced, spread_known}
 use Rattle.lalrpop_lane.proofs.rounds.carried_lr0_states.Goals as goal
 
 pub reduce_before_carried-requires-clause-known : goal.reduce_before_carried-requires-clause-known
 reduce_before_carried-requires-clause-known c =
-    subst (HaveKnownItems c.args.grammar.now.terminals) (sym c.as_slice.ensures.value)
-    (spread_known c.args.grammar.now c.requires.grammar c.args.start.now.0 0 c.in_ok-lr0.lr0.items c.in_ok-lr0.ensures)
+    spread_known c.args.grammar.now c.requires.grammar c.args.start.now.0 0 c.in_ok-lr0.lr0.items c.in_ok-lr0.ensures
 
 pub returns : goal.returns
 returns c =
@@ -19,8 +17,7 @@ returns c =
     let s = c.args.start.now.0 in
     let lr0 = c.in_ok-lr0.lr0.items in
     IfOk-weaker c.reduce_before_carried.result
-    (λ (new : Vec (State (List ℕ)) Global). ReduceBeforeCarried g s c.as_slice.result.now new.items)
+    (λ (new : Vec (State (List ℕ)) Global). ReduceBeforeCarried g s lr0 new.items)
     (λ (new : Vec (State (List ℕ)) Global). AreReducedStates g s 0 new.items)
-    (λ new before. lr0_reduced g c.requires.grammar s lr0 new.items
-    (subst (λ (l : List (State (List ℕ))). ReduceBeforeCarried g s l new.items) c.as_slice.ensures.value before) c.in_ok-lr0.ensures)
+    (λ new before. lr0_reduced g c.requires.grammar s lr0 new.items before c.in_ok-lr0.ensures)
     c.reduce_before_carried.ensures
