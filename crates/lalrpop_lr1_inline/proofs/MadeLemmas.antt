@@ -1,13 +1,15 @@
 -- What records make, one after another: for the functions that put it behind what is there.
-use Rattle.std.proofs.Common.{◌≡◌, ◌+◌, ℕ, List, [], ◌∷◌, ◌++◌, ap, sym, ◌∙◌, subst, append_assoc}
+use Rattle.std.proofs.Common.{◌≡◌, ◌+◌, ℕ, false, if◌then◌else◌, refl, List, [], ◌∷◌, ◌++◌, ap, sym, ◌∙◌, subst, append_assoc}
 use Rattle.std.proofs.Common.{length, length-append, map}
+use Rattle.std.specs.List.{list_any}
+use Rattle.std.proofs.lemmas.Bool.{or_parts}
 use Rattle.std.proofs.lemmas.List.{length-map}
 use Rattle.lalrpop_grammar_repr.specs.declared.action.ActionFnDefn.{ActionFnDefn}
 use Rattle.lalrpop_grammar_repr.specs.declared.action.InlinedSymbol.{InlinedSymbol}
 use Rattle.lalrpop_grammar_repr.specs.declared.production.Production.{Production}
 use Rattle.lalrpop_lr1_inline.specs.InliningSteps.{AddsDefinitions, AreInlineDefinitions, IsInlineDefinition, production_of_record}
 use Rattle.lalrpop_lr1_inline.specs.InliningSteps.{productions_after, productions_in_place, productions_of_records, records_after}
-use Rattle.lalrpop_lr1_inline.specs.InliningSteps.{records_in_place}
+use Rattle.lalrpop_lr1_inline.specs.InliningSteps.{is_place, records_in_place, records_of}
 use Rattle.lalrpop_grammar_symbols.specs.Symbols.{Text}
 use Rattle.lalrpop_grammar_language.proofs.StepOnceLemmas.{append-none}
 
@@ -98,3 +100,21 @@ count_on n sources left rest p e =
     ap (λ l. length (records_after n sources l)) e
     ∙ length-append (with_production p (records_in_place n sources p)) (records_after n sources rest)
     ∙ ap (λ k. k + length (records_after n sources rest)) (length-map (records_in_place n sources p) (λ (r : Record). (p, r)))
+
+-- productions that don't name it stay, and no record is made of them
+pub unnamed_stay : (n : Text) (ps qs : List Production) (k : ℕ) → list_any (λ p. list_any (is_place n) p.symbols) qs ≡ false →
+    productions_after n ps qs k ≡ qs
+unnamed_stay n ps [] k e = refl
+unnamed_stay n ps (p ∷ qs) k e =
+    let none = or_parts (list_any (is_place n) p.symbols) (list_any (λ (q : Production). list_any (is_place n) q.symbols) qs) e in
+    ap (λ b. (if b then productions_of_records p (records_of n ps p.symbols) k else p ∷ [])
+    ++ productions_after n ps qs (k + length (records_in_place n ps p))) none.0
+    ∙ ap (λ l. p ∷ l) (unnamed_stay n ps qs (k + length (records_in_place n ps p)) none.1)
+
+pub unnamed_none : (n : Text) (ps qs : List Production) → list_any (λ p. list_any (is_place n) p.symbols) qs ≡ false →
+    records_after n ps qs ≡ []
+unnamed_none n ps [] e = refl
+unnamed_none n ps (p ∷ qs) e =
+    let none = or_parts (list_any (is_place n) p.symbols) (list_any (λ (q : Production). list_any (is_place n) q.symbols) qs) e in
+    ap (λ b. with_production p (if b then records_of n ps p.symbols else []) ++ records_after n ps qs) none.0
+    ∙ unnamed_none n ps qs none.1

@@ -1,10 +1,12 @@
 //! One step of inlining: a nonterminal is inlined in all rules.
 
 ghost use Rattle.std.specs.Prelude.{◌≡◌, ◌+◌, ◌<◌, ◌≤◌, ◌^◌, ◌++◌, All, IfOk, OnOk, length, vec_len};
+ghost use Rattle.std.specs.List.{list_any};
 ghost use Rattle.lalrpop_lr1_inline.specs.InliningSteps.{AddsDefinitions, all_records_after, data_after, entries_after};
-ghost use Rattle.lalrpop_lr1_inline.specs.InliningSteps.{IsInlineStep, productions_after, productions_named, records_after};
+ghost use Rattle.lalrpop_lr1_inline.specs.InliningSteps.{IsInlineStep, is_place, productions_after, productions_named, records_after};
 
 use crate::made::replace_all;
+use crate::records::has_named;
 use lalrpop_grammar_repr::{ActionFnDefn, NonterminalData, Production};
 use lalrpop_grammar_symbols::{List, NonterminalString};
 use std::alloc::{AllocError, Global};
@@ -12,6 +14,18 @@ use std::mem;
 
 /// A rule of a lowered grammar, with its name.
 pub(crate) type NamedRule = (NonterminalString, NonterminalData);
+
+/// Whether one of the productions names the nonterminal.
+fn name_it(productions: &[Production], name: &NonterminalString) -> bool
+    ensures { result ≡ list_any (λ p. list_any (is_place name.now.0) p.symbols) productions.now }
+{
+    for production in productions {
+        if has_named(production.symbols.as_slice(), name) {
+            return true;
+        }
+    }
+    false
+}
 
 /// The rule once the nonterminal is inlined in it by those sources.
 fn replace_in_rule(
@@ -32,6 +46,10 @@ fn replace_in_rule(
     ensures count { OnOk result (vec_len definitions.new
         ≡ vec_len definitions.old + length (records_after name.now.0 sources.now rule.productions)) }
 {
+    // most rules don't name it: these are handed on as they are
+    if !name_it(rule.productions.as_slice(), name) {
+        return Ok(rule);
+    }
     let productions = mem::replace(&mut rule.productions, List::new(alloc));
     rule.productions = replace_all(alloc, name, sources, actions, productions, definitions)?;
     Ok(rule)
