@@ -76,14 +76,17 @@ static OPERANDS: [Operands; 5] = [
     },
 ];
 
-/// Whether the told certificate is taken with the row's copies over the operands that both sentences have in common.
-fn is_taken_with(rt: &impl Abort, alloc: Global, prepared: &Prepared, row: &Operands) -> bool {
-    let operand = production_at(rt, alloc, prepared.expansion(), "E", 0);
-    let first = copy_with(rt, alloc, operand, row.first);
-    let second = copy_with(rt, alloc, operand, row.second);
+/// Whether the told certificate is taken with these productions over the operands that both sentences have in common.
+fn is_taken_over<'p>(
+    rt: &impl Abort,
+    alloc: Global,
+    prepared: &'p Prepared,
+    first: &'p Production,
+    second: &'p Production,
+) -> bool {
     let mut certificates = certificates_of(rt, alloc, prepared);
     let mut certificate = certificates.pop().expect(rt, "a certificate");
-    certificate.shared = operands_over(rt, alloc, prepared, &first, &second);
+    certificate.shared = operands_over(rt, alloc, prepared, first, second);
     is_taken(rt, alloc, prepared, prepared.start_name(), &certificate)
 }
 
@@ -91,7 +94,10 @@ fn is_taken_with(rt: &impl Abort, alloc: Global, prepared: &Prepared, row: &Oper
 fn wants_its_operands(rt: &impl Abort, alloc: Global) {
     let prepared = prepared_grammar(rt, alloc, SUMS, "E");
     for row in OPERANDS.iter() {
-        let taken = is_taken_with(rt, alloc, &prepared, row);
+        let operand = production_at(rt, alloc, prepared.expansion(), "E", 0);
+        let first = copy_with(rt, alloc, operand, row.first);
+        let second = copy_with(rt, alloc, operand, row.second);
+        let taken = is_taken_over(rt, alloc, &prepared, &first, &second);
         check_row(rt, row.shows, taken == row.taken);
     }
 }
